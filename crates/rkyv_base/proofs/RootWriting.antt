@@ -1,0 +1,110 @@
+-- Writing a root, step by step: the parts, the zeros, the value.
+use Rattle.std.specs.Prelude.{◌≡◌, ℕ, ◌+◌, ◌-◌, ◌%◌, ◌≤◌, List, ◌++◌, length}
+use Rattle.std.proofs.Common.{refl, arith, subst, sym, ◌∙◌, ap, inl, inr, length-append, append_assoc}
+use Rattle.std.proofs.lemmas.List.{length-replicate, take_all, append-nil}
+use Rattle.rkyv_base.specs.declared.errors.WriteError.{WriteError}
+use Rattle.rkyv_base.specs.declared.errors.WriteError.TheVariants.{DistanceTooLarge}
+use Rattle.rkyv_base.specs.Bytes.{Sits, sits_front, sits_back}
+use Rattle.rkyv_base.specs.Writing.{Output, end_of, Appends, Told, OnePiece, NoRefusal, padding, zeros}
+use Rattle.rkyv_base.specs.Shape.{Shape, IsElement, Standing, standing}
+use Rattle.rkyv_base.specs.Entry.{round_up, round_up-multiple}
+use Rattle.rkyv_base.specs.Access.{Accepted}
+use Rattle.rkyv_base.specs.Format.{Format, IsFormat}
+use Rattle.rkyv_base.specs.Root.{RootBytes, RootNext, RootRefuses, WroteRoot, RootGaveUp, ArchiveOf, fresh}
+use Rattle.rkyv_base.proofs.GivingUp.{appends_after, end-appends, told_after}
+
+module _ (F : Type 0) {V R : Type 0} (limit align : ℕ) (f : Format V R) (v : V) (o o1 o2 o3 : Output)
+    (part : List ℕ) (r : R) (a : Appends o o1 part) (made : f.parts v (end_of o) part r) where
+  root_at : Appends o1 o2 (zeros (padding align (end_of o1))) → end_of o2 ≡ round_up (end_of o + length part) align
+  root_at b =
+      let e1 : end_of o1 ≡ end_of o + length part = end-appends o o1 part a in
+      let e2 : end_of o2 ≡ end_of o1 + length (zeros (padding align (end_of o1))) = end-appends o1 o2 _ b in
+      let n : length (zeros (padding align (end_of o1))) ≡ padding align (end_of o1) = length-replicate (padding align (end_of o1)) 0 in
+      let q : padding align (end_of o1) ≡ padding align (end_of o + length part) = ap (padding align) e1 in
+      e2 ∙ omega (arith, e1, n, q)
+
+  same_zeros : zeros (padding align (end_of o1)) ≡ zeros (padding align (end_of o + length part))
+  same_zeros = ap (λ (n : ℕ). zeros (padding align n)) (end-appends o o1 part a)
+
+  pub root_told_align : (e : WriteError F) → Told limit (OnePiece (zeros (padding align (end_of o1)))) NoRefusal o1 o2 e → RootGaveUp limit align f v o o2 e
+  root_told_align e t =
+      told_after limit (RootNext align f v (end_of o)) (OnePiece (zeros (padding align (end_of o1)))) (RootRefuses align f v (end_of o)) NoRefusal o o1 o2 part e a
+      (λ front piece h. inr (inl (part, r, made, ap (λ (x : List ℕ). part ++ x) h.0 ∙ append-nil part, h.1 ∙ same_zeros)))
+      (λ c x. absurd x) t
+
+  pub root_told_append : (out : List ℕ) (e : WriteError F) → Appends o1 o2 (zeros (padding align (end_of o1))) → f.image v r (end_of o2) out
+      → Told limit (OnePiece out) NoRefusal o2 o3 e → RootGaveUp limit align f v o o3 e
+  root_told_append out e b i t =
+      let z : List ℕ = zeros (padding align (end_of o1)) in
+      told_after limit (RootNext align f v (end_of o)) (OnePiece out) (RootRefuses align f v (end_of o)) NoRefusal o o2 o3 (part ++ z) e (appends_after o o1 o2 part z a b)
+      (λ front piece h. inr (inr (
+        part,
+        r,
+        made,
+        subst (λ x. f.image v r (round_up (end_of o + length part) align) x) (sym h.1) (subst (λ n. f.image v r n out) (root_at b) i),
+        ap (λ (x : List ℕ). (part ++ z) ++ x) h.0 ∙ append-nil (part ++ z) ∙ ap (λ (x : List ℕ). part ++ x) same_zeros,
+      )))
+      (λ c x. absurd x) t
+
+  pub root_told_far : Appends o1 o2 (zeros (padding align (end_of o1))) → f.far v r (end_of o2) → RootGaveUp {F = F} limit align f v o o2 DistanceTooLarge
+  root_told_far b far = record {
+    front = part ++ zeros (padding align (end_of o1));
+    kept = appends_after o o1 o2 part (zeros (padding align (end_of o1))) a b;
+    cause = inr (inr (refl, part, r, made, subst (λ n. f.far v r n) (root_at b) far));
+  }
+
+  pub root_wrote : (out : List ℕ) → Appends o1 o2 (zeros (padding align (end_of o1))) → f.image v r (end_of o2) out → Appends o2 o3 out → end_of o3 ≤ limit
+      → WroteRoot limit align f v o o3 (end_of o2)
+  root_wrote out b i c small =
+      let z : List ℕ = zeros (padding align (end_of o1)) in (
+        (part ++ z) ++ out,
+        appends_after o o2 o3 (part ++ z) out (appends_after o o1 o2 part z a b) c,
+        (part, r, out, made, i, root_at b, append_assoc part z out ∙ ap (λ (x : List ℕ). part ++ (x ++ out)) same_zeros),
+        small,
+      )
+
+module _ {V R : Type 0} (limit : ℕ) (s : Shape) (laws : IsElement s) (stands : List ℕ → ℕ → V → Type 0) (f : Format V R) (format : IsFormat s stands f) where
+  -- a written root holds and stands, wherever its bytes are kept
+  pub root_sound : (v : V) (c : List ℕ) (p root : ℕ) (bytes : List ℕ) → RootBytes s.align f v p bytes root → Sits c p bytes
+      → (hi l : ℕ) × s.holds c root p hi l × (p ≤ hi) × (hi ≤ root) × (root + s.size ≡ p + length bytes) × (root % s.align ≡ 0) × stands c root v
+  root_sound v c p root bytes b sits =
+      let part : List ℕ = b.0 in
+      let out : List ℕ = b.2 in
+      let z : List ℕ = zeros (padding s.align (p + length part)) in
+      let n : length z ≡ padding s.align (p + length part) = length-replicate (padding s.align (p + length part)) 0 in
+      let whole : length out ≡ s.size = format.whole v b.1 root out b.4 in
+      let sb : Sits c p (part ++ (z ++ out)) = subst (Sits c p) b.6 sits in
+      let sp : Sits c p part = sits_front c p part (z ++ out) sb in
+      let so : Sits c (p + length part + length z) out = sits_back c (p + length part) z out (sits_back c p part (z ++ out) sb) in
+      let at : p + length part + length z ≡ root = omega (arith, n, b.5) in
+      let al : root % s.align ≡ 0 = subst (λ k. k % s.align ≡ 0) (sym b.5) (round_up-multiple (p + length part) s.align laws.align_is) in
+      let up : p + length part ≤ root = omega (arith, b.5) in
+      let d = format.sound v b.1 c p root part out b.3 b.4 sp (subst (λ k. Sits c k out) at so) up al in
+      let len : length bytes ≡ length part + (length z + length out) = ap length b.6 ∙ length-append part (z ++ out) ∙ ap (λ k. length part + k) (length-append z out) in
+      (p + length part, d.0, d.1, omega arith, up, omega (arith, len, at, whole), al, d.2)
+
+  root_accepted : (v : V) (bytes : List ℕ) (root : ℕ) → RootBytes s.align f v 0 bytes root → length bytes ≤ limit
+      → Accepted limit s bytes × stands bytes (length bytes - s.size) v × (root ≡ length bytes - s.size)
+  root_accepted v bytes root b small =
+      let k : 0 + length bytes - 0 ≡ length bytes = omega arith in
+      let all : Sits bytes 0 bytes = record { inside = omega arith; there = rw k (take_all (length bytes) bytes (omega arith)) } in
+      let d = root_sound v bytes 0 root bytes b all in
+      let at : root ≡ length bytes - s.size = omega (arith, d.5) in (
+        record {
+          within = small;
+          inside = omega (arith, d.5);
+          aligned = subst (λ n. n % s.align ≡ 0) at d.6;
+          stands = subst (λ n. Standing s bytes n) at (standing s laws bytes root 0 d.0 d.1 d.3 d.4 d.2);
+        },
+        subst (λ n. stands bytes n v) at d.7,
+        at,
+      )
+
+  -- the archive of one value, from nothing
+  pub archive_made : (v : V) (o' : Output) (b : List ℕ) (root : ℕ) → WroteRoot limit s.align f v fresh o' root → b ≡ o'.bytes → ArchiveOf limit s stands f v b
+  archive_made v o' b root w e =
+      let same : b ≡ w.0 = e ∙ w.1.bytes in
+      let small : length w.0 ≤ limit = omega (arith, w.3, w.1.start, ap length w.1.bytes) in
+      let d = root_accepted v w.0 root w.2 small in
+      let rb : RootBytes s.align f v 0 w.0 (length w.0 - s.size) = subst (λ n. RootBytes s.align f v 0 w.0 n) d.2 w.2 in
+      subst (λ x. ArchiveOf limit s stands f v x) (sym same) (d.0, d.1, rb)

@@ -1,0 +1,148 @@
+-- Inline text in upper case: nothing else changes, and it still holds.
+use Rattle.std.specs.Prelude.{◌≡◌, ℕ, suc, ◌+◌, ◌-◌, ◌≤◌, ◌==◌, ◌&&◌, Bool, true, false, nat_le, nat_lt, List, [], ◌∷◌, ◌++◌, length, map, take, drop}
+use Rattle.std.specs.List.{position_or_len}
+use Rattle.std.specs.Char.{to_ascii_uppercase}
+use Rattle.std.specs.Int.{Width}
+use Rattle.std.specs.Str.{IsUtf8}
+use Rattle.std.proofs.Common.{refl, arith, subst, sym, ◌∙◌, ap, inl, inr}
+use Rattle.std.proofs.lemmas.Bool.{cases_Bool}
+use Rattle.std.proofs.lemmas.Bool.Decides.{nat_tests}
+use Rattle.std.proofs.lemmas.List.{drop-take, drop-drop, length-take, length-drop, length-map, take-append-drop}
+use Rattle.std.proofs.Math.Seq.{take-append-add}
+use Rattle.rkyv_base.specs.Sealing.{Sealed, Keeps, with_bytes}
+use Rattle.rkyv_base.specs.SealedText.{IsInline, IsSealedText, inline_at, with_uppercase, Raised}
+use Rattle.rkyv_base.specs.Shape.{Viewed}
+use Rattle.rkyv_base.specs.Text.{fixed_bytes, inline_text, is_far, text_at, text_shape, text_size, inline_reads}
+use Rattle.rkyv_base.proofs.Uppercase.{utf8_raised}
+use Rattle.rkyv_base.proofs.Sealing.{joined, sealed_wider, with_bytes-rest, with_bytes-sealed}
+
+-- the fixed bytes s, with the text before the first ff in upper case
+abbrev raised_front : List ℕ → List ℕ
+raised_front s = map to_ascii_uppercase (inline_text s) ++ drop (length (inline_text s)) s
+
+not_ff : (x : ℕ) → (x == 255) ≡ false → (to_ascii_uppercase x == 255) ≡ false
+not_ff x h = grind (arith, nat_tests)
+
+same_form : (x : ℕ) → (nat_le 128 (to_ascii_uppercase x) && nat_lt (to_ascii_uppercase x) 192) ≡ (nat_le 128 x && nat_lt x 192)
+same_form x = grind (arith, nat_tests)
+
+inline_stops : (x : ℕ) (xs : List ℕ) → (x == 255) ≡ true → inline_text (x ∷ xs) ≡ []
+inline_stops x xs h = rw h refl
+
+inline_goes_on : (x : ℕ) (xs : List ℕ) → (x == 255) ≡ false → inline_text (x ∷ xs) ≡ x ∷ inline_text xs
+inline_goes_on x xs h =
+    let n : ℕ = position_or_len (λ k. k == 255) xs in
+    let e : 1 + n ≡ suc n = omega arith in
+    rw (h, e) refl
+
+-- what is then before the first ff
+front_raised : (s : List ℕ) → inline_text (raised_front s) ≡ map to_ascii_uppercase (inline_text s)
+front_raised [] = refl
+front_raised (x ∷ xs) =
+    let P : List ℕ → Type 0 = λ t. inline_text (map to_ascii_uppercase t ++ drop (length t) (x ∷ xs)) ≡ map to_ascii_uppercase t in
+    elim (cases_Bool (x == 255)) [
+      | inl h ↦ subst P (sym (inline_stops x xs h)) (inline_stops x xs h)
+      | inr h ↦ subst P (sym (inline_goes_on x xs h)) (inline_goes_on (to_ascii_uppercase x) (raised_front xs) (not_ff x h) ∙ ap (λ (l : List ℕ). to_ascii_uppercase x ∷ l) (front_raised xs))
+    ]
+
+-- it stands inline where it did
+form_raised : (s : List ℕ) → is_far (raised_front s) ≡ is_far s
+form_raised [] = refl
+form_raised (x ∷ xs) =
+    let P : List ℕ → Type 0 = λ t. is_far (map to_ascii_uppercase t ++ drop (length t) (x ∷ xs)) ≡ is_far (x ∷ xs) in
+    elim (cases_Bool (x == 255)) [
+      | inl h ↦ subst P (sym (inline_stops x xs h)) refl
+      | inr h ↦ subst P (sym (inline_goes_on x xs h)) (same_form x)
+    ]
+
+module _ (w : Width) (b : List ℕ) (p : ℕ) (inside : p + text_size w ≤ length b) where
+  fixed_length : length (fixed_bytes w b p) ≡ text_size w
+  fixed_length = simp (length-take, length-drop) (omega (arith, inside))
+
+  inline_length : length (inline_at w b p) ≤ text_size w
+  inline_length = simp length-take (omega (arith, fixed_length))
+
+  fixed_raised : fixed_bytes w (with_uppercase w b p) p ≡ raised_front (fixed_bytes w b p)
+  fixed_raised =
+      let n : ℕ = text_size w in
+      let t : List ℕ = inline_at w b p in
+      let k : ℕ = length t in
+      let m : length (map to_ascii_uppercase t) ≡ k = length-map t to_ascii_uppercase in
+      let o : k ≤ n = inline_length in
+      let rest : drop p (with_uppercase w b p) ≡ map to_ascii_uppercase t ++ drop (p + k) b = with_bytes-rest b p k (map to_ascii_uppercase t) (omega arith) m in
+      let e : (p + n) - p ≡ k + (n - k) = omega arith in
+      let e' : (p + n) - p ≡ length (map to_ascii_uppercase t) + (n - k) = omega arith in
+      let back : drop k (fixed_bytes w b p) ≡ take (n - k) (drop (p + k) b) =
+      ap (λ (j : ℕ). drop k (take j (drop p b))) e ∙ drop-take k (n - k) (drop p b) ∙ ap (take (n - k)) (drop-drop k p b) in
+      ap (take ((p + n) - p)) rest ∙ ap (λ (j : ℕ). take j (map to_ascii_uppercase t ++ drop (p + k) b)) e'
+      ∙ take-append-add (map to_ascii_uppercase t) (drop (p + k) b) (n - k) ∙ ap (λ (l : List ℕ). map to_ascii_uppercase t ++ l) (sym back)
+
+  inline_stays : IsInline w b p → IsInline w (with_uppercase w b p) p
+  inline_stays h = ap is_far fixed_raised ∙ form_raised (fixed_bytes w b p) ∙ h
+
+  inline_raised : inline_at w (with_uppercase w b p) p ≡ map to_ascii_uppercase (inline_at w b p)
+  inline_raised = ap inline_text fixed_raised ∙ front_raised (fixed_bytes w b p)
+
+  text_raised : IsUtf8 (inline_at w b p) → IsUtf8 (inline_at w (with_uppercase w b p) p)
+  text_raised u = subst IsUtf8 (sym inline_raised) (utf8_raised (inline_at w b p) u)
+
+  uppercase_sealed : Sealed b p (text_size w) (with_uppercase w b p)
+  uppercase_sealed =
+      let k : ℕ = length (inline_at w b p) in
+      let o : k ≤ text_size w = inline_length in
+      sealed_wider b (with_uppercase w b p) p k p (text_size w) (omega arith) (omega arith)
+      (with_bytes-sealed b p k (map to_ascii_uppercase (inline_at w b p)) (omega arith) (length-map (inline_at w b p) to_ascii_uppercase))
+
+  uppercase_holds : IsInline w b p → Keeps (text_shape w) b (with_uppercase w b p) p
+  uppercase_holds near lo hi l o q (inl h) = inl (inline_stays near, text_raised h.1, h.2)
+  uppercase_holds near lo hi l o q (inr h) = cc (near, h.0)
+
+  uppercase_reads : IsInline w b p → text_at w (with_uppercase w b p) p ≡ map to_ascii_uppercase (text_at w b p)
+  uppercase_reads near =
+      inline_reads w (fixed_bytes w (with_uppercase w b p) p) (with_uppercase w b p) p (inline_stays near) ∙ inline_raised
+      ∙ ap (map to_ascii_uppercase) (sym (inline_reads w (fixed_bytes w b p) b p near))
+
+  -- what a call that raises the text leaves
+  module _ (c : List ℕ) where
+    pub raised_sealed : (inline : Bool) → Raised w b p c inline → Sealed b p (text_size w) c
+    raised_sealed true h = subst (λ x. Sealed b p (text_size w) x) (sym h.1) uppercase_sealed
+    raised_sealed false h = subst (λ x. Sealed b p (text_size w) x) (sym h.1) (record { same_length = refl; before = refl; after = refl })
+
+    pub raised_holds : (inline : Bool) → Raised w b p c inline → Keeps (text_shape w) b c p
+    raised_holds true h = subst (λ x. Keeps (text_shape w) b x p) (sym h.1) (uppercase_holds h.0)
+    raised_holds false h = subst (λ x. Keeps (text_shape w) b x p) (sym h.1) (λ lo hi l o q k. k)
+
+    pub raised_reads : (inline : Bool) → Raised w b p c inline → IsInline w b p → text_at w c p ≡ map to_ascii_uppercase (text_at w b p)
+    raised_reads true h near = ap (λ (x : List ℕ). text_at w x p) h.1 ∙ uppercase_reads near
+    raised_reads false h near = cc (near, h.0)
+
+    pub raised_text : (inline : Bool) → Raised w b p c inline → IsSealedText w b p → IsSealedText w c p
+    raised_text true h text = subst (λ x. IsSealedText w x p) (sym h.1) (λ near. text_raised (text h.0))
+    raised_text false h text = subst (λ x. IsSealedText w x p) (sym h.1) text
+
+-- the fixed bytes of a text that holds are those of a text
+pub holds_sealed : (w : Width) (b : List ℕ) (p lo hi l : ℕ) → (text_shape w).holds b p lo hi l → IsSealedText w b p
+holds_sealed w b p lo hi l (inl h) near = h.1
+holds_sealed w b p lo hi l (inr h) near = cc (near, h.0)
+
+pub viewed_sealed : (w : Width) (b : List ℕ) (p : ℕ) → Viewed (text_shape w) b p → IsSealedText w b p
+viewed_sealed w b p h = holds_sealed w b p 0 p h.stands.0 h.stands.1
+
+-- the fixed bytes behind q are those at the begin of the back
+pub fixed_of_back : (w : Width) (b : List ℕ) (q : ℕ) → fixed_bytes w (drop q b) 0 ≡ fixed_bytes w b q
+fixed_of_back w b q =
+    let e : (0 + text_size w) - 0 ≡ (q + text_size w) - q = omega arith in
+    ap (λ (n : ℕ). take n (drop q b)) e
+
+-- text that is raised at the begin of the back is raised in the whole
+pub raised_joined : (w : Width) (b back : List ℕ) (q : ℕ) (inline : Bool) → Raised w (drop q b) 0 back inline → Raised w b q (take q b ++ back) inline
+raised_joined w b back q true h =
+    let t : List ℕ = inline_at w (drop q b) 0 in (
+      ap is_far (sym (fixed_of_back w b q)) ∙ h.0,
+      ap (λ (x : List ℕ). take q b ++ x) h.1 ∙ joined b (map to_ascii_uppercase t) q (length t)
+          ∙ ap (λ (x : List ℕ). with_bytes b q (length (inline_text x)) (map to_ascii_uppercase (inline_text x))) (fixed_of_back w b q),
+    )
+raised_joined w b back q false h = (
+  ap is_far (sym (fixed_of_back w b q)) ∙ h.0,
+  ap (λ (x : List ℕ). take q b ++ x) h.1 ∙ take-append-drop q b,
+)

@@ -1,0 +1,186 @@
+-- Writing one value of an archive in place: what is then there, and what stays.
+use Rattle.std.specs.Prelude.{◌≡◌, ℕ, ◌+◌, ◌-◌, ◌≤◌, List, ◌++◌, length, take, drop, slice_range}
+use Rattle.std.specs.Int.{Width, byte_len, from_le_bytes, to_le_bytes}
+use Rattle.std.proofs.Common.{refl, arith, subst, sym, ◌∙◌, ap, inl, inr, zero-add, length-append, length-drop}
+use Rattle.std.proofs.lemmas.List.{drop-take, take-take, drop-drop, length-take-le}
+use Rattle.std.proofs.Math.Seq.{take-append_seam, drop-append_seam, drop-append-add}
+use Rattle.rkyv_base.specs.Bytes.{Same, number_at}
+use Rattle.rkyv_base.specs.Scalar.{Encoding, Encodes, IsWord, scalar_shape, word_bytes, word_reads_back}
+use Rattle.rkyv_base.specs.Sealing.{with_bytes, with_value, value_at, IsValueAt, Sealed, Keeps, Outside}
+use Rattle.rkyv_base.specs.Shape.{Shape, IsElement, Viewed}
+use Rattle.rkyv_base.specs.Entry.{entry_shape, value_offset, parts_inside, viewed_key, viewed_value}
+use Rattle.rkyv_base.specs.Format.{StandsNear}
+
+module _ (b : List ℕ) (p n : ℕ) (w : List ℕ) (inside : p + n ≤ length b) (size : length w ≡ n) where
+  front_length : length (take p b) ≡ p
+  front_length = length-take-le p b (omega arith)
+
+  -- what is from p on
+  pub with_bytes-rest : drop p (with_bytes b p n w) ≡ w ++ drop (p + n) b
+  with_bytes-rest = rw front_length at (drop-append_seam (take p b) (w ++ drop (p + n) b))
+
+  -- the new bytes are there
+  pub with_bytes-there : slice_range (with_bytes b p n w) p (p + n) ≡ w
+  with_bytes-there =
+      let e : (p + n) - p ≡ n = omega arith in
+      let k : take n (w ++ drop (p + n) b) ≡ w = rw size at (take-append_seam w (drop (p + n) b)) in
+      rw (e, with_bytes-rest) k
+
+  -- and all others stay
+  pub with_bytes-sealed : Sealed b p n (with_bytes b p n w)
+  with_bytes-sealed = record {
+    same_length = simp (length-append, length-drop) (omega (arith, front_length, size, inside));
+    before = rw front_length at (take-append_seam (take p b) (w ++ drop (p + n) b));
+    after =
+        let k : drop n (w ++ drop (p + n) b) ≡ drop (p + n) b = rw size at (drop-append_seam w (drop (p + n) b)) in
+        let d : drop (p + n) (with_bytes b p n w) ≡ drop n (w ++ drop (p + n) b) = rw front_length at (drop-append-add (take p b) (w ++ drop (p + n) b) n) in
+        d ∙ k;
+  }
+
+-- a part by what lies up to p
+part_of_front : (b : List ℕ) (i j p : ℕ) → i ≤ j → j ≤ p → slice_range b i j ≡ drop i (take j (take p b))
+part_of_front b i j p o q =
+    let e : i + (j - i) ≡ j = omega arith in
+    let t : take j (take p b) ≡ take j b = take-take j p b q in
+    let d : drop i (take j b) ≡ slice_range b i j = rw e at (drop-take i (j - i) b) in
+    sym (ap (drop i) t ∙ d)
+
+module _ (b : List ℕ) (p n : ℕ) (c : List ℕ) (s : Sealed b p n c) where
+  same_before : (i j : ℕ) → i ≤ j → j ≤ p → Same b c i j
+  same_before i j o q =
+      part_of_front b i j p o q ∙ ap (λ (x : List ℕ). drop i (take j x)) (sym s.before) ∙ sym (part_of_front c i j p o q)
+
+  same_after : (i j : ℕ) → p + n ≤ i → Same b c i j
+  same_after i j q =
+      let e : (p + n) + (i - (p + n)) ≡ i = omega arith in
+      let kb : drop (i - (p + n)) (drop (p + n) b) ≡ drop i b = rw e at (drop-drop (i - (p + n)) (p + n) b) in
+      let kc : drop (i - (p + n)) (drop (p + n) c) ≡ drop i c = rw e at (drop-drop (i - (p + n)) (p + n) c) in
+      ap (take (j - i)) (sym kb ∙ ap (drop (i - (p + n))) (sym s.after) ∙ kc)
+
+  -- what lies outside the sealed bytes is the same
+  pub same_outside : (i j : ℕ) → i ≤ j → Outside p n i j → Same b c i j
+  same_outside i j o (inl q) = same_before i j o q
+  same_outside i j o (inr q) = same_after i j q
+
+  -- a number that stands outside is the same
+  pub number_outside : (w : Width) (i : ℕ) → Outside p n i (i + byte_len w) → number_at w c i ≡ number_at w b i
+  number_outside w i o = ap (from_le_bytes w) (sym (same_outside i (i + byte_len w) (omega arith) o))
+
+-- what stays outside some bytes stays outside more of them
+pub sealed_wider : (b c : List ℕ) (p n q m : ℕ) → q ≤ p → p + n ≤ q + m → Sealed b p n c → Sealed b q m c
+sealed_wider b c p n q m o h s =
+    let e : (p + n) + ((q + m) - (p + n)) ≡ q + m = omega arith in
+    let kb : drop ((q + m) - (p + n)) (drop (p + n) b) ≡ drop (q + m) b = rw e at (drop-drop ((q + m) - (p + n)) (p + n) b) in
+    let kc : drop ((q + m) - (p + n)) (drop (p + n) c) ≡ drop (q + m) c = rw e at (drop-drop ((q + m) - (p + n)) (p + n) c) in
+    record {
+      same_length = s.same_length;
+      before = sym (take-take q p c o) ∙ ap (take q) s.before ∙ take-take q p b o;
+      after = sym kc ∙ ap (drop ((q + m) - (p + n))) s.after ∙ kb;
+    }
+
+-- a scalar that is written in place: nothing else changes, it is then there, and what held holds
+module _ {V : Type 0} (e : Encoding V) (word : IsWord e.word) (b c : List ℕ) (p : ℕ) (v : V) (out : List ℕ)
+    (inside : p + byte_len e.word ≤ length b) (encodes : Encodes e v out) (is : c ≡ with_value e b p v) where
+  number_there : number_at e.word c p ≡ e.code v
+  number_there =
+      ap (λ (x : List ℕ). number_at e.word x p) is
+      ∙ ap (from_le_bytes e.word) (with_bytes-there b p (byte_len e.word) (to_le_bytes e.word (e.code v)) inside (word_bytes e.word word (e.code v)))
+      ∙ word_reads_back e.word word (e.code v) encodes.fits
+
+  pub value_sealed : Sealed b p (byte_len e.word) c
+  value_sealed = subst (λ x. Sealed b p (byte_len e.word) x) (sym is)
+      (with_bytes-sealed b p (byte_len e.word) (to_le_bytes e.word (e.code v)) inside (word_bytes e.word word (e.code v)))
+
+  pub value_there : value_at e c p ≡ v
+  value_there = ap e.value number_there ∙ encodes.reads_back
+
+  pub value_good : IsValueAt e c p
+  value_good = subst e.IsCode (sym number_there) encodes.is_code
+
+  pub value_holds : Keeps (scalar_shape e) b c p
+  value_holds lo hi l o h k = (k.0, value_good)
+
+-- a value that stands elsewhere holds after a sealed write, with the same lower end, and is the same
+module _ (s : Shape) (laws : IsElement s) (b c : List ℕ) (q n : ℕ) (sealed : Sealed b q n c) (p lo hi l : ℕ) (o : lo ≤ hi)
+    (fixed : Outside q n p (p + s.size)) (parts : Outside q n lo l) (h : s.holds b p lo hi l) where
+  pub holds_elsewhere : s.holds c p lo hi l
+  holds_elsewhere =
+      let k : (lo ≤ l) × (l ≤ hi) = laws.between b p lo hi l o h in
+      laws.near b c p lo hi l o (same_outside b q n c sealed p (p + s.size) (omega arith) fixed) (same_outside b q n c sealed lo l k.0 parts) h
+
+  pub stands_elsewhere : {V : Type 0} (stands : List ℕ → ℕ → V → Type 0) → StandsNear s stands → (v : V) → stands b p v → stands c p v
+  stands_elsewhere stands near v st =
+      let k : (lo ≤ l) × (l ≤ hi) = laws.between b p lo hi l o h in
+      near v b c p lo hi l o h (same_outside b q n c sealed p (p + s.size) (omega arith) fixed) (same_outside b q n c sealed lo l k.0 parts) st
+
+-- an entry whose value is written in place
+module _ (k v : Shape) (kl : IsElement k) (vl : IsElement v) where
+  -- it holds, with the same lower end, where the new value does
+  pub entry_kept : (b c : List ℕ) (p : ℕ) → Sealed b (p + value_offset k v) v.size c → Keeps v b c (p + value_offset k v) → Keeps (entry_shape k v) b c p
+  entry_kept b c p s keeps lo hi l o q h =
+      let i = parts_inside k v in
+      let x : (lo ≤ h.1) × (h.1 ≤ hi) = kl.between b p lo hi h.1 o h.2 in
+      let hk : k.holds c p lo hi h.1 = holds_elsewhere k kl b c (p + value_offset k v) v.size s p lo hi h.1 o (inl (omega (arith, i.0))) (inl (omega arith)) h.2 in
+      (h.0, h.1, hk, keeps h.1 hi l x.1 (omega arith) h.3)
+
+-- what stood stands
+pub viewed_kept : (s : Shape) (b c : List ℕ) (p : ℕ) → length c ≡ length b → Keeps s b c p → Viewed s b p → Viewed s c p
+viewed_kept s b c p n keeps h = record {
+  inside = omega (arith, n, h.inside);
+  aligned = h.aligned;
+  stands = (h.stands.0, keeps 0 p h.stands.0 (omega arith) (omega arith) h.stands.1);
+}
+
+-- the archive is cut at q, behind a value
+module _ (s : Shape) (laws : IsElement s) (b : List ℕ) (q : ℕ) where
+  same_in_front : (i j : ℕ) → i ≤ j → j ≤ q → Same b (take q b) i j
+  same_in_front i j o h =
+      let e : take q (take q b) ≡ take q b = take-take q q b (omega arith) in
+      part_of_front b i j q o h ∙ ap (λ (x : List ℕ). drop i (take j x)) (sym e) ∙ sym (part_of_front (take q b) i j q o h)
+
+  pub front_viewed : (p : ℕ) → p + s.size ≤ q → q ≤ length b → Viewed s b p → Viewed s (take q b) p
+  front_viewed p h inside view =
+      let d = view.stands in
+      let k : (0 ≤ d.0) × (d.0 ≤ p) = laws.between b p 0 p d.0 (omega arith) d.1 in
+      let n : length (take q b) ≡ q = length-take-le q b inside in
+      record {
+        inside = omega (arith, n);
+        aligned = view.aligned;
+        stands = (d.0, laws.near b (take q b) p 0 p d.0 (omega arith) (same_in_front p (p + s.size) (omega arith) h) (same_in_front 0 d.0 k.0 (omega arith)) d.1);
+      }
+
+-- the key of an entry stands in the bytes before the value, wherever an entry stands
+pub key_in_front : (k v : Shape) → IsElement k → IsElement v → (b : List ℕ) (p : ℕ) → Viewed (entry_shape k v) b p → Viewed k (take (p + value_offset k v) b) p
+key_in_front k v kl vl b p h =
+    let i = parts_inside k v in
+    let value : Viewed v b (p + value_offset k v) = viewed_value k v kl vl b p h in
+    front_viewed k kl b (p + value_offset k v) p (omega (arith, i.0)) (omega (arith, value.inside)) (viewed_key k v kl vl b p h)
+
+-- a write at the begin of what is behind q is one in the whole
+pub joined : (b w : List ℕ) (q n : ℕ) → take q b ++ with_bytes (drop q b) 0 n w ≡ with_bytes b q n w
+joined b w q n = rw (zero-add n, drop-drop n q b) refl
+
+-- a front and what was made of the back
+module _ (b : List ℕ) (q : ℕ) (inside : q ≤ length b) (back : List ℕ) where
+  front_is : length (take q b) ≡ q
+  front_is = length-take-le q b inside
+
+  pub back_of_joined : drop q (take q b ++ back) ≡ back
+  back_of_joined = rw front_is at (drop-append_seam (take q b) back)
+
+  -- what is sealed at the begin of the back is sealed in the whole
+  pub sealed_joined : (n : ℕ) → Sealed (drop q b) 0 n back → Sealed b q n (take q b ++ back)
+  sealed_joined n s = record {
+    same_length = simp (length-append) (omega (arith, front_is, s.same_length, length-drop q b, inside));
+    before = rw front_is at (take-append_seam (take q b) back);
+    after =
+        let d : drop (q + n) (take q b ++ back) ≡ drop n back = rw front_is at (drop-append-add (take q b) back n) in
+        let e : drop n back ≡ drop n (drop q b) = rw zero-add at s.after in
+        d ∙ e ∙ drop-drop n q b;
+  }
+
+-- a number behind q is one of the back
+pub number_of_back : (w : Width) (b : List ℕ) (q : ℕ) → number_at w (drop q b) 0 ≡ number_at w b q
+number_of_back w b q =
+    let e : (0 + byte_len w) - 0 ≡ (q + byte_len w) - q = omega arith in
+    ap (λ (n : ℕ). from_le_bytes w (take n (drop q b))) e

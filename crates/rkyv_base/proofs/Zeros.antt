@@ -1,0 +1,20 @@
+-- Zeros that are cut from a fixed array of eight.
+use Rattle.std.specs.Prelude.{◌≡◌, ℕ, ◌≤◌, List, take, replicate}
+use Rattle.std.proofs.Common.{arith, ap, subst, ◌∙◌}
+use Rattle.std.proofs.lemmas.List.{take-replicate}
+use Rattle.rkyv_base.specs.declared.errors.WriteError.{WriteError}
+use Rattle.rkyv_base.specs.Shape.{IsAlign, align_small}
+use Rattle.rkyv_base.specs.Writing.{NoRefusal, OnePiece, Output, Told, padding, zeros}
+
+-- as many zeros as an alignment wants are the front of eight
+zeros-cut : (a p n : ℕ) → IsAlign a → n ≡ padding a p → take n (replicate 8 0) ≡ zeros (padding a p)
+zeros-cut a p n al e =
+    let small = align_small a al in
+    let few : padding a p ≤ 8 = omega (arith, small.0, small.1) in
+    ap (λ k. take k (replicate 8 0)) e ∙ take-replicate (padding a p) 8 0 few
+
+-- what the cut tells is what the zeros tell
+pub told_of_zeros : {F : Type 0} (limit a p n : ℕ) (o o' : Output) (e : WriteError F) → IsAlign a → n ≡ padding a p
+    → Told limit (OnePiece (take n (replicate 8 0))) NoRefusal o o' e → Told limit (OnePiece (zeros (padding a p))) NoRefusal o o' e
+told_of_zeros limit a p n o o' e al same told =
+    subst (λ (x : List ℕ). Told limit (OnePiece x) NoRefusal o o' e) (zeros-cut a p n al same) told

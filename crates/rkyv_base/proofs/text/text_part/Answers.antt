@@ -1,0 +1,9 @@
+use Rattle.std.proofs.Common.{◌∙◌, ap, sym}
+use Rattle.rkyv_base.specs.Text.{inline_text, is_far, inline_reads, fixed_bytes}
+use Rattle.rkyv_base.proofs.text.text_part.Goals as goal
+
+pub returns : goal.returns
+returns g c =
+    let near = sym (ap is_far c.fixed_at-fixed.ensures) ∙ sym c.is_elsewhere.ensures ∙ c.if-is_elsewhere.false in
+    c.inline_part.ensures ∙ ap inline_text c.fixed_at-fixed.ensures
+    ∙ sym (inline_reads g.W.Width.word (fixed_bytes g.W.Width.word c.args.bytes.now c.args.pos) c.args.bytes.now c.args.pos near)

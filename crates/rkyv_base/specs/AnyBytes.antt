@@ -1,0 +1,21 @@
+-- Elements that any bytes of their size are.
+use Rattle.std.specs.Prelude.{◌≡◌, ℕ, ◌%◌, ◌≤◌}
+use Rattle.std.proofs.Common.{refl, arith, sym, ◌∙◌}
+use Rattle.rkyv_base.specs.Shape.{Shape, IsAlign, IsElement}
+
+-- it holds anywhere, and has no part elsewhere
+abbrev pub any_bytes : ℕ → ℕ → Shape
+any_bytes size align = record { size = size; align = align; holds = λ b p lo hi l. l ≡ lo; fails = λ b p lo hi e. ⊥ }
+
+pub any_bytes-element : (size align : ℕ) → IsAlign align → size % align ≡ 0 → size ≤ 1073741824 → IsElement (any_bytes size align)
+any_bytes-element size align is_align whole small = record {
+  align_is = is_align;
+  size_whole = whole;
+  size_small = small;
+  between = λ b p lo hi l o h. (omega (arith, h), omega (arith, h));
+  one = λ b p lo hi l l' h h'. h ∙ sym h';
+  clear = λ b p lo hi l e h f. f;
+  higher = λ b p lo hi hi' l o h. h;
+  lower = λ b p lo lo' hi l o o' h. (lo', refl, omega (arith, h));
+  near = λ b c p lo hi l o same part h. h;
+}

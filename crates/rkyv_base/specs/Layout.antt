@@ -1,0 +1,49 @@
+-- What a width of archives fixes.
+use Rattle.std.specs.Prelude.{◌≡◌, ℕ, ◌*◌, ◌^◌, ◌<◌, ◌≤◌, ◌⊎◌}
+use Rattle.std.specs.Int.{Width, w32, w64, byte_len}
+use Rattle.std.proofs.Common.{inl, inr, refl, lit<, lit≤}
+use mir.Val.{bits}
+use Rattle.rkyv_base.specs.Scalar.{Encoding}
+
+-- a word is the bytes of a count: the alignment is one word, a table's header three, an index map's four, a text's two
+pub record IsLayout (word : Width) (limit max_capacity table_size index_size align text_size text_limit : ℕ) : Type 0 where
+  pub kind : (word ≡ w32) ⊎ (word ≡ w64)
+  pub limit_fits : limit < 2 ^ bits word
+  pub limit_small : limit < 2 ^ 63
+  pub capacity_small : max_capacity ≤ limit
+  pub align_is : align ≡ byte_len word
+  pub table_is : table_size ≡ 3 * align
+  pub index_is : index_size ≡ 4 * align
+  pub text_is : text_size ≡ 2 * align
+  pub text_limit_is : text_limit * 4 ≡ 2 ^ bits word
+
+-- a place of an index map is any number of one word
+pub record IsPlace {V : Type 0} (w : Width) (e : Encoding V) : Type 0 where
+  pub word : e.word ≡ w
+  pub any : (n : ℕ) → e.IsCode n
+
+pub narrow_layout : IsLayout w32 4294967295 4294967295 12 16 4 8 1073741824
+narrow_layout = record {
+  kind = inl refl;
+  limit_fits = lit< tt;
+  limit_small = lit< tt;
+  capacity_small = lit≤ tt;
+  align_is = refl;
+  table_is = refl;
+  index_is = refl;
+  text_is = refl;
+  text_limit_is = refl;
+}
+
+pub wide_layout : IsLayout w64 9223372036854775807 4611686018427387904 24 32 8 16 4611686018427387904
+wide_layout = record {
+  kind = inr refl;
+  limit_fits = lit< tt;
+  limit_small = lit< tt;
+  capacity_small = lit≤ tt;
+  align_is = refl;
+  table_is = refl;
+  index_is = refl;
+  text_is = refl;
+  text_limit_is = refl;
+}

@@ -1,0 +1,49 @@
+-- A value written as the root of an archive: its parts, zeros up to its alignment, the value.
+use Rattle.std.specs.Prelude.{◌≡◌, ℕ, ◌+◌, ◌-◌, ◌≤◌, ◌⊎◌, List, [], ◌++◌, length}
+use Rattle.rkyv_base.specs.declared.errors.WriteError.{WriteError}
+use Rattle.rkyv_base.specs.Writing.{Output, end_of, Appends, Told, Refusal, distance, no_memory, padding, zeros}
+use Rattle.rkyv_base.specs.Shape.{Shape}
+use Rattle.rkyv_base.specs.Entry.{round_up}
+use Rattle.rkyv_base.specs.Access.{Accepted}
+use Rattle.rkyv_base.specs.Format.{Format}
+
+module _ {V R : Type 0} (align : ℕ) (f : Format V R) (v : V) (p : ℕ) where
+  -- the bytes of a root that is written from position p on, and the root's own position
+  abbrev pub RootBytes : List ℕ → ℕ → Type 0
+  RootBytes bytes root =
+      (part : List ℕ) × (r : R) × (out : List ℕ) × f.parts v p part r × f.image v r root out
+      × (root ≡ round_up (p + length part) align) × (bytes ≡ part ++ (zeros (padding align (p + length part)) ++ out))
+
+  -- after front, piece comes next: one of the value's parts, or the zeros, or the value
+  abbrev pub RootNext : List ℕ → List ℕ → Type 0
+  RootNext front piece =
+      f.next v p front piece
+      ⊎ ((part : List ℕ) × (r : R) × f.parts v p part r × (front ≡ part) × (piece ≡ zeros (padding align (p + length part))))
+      ⊎ ((part : List ℕ) × (r : R) × f.parts v p part r × f.image v r (round_up (p + length part) align) piece × (front ≡ part ++ zeros (padding align (p + length part))))
+
+  -- the value is refused, or there is no memory for its bytes, or a distance from the root is too large
+  abbrev pub RootRefuses : Refusal → Type 0
+  RootRefuses c =
+      f.refuses v p c ⊎ (c ≡ no_memory) ⊎ ((c ≡ distance) × (part : List ℕ) × (r : R) × f.parts v p part r × f.far v r (round_up (p + length part) align))
+
+-- a root was appended
+abbrev pub WroteRoot : {V R : Type 0} → ℕ → ℕ → Format V R → V → Output → Output → ℕ → Type 0
+WroteRoot limit align f v o o' root =
+    (bytes : List ℕ) × Appends o o' bytes × RootBytes align f v (end_of o) bytes root × (end_of o' ≤ limit)
+
+-- writing a root gave up: what stood before is kept, and the cause stands
+abbrev pub RootGaveUp : {F V R : Type 0} → ℕ → ℕ → Format V R → V → Output → Output → WriteError F → Type 0
+RootGaveUp limit align f v o o' e = Told limit (RootNext align f v (end_of o)) (RootRefuses align f v (end_of o)) o o' e
+
+-- what a new writer into memory holds
+abbrev pub fresh : Output
+fresh = record { start = 0; bytes = []; failures = 0 }
+
+-- the bytes are the archive of one value: it is accepted, the value stands at its root, and no bytes but its own are there
+abbrev pub ArchiveOf : {V R : Type 0} → ℕ → Shape → (List ℕ → ℕ → V → Type 0) → Format V R → V → List ℕ → Type 0
+ArchiveOf limit s stands f v b =
+    Accepted limit s b × stands b (length b - s.size) v × RootBytes s.align f v 0 b (length b - s.size)
+
+-- no archive was made of the value
+abbrev pub ArchiveRefused : {F V R : Type 0} → ℕ → Shape → Format V R → V → WriteError F → Type 0
+ArchiveRefused limit s f v e = (o : Output) × RootGaveUp limit s.align f v fresh o e

@@ -1,0 +1,43 @@
+-- What contracts see of seals: the bytes that are lent, and the place of the value.
+use Rattle.std.specs.Prelude.{◌≡◌, ℕ, ◌+◌, ◌≤◌, List, ◌++◌, length}
+use Rattle.std.specs.Borrow.{MutBor, Fml, LendsBoth, Array, u8}
+use Rattle.rkyv_base.specs.declared.seal.ArchiveSeal.{ArchiveSeal}
+use Rattle.rkyv_base.specs.declared.seal.Seal.{Seal}
+use Rattle.rkyv_base.specs.Shape.{Shape}
+
+abbrev pub bytes_in : {T : Type 0} → Seal T → List ℕ
+bytes_in s = s.bytes.now
+
+abbrev pub place_in : {T : Type 0} → Seal T → ℕ
+place_in s = s.place
+
+-- the seal is at this place of what this reference lends
+pub record SealAt {T : Type 0} (s : Seal T) (lender : MutBor (List ℕ)) (p : ℕ) : Type 0 where
+  pub same_reference : s.bytes.ghost_name ≡ lender.ghost_name
+  pub bytes : s.bytes.now ≡ lender.now
+  pub place : s.place ≡ p
+
+-- the seal is at the same place of what the same reference lends, whatever its bytes are by now
+pub record SealStays {T : Type 0} (s s' : Seal T) : Type 0 where
+  pub same_reference : s'.bytes.ghost_name ≡ s.bytes.ghost_name
+  pub place : s'.place ≡ s.place
+
+-- the value's fixed bytes lie in those that are lent
+abbrev pub LiesIn : {T : Type 0} → Shape → Seal T → Type 0
+LiesIn s x = x.place + s.size ≤ length x.bytes.now
+
+abbrev pub archive_in : {T : Type 0} → ArchiveSeal T → List ℕ
+archive_in s = s.archive.now
+
+abbrev pub pos_in : {T : Type 0} → ArchiveSeal T → ℕ
+pos_in s = s.pos
+
+-- the archive's seal is at this position of what this reference lends
+pub record ArchiveAt {T : Type 0} (s : ArchiveSeal T) (lender : MutBor (List ℕ)) (p : ℕ) : Type 0 where
+  pub same_reference : s.archive.ghost_name ≡ lender.ghost_name
+  pub bytes : s.archive.now ≡ lender.now
+  pub pos : s.pos ≡ p
+
+-- the archive ends as its front and its back, as they are left
+abbrev pub LendsHalves : MutBor (List ℕ) → MutBor (List ℕ) × MutBor (List ℕ) → Fml
+LendsHalves s r = LendsBoth (Array u8 0) (Array u8 0) (Array u8 0) s r ◌++◌

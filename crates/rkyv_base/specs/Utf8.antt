@@ -1,0 +1,59 @@
+-- What no byte of UTF-8 is, and what its first byte isn't.
+use Rattle.std.specs.Prelude.{◌≡◌, ℕ, zero, suc, ◌+◌, ◌/◌, ◌%◌, ◌<◌, ◌≤◌, ◌&&◌, true, false, List, [], ◌∷◌, All, nat_le, nat_lt}
+use Rattle.std.specs.Str.{IsUtf8}
+use Rattle.std.proofs.Common.{arith, inl, inr, ltb, subst}
+use Rattle.std.proofs.Math.Utf8.{encode, encodes, scalar, scalars, scalar_cases}
+use Rattle.std.proofs.lemmas.Bool.{and_parts, cond_both, ltb-true}
+use Rattle.std.proofs.lemmas.Bool.Decides.{nat_tests}
+use Rattle.std.proofs.lemmas.List.Elements.{All-append}
+use Rattle.std.proofs.lemmas.Str.{IsCharBoundary-start}
+
+-- all bytes are below ff
+abbrev pub BelowFf : List ℕ → Type 0
+BelowFf xs = All (λ x. x < 255) xs
+
+below_nil : BelowFf []
+below_nil k d h = absurd (omega (arith, h))
+
+below_cons : (x : ℕ) (xs : List ℕ) → x < 255 → BelowFf xs → BelowFf (x ∷ xs)
+below_cons x xs h g zero d k = h
+below_cons x xs h g (suc i) d k = g i d (omega arith)
+
+-- a byte that continues a character
+tail_below : (c : ℕ) (xs : List ℕ) → BelowFf xs → BelowFf ((128 + c % 64) ∷ xs)
+tail_below c xs h = below_cons (128 + c % 64) xs (omega arith) h
+
+lead_below : (c : ℕ) → scalar c ≡ true → 240 + c / 262144 < 255
+lead_below c h =
+    elim (scalar_cases c h) [
+      | inl low ↦ omega arith
+      | inr high ↦ omega (arith, high.1)
+    ]
+
+char_below : (c : ℕ) → scalar c ≡ true → BelowFf (encode c)
+unfolding encode
+char_below c h =
+    let one : List ℕ = (128 + c % 64) ∷ [] in
+    let two : List ℕ = (128 + c / 64 % 64) ∷ one in
+    let one_below : BelowFf one = tail_below c [] below_nil in
+    let two_below : BelowFf two = tail_below (c / 64) one one_below in
+    cond_both (ltb c 128) _ _ BelowFf (λ e. below_cons c [] (omega (arith, ltb-true c 128 e)) below_nil)
+    (λ e1. cond_both (ltb c 2048) _ _ BelowFf (λ e. below_cons (192 + c / 64) one (omega (arith, ltb-true c 2048 e)) one_below)
+    (λ e2. cond_both (ltb c 65536) _ _ BelowFf (λ e. below_cons (224 + c / 4096) two (omega (arith, ltb-true c 65536 e)) two_below)
+    (λ e3. below_cons (240 + c / 262144) ((128 + c / 4096 % 64) ∷ two) (lead_below c h) (tail_below (c / 4096) two two_below))))
+
+chars_below : (cs : List ℕ) → scalars cs ≡ true → BelowFf (encodes cs)
+chars_below [] h = below_nil
+chars_below (c ∷ cs) h =
+    let both : (scalar c ≡ true) × (scalars cs ≡ true) = and_parts (scalar c) (scalars cs) h in
+    All-append (λ x. x < 255) (encode c) (encodes cs) (char_below c both.0) (chars_below cs both.1)
+
+-- no byte of a text is ff
+pub text_below : (t : List ℕ) → IsUtf8 t → BelowFf t
+text_below t u = subst BelowFf u.1.1 (chars_below u.0 u.1.0)
+
+-- the first byte of a text has not the form 10xxxxxx
+pub text_begins : (x : ℕ) (t : List ℕ) → IsUtf8 (x ∷ t) → (nat_le 128 x && nat_lt x 192) ≡ false
+text_begins x t u =
+    let lead : 128 ≤ x → 192 ≤ x = (IsCharBoundary-start (x ∷ t) u).1 (omega arith) in
+    grind (arith, nat_tests)

@@ -1,0 +1,103 @@
+//! Pairs of lent parts, which are archived as entries.
+
+ghost use Rattle.std.specs.Prelude.{◌≡◌};
+ghost use Rattle.rkyv_base.specs.Adapter.{pair_of};
+ghost use Rattle.rkyv_base.specs.Entry.{entry_shape};
+ghost use Rattle.rkyv_base.specs.Pairs.{
+  PairStands,
+  pair_format,
+  pair_is_format,
+  pair_near,
+  written_as,
+  written_as-format,
+};
+
+use crate::archive::{Archive, Serialize};
+use crate::element::StandsFor;
+use crate::entry::Entry;
+use crate::errors::{DistanceTooLarge, WriteError};
+use crate::lend::Lend;
+use crate::pairs::{EntryResolver, resolve_entry, serialize_entry};
+use crate::width::Width;
+use crate::writer::Writer;
+use std::alloc::Global;
+use std::marker::PhantomData;
+
+/// A key and a value, each as itself or by reference, which are archived as an entry.
+#[derive(Drop)]
+pub struct EntryAdapter<BK, BV, K, V> {
+    pub key: BK,
+    pub value: BV,
+    kinds: PhantomData<(K, V)>,
+}
+
+impl<BK: Lend<K>, BV: Lend<V>, K, V> EntryAdapter<BK, BV, K, V> {
+    /// The pair of a key and a value.
+    #[inline]
+    pub fn new(key: BK, value: BV) -> EntryAdapter<BK, BV, K, V>
+        ensures key { result.key ≡ key }
+        ensures value { result.value ≡ value }
+    {
+        EntryAdapter {
+            key,
+            value,
+            kinds: PhantomData,
+        }
+    }
+}
+
+impl<BK: Lend<A>, BV: Lend<B>, A, B, K: StandsFor<A>, V: StandsFor<B>> StandsFor<
+    EntryAdapter<BK, BV, A, B>,
+> for Entry<K, V> {
+    ghost stands = { λ b p x.
+        PairStands K.shape V.shape K.stands V.stands b p (pair_of BK.lent BV.lent x) };
+
+    ghost near = { λ x.
+        pair_near K.shape V.shape K.laws V.laws K.stands V.stands K.near V.near
+        (pair_of BK.lent BV.lent x) };
+}
+
+impl<W: Width, BK: Lend<A>, BV: Lend<B>, A: Archive<W>, B: Archive<W>> Archive<W>
+    for EntryAdapter<BK, BV, A, B> {
+    type Archived = Entry<A::Archived, B::Archived>;
+
+    type Resolver = EntryResolver<A::Resolver, B::Resolver>;
+
+    ghost format = { written_as (pair_of BK.lent BV.lent)
+        (pair_format A.Archived.shape B.Archived.shape A.format B.format) };
+
+    #[inline]
+    fn resolve(
+        &self,
+        resolver: EntryResolver<A::Resolver, B::Resolver>,
+        pos: u64,
+        out: &mut [u8],
+    ) -> Result<(), DistanceTooLarge> {
+        resolve_entry::<W, A, B>(self.key.lend(), self.value.lend(), resolver, pos, out)
+    }
+
+    ghost laws = { written_as-format (pair_of BK.lent BV.lent)
+        (entry_shape A.Archived.shape B.Archived.shape)
+        (PairStands A.Archived.shape B.Archived.shape A.Archived.stands B.Archived.stands)
+        (pair_format A.Archived.shape B.Archived.shape A.format B.format)
+        (pair_is_format A.Archived.shape B.Archived.shape A.Archived.laws B.Archived.laws
+        A.Archived.stands B.Archived.stands A.format B.format A.laws B.laws) };
+}
+
+impl<
+    S: Writer,
+    W: Width,
+    BK: Lend<A>,
+    BV: Lend<B>,
+    A: Serialize<S, W>,
+    B: Serialize<S, W>,
+> Serialize<S, W> for EntryAdapter<BK, BV, A, B> {
+    #[inline]
+    fn serialize(
+        &self,
+        alloc: Global,
+        serializer: &mut S,
+    ) -> Result<EntryResolver<A::Resolver, B::Resolver>, WriteError<S::Fault>> {
+        serialize_entry::<S, W, A, B>(self.key.lend(), self.value.lend(), alloc, serializer)
+    }
+}

@@ -1,0 +1,83 @@
+//! Entries: a key and a value.
+
+ghost use Rattle.std.specs.Prelude.{◌≡◌, ◌+◌, ◌<◌, ◌≤◌, ◌^◌};
+ghost use Rattle.rkyv_base.specs.Entry.{
+  entry_element,
+  entry_shape,
+  round_up,
+  value_offset,
+  whole_size,
+};
+
+use crate::element::{Element, PartRange};
+use crate::errors::VerifyError;
+use std::marker::PhantomData;
+
+/// The greatest size of an element, in bytes.
+pub const LARGEST: usize = 1_073_741_824;
+
+/// A key and a value behind it, as they stand in an archive.
+///
+/// The value begins at the key's size rounded up to the value's alignment; the whole is rounded up
+/// to the greater of both. An entry that would take more than 1,073,741,824 bytes can't be
+/// archived: its size is 0, and its check answers `Refused(0)`.
+pub struct Entry<K, V> {
+    key: PhantomData<K>,
+    value: PhantomData<V>,
+}
+
+#[inline]
+fn rounded_up(n: usize, align: usize) -> usize
+    requires aligned { 0 < align }
+    requires small { n + align < 2 ^ 32 }
+    ensures { result ≡ round_up n align }
+{
+    n + (align - n % align) % align
+}
+
+/// Where the value of an entry begins, counted from the entry's own position.
+#[inline]
+pub fn value_offset<K: Element, V: Element>() -> usize
+    ensures value { result ≡ value_offset K.shape V.shape }
+    ensures bound { result ≤ 1073741832 }
+{
+    rounded_up(K::size(), V::align())
+}
+
+/// What an entry takes, also where that is too much.
+#[inline]
+pub fn whole_size<K: Element, V: Element>() -> usize
+    ensures { result ≡ whole_size K.shape V.shape }
+{
+    let offset = value_offset::<K, V>();
+    rounded_up(offset + V::size(), K::align().max(V::align()))
+}
+
+impl<K: Element, V: Element> Element for Entry<K, V> {
+    ghost shape = { entry_shape K.shape V.shape };
+
+    #[inline]
+    fn size() -> usize {
+        let whole = whole_size::<K, V>();
+        if whole <= LARGEST { whole } else { 0 }
+    }
+
+    #[inline]
+    fn align() -> usize {
+        K::align().max(V::align())
+    }
+
+    #[inline]
+    fn check(bytes: &[u8], pos: u64, range: PartRange) -> Result<PartRange, VerifyError> {
+        if whole_size::<K, V>() > LARGEST {
+            return Err(VerifyError::Refused(0));
+        }
+        let offset = value_offset::<K, V>() as u64;
+        match K::check(bytes, pos, range) {
+            Ok(rest) => V::check(bytes, pos + offset, rest),
+            Err(e) => Err(e),
+        }
+    }
+
+    ghost laws = { entry_element K.shape V.shape K.laws V.laws };
+}

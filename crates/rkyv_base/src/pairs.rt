@@ -1,0 +1,131 @@
+//! Pairs, which are archived as entries.
+
+ghost use Rattle.std.specs.Prelude.{◌≡◌, ◌+◌, ◌^◌, ◌<◌, ◌≤◌, length, MatchResult};
+ghost use Rattle.rkyv_base.specs.Entry.{entry_shape};
+ghost use Rattle.rkyv_base.specs.Format.{GaveUp, Serialized};
+ghost use Rattle.rkyv_base.specs.Pairs.{
+  Padded,
+  PairStands,
+  pair_format,
+  pair_is_format,
+  pair_near,
+};
+
+use crate::archive::{Archive, Serialize};
+use crate::element::{Element, StandsFor};
+use crate::entry::{Entry, LARGEST, value_offset, whole_size};
+use crate::errors::{DistanceTooLarge, WriteError};
+use crate::width::Width;
+use crate::writer::Writer;
+use std::alloc::Global;
+
+/// What resolves an entry: what resolves its key, and what resolves its value.
+#[derive(Drop)]
+pub struct EntryResolver<K, V> {
+    pub key: K,
+    pub value: V,
+}
+
+/// Resolves a value into the front of `out`, and fills the rest with zeros.
+#[inline]
+fn resolve_padded<W: Width, V: Archive<W>>(
+    value: &V,
+    resolver: V::Resolver,
+    pos: u64,
+    out: &mut [u8],
+) -> Result<(), DistanceTooLarge>
+    requires room { V.Archived.shape.size ≤ length out.old }
+    requires fits { pos + V.Archived.shape.size < 2 ^ 64 }
+    ensures { MatchResult result
+        (λ _. Padded (length out.old) (V.format.image value.now resolver pos) out.new)
+        (λ _. V.format.far value.now resolver pos) }
+{
+    let size = <V::Archived as Element>::size();
+    value.resolve(resolver, pos, &mut out[..size])?;
+    out[size..].fill(0);
+    Ok(())
+}
+
+/// Resolves a key and a value as an entry.
+#[inline]
+pub(crate) fn resolve_entry<W: Width, A: Archive<W>, B: Archive<W>>(
+    key: &A,
+    value: &B,
+    resolver: EntryResolver<A::Resolver, B::Resolver>,
+    pos: u64,
+    out: &mut [u8],
+) -> Result<(), DistanceTooLarge>
+    requires room { length out.old ≡ (entry_shape A.Archived.shape B.Archived.shape).size }
+    requires fits { pos + (entry_shape A.Archived.shape B.Archived.shape).size < 2 ^ 64 }
+    ensures { let f = pair_format A.Archived.shape B.Archived.shape A.format B.format in MatchResult result
+        (λ _. f.image (key.now, value.now) resolver pos out.new)
+        (λ _. f.far (key.now, value.now) resolver pos) }
+{
+    if whole_size::<A::Archived, B::Archived>() > LARGEST {
+        return Ok(());
+    }
+    let offset = value_offset::<A::Archived, B::Archived>();
+    let (front, back) = out.split_at_mut(offset);
+    resolve_padded::<W, A>(key, resolver.key, pos, front)?;
+    resolve_padded::<W, B>(value, resolver.value, pos + offset as u64, back)?;
+    Ok(())
+}
+
+/// Writes the parts of a key and of a value.
+#[inline]
+pub(crate) fn serialize_entry<S: Writer, W: Width, A: Serialize<S, W>, B: Serialize<S, W>>(
+    key: &A,
+    value: &B,
+    alloc: Global,
+    serializer: &mut S,
+) -> Result<EntryResolver<A::Resolver, B::Resolver>, WriteError<S::Fault>>
+    ensures { let f = pair_format A.Archived.shape B.Archived.shape A.format B.format in MatchResult result
+        (Serialized f (key.now, value.now) (S.output serializer.old) (S.output serializer.new))
+        (GaveUp W.LIMIT f (key.now, value.now) (S.output serializer.old) (S.output serializer.new)) }
+{
+    if whole_size::<A::Archived, B::Archived>() > LARGEST {
+        return Err(WriteError::Refused(0));
+    }
+    let key = key.serialize(alloc, serializer)?;
+    match value.serialize(alloc, serializer) {
+        Ok(value) => Ok(EntryResolver { key, value }),
+        Err(e) => Err(e),
+    }
+}
+
+impl<A, B, K: StandsFor<A>, V: StandsFor<B>> StandsFor<(A, B)> for Entry<K, V> {
+    ghost stands = { PairStands K.shape V.shape K.stands V.stands };
+
+    ghost near = { pair_near K.shape V.shape K.laws V.laws K.stands V.stands K.near V.near };
+}
+
+impl<W: Width, A: Archive<W>, B: Archive<W>> Archive<W> for (A, B) {
+    type Archived = Entry<A::Archived, B::Archived>;
+
+    type Resolver = EntryResolver<A::Resolver, B::Resolver>;
+
+    ghost format = { pair_format A.Archived.shape B.Archived.shape A.format B.format };
+
+    #[inline]
+    fn resolve(
+        &self,
+        resolver: EntryResolver<A::Resolver, B::Resolver>,
+        pos: u64,
+        out: &mut [u8],
+    ) -> Result<(), DistanceTooLarge> {
+        resolve_entry::<W, A, B>(&self.0, &self.1, resolver, pos, out)
+    }
+
+    ghost laws = { pair_is_format A.Archived.shape B.Archived.shape A.Archived.laws B.Archived.laws A.Archived.stands B.Archived.stands A.format B.format A.laws B.laws };
+}
+
+impl<S: Writer, W: Width, A: Serialize<S, W>, B: Serialize<S, W>> Serialize<S, W> for (A, B) {
+    #[inline]
+    fn serialize(
+        &self,
+        alloc: Global,
+        serializer: &mut S,
+    ) -> Result<EntryResolver<A::Resolver, B::Resolver>, WriteError<S::Fault>> {
+        serialize_entry::<S, W, A, B>(&self.0, &self.1, alloc, serializer)
+    }
+}

@@ -1,0 +1,35 @@
+//! Parts: what a value has elsewhere, before itself.
+
+ghost use Rattle.std.specs.Prelude.{◌<◌, MatchResult};
+ghost use Rattle.rkyv_base.specs.Parts.{PartFails, PartIn};
+
+use crate::element::PartRange;
+use crate::errors::VerifyError;
+
+/// The place of a part of `size` bytes that is told to begin at `begin`.
+///
+/// # Errors
+/// `OutOfRange` where it doesn't lie in the range, then `Unaligned` where its place is no multiple
+/// of `align`.
+#[inline]
+pub fn part_in(begin: i128, size: u128, align: u64, range: PartRange) -> Result<u64, VerifyError>
+    requires { 0 < align }
+    ensures { MatchResult result
+        (PartIn begin size align range.lo range.hi)
+        (PartFails begin size align range.lo range.hi) }
+{
+    if begin < i128::from(range.lo) {
+        return Err(VerifyError::OutOfRange { pos: begin, size });
+    }
+    if i128::from(range.hi) < begin {
+        return Err(VerifyError::OutOfRange { pos: begin, size });
+    }
+    let place = begin as u64;
+    if u128::from(range.hi - place) < size {
+        return Err(VerifyError::OutOfRange { pos: begin, size });
+    }
+    if place % align != 0 {
+        return Err(VerifyError::Unaligned { pos: place, align });
+    }
+    Ok(place)
+}

@@ -1,0 +1,100 @@
+//! Writing a whole archive.
+
+ghost use Rattle.std.specs.Prelude.{MatchResult};
+ghost use Rattle.rkyv_base.specs.Root.{ArchiveOf, ArchiveRefused, RootGaveUp, WroteRoot};
+
+use crate::archive::Serialize;
+use crate::element::Element;
+use crate::errors::WriteError;
+use crate::width::{Narrow, Width};
+use crate::writer::{NoMemory, VecWriter, Writer, align_for_in, append_in};
+use std::alloc::Global;
+
+/// Writes a value as the root of an archive of the width W, and answers its position.
+///
+/// # Errors
+/// `Memory` where the scratch for the root's fixed bytes is refused; then the causes of serializing
+/// the value, of the zeros up to its alignment, `DistanceTooLarge` where a distance from the root
+/// doesn't fit, and the causes of the root's own piece. What the writer held before is kept.
+pub fn write_root_in<W: Width, S: Writer, V: Serialize<S, W>>(
+    alloc: Global,
+    value: &V,
+    serializer: &mut S,
+) -> Result<u64, WriteError<S::Fault>>
+    ensures { MatchResult result
+        (WroteRoot W.LIMIT V.Archived.shape.align V.format value.now (S.output serializer.old) (S.output serializer.new))
+        (RootGaveUp W.LIMIT V.Archived.shape.align V.format value.now (S.output serializer.old) (S.output serializer.new)) }
+{
+    let size = <V::Archived as Element>::size();
+    let mut scratch = match vec![in alloc; 0u8; size] {
+        Ok(scratch) => scratch,
+        Err(_) => return Err(WriteError::Memory),
+    };
+    let resolver = match value.serialize(alloc, serializer) {
+        Ok(resolver) => resolver,
+        Err(e) => return Err(e),
+    };
+    let root = match align_for_in::<W, V::Archived, S>(serializer) {
+        Ok(root) => root,
+        Err(e) => return Err(e),
+    };
+    let out = scratch.as_mut_slice();
+    match value.resolve(resolver, root, out) {
+        Ok(()) => {}
+        Err(_) => return Err(WriteError::DistanceTooLarge),
+    }
+    match append_in::<W, S>(serializer, out) {
+        Ok(()) => Ok(root),
+        Err(e) => Err(e),
+    }
+}
+
+/// The archive of a value, in the width W.
+///
+/// # Errors
+/// Those of `write_root_in` into a new `VecWriter`.
+pub fn to_bytes_in<W: Width, V: Serialize<VecWriter, W>>(
+    alloc: Global,
+    value: &V,
+) -> Result<Vec<u8>, WriteError<NoMemory>>
+    ensures { MatchResult result
+        (λ b. ArchiveOf W.LIMIT V.Archived.shape V.Archived.stands V.format value.now b.items)
+        (ArchiveRefused W.LIMIT V.Archived.shape V.format value.now) }
+{
+    let mut writer = VecWriter::new(alloc);
+    match write_root_in::<W, VecWriter, V>(alloc, value, &mut writer) {
+        Ok(_) => Ok(writer.into_vec()),
+        Err(e) => Err(e),
+    }
+}
+
+/// Writes a value as the root of a narrow archive, and answers its position.
+///
+/// # Errors
+/// As `write_root_in`.
+pub fn write_root<S: Writer, V: Serialize<S, Narrow>>(
+    alloc: Global,
+    value: &V,
+    serializer: &mut S,
+) -> Result<u64, WriteError<S::Fault>>
+    ensures { MatchResult result
+        (WroteRoot 4294967295 V.Archived.shape.align V.format value.now (S.output serializer.old) (S.output serializer.new))
+        (RootGaveUp 4294967295 V.Archived.shape.align V.format value.now (S.output serializer.old) (S.output serializer.new)) }
+{
+    write_root_in::<Narrow, S, V>(alloc, value, serializer)
+}
+
+/// The narrow archive of a value.
+///
+/// # Errors
+/// As `to_bytes_in`.
+pub fn to_bytes<V: Serialize<VecWriter, Narrow>>(
+    alloc: Global,
+    value: &V,
+) -> Result<Vec<u8>, WriteError<NoMemory>>
+    ensures { MatchResult result
+        (λ b. ArchiveOf 4294967295 V.Archived.shape V.Archived.stands V.format value.now b.items)
+        (ArchiveRefused 4294967295 V.Archived.shape V.format value.now) }
+{
+    to_bytes_in::<Narrow, V>(alloc, value)
+}

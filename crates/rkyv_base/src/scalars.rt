@@ -1,0 +1,107 @@
+//! Scalars: values of a few fixed bytes, which are one little endian number.
+
+ghost use Rattle.std.specs.Prelude.{◌≡◌, ℕ, ◌+◌, ◌≤◌, length, IsTrue, ◌↔◌};
+ghost use Rattle.std.specs.Int.{byte_len, from_le_bytes};
+ghost use Rattle.rkyv_base.specs.Scalar.{
+  Encodes,
+  Encoding,
+  IsWord,
+  ScalarStands,
+  scalar_element,
+  scalar_format,
+  scalar_is_format,
+  scalar_near,
+  scalar_shape,
+};
+
+use crate::archive::{Archive, Serialize};
+use crate::element::{Element, PartRange, StandsFor};
+use crate::errors::{DistanceTooLarge, VerifyError, WriteError};
+use crate::width::Width;
+use crate::writer::Writer;
+use std::alloc::Global;
+
+/// A value that is written as a little endian number of 1, 2, 4 or 8 bytes.
+///
+/// Each scalar is an element, stands for itself and is archived as itself.
+pub trait Scalar: Copy {
+    // How it is written.
+    ghost encoding: { Encoding Self };
+
+    /// How many bytes the number has.
+    fn byte_count() -> usize
+        ensures { result ≡ byte_len encoding.word };
+
+    /// Whether the bytes are a value.
+    fn is_value(bytes: &[u8]) -> bool
+        requires { length bytes.now ≡ byte_len encoding.word }
+        ensures { IsTrue result ↔ encoding.IsCode (from_le_bytes encoding.word bytes.now) };
+
+    /// The value of the bytes.
+    fn read(bytes: &[u8]) -> Self
+        requires whole { length bytes.now ≡ byte_len encoding.word }
+        requires value { encoding.IsCode (from_le_bytes encoding.word bytes.now) }
+        ensures { result ≡ encoding.value (from_le_bytes encoding.word bytes.now) };
+
+    /// Writes the value over the whole of the bytes.
+    fn write(self, bytes: &mut [u8])
+        requires { length bytes.old ≡ byte_len encoding.word }
+        ensures { Encodes encoding self bytes.new };
+
+    ghost word: { IsWord encoding.word };
+}
+
+impl<N: Scalar> Element for N {
+    ghost shape = { scalar_shape N.encoding };
+
+    #[inline]
+    fn size() -> usize {
+        N::byte_count()
+    }
+
+    #[inline]
+    fn align() -> usize {
+        N::byte_count()
+    }
+
+    #[inline]
+    fn check(bytes: &[u8], pos: u64, range: PartRange) -> Result<PartRange, VerifyError> {
+        let place = pos as usize;
+        if N::is_value(&bytes[place..place + N::byte_count()]) {
+            Ok(range)
+        } else {
+            Err(VerifyError::InvalidValue { pos })
+        }
+    }
+
+    ghost laws = { scalar_element N.encoding N.word };
+}
+
+impl<N: Scalar> StandsFor<N> for N {
+    ghost stands = { ScalarStands N.encoding };
+
+    ghost near = { scalar_near N.encoding N.word };
+}
+
+impl<W: Width, N: Scalar> Archive<W> for N {
+    type Archived = N;
+
+    type Resolver = ();
+
+    ghost format = { scalar_format N.encoding };
+
+    #[inline]
+    fn resolve(&self, _resolver: (), _pos: u64, out: &mut [u8]) -> Result<(), DistanceTooLarge> {
+        self.write(out);
+        Ok(())
+    }
+
+    ghost laws = { scalar_is_format N.encoding N.word };
+}
+
+impl<S: Writer, W: Width, N: Scalar> Serialize<S, W> for N {
+    #[inline]
+    fn serialize(&self, _alloc: Global, _serializer: &mut S) -> Result<(), WriteError<S::Fault>> {
+        Ok(())
+    }
+}

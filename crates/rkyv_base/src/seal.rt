@@ -1,0 +1,244 @@
+//! Seals: values written in place.
+
+ghost use Rattle.std.specs.Prelude.{◌≡◌, ℕ, ◌+◌, ◌≤◌, List, length, take, drop};
+ghost use Rattle.std.specs.Borrow.{sem};
+ghost use Rattle.std.specs.Int.{byte_len};
+ghost use Rattle.rkyv_base.specs.View.{IsView, bytes_of, place_of};
+ghost use Rattle.rkyv_base.specs.Entry.{entry_shape};
+ghost use Rattle.rkyv_base.specs.Scalar.{scalar_shape};
+ghost use Rattle.rkyv_base.specs.Seal.{ArchiveAt, LendsHalves, LiesIn, SealAt, SealStays, archive_in, bytes_in, place_in, pos_in};
+ghost use Rattle.rkyv_base.specs.Sealing.{IsValueAt, Keeps, KeepsEntry, Sealed, value_at, value_place, with_value};
+ghost use Rattle.rkyv_base.specs.Shape.{Viewed};
+
+use crate::element::Element;
+use crate::entry::value_offset;
+use crate::scalars::Scalar;
+use crate::view::View;
+use std::marker::PhantomData;
+
+/// One value that is written in place: the bytes that are lent, and the value's place in them.
+pub struct Seal<'a, T> {
+    pub(crate) bytes: &'a mut [u8],
+    pub(crate) place: usize,
+    kind: PhantomData<T>,
+}
+
+impl<'a, T> Drop for Seal<'a, T> {
+    fn drop(self)
+        ensures { self.exit.0.now ≡ self.entry.bytes.now }
+    {
+        let Seal {
+            bytes: _,
+            place: _,
+            kind: _,
+        } = self;
+    }
+}
+
+impl<'a, T> Seal<'a, T> {
+    /// The value at a place of some bytes.
+    #[inline]
+    pub fn over(bytes: &'a mut [u8], place: usize) -> Seal<'a, T>
+        ensures { SealAt result bytes.entry place }
+    {
+        Seal {
+            bytes,
+            place,
+            kind: PhantomData,
+        }
+    }
+}
+
+/// Writes a value at a place of some bytes.
+#[inline]
+pub fn set_at<N: Scalar>(bytes: &mut [u8], place: usize, value: N)
+    requires { place + byte_len N.encoding.word ≤ length bytes.old }
+    ensures written { bytes.new ≡ with_value N.encoding bytes.old place value }
+    ensures sealed { Sealed bytes.old place (byte_len N.encoding.word) bytes.new }
+    ensures reads { value_at N.encoding bytes.new place ≡ value }
+    ensures value { IsValueAt N.encoding bytes.new place }
+    ensures holds { Keeps (scalar_shape N.encoding) bytes.old bytes.new place }
+{
+    value.write(&mut bytes[place..place + N::byte_count()]);
+}
+
+impl<'a, N: Scalar> Seal<'a, N> {
+    /// The value itself.
+    #[inline]
+    pub fn to_native(&self) -> N
+        requires inside { LiesIn (scalar_shape N.encoding) self.now }
+        requires value { IsValueAt N.encoding (bytes_in self.now) (place_in self.now) }
+        ensures { result ≡ value_at N.encoding (bytes_in self.now) (place_in self.now) }
+    {
+        N::read(&self.bytes[self.place..self.place + N::byte_count()])
+    }
+
+    /// Writes the value; all other bytes stay.
+    #[inline]
+    pub fn set(&mut self, value: N)
+        requires { LiesIn (scalar_shape N.encoding) self.old }
+        ensures stays { SealStays self.old self.new }
+        ensures written { bytes_in self.new
+            ≡ with_value N.encoding (bytes_in self.old) (place_in self.old) value }
+        ensures sealed { Sealed (bytes_in self.old) (place_in self.old)
+            (byte_len N.encoding.word) (bytes_in self.new) }
+        ensures reads { value_at N.encoding (bytes_in self.new) (place_in self.new) ≡ value }
+        ensures value { IsValueAt N.encoding (bytes_in self.new) (place_in self.new) }
+        ensures holds { Keeps (scalar_shape N.encoding)
+            (bytes_in self.old) (bytes_in self.new) (place_in self.old) }
+    {
+        let place = self.place;
+        let bytes = &mut *self.bytes;
+        set_at(bytes, place, value);
+    }
+}
+
+/// A whole archive that is written in place, with the position of a value.
+pub struct ArchiveSeal<'a, T> {
+    archive: &'a mut [u8],
+    pos: u64,
+    kind: PhantomData<T>,
+}
+
+impl<'a, T> Drop for ArchiveSeal<'a, T> {
+    fn drop(self)
+        ensures { self.exit.0.now ≡ self.entry.archive.now }
+    {
+        let ArchiveSeal {
+            archive: _,
+            pos: _,
+            kind: _,
+        } = self;
+    }
+}
+
+impl<'a, T> ArchiveSeal<'a, T> {
+    /// The value at a position of an archive.
+    #[inline]
+    pub fn new(archive: &'a mut [u8], pos: u64) -> ArchiveSeal<'a, T>
+        ensures { ArchiveAt result archive.entry pos }
+    {
+        ArchiveSeal {
+            archive,
+            pos,
+            kind: PhantomData,
+        }
+    }
+
+    /// Where the value stands.
+    #[inline]
+    pub fn pos(&self) -> u64
+        ensures { result ≡ pos_in self.now }
+    {
+        self.pos
+    }
+
+    /// The archive and the position.
+    #[inline]
+    pub fn into_parts(self) -> (&'a mut [u8], u64)
+        ensures same_reference { result.0.ghost_name ≡ self.entry.archive.ghost_name }
+        ensures bytes { result.0.now ≡ archive_in self.entry }
+        ensures pos { result.1 ≡ pos_in self.entry }
+    {
+        let ArchiveSeal {
+            archive,
+            pos,
+            kind: _,
+        } = self;
+        (archive, pos)
+    }
+
+    /// The same archive and position, lent again.
+    #[inline]
+    pub fn as_mut(&mut self) -> ArchiveSeal<'_, T>
+        ensures bytes { archive_in result ≡ archive_in self.old }
+        ensures pos { pos_in result ≡ pos_in self.old }
+    {
+        let pos = self.pos;
+        let archive = &mut *self.archive;
+        ArchiveSeal::new(archive, pos)
+    }
+
+    /// A value at another position of the archive.
+    #[inline]
+    pub fn seal_at<U: Element>(self, pos: u64) -> Seal<'a, U>
+        requires { Viewed U.shape (archive_in self) pos }
+        ensures at { SealAt result self.entry.archive pos }
+    {
+        let ArchiveSeal {
+            archive,
+            pos: _,
+            kind: _,
+        } = self;
+        Seal::over(archive, pos as usize)
+    }
+
+    /// The key of an entry, and its value to be written.
+    ///
+    /// The archive is cut in two at the value's begin: the key's view is of the front, and the seal
+    /// is at the begin of the back.
+    #[inline]
+    pub fn split_value<K: Element, V: Element>(self, entry_pos: u64) -> (View<'a, K>, Seal<'a, V>)
+        requires { Viewed (entry_shape K.shape V.shape) (archive_in self) entry_pos }
+        ensures key { bytes_of result.0
+            ≡ take (value_place K.shape V.shape entry_pos) (archive_in self.entry) }
+        ensures key_place { place_of result.0 ≡ entry_pos }
+        ensures viewed { IsView K.shape result.0 }
+        ensures value { bytes_in result.1
+            ≡ drop (value_place K.shape V.shape entry_pos) (archive_in self.entry) }
+        ensures value_place { place_in result.1 ≡ 0 }
+        ensures inside { LiesIn V.shape result.1 }
+        ensures kept { KeepsEntry K.shape V.shape (archive_in self.entry) entry_pos }
+    {
+        let ArchiveSeal {
+            archive,
+            pos: _,
+            kind: _,
+        } = self;
+        let begin = entry_pos as usize + value_offset::<K, V>();
+        let (front, back) = archive.split_at_mut(begin);
+        (View::new(front, entry_pos), Seal::over(back, 0))
+    }
+}
+
+impl<'a, T: Element> ArchiveSeal<'a, T> {
+    /// The value, to be read.
+    #[inline]
+    pub fn as_view(&self) -> View<'_, T>
+        requires { Viewed T.shape (archive_in self.now) (pos_in self.now) }
+        ensures bytes { bytes_of result ≡ archive_in self.now }
+        ensures pos { place_of result ≡ pos_in self.now }
+        ensures viewed { IsView T.shape result }
+    {
+        View::new(&*self.archive, self.pos)
+    }
+}
+
+/// The bytes of an archive before the value of an entry, and those from there on.
+#[inline]
+pub fn halves<K: Element, V: Element>(archive: &mut [u8], entry_pos: u64) -> (&mut [u8], &mut [u8])
+    requires { value_place K.shape V.shape entry_pos ≤ length archive.old }
+    ensures* writes_back { sem 𝓛 (LendsHalves archive.entry result) }
+    ensures front { result.0.now ≡ take (value_place K.shape V.shape entry_pos) archive.old }
+    ensures back { result.1.now ≡ drop (value_place K.shape V.shape entry_pos) archive.old }
+{
+    let begin = entry_pos as usize + value_offset::<K, V>();
+    archive.split_at_mut(begin)
+}
+
+/// Writes the value of an entry that stands at a position of an archive.
+#[inline]
+pub fn set_value<K: Element, N: Scalar>(archive: &mut [u8], entry_pos: u64, value: N)
+    requires { Viewed (entry_shape K.shape (scalar_shape N.encoding)) archive.old entry_pos }
+    ensures written { archive.new ≡ with_value N.encoding archive.old
+        (value_place K.shape (scalar_shape N.encoding) entry_pos) value }
+    ensures sealed { Sealed archive.old (value_place K.shape (scalar_shape N.encoding) entry_pos)
+        (byte_len N.encoding.word) archive.new }
+    ensures reads { value_at N.encoding archive.new
+        (value_place K.shape (scalar_shape N.encoding) entry_pos) ≡ value }
+    ensures holds { Keeps (entry_shape K.shape (scalar_shape N.encoding))
+        archive.old archive.new entry_pos }
+    ensures viewed { Viewed (entry_shape K.shape (scalar_shape N.encoding)) archive.new entry_pos }
+{
+    set_at(archive, entry_pos as usize + value_offset::<K, N>(), value);
+}

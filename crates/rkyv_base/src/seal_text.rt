@@ -1,0 +1,105 @@
+//! Text that is written in place, as far as it stands inline.
+
+ghost use Rattle.std.specs.Prelude.{◌≡◌, ℕ, ◌+◌, ◌≤◌, List, length, map, MatchOption};
+ghost use Rattle.std.specs.Char.{to_ascii_uppercase};
+ghost use Rattle.rkyv_base.specs.Seal.{LiesIn, SealStays, bytes_in, place_in};
+ghost use Rattle.rkyv_base.specs.SealedText.{
+  IsElsewhere,
+  IsInline,
+  IsSealedText,
+  Raised,
+  inline_at,
+};
+ghost use Rattle.rkyv_base.specs.Sealing.{Keeps, Sealed};
+ghost use Rattle.rkyv_base.specs.Text.{text_at, text_shape, text_size};
+
+use crate::seal::Seal;
+use crate::text::{Text, fixed_at, inline_part, is_elsewhere};
+use crate::width::Width;
+
+/// The inline text at a place, where the text isn't elsewhere.
+#[inline]
+fn inline_bytes<W: Width>(bytes: &[u8], place: usize) -> Option<&[u8]>
+    requires { place + text_size W.word ≤ length bytes.now }
+    ensures { MatchOption result
+        (IsElsewhere W.word bytes.now place)
+        (λ text. IsInline W.word bytes.now place
+        × (text.now ≡ inline_at W.word bytes.now place)) }
+{
+    let fixed = fixed_at::<W>(bytes, place as u64);
+    if is_elsewhere(fixed) {
+        return None;
+    }
+    Some(inline_part(fixed))
+}
+
+/// How many bytes the inline text at a place has, where the text isn't elsewhere.
+#[inline]
+fn inline_len<W: Width>(bytes: &[u8], place: usize) -> Option<usize>
+    requires { place + text_size W.word ≤ length bytes.now }
+    ensures { MatchOption result
+        (IsElsewhere W.word bytes.now place)
+        (λ len. IsInline W.word bytes.now place
+        × (len ≡ length (inline_at W.word bytes.now place)) × (len ≤ text_size W.word)) }
+{
+    match inline_bytes::<W>(bytes, place) {
+        Some(text) => Some(text.len()),
+        None => None,
+    }
+}
+
+/// Writes the inline text at a place in upper case, and answers whether the text stands inline.
+#[inline]
+fn uppercase_at<W: Width>(bytes: &mut [u8], place: usize) -> bool
+    requires { place + text_size W.word ≤ length bytes.old }
+    ensures { Raised W.word bytes.old place bytes.new result }
+{
+    match inline_len::<W>(&*bytes, place) {
+        Some(len) => {
+            bytes[place..place + len].make_ascii_uppercase();
+            true
+        }
+        None => false,
+    }
+}
+
+impl<'a, W: Width> Seal<'a, Text<W>> {
+    /// The text; None where it stands elsewhere, outside its fixed bytes.
+    #[inline]
+    pub fn as_str(&self) -> Option<&str>
+        requires inside { LiesIn (text_shape W.word) self.now }
+        requires text { IsSealedText W.word (bytes_in self.now) (place_in self.now) }
+        ensures { MatchOption result
+            (IsElsewhere W.word (bytes_in self.now) (place_in self.now))
+            (λ text. IsInline W.word (bytes_in self.now) (place_in self.now)
+            × (text.now ≡ text_at W.word (bytes_in self.now) (place_in self.now))) }
+    {
+        match inline_bytes::<W>(&*self.bytes, self.place) {
+            Some(text) => Some(unsafe { str::from_utf8_unchecked(text) }),
+            None => None,
+        }
+    }
+
+    /// Writes the text in upper case, each letter from a to z, and answers true; false, and nothing
+    /// is changed, where the text stands elsewhere, outside its fixed bytes.
+    #[inline]
+    pub fn make_ascii_uppercase(&mut self) -> bool
+        requires { LiesIn (text_shape W.word) self.old }
+        ensures stays { SealStays self.old self.new }
+        ensures raised { Raised W.word (bytes_in self.old) (place_in self.old)
+            (bytes_in self.new) result }
+        ensures sealed { Sealed (bytes_in self.old) (place_in self.old)
+            (text_size W.word) (bytes_in self.new) }
+        ensures reads { IsInline W.word (bytes_in self.old) (place_in self.old) →
+            text_at W.word (bytes_in self.new) (place_in self.old)
+            ≡ map to_ascii_uppercase (text_at W.word (bytes_in self.old) (place_in self.old)) }
+        ensures text { IsSealedText W.word (bytes_in self.old) (place_in self.old)
+            → IsSealedText W.word (bytes_in self.new) (place_in self.old) }
+        ensures holds { Keeps (text_shape W.word)
+            (bytes_in self.old) (bytes_in self.new) (place_in self.old) }
+    {
+        let place = self.place;
+        let bytes = &mut *self.bytes;
+        uppercase_at::<W>(bytes, place)
+    }
+}

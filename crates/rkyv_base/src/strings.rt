@@ -1,0 +1,201 @@
+//! `&str` and `String`, which are archived as text.
+
+ghost use Rattle.std.specs.Prelude.{
+  ◌≡◌,
+  ◌+◌,
+  ◌-◌,
+  ◌^◌,
+  ◌<◌,
+  ◌≤◌,
+  ◌++◌,
+  length,
+  replicate,
+  string_bytes,
+  FitsSigned,
+  IfErr,
+  MatchResult,
+};
+ghost use Rattle.rkyv_base.specs.Pairs.{written_as};
+ghost use Rattle.rkyv_base.specs.Text.{text_size};
+ghost use Rattle.rkyv_base.specs.TextWriting.{
+  IsRefusedFirst,
+  TextWritten,
+  far_bytes,
+  inline_bytes,
+  length_word,
+  seen_text_is_format,
+  text_format,
+  text_limit,
+};
+
+use crate::archive::{Archive, Serialize};
+use crate::errors::{DistanceTooLarge, WriteError};
+use crate::text::Text;
+use crate::width::Width;
+use crate::writer::{Writer, append_in};
+use std::alloc::Global;
+
+/// What resolves a text: where its bytes were written, and 0 where they stand inline.
+#[derive(Clone, Copy, Debug)]
+pub struct TextResolver {
+    pub pos: u64,
+}
+
+/// Writes a text over the front of its fixed bytes, and fills the rest with ff.
+#[inline]
+fn fill_inline(text: &[u8], out: &mut [u8])
+    requires { length text.now ≤ length out.old }
+    ensures { out.new ≡ inline_bytes (length out.old) text.now }
+{
+    let (front, back) = out.split_at_mut(text.len());
+    front.copy_from_slice(text);
+    back.fill(255);
+}
+
+/// The first word of the fixed bytes of text that stands elsewhere.
+#[inline]
+fn word_of_length(len: u64) -> u64
+    requires { len < 2 ^ 62 }
+    ensures { result ≡ length_word len }
+{
+    len % 64 + 128 + len / 64 * 256
+}
+
+/// Writes the length of a text that stands elsewhere, and the distance to it.
+#[inline]
+fn fill_far<W: Width>(len: u64, distance: i64, out: &mut [u8])
+    requires room { length out.old ≡ text_size W.word }
+    requires small { len < text_limit W.word }
+    requires fits { FitsSigned W.word distance }
+    ensures { out.new ≡ far_bytes W.word len distance }
+{
+    let (front, back) = out.split_at_mut(W::ALIGN);
+    W::write_count(front, word_of_length(len));
+    W::write_distance(back, distance);
+}
+
+/// Resolves a text.
+#[inline]
+fn resolve_text<W: Width>(
+    text: &str,
+    resolver: TextResolver,
+    pos: u64,
+    out: &mut [u8],
+) -> Result<(), DistanceTooLarge>
+    requires { length out.old ≡ text_size W.word }
+    ensures { MatchResult result
+        (λ _. (text_format W.word).image text.now resolver pos out.new)
+        (λ _. (text_format W.word).far text.now resolver pos) }
+{
+    let len = text.len();
+    if len <= W::TEXT_SIZE {
+        fill_inline(text.as_bytes(), out);
+        return Ok(());
+    }
+    if W::TEXT_LIMIT <= len as u64 {
+        return Ok(());
+    }
+    match W::distance(resolver.pos, pos) {
+        Some(distance) => {
+            fill_far::<W>(len as u64, distance, out);
+            Ok(())
+        }
+        None => Err(DistanceTooLarge),
+    }
+}
+
+/// Writes the bytes of a text that can't stand inline.
+#[inline]
+fn serialize_text<S: Writer, W: Width>(
+    text: &str,
+    serializer: &mut S,
+) -> Result<TextResolver, WriteError<S::Fault>>
+    ensures written { TextWritten W.LIMIT W.word text.now
+        (S.output serializer.old) (S.output serializer.new) result }
+    ensures first { IfErr result
+        (IsRefusedFirst (S.output serializer.old) (S.output serializer.new)) }
+{
+    if text.len() <= W::TEXT_SIZE {
+        return Ok(TextResolver { pos: 0 });
+    }
+    if W::TEXT_LIMIT <= text.len() as u64 {
+        return Err(WriteError::TextTooLong);
+    }
+    let pos = serializer.pos();
+    match append_in::<W, S>(serializer, text.as_bytes()) {
+        Ok(()) => Ok(TextResolver { pos }),
+        Err(e) => Err(e),
+    }
+}
+
+impl<'t, W: Width> Archive<W> for &'t str {
+    type Archived = Text<W>;
+
+    type Resolver = TextResolver;
+
+    ghost format = { written_as (λ t. t.now) (text_format W.word) };
+
+    #[inline]
+    fn resolve(
+        &self,
+        resolver: TextResolver,
+        pos: u64,
+        out: &mut [u8],
+    ) -> Result<(), DistanceTooLarge> {
+        resolve_text::<W>(self, resolver, pos, out)
+    }
+
+    ghost laws = { seen_text_is_format W.word W.layout.kind (λ t. t.now) };
+}
+
+impl<W: Width> Archive<W> for String {
+    type Archived = Text<W>;
+
+    type Resolver = TextResolver;
+
+    ghost format = { written_as string_bytes (text_format W.word) };
+
+    #[inline]
+    fn resolve(
+        &self,
+        resolver: TextResolver,
+        pos: u64,
+        out: &mut [u8],
+    ) -> Result<(), DistanceTooLarge> {
+        resolve_text::<W>(self.as_str(), resolver, pos, out)
+    }
+
+    ghost laws = { seen_text_is_format W.word W.layout.kind string_bytes };
+}
+
+impl<'t, S: Writer, W: Width> Serialize<S, W> for &'t str {
+    #[inline]
+    fn serialize(
+        &self,
+        _alloc: Global,
+        serializer: &mut S,
+    ) -> Result<TextResolver, WriteError<S::Fault>>
+        ensures written { TextWritten W.LIMIT W.word self.now.now
+            (S.output serializer.old) (S.output serializer.new) result }
+        ensures first { IfErr result
+            (IsRefusedFirst (S.output serializer.old) (S.output serializer.new)) }
+    {
+        serialize_text::<S, W>(self, serializer)
+    }
+}
+
+impl<S: Writer, W: Width> Serialize<S, W> for String {
+    #[inline]
+    fn serialize(
+        &self,
+        _alloc: Global,
+        serializer: &mut S,
+    ) -> Result<TextResolver, WriteError<S::Fault>>
+        ensures written { TextWritten W.LIMIT W.word (string_bytes self.now)
+            (S.output serializer.old) (S.output serializer.new) result }
+        ensures first { IfErr result
+            (IsRefusedFirst (S.output serializer.old) (S.output serializer.new)) }
+    {
+        serialize_text::<S, W>(self.as_str(), serializer)
+    }
+}

@@ -1,0 +1,253 @@
+//! Text in an archive.
+
+ghost use Rattle.std.specs.Prelude.{
+  ◌≡◌,
+  ℕ,
+  ◌+◌,
+  ◌<◌,
+  ◌≤◌,
+  ◌==◌,
+  ◌^◌,
+  length,
+  position,
+  string_bytes,
+  true,
+  MatchResult,
+  ℤ,
+  pos as int,
+  ◌+ℤ◌,
+};
+ghost use Rattle.std.specs.Str.{IsUtf8};
+ghost use Rattle.rkyv_base.specs.declared.errors.VerifyError.TheVariants.{InvalidValue};
+ghost use Rattle.rkyv_base.specs.Checking.{Fails, Passes};
+ghost use Rattle.rkyv_base.specs.Text.{
+  TextReads,
+  far_begin,
+  far_length,
+  fixed_bytes,
+  inline_text,
+  is_far,
+  text_at,
+  text_element,
+  text_near,
+  text_shape,
+  text_size,
+  told_length,
+};
+ghost use Rattle.rkyv_base.specs.Shape.{Viewed};
+ghost use Rattle.rkyv_base.specs.View.{IsView, bytes_of, place_of};
+
+use crate::element::{Element, PartRange, StandsFor};
+use crate::errors::VerifyError;
+use crate::part::part_in;
+use crate::view::View;
+use crate::width::{Narrow, Width};
+use std::marker::PhantomData;
+
+/// Text, as it stands in an archive of the width W.
+///
+/// A text of up to 8 bytes (16 in a wide archive) stands in the fixed bytes, the rest of which are
+/// ff. A longer one stands elsewhere, before them: the fixed bytes then have its length, in a form
+/// that no text begins with, and the distance to it.
+pub struct Text<W = Narrow> {
+    width: PhantomData<W>,
+}
+
+/// The fixed bytes of the text at a position.
+#[inline]
+pub(crate) fn fixed_at<W: Width>(bytes: &[u8], pos: u64) -> &[u8]
+    requires { pos + text_size W.word ≤ length bytes.now }
+    ensures { result.now ≡ fixed_bytes W.word bytes.now pos }
+{
+    let place = pos as usize;
+    &bytes[place..place + W::TEXT_SIZE]
+}
+
+/// Whether the text stands elsewhere: the first byte has the form 10xxxxxx.
+#[inline]
+pub(crate) fn is_elsewhere(fixed: &[u8]) -> bool
+    requires { 0 < length fixed.now }
+    ensures { result ≡ is_far fixed.now }
+{
+    128 <= fixed[0] && fixed[0] < 192
+}
+
+/// The place of the first ff.
+#[inline]
+fn first_ff(fixed: &[u8]) -> Option<usize>
+    ensures { result ≡ position (λ x. x == 255) fixed.now }
+{
+    fixed.iter().position(|byte| *byte == 255)
+}
+
+/// The text that stands inline: the fixed bytes before the first ff.
+#[inline]
+pub(crate) fn inline_part(fixed: &[u8]) -> &[u8]
+    ensures { result.now ≡ inline_text fixed.now }
+{
+    match first_ff(fixed) {
+        Some(len) => &fixed[..len],
+        None => fixed,
+    }
+}
+
+/// The length that a first word tells.
+#[inline]
+fn length_told(word: u64) -> u64
+    ensures { result ≡ told_length word }
+{
+    word % 64 + word / 256 * 64
+}
+
+/// The length of text that stands elsewhere.
+#[inline]
+fn far_len<W: Width>(fixed: &[u8]) -> u64
+    requires { length fixed.now ≡ text_size W.word }
+    ensures { result ≡ far_length W.word fixed.now }
+{
+    length_told(W::read_count(fixed, 0))
+}
+
+/// A position moved by a distance.
+#[inline]
+fn moved(pos: u64, distance: i64) -> i128
+    ensures { result ≡ int pos +ℤ distance }
+{
+    i128::from(pos) + i128::from(distance)
+}
+
+/// Where text that stands elsewhere begins.
+#[inline]
+fn far_start<W: Width>(fixed: &[u8], pos: u64) -> i128
+    requires { length fixed.now ≡ text_size W.word }
+    ensures { result ≡ far_begin W.word fixed.now pos }
+{
+    moved(pos, W::read_distance(fixed, W::ALIGN))
+}
+
+/// Looks whether the bytes of the text at `pos` are text.
+#[inline]
+fn check_utf8(text: &[u8], pos: u64) -> Result<(), VerifyError>
+    ensures { MatchResult result
+        (λ _. IsUtf8 text.now)
+        (λ e. (IsUtf8 text.now → ⊥) × (e ≡ InvalidValue pos)) }
+{
+    match str::from_utf8(text) {
+        Ok(_) => Ok(()),
+        Err(_) => Err(VerifyError::InvalidValue { pos }),
+    }
+}
+
+/// Looks at text that stands elsewhere.
+fn check_far<W: Width>(bytes: &[u8], pos: u64, range: PartRange) -> Result<PartRange, VerifyError>
+    requires inside { pos + text_size W.word ≤ length bytes.now }
+    requires ordered { range.hi ≤ pos }
+    requires far { is_far (fixed_bytes W.word bytes.now pos) ≡ true }
+    ensures { MatchResult result
+        (Passes (text_shape W.word) bytes.now pos range)
+        (Fails (text_shape W.word) bytes.now pos range) }
+{
+    let fixed = fixed_at::<W>(bytes, pos);
+    let len = far_len::<W>(fixed);
+    if len <= W::TEXT_SIZE as u64 {
+        return Err(VerifyError::InvalidValue { pos });
+    }
+    let begin = far_start::<W>(fixed, pos);
+    let place = match part_in(begin, u128::from(len), 1, range) {
+        Ok(place) => place,
+        Err(e) => return Err(e),
+    };
+    let end = place + len;
+    match check_utf8(&bytes[place as usize..end as usize], pos) {
+        Ok(()) => Ok(PartRange {
+            lo: end,
+            hi: range.hi,
+        }),
+        Err(e) => Err(e),
+    }
+}
+
+impl<W: Width> Element for Text<W> {
+    ghost shape = { text_shape W.word };
+
+    #[inline]
+    fn size() -> usize {
+        W::TEXT_SIZE
+    }
+
+    #[inline]
+    fn align() -> usize {
+        W::ALIGN
+    }
+
+    #[inline]
+    fn check(bytes: &[u8], pos: u64, range: PartRange) -> Result<PartRange, VerifyError> {
+        let fixed = fixed_at::<W>(bytes, pos);
+        if is_elsewhere(fixed) {
+            return check_far::<W>(bytes, pos, range);
+        }
+        match check_utf8(inline_part(fixed), pos) {
+            Ok(()) => Ok(range),
+            Err(e) => Err(e),
+        }
+    }
+
+    ghost laws = { text_element W.word W.layout.kind };
+}
+
+/// The place at which a part begins.
+#[inline]
+fn place_of_begin(begin: i128) -> usize
+    requires { (at : ℕ) × (int at ≡ begin) × (at < 2 ^ 64) }
+    ensures { int result ≡ begin }
+{
+    begin as usize
+}
+
+/// The text that stands elsewhere.
+#[inline]
+fn far_part<W: Width>(bytes: &[u8], pos: u64) -> &[u8]
+    requires viewed { Viewed (text_shape W.word) bytes.now pos }
+    requires far { is_far (fixed_bytes W.word bytes.now pos) ≡ true }
+    ensures { result.now ≡ text_at W.word bytes.now pos }
+{
+    let fixed = fixed_at::<W>(bytes, pos);
+    let place = place_of_begin(far_start::<W>(fixed, pos));
+    &bytes[place..place + far_len::<W>(fixed) as usize]
+}
+
+/// The text whose fixed bytes stand at a position.
+#[inline]
+fn text_part<W: Width>(bytes: &[u8], pos: u64) -> &[u8]
+    requires { Viewed (text_shape W.word) bytes.now pos }
+    ensures { result.now ≡ text_at W.word bytes.now pos }
+{
+    let fixed = fixed_at::<W>(bytes, pos);
+    if is_elsewhere(fixed) {
+        return far_part::<W>(bytes, pos);
+    }
+    inline_part(fixed)
+}
+
+impl<W: Width> StandsFor<String> for Text<W> {
+    ghost stands = { λ b p t. TextReads W.word b p (string_bytes t) };
+
+    ghost near = { λ t. text_near W.word (string_bytes t) };
+}
+
+impl<'t, W: Width> StandsFor<&'t str> for Text<W> {
+    ghost stands = { λ b p t. TextReads W.word b p t.now };
+
+    ghost near = { λ t. text_near W.word t.now };
+}
+
+impl<'a, W: Width> View<'a, Text<W>> {
+    /// The text itself.
+    #[inline]
+    pub fn as_str(self) -> &'a str
+        requires { IsView (text_shape W.word) self }
+        ensures { result.now ≡ text_at W.word (bytes_of self.entry) (place_of self.entry) }
+    {
+        unsafe { str::from_utf8_unchecked(text_part::<W>(self.bytes(), self.pos())) }
+    }
+}

@@ -1,0 +1,67 @@
+//! The value that takes no byte.
+
+ghost use Rattle.std.specs.Prelude.{◌≡◌};
+ghost use Rattle.rkyv_base.specs.Empty.{
+  unit_element,
+  unit_format,
+  unit_is_format,
+  unit_near,
+  unit_shape,
+  unit_stands,
+};
+
+use crate::archive::{Archive, Serialize};
+use crate::element::{Element, PartRange, StandsFor};
+use crate::errors::{DistanceTooLarge, VerifyError, WriteError};
+use crate::width::Width;
+use crate::writer::Writer;
+use std::alloc::Global;
+
+impl Element for () {
+    ghost shape = { unit_shape };
+
+    #[inline]
+    fn size() -> usize {
+        0
+    }
+
+    #[inline]
+    fn align() -> usize {
+        1
+    }
+
+    #[inline]
+    fn check(_bytes: &[u8], _pos: u64, range: PartRange) -> Result<PartRange, VerifyError> {
+        Ok(range)
+    }
+
+    ghost laws = { unit_element };
+}
+
+impl StandsFor<()> for () {
+    ghost stands = { unit_stands };
+
+    ghost near = { unit_near };
+}
+
+impl<W: Width> Archive<W> for () {
+    type Archived = ();
+
+    type Resolver = ();
+
+    ghost format = { unit_format };
+
+    #[inline]
+    fn resolve(&self, _resolver: (), _pos: u64, _out: &mut [u8]) -> Result<(), DistanceTooLarge> {
+        Ok(())
+    }
+
+    ghost laws = { unit_is_format };
+}
+
+impl<S: Writer, W: Width> Serialize<S, W> for () {
+    #[inline]
+    fn serialize(&self, _alloc: Global, _serializer: &mut S) -> Result<(), WriteError<S::Fault>> {
+        Ok(())
+    }
+}

@@ -1,0 +1,218 @@
+//! The two widths of an archive.
+
+ghost use Rattle.std.specs.Prelude.{FitsSigned, MatchOption, pos, ◌-ℤ◌, ◌≡◌, ℕ, ◌+◌, ◌-◌, ◌*◌, ◌^◌, ◌<◌, ◌≤◌, ℤ, List, length, take, drop, ◌++◌, slice_range};
+ghost use Rattle.std.specs.Int.{Width as Word, w32, w64, byte_len, to_le_bytes, from_le_bytes, cast_unsigned, cast_signed};
+ghost use mir.Val.{bits};
+ghost use Rattle.rkyv_base.specs.Bytes.{number_at, signed_at};
+ghost use Rattle.rkyv_base.specs.Layout.{IsLayout, IsPlace, narrow_layout, wide_layout};
+ghost use Rattle.std.proofs.Common.{refl};
+
+use crate::scalars::Scalar;
+
+/// How wide the positions and counts of an archive are, and what follows from it.
+pub trait Width {
+    /// The element of a place in an index map: a number of one word.
+    type Place: Scalar;
+
+    // A word: the bytes of a count or a distance.
+    ghost word: { Word };
+
+    /// The greatest position, and the greatest length of an archive, in bytes.
+    const LIMIT: u64;
+
+    ghost LIMIT: { ℕ };
+
+    /// The bytes of a word, and the alignment of headers and text.
+    const ALIGN: usize;
+
+    ghost ALIGN: { ℕ };
+
+    /// The greatest capacity of a table that is written, in buckets.
+    const MAX_CAPACITY: u64;
+
+    ghost MAX_CAPACITY: { ℕ };
+
+    /// The bytes of a table's header.
+    const TABLE_SIZE: usize;
+
+    ghost TABLE_SIZE: { ℕ };
+
+    /// The bytes of an index map's header.
+    const INDEX_SIZE: usize;
+
+    ghost INDEX_SIZE: { ℕ };
+
+    /// The fixed bytes of a text, and the greatest length of one that stands in them.
+    const TEXT_SIZE: usize;
+
+    ghost TEXT_SIZE: { ℕ };
+
+    /// A text of this many bytes or more is refused.
+    const TEXT_LIMIT: u64;
+
+    ghost TEXT_LIMIT: { ℕ };
+
+    /// The count at place `at`.
+    fn read_count(bytes: &[u8], at: usize) -> u64
+        requires { at + byte_len word ≤ length bytes.now }
+        ensures { result ≡ number_at word bytes.now at };
+
+    /// Writes a count over the whole of `out`.
+    fn write_count(out: &mut [u8], count: u64)
+        requires room { length out.old ≡ byte_len word }
+        requires fits { count < 2 ^ bits word }
+        ensures { out.new ≡ to_le_bytes word count };
+
+    /// The distance at place `at`.
+    fn read_distance(bytes: &[u8], at: usize) -> i64
+        requires { at + byte_len word ≤ length bytes.now }
+        ensures { result ≡ signed_at word bytes.now at };
+
+    /// Writes a distance over the whole of `out`.
+    fn write_distance(out: &mut [u8], distance: i64)
+        requires room { length out.old ≡ byte_len word }
+        requires fits { FitsSigned word distance }
+        ensures { out.new ≡ to_le_bytes word (cast_unsigned word distance) };
+
+    /// The distance from `from` to `target`, where it fits.
+    fn distance(target: u64, from: u64) -> Option<i64>
+        ensures { MatchOption result (FitsSigned word (pos target -ℤ pos from) → ⊥) (λ d. (d ≡ pos target -ℤ pos from) × FitsSigned word d) };
+
+    ghost layout: { IsLayout word LIMIT MAX_CAPACITY TABLE_SIZE INDEX_SIZE ALIGN TEXT_SIZE TEXT_LIMIT };
+
+    ghost place: { IsPlace word Self.Place.encoding };
+}
+
+/// Archives of up to 4,294,967,295 bytes, whose positions and counts have 32 bits.
+#[derive(Clone, Copy, Debug)]
+pub struct Narrow;
+
+/// Archives of up to 9,223,372,036,854,775,807 bytes, whose positions and counts have 64 bits.
+#[derive(Clone, Copy, Debug)]
+pub struct Wide;
+
+impl Width for Narrow {
+    type Place = u32;
+
+    ghost word = { w32 };
+
+    ghost LIMIT = { 4294967295 };
+
+    ghost ALIGN = { 4 };
+
+    ghost MAX_CAPACITY = { 4294967295 };
+
+    ghost TABLE_SIZE = { 12 };
+
+    ghost INDEX_SIZE = { 16 };
+
+    ghost TEXT_SIZE = { 8 };
+
+    ghost TEXT_LIMIT = { 1073741824 };
+
+    const LIMIT: u64 = 4_294_967_295;
+
+    const ALIGN: usize = 4;
+
+    const MAX_CAPACITY: u64 = 4_294_967_295;
+
+    const TABLE_SIZE: usize = 12;
+
+    const INDEX_SIZE: usize = 16;
+
+    const TEXT_SIZE: usize = 8;
+
+    const TEXT_LIMIT: u64 = 1_073_741_824;
+
+    fn read_count(bytes: &[u8], at: usize) -> u64 {
+        let part = &bytes[at..at + 4];
+        u64::from(u32::from_le_bytes([part[0], part[1], part[2], part[3]]))
+    }
+
+    fn write_count(out: &mut [u8], count: u64) {
+        out.copy_from_slice(&(count as u32).to_le_bytes());
+    }
+
+    fn read_distance(bytes: &[u8], at: usize) -> i64 {
+        let part = &bytes[at..at + 4];
+        i64::from(i32::from_le_bytes([part[0], part[1], part[2], part[3]]))
+    }
+
+    fn write_distance(out: &mut [u8], distance: i64) {
+        out.copy_from_slice(&(distance as i32).to_le_bytes());
+    }
+
+    fn distance(target: u64, from: u64) -> Option<i64> {
+        match i32::try_from(target as i128 - from as i128) {
+            Ok(distance) => Some(i64::from(distance)),
+            Err(_) => None,
+        }
+    }
+
+    ghost layout = { narrow_layout };
+
+    ghost place = { record { word = refl; any = λ n. tt } };
+}
+
+impl Width for Wide {
+    type Place = u64;
+
+    ghost word = { w64 };
+
+    ghost LIMIT = { 9223372036854775807 };
+
+    ghost ALIGN = { 8 };
+
+    ghost MAX_CAPACITY = { 4611686018427387904 };
+
+    ghost TABLE_SIZE = { 24 };
+
+    ghost INDEX_SIZE = { 32 };
+
+    ghost TEXT_SIZE = { 16 };
+
+    ghost TEXT_LIMIT = { 4611686018427387904 };
+
+    const LIMIT: u64 = 9_223_372_036_854_775_807;
+
+    const ALIGN: usize = 8;
+
+    const MAX_CAPACITY: u64 = 4_611_686_018_427_387_904;
+
+    const TABLE_SIZE: usize = 24;
+
+    const INDEX_SIZE: usize = 32;
+
+    const TEXT_SIZE: usize = 16;
+
+    const TEXT_LIMIT: u64 = 4_611_686_018_427_387_904;
+
+    fn read_count(bytes: &[u8], at: usize) -> u64 {
+        let p = &bytes[at..at + 8];
+        u64::from_le_bytes([p[0], p[1], p[2], p[3], p[4], p[5], p[6], p[7]])
+    }
+
+    fn write_count(out: &mut [u8], count: u64) {
+        out.copy_from_slice(&count.to_le_bytes());
+    }
+
+    fn read_distance(bytes: &[u8], at: usize) -> i64 {
+        let p = &bytes[at..at + 8];
+        i64::from_le_bytes([p[0], p[1], p[2], p[3], p[4], p[5], p[6], p[7]])
+    }
+
+    fn write_distance(out: &mut [u8], distance: i64) {
+        out.copy_from_slice(&distance.to_le_bytes());
+    }
+
+    fn distance(target: u64, from: u64) -> Option<i64> {
+        match i64::try_from(target as i128 - from as i128) {
+            Ok(distance) => Some(distance),
+            Err(_) => None,
+        }
+    }
+
+    ghost layout = { wide_layout };
+
+    ghost place = { record { word = refl; any = λ n. tt } };
+}

@@ -1,0 +1,220 @@
+//! Writers: where the bytes of an archive go.
+
+ghost use Rattle.std.specs.Prelude.{
+  List,
+  MatchResult,
+  OnErr,
+  OnOk,
+  [],
+  length,
+  ℕ,
+  ◌%◌,
+  ◌+◌,
+  ◌<◌,
+  ◌^◌,
+  ◌≡◌,
+  ◌≤◌,
+};
+ghost use Rattle.rkyv_base.specs.Writing.{
+  Aligned,
+  Appended,
+  Appends,
+  Fell,
+  Output,
+  PieceGaveUp,
+  end_of,
+  held,
+  padding,
+  zeros,
+};
+
+use crate::element::Element;
+use crate::errors::WriteError;
+use crate::width::{Narrow, Width};
+use std::alloc::Global;
+use std::fmt::Debug;
+use std::marker::Model;
+
+/// Takes the bytes of an archive, in pieces.
+pub trait Writer {
+    /// Why a piece wasn't written.
+    type Fault: Debug + Drop;
+
+    // The bytes written so far, from where, and the count of failures.
+    ghost output: { Self → Output };
+
+    /// The position of the next byte.
+    fn pos(&self) -> u64
+        ensures { result ≡ end_of (output self.now) };
+
+    /// How many writes failed, at most 18,446,744,073,709,551,615.
+    fn failures(&self) -> u64
+        ensures { result ≡ (output self.now).failures };
+
+    /// Appends a piece.
+    ///
+    /// # Errors
+    /// Where a front of the piece alone was appended; one more failure is then counted.
+    fn write(&mut self, bytes: &[u8]) -> Result<(), Self::Fault>
+        requires { end_of (output self.old) + length bytes.now < 2 ^ 64 }
+        ensures appends { OnOk result (Appends (output self.old) (output self.new) bytes.now) }
+        ensures counts { OnOk result ((output self.new).failures ≡ (output self.old).failures) }
+        ensures fell { OnErr result (Fell (output self.old) (output self.new) bytes.now) };
+}
+
+/// A growth that was refused.
+#[derive(Debug, Drop)]
+pub struct NoMemory;
+
+/// A writer into memory, from position 0.
+#[derive(Drop)]
+pub struct VecWriter {
+    bytes: Vec<u8>,
+    failures: u64,
+}
+
+impl Model for VecWriter {
+    ghost Value = { List ℕ × ℕ };
+
+    ghost view = { λ w. (w.bytes.items, w.failures) };
+}
+
+impl VecWriter {
+    /// A writer that holds nothing; it takes no memory.
+    pub fn new(alloc: Global) -> VecWriter
+        ensures { result ≡ ([], 0) }
+    {
+        VecWriter {
+            bytes: Vec::new(alloc),
+            failures: 0,
+        }
+    }
+
+    /// The bytes that were written.
+    pub fn into_vec(self) -> Vec<u8>
+        ensures { result.items ≡ self.0 }
+    {
+        self.bytes
+    }
+
+    /// The bytes that were written so far.
+    pub fn bytes(&self) -> &[u8]
+        ensures { result.now ≡ self.now.0 }
+    {
+        self.bytes.as_slice()
+    }
+}
+
+impl Writer for VecWriter {
+    type Fault = NoMemory;
+
+    ghost output = { held };
+
+    #[inline]
+    fn pos(&self) -> u64 {
+        self.bytes.len() as u64
+    }
+
+    #[inline]
+    fn failures(&self) -> u64 {
+        self.failures
+    }
+
+    /// Appends the whole piece.
+    ///
+    /// # Errors
+    /// Where the growth is refused; nothing is appended then.
+    #[inline]
+    fn write(&mut self, bytes: &[u8]) -> Result<(), NoMemory>
+        requires { length self.old.0 + length bytes.now < 2 ^ 64 }
+        ensures appends { OnOk result (Appends (held self.old) (held self.new) bytes.now) }
+        ensures counts { OnOk result (self.new.1 ≡ self.old.1) }
+        ensures fell { OnErr result (Fell (held self.old) (held self.new) bytes.now) }
+        ensures kept { OnErr result (self.new.0 ≡ self.old.0) }
+    {
+        match self.bytes.extend_from_slice(bytes) {
+            Ok(()) => Ok(()),
+            Err(_) => {
+                if self.failures < u64::MAX {
+                    self.failures += 1;
+                }
+                Err(NoMemory)
+            }
+        }
+    }
+}
+
+/// Appends one piece to an archive of the width W. Every byte of an archive is written by this call.
+///
+/// # Errors
+/// `PositionTooLarge` where the piece would end past the width's limit, and nothing is written;
+/// `Writer` where the writer fails, which may have taken a front of the piece.
+#[inline]
+pub fn append_in<W: Width, S: Writer>(
+    serializer: &mut S,
+    bytes: &[u8],
+) -> Result<(), WriteError<S::Fault>>
+    ensures { MatchResult result
+        (λ _. Appended W.LIMIT bytes.now (S.output serializer.old) (S.output serializer.new))
+        (PieceGaveUp W.LIMIT bytes.now (S.output serializer.old) (S.output serializer.new)) }
+{
+    let pos = serializer.pos();
+    let len = bytes.len() as u64;
+    if pos > W::LIMIT || len > W::LIMIT - pos {
+        return Err(WriteError::PositionTooLarge);
+    }
+    match serializer.write(bytes) {
+        Ok(()) => Ok(()),
+        Err(fault) => Err(WriteError::Writer(fault)),
+    }
+}
+
+/// Appends zeros up to the next multiple of the element's alignment, in one piece, and answers the
+/// position behind them.
+///
+/// # Errors
+/// Those of `append_in`.
+#[inline]
+pub fn align_for_in<W: Width, T: Element, S: Writer>(
+    serializer: &mut S,
+) -> Result<u64, WriteError<S::Fault>>
+    ensures { let o = S.output serializer.old in let pad = zeros (padding T.shape.align (end_of o)) in
+        MatchResult result
+        (Aligned W.LIMIT T.shape.align o (S.output serializer.new))
+        (PieceGaveUp W.LIMIT pad o (S.output serializer.new)) }
+{
+    let align = T::align();
+    let over = (serializer.pos() % align as u64) as usize;
+    let pad = (align - over) % align;
+    match append_in::<W, S>(serializer, &[0; 8][..pad]) {
+        Ok(()) => Ok(serializer.pos()),
+        Err(e) => Err(e),
+    }
+}
+
+/// Appends one piece to a narrow archive.
+///
+/// # Errors
+/// As `append_in`, with the limit 4,294,967,295.
+#[inline]
+pub fn append<S: Writer>(serializer: &mut S, bytes: &[u8]) -> Result<(), WriteError<S::Fault>>
+    ensures { MatchResult result
+        (λ _. Appended 4294967295 bytes.now (S.output serializer.old) (S.output serializer.new))
+        (PieceGaveUp 4294967295 bytes.now (S.output serializer.old) (S.output serializer.new)) }
+{
+    append_in::<Narrow, S>(serializer, bytes)
+}
+
+/// Appends zeros up to the next multiple of the element's alignment to a narrow archive.
+///
+/// # Errors
+/// As `align_for_in`, with the limit 4,294,967,295.
+#[inline]
+pub fn align_for<T: Element, S: Writer>(serializer: &mut S) -> Result<u64, WriteError<S::Fault>>
+    ensures { let o = S.output serializer.old in let pad = zeros (padding T.shape.align (end_of o)) in
+        MatchResult result
+        (Aligned 4294967295 T.shape.align o (S.output serializer.new))
+        (PieceGaveUp 4294967295 pad o (S.output serializer.new)) }
+{
+    align_for_in::<Narrow, T, S>(serializer)
+}

@@ -1,0 +1,46 @@
+-- A list is cut at the first place that passes.
+use Rattle.std.proofs.Common.{◌≡◌, ◌==◌, ℕ, ◌+◌, ◌<◌, Bool, true, List, [], ◌∷◌, length, take, drop, Some, None, refl, sym, ◌∙◌, subst, arith, ltb, ⊎_elim}
+use Rattle.std.specs.List.{slice_split, position, position_or_len}
+use Rattle.std.proofs.lemmas.List.Splits.{slice_split_first, slice_split_none, length-slice_split}
+use Rattle.rkyv_dict.specs.Script.{Request, parts_of, one_number_of, two_numbers_of, bare_of, kind_of}
+use Rattle.std.proofs.lemmas.List.Quantifiers.{position-Some}
+use Rattle.std.proofs.lemmas.List.Sums.{position_or_len_is, fails_before_first}
+use Rattle.std.proofs.lemmas.Bool.{cases_lt, lt-ltb}
+
+pub cut_at : (p : ℕ → Bool) (xs : List ℕ) (i : ℕ) → position p xs ≡ Some i → slice_split p xs ≡ take i xs ∷ slice_split p (drop (i + 1) xs)
+cut_at p xs i e =
+    let found = position-Some p xs i 0 e in
+    let here : position_or_len p xs ≡ i = position_or_len_is p xs i 0 (omega (arith, found.0)) found.2 (λ h. found.1) in
+    let inside : position_or_len p xs < length xs = omega (arith, found.0, here) in
+    let split : slice_split p xs ≡ take (position_or_len p xs) xs ∷ slice_split p (drop (position_or_len p xs + 1) xs) = slice_split_first p xs 0 inside in
+    subst (λ (n : ℕ). slice_split p xs ≡ take n xs ∷ slice_split p (drop (n + 1) xs)) here split
+
+-- the same, of the whole list
+pub cut_none : (p : ℕ → Bool) (xs : List ℕ) → position p xs ≡ None → slice_split p xs ≡ xs ∷ []
+cut_none p [] e = refl
+cut_none p (x ∷ xs) e = ⊎_elim
+    (λ h. let t : ltb (position_or_len p (x ∷ xs)) (length (x ∷ xs)) ≡ true = lt-ltb _ _ h in
+    let f : position p (x ∷ xs) ≡ Some (position_or_len p (x ∷ xs)) = rw t refl in
+    absurd (let bad : Some (position_or_len p (x ∷ xs)) ≡ None = sym f ∙ e in cc))
+    (λ h. slice_split_none p (x ∷ xs) (λ k d below. fails_before_first p (x ∷ xs) k d (omega arith)))
+    (cases_lt (position_or_len p (x ∷ xs)) (length (x ∷ xs)))
+
+-- a list has a first part
+cons_of : (parts : List (List ℕ)) → 0 < length parts → (first : List ℕ) × (others : List (List ℕ)) × (parts ≡ first ∷ others)
+cons_of [] h = absurd (omega arith)
+cons_of (first ∷ others) h = (first, others, refl)
+
+pub split_cons : (p : ℕ → Bool) (xs : List ℕ) → (first : List ℕ) × (others : List (List ℕ)) × (slice_split p xs ≡ first ∷ others)
+split_cons p xs = cons_of (slice_split p xs) (omega (arith, length-slice_split p xs))
+
+pub one_number_of_more : (most : ℕ) (word rest : List ℕ) → one_number_of most (word ∷ parts_of 32 rest) ≡ None
+one_number_of_more most word rest = let s = split_cons (λ b. b == 32) rest in rw s.2 refl
+
+pub two_numbers_of_more : (most : ℕ) (first second rest : List ℕ) → two_numbers_of most (first ∷ second ∷ parts_of 32 rest) ≡ None
+two_numbers_of_more most first second rest = let s = split_cons (λ b. b == 32) rest in rw s.2 refl
+
+pub bare_of_more : (request : Request) (rest : List ℕ) → bare_of request (parts_of 32 rest) ≡ None
+bare_of_more request rest = let s = split_cons (λ b. b == 32) rest in rw s.2 refl
+
+pub kind_of_more : (word rest : List ℕ) → kind_of (word ∷ parts_of 32 rest) ≡ None
+kind_of_more word rest = let s = split_cons (λ b. b == 32) rest in rw s.2 refl

@@ -1,0 +1,12 @@
+pub mod Appends
+pub mod Cuts
+pub mod Deciding
+pub mod Filling
+pub mod Handed
+pub mod Kept
+pub mod Made
+pub mod Numerals
+pub mod Placed
+pub mod Reading
+pub mod Texts
+pub mod Writing

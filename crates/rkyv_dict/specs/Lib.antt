@@ -1,0 +1,12 @@
+pub mod Script
+pub mod Hex
+pub mod Refusals
+pub mod Buckets
+pub mod Layout
+pub mod Archive
+pub mod Output
+pub mod Seen
+pub mod Shown
+pub mod Table
+pub mod Written
+pub mod Run

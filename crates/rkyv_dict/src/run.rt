@@ -1,0 +1,158 @@
+//! Runs a script from a reader, and writes its answers to a writer.
+ghost use Rattle.rkyv_dict.specs.Output.{output_of};
+ghost use Rattle.rkyv_dict.specs.Run.{AppendsFront, Gathers, MovesFront};
+ghost use Rattle.rkyv_dict.specs.declared.run.RunError.TheVariants.{Memory};
+ghost use Rattle.std.specs.Io.KnownBytes.{Appends, IsAtEnd};
+ghost use Rattle.std.specs.Prelude.{◌≡◌, ◌≢◌, ◌<◌, IfErr, IfOk, IfSome, IsErrOf, IsTrue, OnErr, OnOk, length, string_bytes, vec_len};
+
+use crate::dict::Dict;
+use crate::script::cut;
+use std::alloc::{AllocError, Global};
+use std::io::{Read, Write};
+use thiserror::Error;
+
+/// Why a run ended before its time.
+#[derive(Debug, Drop, Error)]
+pub enum RunError {
+    /// A read failed, or 9,223,372,036,854,775,807 reads met no end; nothing was written.
+    #[error("read fault")]
+    Read,
+    /// A write failed, or took no byte of a piece; a beginning of the output was written.
+    #[error("write fault")]
+    Write,
+    /// A growth was refused; a beginning of the output was written.
+    #[error("no memory")]
+    Memory,
+}
+
+impl From<AllocError> for RunError {
+    ghost from_gives = { λ _ e. e ≡ Memory };
+
+    fn from(_e: AllocError) -> RunError {
+        RunError::Memory
+    }
+}
+
+/// How many bytes are asked for in one read, and held back before a write.
+const PIECE: usize = 65_536;
+
+/// How many reads there are at most.
+const MOST_READS: u64 = 9_223_372_036_854_775_807;
+
+/// Reads a piece onto the input, and says whether the end was met.
+fn read_piece<R: Read>(
+    reader: &mut R,
+    piece: &mut [u8],
+    input: &mut Vec<u8>,
+) -> Result<bool, RunError>
+    requires { 0 < length piece.old }
+    ensures gathers { OnOk result (Gathers (R.remaining reader.old) (R.remaining reader.new)
+        input.old.items input.new.items) }
+    ensures end { IfOk result (λ ended. IsTrue ended → IsAtEnd (R.remaining reader.new)) }
+    ensures causes { IfErr result (λ e. e ≢ RunError.Write) }
+{
+    match reader.read(piece) {
+        Ok(0) => Ok(true),
+        Ok(n) => {
+            input.extend_from_slice(&piece[..n])?;
+            Ok(false)
+        }
+        Err(_) => Err(RunError::Read),
+    }
+}
+
+/// Room for a piece.
+fn room(alloc: Global, len: usize) -> Result<Vec<u8>, AllocError>
+    ensures { IfOk result (λ v. vec_len v ≡ len) }
+{
+    vec![in alloc; 0u8; len]
+}
+
+/// Reads all there is.
+#[tactic(auto, using(crate::proofs::Writing::gathers_more))]
+fn read_input<R: Read>(alloc: Global, reader: &mut R) -> Result<Vec<u8>, RunError>
+    ensures whole { IfOk result (λ input.
+        IfSome (R.remaining reader.old) (λ bytes. input.items ≡ bytes)) }
+    ensures end { OnOk result (IsAtEnd (R.remaining reader.new)) }
+    ensures causes { IfErr result (λ e. e ≢ RunError.Write) }
+{
+    let mut input = Vec::new(alloc);
+    let mut piece = room(alloc, PIECE)?;
+    for _turn in 0..MOST_READS {
+        if read_piece(reader, piece.as_mut_slice(), &mut input)? {
+            return Ok(input);
+        }
+    }
+    Err(RunError::Read)
+}
+
+/// Writes the whole piece.
+fn write_piece<W: Write>(writer: &mut W, piece: &[u8]) -> Result<(), RunError>
+    ensures ok { OnOk result (Appends (W.contents writer.old) (W.contents writer.new) piece.now) }
+    ensures front { OnErr result
+        (AppendsFront (W.contents writer.old) (W.contents writer.new) piece.now) }
+    ensures cause { IfErr result (λ e. e ≡ RunError.Write) }
+{
+    let mut rest = piece;
+    while !rest.is_empty() {
+        match writer.write(rest) {
+            Ok(0) => return Err(RunError::Write),
+            Ok(n) => rest = rest.split_at(n).1,
+            Err(_) => return Err(RunError::Write),
+        }
+    }
+    Ok(())
+}
+
+/// Writes what is held back, where it is much.
+fn write_much<W: Write>(writer: &mut W, held: &mut String) -> Result<(), RunError>
+    ensures ok { OnOk result (MovesFront (W.contents writer.old) (W.contents writer.new)
+        (string_bytes held.old) (string_bytes held.new)) }
+    ensures front { OnErr result
+        (AppendsFront (W.contents writer.old) (W.contents writer.new) (string_bytes held.old)) }
+    ensures cause { IfErr result (λ e. e ≡ RunError.Write) }
+{
+    if held.len() >= PIECE {
+        write_piece(writer, held.as_bytes())?;
+        held.clear();
+    }
+    Ok(())
+}
+
+/// Writes what the script answers.
+fn write_answers<W: Write>(alloc: Global, script: &[u8], writer: &mut W) -> Result<(), RunError>
+    ensures ok { OnOk result
+        (Appends (W.contents writer.old) (W.contents writer.new) (output_of script.now)) }
+    ensures front { OnErr result
+        (AppendsFront (W.contents writer.old) (W.contents writer.new) (output_of script.now)) }
+    ensures causes { IfErr result (λ e. e ≢ RunError.Read) }
+{
+    let mut dict = Dict::new(alloc);
+    let mut held = String::new(alloc);
+    let mut rest = Some(script);
+    while let Some(text) = rest {
+        let (line, more) = cut(text, b'\n');
+        dict.answer(alloc, line, &mut held)?;
+        write_much(writer, &mut held)?;
+        rest = more;
+    }
+    write_piece(writer, held.as_bytes())
+}
+
+/// Reads a script to its end, and writes its answers and nothing else.
+///
+/// Lines end with LF; the last may lack it. Empty lines are skipped.
+pub fn run<R: Read, W: Write>(alloc: Global, reader: &mut R, writer: &mut W) -> Result<(), RunError>
+    // What is written is the output of the script that is read, and all of it is read.
+    ensures ok { OnOk result (IfSome (R.remaining reader.old) (λ script.
+        Appends (W.contents writer.old) (W.contents writer.new) (output_of script))) }
+    ensures end { OnOk result (IsAtEnd (R.remaining reader.new)) }
+    // Where reading fails nothing is written.
+    ensures read { IsErrOf result RunError.Read → writer.new ≡ writer.old }
+    // Any other failure comes after a beginning of the output.
+    ensures front { OnErr result (IfSome (R.remaining reader.old) (λ script.
+        AppendsFront (W.contents writer.old) (W.contents writer.new) (output_of script))) }
+{
+    let script = read_input(alloc, reader)?;
+    write_answers(alloc, script.as_slice(), writer)
+}

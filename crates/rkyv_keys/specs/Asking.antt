@@ -1,0 +1,44 @@
+-- What native keys and queries answer of keys that were written.
+use Rattle.std.specs.Prelude.{◌≡◌, ℕ, Bool, true, List}
+use Rattle.std.proofs.Common.{sym, ◌∙◌}
+use Rattle.std.proofs.lemmas.Bool.Decides.{same_from_decides}
+use Rattle.rkyv_scan.specs.Hash.{HasherCall}
+use Rattle.rkyv_base.specs.Shape.{Shape, Standing}
+use Rattle.rkyv_keys.specs.Equality.{Comparison, IsEquivalence}
+use Rattle.rkyv_keys.specs.Keys.{IsQuery, FitsItsEqual}
+
+-- a value makes the calls of each key that was written of it
+abbrev pub HashesAsWritten : {V : Type 0} → Shape → (List ℕ → ℕ → V → Type 0) → (List ℕ → ℕ → List HasherCall)
+    → (V → Type 0) → (V → List HasherCall) → Type 0
+HashesAsWritten {V = V} s stands key_calls can_read calls =
+    (v : V) (b : List ℕ) (p : ℕ) → can_read v → Standing s b p → stands b p v → calls v ≡ key_calls b p
+
+-- a query answers the same of all keys that were written of one value
+abbrev pub AsksForValues : {V Q : Type 0} → Shape → (List ℕ → ℕ → V → Type 0) → (V → Type 0) → (Q → Type 0) → (Q → List ℕ → ℕ → Bool) → Type 0
+AsksForValues {V = V} {Q = Q} s stands reads can_read fits =
+    (q : Q) (v : V) (b c : List ℕ) (p r : ℕ) → can_read q → reads v → Standing s b p → Standing s c r → stands b p v → stands c r v → fits q b p ≡ fits q c r
+
+module _ {V : Type 0} (s : Shape) (same : Comparison) (key_calls : List ℕ → ℕ → List HasherCall)
+    (reads : V → Type 0) (calls : V → List HasherCall) (fits : V → List ℕ → ℕ → Bool)
+    (stands : List ℕ → ℕ → V → Type 0) (equal : V → V → Bool) (itself : (v : V) → equal v v ≡ true)
+    (query : IsQuery s same key_calls reads calls fits) (native : FitsItsEqual s stands equal fits) where
+  fits_written : (v : V) (b : List ℕ) (p : ℕ) → Standing s b p → stands b p v → fits v b p ≡ true
+  fits_written v b p h st = native v v b p h st ∙ itself v
+
+  pub hashes_as_written : HashesAsWritten s stands key_calls reads calls
+  hashes_as_written v b p r h st = query.alike v b p r h (fits_written v b p h st)
+
+  -- two keys that were written of one value are the same
+  pub same_written : (v : V) (b c : List ℕ) (p r : ℕ) → reads v → Standing s b p → Standing s c r → stands b p v → stands c r v → same b p c r ≡ true
+  same_written v b c p r can h g st tt' =
+      sym (query.class v b c p r can h g (fits_written v b p h st)) ∙ fits_written v c r g tt'
+
+  module _ {Q : Type 0} (can_read : Q → Type 0) (q_calls : Q → List HasherCall) (q_fits : Q → List ℕ → ℕ → Bool)
+      (laws : IsQuery s same key_calls can_read q_calls q_fits) (equivalence : IsEquivalence s same) where
+    pub asks_for_values : AsksForValues s stands reads can_read q_fits
+    asks_for_values q v b c p r can can' h g st st' =
+        let there = same_written v b c p r can' h g st st' in
+        let back = equivalence.symmetric b c p r h g there in
+        same_from_decides (q_fits q b p) (q_fits q c r)
+        (λ x. laws.class q b c p r can h g x ∙ there, λ x. laws.class q c b r p can g h x ∙ back)
+        (λ x. x, λ x. x)

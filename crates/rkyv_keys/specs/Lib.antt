@@ -1,0 +1,14 @@
+pub mod Asking
+pub mod Calls
+pub mod Equality
+pub mod Fixed
+pub mod Keys
+pub mod LowByte
+pub mod OfEntries
+pub mod OfScalars
+pub mod OfTexts
+pub mod OfUnits
+pub mod OfValues
+pub mod OfViews
+pub mod Places
+pub mod Reading

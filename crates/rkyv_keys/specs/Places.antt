@@ -1,0 +1,15 @@
+-- What is said of a place of some bytes, said of where a view is.
+use Rattle.std.specs.Prelude.{ℕ, List}
+use Rattle.rkyv_base.specs.declared.view.View.{View}
+use Rattle.rkyv_base.specs.View.{bytes_of, place_of}
+
+-- what a function of a place gives at a view, and one of two places at two views
+abbrev pub at_view : {T X : Type 0} → (List ℕ → ℕ → X) → View T → X
+at_view f v = f (bytes_of v) (place_of v)
+
+abbrev pub at_views : {T X : Type 0} → (List ℕ → ℕ → List ℕ → ℕ → X) → View T → View T → X
+at_views f v w = f (bytes_of v) (place_of v) (bytes_of w) (place_of w)
+
+-- a relation of places and values, where a view is
+abbrev pub Here : {T V : Type 0} → (List ℕ → ℕ → V → Type 0) → View T → V → Type 0
+Here relation view = relation (bytes_of view) (place_of view)

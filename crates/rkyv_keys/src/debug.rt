@@ -1,0 +1,94 @@
+//! Printing values that stand in archives.
+
+ghost use Rattle.std.specs.Prelude.{◌≡◌, MatchOption};
+ghost use Rattle.rkyv_base.specs.Entry.{entry_shape};
+ghost use Rattle.rkyv_base.specs.Empty.{unit_shape};
+ghost use Rattle.rkyv_base.specs.Scalar.{scalar_shape};
+ghost use Rattle.rkyv_base.specs.Shape.{Viewed};
+ghost use Rattle.rkyv_base.specs.View.{IsAt, IsView};
+
+use crate::scalars::ScalarKey;
+use rkyv_base::element::{Element, PartRange};
+use rkyv_base::entry::Entry;
+use rkyv_base::view::View;
+use std::fmt::{self, Debug, Formatter, Write};
+
+/// An element whose values are printed in place, as Rust's `Debug` prints the values themselves.
+pub trait ElementDebug: Element {
+    /// Writes the value.
+    fn debug<W: Write>(view: View<'_, Self>, f: &mut Formatter<W>) -> fmt::Result
+        requires { IsView Self.shape view };
+}
+
+/// The value at a position of some bytes, where one stands.
+#[inline]
+fn standing<T: Element>(bytes: &[u8], pos: u64) -> Option<View<'_, T>>
+    ensures { MatchOption result
+        (Viewed T.shape bytes.now pos → ⊥)
+        (λ v. IsAt v bytes.entry pos × Viewed T.shape bytes.now pos) }
+{
+    let len = bytes.len() as u64;
+    let size = T::size() as u64;
+    if len < size || len - size < pos || pos % T::align() as u64 != 0 {
+        return None;
+    }
+    match T::check(bytes, pos, PartRange { lo: 0, hi: pos }) {
+        Ok(_) => Some(View::new(bytes, pos)),
+        Err(_) => None,
+    }
+}
+
+/// A value that stands in an archive, to be handed to what prints by `Debug`.
+///
+/// It looks again whether the value stands, so it needs no condition: where none does, printing
+/// is an error.
+#[derive_where(Clone, Copy)]
+pub struct Shown<'a, T> {
+    view: View<'a, T>,
+}
+
+impl<'a, T: ElementDebug> Shown<'a, T> {
+    /// The value where the view is.
+    #[inline]
+    pub fn new(view: View<'a, T>) -> Shown<'a, T>
+        ensures { result.view ≡ view.entry }
+    {
+        Shown { view }
+    }
+}
+
+impl<'a, T: ElementDebug> Debug for Shown<'a, T> {
+    fn fmt<W: Write>(&self, f: &mut Formatter<W>) -> fmt::Result {
+        match standing::<T>(self.view.bytes(), self.view.pos()) {
+            Some(view) => T::debug(view, f),
+            None => Err(fmt::Error),
+        }
+    }
+}
+
+impl<N: ScalarKey + Debug> ElementDebug for N {
+    fn debug<W: Write>(view: View<'_, N>, f: &mut Formatter<W>) -> fmt::Result
+        requires { IsView (scalar_shape N.encoding) view }
+    {
+        view.to_native().fmt(f)
+    }
+}
+
+impl ElementDebug for () {
+    fn debug<W: Write>(_view: View<'_, ()>, f: &mut Formatter<W>) -> fmt::Result
+        requires { IsView unit_shape _view }
+    {
+        ().fmt(f)
+    }
+}
+
+impl<K: ElementDebug, V: ElementDebug> ElementDebug for Entry<K, V> {
+    fn debug<W: Write>(view: View<'_, Entry<K, V>>, f: &mut Formatter<W>) -> fmt::Result
+        requires { IsView (entry_shape K.shape V.shape) view }
+    {
+        f.debug_tuple("")
+            .field(&Shown::new(view.key()))
+            .field(&Shown::new(view.value()))
+            .finish()
+    }
+}

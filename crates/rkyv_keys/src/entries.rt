@@ -1,0 +1,141 @@
+//! Entries and pairs as keys.
+
+ghost use Rattle.std.specs.Prelude.{◌≡◌, IsTrue, ◌↔◌, MatchResult};
+ghost use Rattle.rkyv_base.specs.Entry.{entry_shape};
+ghost use Rattle.rkyv_base.specs.Pairs.{PairStands};
+ghost use Rattle.rkyv_base.specs.View.{IsView};
+ghost use Rattle.rkyv_keys.specs.Places.{at_view, at_views, Here};
+ghost use Rattle.rkyv_keys.specs.Calls.{after_calls};
+ghost use Rattle.rkyv_keys.specs.Fixed.{entry_fixed};
+ghost use Rattle.rkyv_keys.specs.OfEntries.{
+  BothRead,
+  entry_calls,
+  entry_equals,
+  entry_equals_what_stands,
+  entry_equivalence,
+  entry_fits,
+  entry_fits_its_equal,
+  entry_key,
+  entry_query,
+  entry_refuses,
+  entry_same,
+  pair_calls,
+};
+
+use crate::equality::{ElementEq, ElementEquiv, MatchesNative};
+use crate::hash::KeyHash;
+use crate::keys::{FixedKey, KeyElement, NativeKey, Query};
+use crate::reading::Deserialize;
+use rkyv_base::element::StandsFor;
+use rkyv_base::entry::Entry;
+use rkyv_base::errors::ReadError;
+use rkyv_base::view::View;
+use rkyv_scan::hash::KeyHasher;
+use std::alloc::Global;
+
+impl<A: KeyHash, B: KeyHash> KeyHash for (A, B) {
+    ghost calls = { pair_calls A.calls B.calls };
+
+    ghost can_read = { BothRead A.can_read B.can_read };
+
+    #[inline]
+    fn hash<H: KeyHasher>(&self, state: &mut H) {
+        self.0.hash(state);
+        self.1.hash(state);
+    }
+}
+
+impl<K: ElementEq, V: ElementEq> ElementEq for Entry<K, V> {
+    ghost same = { entry_same K.shape V.shape K.same V.same };
+
+    #[inline]
+    fn same(a: View<'_, Entry<K, V>>, b: View<'_, Entry<K, V>>) -> bool
+        requires a { IsView (entry_shape K.shape V.shape) a }
+        requires b { IsView (entry_shape K.shape V.shape) b }
+        ensures { result ≡ at_views (entry_same K.shape V.shape K.same V.same) a.entry b.entry }
+    {
+        K::same(a.key(), b.key()) && V::same(a.value(), b.value())
+    }
+}
+
+impl<K: ElementEquiv, V: ElementEquiv> ElementEquiv for Entry<K, V> {
+    ghost equivalence = { entry_equivalence K.laws V.laws K.equivalence V.equivalence };
+}
+
+impl<K: KeyElement, V: KeyElement> KeyElement for Entry<K, V> {
+    ghost key_calls = { entry_calls K.shape V.shape K.key_calls V.key_calls };
+
+    #[inline]
+    fn hash_view<H: KeyHasher>(view: View<'_, Entry<K, V>>, state: &mut H)
+        requires { IsView (entry_shape K.shape V.shape) view }
+        ensures { let calls = entry_calls K.shape V.shape K.key_calls V.key_calls in
+            state.new ≡ after_calls H.feed state.old (at_view calls view.entry) }
+    {
+        K::hash_view(view.key(), state);
+        V::hash_view(view.value(), state);
+    }
+
+    ghost key = { entry_key K.laws V.laws K.key V.key };
+}
+
+impl<K: FixedKey, V: FixedKey> FixedKey for Entry<K, V> {
+    ghost fixed = { entry_fixed K.shape V.shape K.laws V.laws
+        K.key_calls V.key_calls K.fixed V.fixed };
+}
+
+impl<K: KeyElement, V: KeyElement, A: Query<K>, B: Query<V>> Query<Entry<K, V>> for (A, B) {
+    ghost fits = { entry_fits K.shape V.shape A.fits B.fits };
+
+    #[inline]
+    fn same(&self, key: View<'_, Entry<K, V>>) -> bool
+        requires query { BothRead A.can_read B.can_read self.now }
+        requires key { IsView (entry_shape K.shape V.shape) key }
+        ensures { result ≡ at_view (entry_fits K.shape V.shape A.fits B.fits self.now) key.entry }
+    {
+        self.0.same(key.key()) && self.1.same(key.value())
+    }
+
+    ghost query = { entry_query K.laws V.laws A.query B.query };
+}
+
+impl<
+    K: KeyElement + StandsFor<A>,
+    V: KeyElement + StandsFor<B>,
+    A: NativeKey<K>,
+    B: NativeKey<V>,
+> NativeKey<Entry<K, V>> for (A, B) {
+    ghost native = { entry_fits_its_equal K.laws V.laws
+        K.stands V.stands A.eq B.eq A.fits B.fits A.native B.native };
+}
+
+impl<A, B, K: MatchesNative<A>, V: MatchesNative<B>> MatchesNative<(A, B)> for Entry<K, V> {
+    ghost equals = { entry_equals K.shape V.shape K.equals V.equals };
+
+    #[inline]
+    fn eq_native(view: View<'_, Entry<K, V>>, value: &(A, B)) -> bool
+        requires { IsView (entry_shape K.shape V.shape) view }
+        ensures { IsTrue result
+            ↔ Here (entry_equals K.shape V.shape K.equals V.equals) view.entry value.now }
+    {
+        K::eq_native(view.key(), &value.0) && V::eq_native(view.value(), &value.1)
+    }
+
+    ghost written = { entry_equals_what_stands K.laws V.laws
+        K.stands V.stands K.equals V.equals K.written V.written };
+}
+
+impl<A: Drop, B, K: Deserialize<A>, V: Deserialize<B>> Deserialize<(A, B)> for Entry<K, V> {
+    ghost refuses = { entry_refuses K.shape V.shape K.refuses V.refuses };
+
+    #[inline]
+    fn deserialize(alloc: Global, view: View<'_, Entry<K, V>>) -> Result<(A, B), ReadError>
+        requires { IsView (entry_shape K.shape V.shape) view }
+        ensures { MatchResult result
+            (Here (PairStands K.shape V.shape K.stands V.stands) view.entry)
+            (Here (entry_refuses K.shape V.shape K.refuses V.refuses) view.entry) }
+    {
+        let key = K::deserialize(alloc, view.key())?;
+        let value = V::deserialize(alloc, view.value())?;
+        Ok((key, value))
+    }
+}

@@ -1,0 +1,53 @@
+//! Hashing values by lists of hasher calls.
+
+ghost use Rattle.std.specs.Prelude.{◌≡◌, List, [], ◌∷◌};
+ghost use Rattle.rkyv_scan.specs.Hash.{HasherCall, Isize, Usize, hash_of_calls};
+ghost use Rattle.rkyv_keys.specs.Calls.{after_calls};
+ghost use Rattle.rkyv_keys.specs.Keys.{ReadsAnywhere};
+
+use rkyv_scan::hash::KeyHasher;
+
+/// A value that is hashed by a list of calls, which is a function of the value.
+///
+/// It takes the place of std's `Hash`, whose calls depend on the machine.
+pub trait KeyHash {
+    // The calls, in order.
+    ghost calls: { Self → List HasherCall };
+
+    // What must hold of the value so that it can be read: of a view, that something stands there.
+    ghost can_read: { Self → Type 0 } = { ReadsAnywhere };
+
+    /// Makes the value's calls of a hasher.
+    fn hash<H: KeyHasher>(&self, state: &mut H)
+        requires { can_read self.now }
+        ensures { state.new ≡ after_calls H.feed state.old (calls self.now) };
+}
+
+/// The hash of a value by a new hasher.
+#[inline]
+pub fn hash_value<Q: KeyHash, H: KeyHasher + Default>(value: &Q) -> u64
+    requires { Q.can_read value.now }
+    ensures { result ≡ hash_of_calls H.initial H.feed H.finish (Q.calls value.now) }
+{
+    let mut state = H::default();
+    value.hash(&mut state);
+    state.finish()
+}
+
+impl KeyHash for usize {
+    ghost calls = { λ n. Usize n ∷ [] };
+
+    #[inline]
+    fn hash<H: KeyHasher>(&self, state: &mut H) {
+        state.write_usize(*self);
+    }
+}
+
+impl KeyHash for isize {
+    ghost calls = { λ z. Isize z ∷ [] };
+
+    #[inline]
+    fn hash<H: KeyHasher>(&self, state: &mut H) {
+        state.write_isize(*self);
+    }
+}

@@ -1,0 +1,28 @@
+//! Reading values back.
+
+ghost use Rattle.std.specs.Prelude.{MatchResult};
+ghost use Rattle.rkyv_base.specs.View.{IsView};
+ghost use Rattle.rkyv_keys.specs.Places.{Here};
+ghost use Rattle.rkyv_keys.specs.Reading.{Refusals};
+
+use rkyv_base::element::StandsFor;
+use rkyv_base::errors::ReadError;
+use rkyv_base::view::View;
+use std::alloc::Global;
+
+/// An element whose values can be read back as values of the type V.
+pub trait Deserialize<V>: StandsFor<V> {
+    // The errors that reading the value at a place may answer.
+    ghost refuses: { Refusals };
+
+    /// The value itself.
+    ///
+    /// # Errors
+    /// Those that the element allows: numbers, bool, char and `()` none, text `Memory` alone, where
+    /// its allocation fails.
+    fn deserialize(alloc: Global, view: View<'_, Self>) -> Result<V, ReadError>
+        requires { IsView Self.shape view }
+        ensures { MatchResult result
+            (Here Self.stands view.entry)
+            (Here refuses view.entry) };
+}

@@ -1,0 +1,271 @@
+//! Scalars as keys.
+
+ghost use Rattle.std.specs.Prelude.{◌≡◌, IsTrue, ◌↔◌, MatchResult};
+ghost use Rattle.std.specs.Cmp.{booleans_Decides, signed_Decides, unsigned_Decides};
+ghost use Rattle.rkyv_scan.specs.Hash.{HasherCall, I8, I16, I32, I64, U8, U16, U32, U64};
+ghost use Rattle.rkyv_scan.specs.Laws.{IsFixed};
+ghost use Rattle.rkyv_base.specs.Scalar.{ScalarStands, scalar_shape};
+ghost use Rattle.rkyv_base.specs.View.{IsView};
+ghost use Rattle.rkyv_keys.specs.Places.{at_view, at_views, Here};
+ghost use Rattle.rkyv_keys.specs.Calls.{after_calls, bool_call};
+ghost use Rattle.rkyv_keys.specs.Equality.{TellsApart};
+ghost use Rattle.rkyv_keys.specs.Reading.{nothing_fails};
+ghost use Rattle.rkyv_keys.specs.OfScalars.{
+  one_call,
+  scalar_calls,
+  scalar_equivalence,
+  scalar_fits,
+  scalar_fits_its_equal,
+  scalar_fixed,
+  scalar_key,
+  scalar_query,
+  scalar_same,
+};
+
+use crate::equality::{ElementEq, ElementEquiv, MatchesNative};
+use crate::hash::KeyHash;
+use crate::keys::{FixedKey, KeyElement, NativeKey, Query};
+use crate::reading::Deserialize;
+use rkyv_base::errors::ReadError;
+use rkyv_base::scalars::Scalar;
+use rkyv_base::view::View;
+use rkyv_scan::hash::KeyHasher;
+use std::alloc::Global;
+use std::fmt::Debug;
+
+/// A scalar that is hashed by one call, and is equal to itself alone.
+///
+/// Each is a key, is asked for by itself and is read back as itself.
+pub trait ScalarKey: Scalar + Eq {
+    // Its one call.
+    ghost call: { Self → HasherCall };
+
+    /// Makes the value's call of a hasher.
+    fn feed<H: KeyHasher>(self, state: &mut H)
+        ensures { state.new ≡ H.feed state.old (call self) };
+
+    ghost tells: { TellsApart Self.eq };
+
+    ghost fixed: { (v : Self) → IsFixed (call v) };
+}
+
+impl ScalarKey for u8 {
+    ghost call = { U8 };
+
+    #[inline]
+    fn feed<H: KeyHasher>(self, state: &mut H) {
+        state.write_u8(self);
+    }
+
+    ghost tells = { unsigned_Decides };
+
+    ghost fixed = { λ v. tt };
+}
+
+impl ScalarKey for u16 {
+    ghost call = { U16 };
+
+    #[inline]
+    fn feed<H: KeyHasher>(self, state: &mut H) {
+        state.write_u16(self);
+    }
+
+    ghost tells = { unsigned_Decides };
+
+    ghost fixed = { λ v. tt };
+}
+
+impl ScalarKey for u32 {
+    ghost call = { U32 };
+
+    #[inline]
+    fn feed<H: KeyHasher>(self, state: &mut H) {
+        state.write_u32(self);
+    }
+
+    ghost tells = { unsigned_Decides };
+
+    ghost fixed = { λ v. tt };
+}
+
+impl ScalarKey for u64 {
+    ghost call = { U64 };
+
+    #[inline]
+    fn feed<H: KeyHasher>(self, state: &mut H) {
+        state.write_u64(self);
+    }
+
+    ghost tells = { unsigned_Decides };
+
+    ghost fixed = { λ v. tt };
+}
+
+impl ScalarKey for i8 {
+    ghost call = { I8 };
+
+    #[inline]
+    fn feed<H: KeyHasher>(self, state: &mut H) {
+        state.write_i8(self);
+    }
+
+    ghost tells = { signed_Decides };
+
+    ghost fixed = { λ v. tt };
+}
+
+impl ScalarKey for i16 {
+    ghost call = { I16 };
+
+    #[inline]
+    fn feed<H: KeyHasher>(self, state: &mut H) {
+        state.write_i16(self);
+    }
+
+    ghost tells = { signed_Decides };
+
+    ghost fixed = { λ v. tt };
+}
+
+impl ScalarKey for i32 {
+    ghost call = { I32 };
+
+    #[inline]
+    fn feed<H: KeyHasher>(self, state: &mut H) {
+        state.write_i32(self);
+    }
+
+    ghost tells = { signed_Decides };
+
+    ghost fixed = { λ v. tt };
+}
+
+impl ScalarKey for i64 {
+    ghost call = { I64 };
+
+    #[inline]
+    fn feed<H: KeyHasher>(self, state: &mut H) {
+        state.write_i64(self);
+    }
+
+    ghost tells = { signed_Decides };
+
+    ghost fixed = { λ v. tt };
+}
+
+impl ScalarKey for bool {
+    ghost call = { bool_call };
+
+    #[inline]
+    fn feed<H: KeyHasher>(self, state: &mut H) {
+        state.write_u8(u8::from(self));
+    }
+
+    ghost tells = { booleans_Decides };
+
+    ghost fixed = { λ v. tt };
+}
+
+impl ScalarKey for char {
+    ghost call = { U32 };
+
+    #[inline]
+    fn feed<H: KeyHasher>(self, state: &mut H) {
+        state.write_u32(u32::from(self));
+    }
+
+    ghost tells = { unsigned_Decides };
+
+    ghost fixed = { λ v. tt };
+}
+
+impl<N: ScalarKey> KeyHash for N {
+    ghost calls = { one_call N.call };
+
+    #[inline]
+    fn hash<H: KeyHasher>(&self, state: &mut H) {
+        (*self).feed(state);
+    }
+}
+
+impl<N: ScalarKey> ElementEq for N {
+    ghost same = { scalar_same N.encoding N.eq };
+
+    #[inline]
+    fn same(a: View<'_, N>, b: View<'_, N>) -> bool
+        requires a { IsView (scalar_shape N.encoding) a }
+        requires b { IsView (scalar_shape N.encoding) b }
+        ensures { result ≡ at_views (scalar_same N.encoding N.eq) a.entry b.entry }
+    {
+        a.to_native() == b.to_native()
+    }
+}
+
+impl<N: ScalarKey> ElementEquiv for N {
+    ghost equivalence = { scalar_equivalence N.encoding N.eq N.tells };
+}
+
+impl<N: ScalarKey> KeyElement for N {
+    ghost key_calls = { scalar_calls N.encoding N.call };
+
+    #[inline]
+    fn hash_view<H: KeyHasher>(view: View<'_, N>, state: &mut H)
+        requires { IsView (scalar_shape N.encoding) view }
+        ensures { let calls = scalar_calls N.encoding N.call in
+            state.new ≡ after_calls H.feed state.old (at_view calls view.entry) }
+    {
+        view.to_native().feed(state);
+    }
+
+    ghost key = { scalar_key N.encoding N.eq N.tells N.call N.word };
+}
+
+impl<N: ScalarKey> FixedKey for N {
+    ghost fixed = { scalar_fixed N.encoding N.call N.fixed };
+}
+
+impl<N: ScalarKey> Query<N> for N {
+    ghost fits = { scalar_fits N.encoding N.eq };
+
+    #[inline]
+    fn same(&self, key: View<'_, N>) -> bool
+        requires { IsView (scalar_shape N.encoding) key }
+        ensures { result ≡ at_view (scalar_fits N.encoding N.eq self.now) key.entry }
+    {
+        *self == key.to_native()
+    }
+
+    ghost query = { scalar_query N.encoding N.eq N.tells N.call };
+}
+
+impl<N: ScalarKey> NativeKey<N> for N {
+    ghost native = { scalar_fits_its_equal N.encoding N.eq };
+}
+
+impl<N: ScalarKey> MatchesNative<N> for N {
+    ghost equals = { ScalarStands N.encoding };
+
+    #[inline]
+    fn eq_native(view: View<'_, N>, value: &N) -> bool
+        requires { IsView (scalar_shape N.encoding) view }
+        ensures { IsTrue result ↔ Here (ScalarStands N.encoding) view.entry value.now }
+    {
+        view.to_native() == *value
+    }
+
+    ghost written = { λ v b p h st. st };
+}
+
+impl<N: ScalarKey> Deserialize<N> for N {
+    ghost refuses = { nothing_fails };
+
+    #[inline]
+    fn deserialize(_alloc: Global, view: View<'_, N>) -> Result<N, ReadError>
+        requires { IsView (scalar_shape N.encoding) view }
+        ensures { MatchResult result
+            (Here (ScalarStands N.encoding) view.entry)
+            (Here nothing_fails view.entry) }
+    {
+        Ok(view.to_native())
+    }
+}

@@ -1,0 +1,177 @@
+//! Text as keys, asked for by text that stands anywhere.
+
+ghost use Rattle.std.specs.Prelude.{◌≡◌, string_bytes, IsTrue, ◌↔◌, MatchResult};
+ghost use Rattle.rkyv_base.specs.Text.{text_shape};
+ghost use Rattle.rkyv_base.specs.View.{IsView};
+ghost use Rattle.rkyv_keys.specs.Places.{Here, at_view, at_views};
+ghost use Rattle.rkyv_keys.specs.Calls.{after_calls, text_calls};
+ghost use Rattle.rkyv_keys.specs.Reading.{memory_fails};
+ghost use Rattle.rkyv_keys.specs.OfTexts.{
+  IsTextOf,
+  text_equivalence,
+  text_fits,
+  text_fits_its_equal,
+  text_key,
+  text_key_calls,
+  text_key_fixed,
+  text_query,
+  text_same,
+};
+
+use crate::debug::ElementDebug;
+use crate::equality::{ElementEq, ElementEquiv, MatchesNative};
+use crate::hash::KeyHash;
+use crate::keys::{FixedKey, KeyElement, NativeKey, Query};
+use crate::reading::Deserialize;
+use rkyv_base::errors::ReadError;
+use rkyv_base::text::Text;
+use rkyv_base::view::View;
+use rkyv_base::width::Width;
+use rkyv_scan::hash::KeyHasher;
+use std::alloc::Global;
+use std::fmt::{self, Debug, Formatter, Write};
+
+impl KeyHash for &str {
+    ghost calls = { λ s. text_calls s.now };
+
+    #[inline]
+    fn hash<H: KeyHasher>(&self, state: &mut H) {
+        state.write(self.as_bytes());
+        state.write_u8(0xff);
+    }
+}
+
+impl KeyHash for String {
+    ghost calls = { λ s. text_calls (string_bytes s) };
+
+    #[inline]
+    fn hash<H: KeyHasher>(&self, state: &mut H) {
+        self.as_str().hash(state);
+    }
+}
+
+impl<W: Width> ElementEq for Text<W> {
+    ghost same = { text_same W.word };
+
+    #[inline]
+    fn same(a: View<'_, Text<W>>, b: View<'_, Text<W>>) -> bool
+        requires a { IsView (text_shape W.word) a }
+        requires b { IsView (text_shape W.word) b }
+        ensures { result ≡ at_views (text_same W.word) a.entry b.entry }
+    {
+        a.as_str() == b.as_str()
+    }
+}
+
+impl<W: Width> ElementEquiv for Text<W> {
+    ghost equivalence = { text_equivalence W.word };
+}
+
+impl<W: Width> KeyElement for Text<W> {
+    ghost key_calls = { text_key_calls W.word };
+
+    #[inline]
+    fn hash_view<H: KeyHasher>(view: View<'_, Text<W>>, state: &mut H)
+        requires { IsView (text_shape W.word) view }
+        ensures { let calls = text_key_calls W.word in
+            state.new ≡ after_calls H.feed state.old (at_view calls view.entry) }
+    {
+        view.as_str().hash(state);
+    }
+
+    ghost key = { text_key W.word };
+}
+
+impl<W: Width> FixedKey for Text<W> {
+    ghost fixed = { text_key_fixed W.word };
+}
+
+impl<W: Width> Query<Text<W>> for &str {
+    ghost fits = { text_fits W.word (λ q. q.now) };
+
+    #[inline]
+    fn same(&self, key: View<'_, Text<W>>) -> bool
+        requires { IsView (text_shape W.word) key }
+        ensures { result ≡ at_view (text_fits W.word (λ q. q.now) self.now) key.entry }
+    {
+        *self == key.as_str()
+    }
+
+    ghost query = { text_query W.word (λ q. q.now) };
+}
+
+impl<W: Width> Query<Text<W>> for String {
+    ghost fits = { text_fits W.word (λ q. string_bytes q) };
+
+    #[inline]
+    fn same(&self, key: View<'_, Text<W>>) -> bool
+        requires { IsView (text_shape W.word) key }
+        ensures { result ≡ at_view (text_fits W.word (λ q. string_bytes q) self.now) key.entry }
+    {
+        self.as_str() == key.as_str()
+    }
+
+    ghost query = { text_query W.word (λ q. string_bytes q) };
+}
+
+impl<W: Width> NativeKey<Text<W>> for &str {
+    ghost native = { text_fits_its_equal W.word (λ q. q.now) };
+}
+
+impl<W: Width> NativeKey<Text<W>> for String {
+    ghost native = { text_fits_its_equal W.word (λ q. string_bytes q) };
+}
+
+impl<W: Width> MatchesNative<&str> for Text<W> {
+    ghost equals = { IsTextOf W.word (λ t. t.now) };
+
+    #[inline]
+    fn eq_native(view: View<'_, Text<W>>, value: &&str) -> bool
+        requires { IsView (text_shape W.word) view }
+        ensures { IsTrue result ↔ Here (IsTextOf W.word (λ t. t.now)) view.entry value.now }
+    {
+        view.as_str() == *value
+    }
+
+    ghost written = { λ v b p h st. st };
+}
+
+impl<W: Width> MatchesNative<String> for Text<W> {
+    ghost equals = { IsTextOf W.word (λ t. string_bytes t) };
+
+    #[inline]
+    fn eq_native(view: View<'_, Text<W>>, value: &String) -> bool
+        requires { IsView (text_shape W.word) view }
+        ensures { IsTrue result
+            ↔ Here (IsTextOf W.word (λ t. string_bytes t)) view.entry value.now }
+    {
+        view.as_str() == value.as_str()
+    }
+
+    ghost written = { λ v b p h st. st };
+}
+
+impl<W: Width> Deserialize<String> for Text<W> {
+    ghost refuses = { memory_fails };
+
+    #[inline]
+    fn deserialize(alloc: Global, view: View<'_, Text<W>>) -> Result<String, ReadError>
+        requires { IsView (text_shape W.word) view }
+        ensures { MatchResult result
+            (Here (IsTextOf W.word (λ t. string_bytes t)) view.entry)
+            (Here memory_fails view.entry) }
+    {
+        match String::from_str(alloc, view.as_str()) {
+            Ok(text) => Ok(text),
+            Err(_) => Err(ReadError::Memory),
+        }
+    }
+}
+
+impl<W: Width> ElementDebug for Text<W> {
+    fn debug<U: Write>(view: View<'_, Text<W>>, f: &mut Formatter<U>) -> fmt::Result
+        requires { IsView (text_shape W.word) view }
+    {
+        view.as_str().fmt(f)
+    }
+}

@@ -1,0 +1,114 @@
+//! The unit value as a key.
+
+ghost use Rattle.std.specs.Prelude.{◌≡◌, true, IsTrue, ◌↔◌, MatchResult};
+ghost use Rattle.rkyv_base.specs.Empty.{unit_shape, unit_stands};
+ghost use Rattle.rkyv_base.specs.View.{IsView};
+ghost use Rattle.rkyv_keys.specs.Places.{Here};
+ghost use Rattle.rkyv_keys.specs.Calls.{after_calls};
+ghost use Rattle.rkyv_keys.specs.Reading.{nothing_fails};
+ghost use Rattle.rkyv_keys.specs.OfUnits.{
+  no_calls,
+  unit_calls,
+  unit_equivalence,
+  unit_fits,
+  unit_fits_its_equal,
+  unit_fixed,
+  unit_key,
+  unit_query,
+  unit_same,
+};
+
+use crate::equality::{ElementEq, ElementEquiv, MatchesNative};
+use crate::hash::KeyHash;
+use crate::keys::{FixedKey, KeyElement, NativeKey, Query};
+use crate::reading::Deserialize;
+use rkyv_base::errors::ReadError;
+use rkyv_base::view::View;
+use rkyv_scan::hash::KeyHasher;
+use std::alloc::Global;
+
+impl KeyHash for () {
+    ghost calls = { no_calls };
+
+    #[inline]
+    fn hash<H: KeyHasher>(&self, _state: &mut H) {}
+}
+
+impl ElementEq for () {
+    ghost same = { unit_same };
+
+    #[inline]
+    fn same(_a: View<'_, ()>, _b: View<'_, ()>) -> bool
+        requires a { IsView unit_shape _a }
+        requires b { IsView unit_shape _b }
+        ensures { result ≡ true }
+    {
+        true
+    }
+}
+
+impl ElementEquiv for () {
+    ghost equivalence = { unit_equivalence };
+}
+
+impl KeyElement for () {
+    ghost key_calls = { unit_calls };
+
+    #[inline]
+    fn hash_view<H: KeyHasher>(_view: View<'_, ()>, state: &mut H)
+        requires { IsView unit_shape _view }
+        ensures { state.new ≡ state.old }
+    {}
+
+    ghost key = { unit_key };
+}
+
+impl FixedKey for () {
+    ghost fixed = { unit_fixed };
+}
+
+impl Query<()> for () {
+    ghost fits = { unit_fits };
+
+    #[inline]
+    fn same(&self, _key: View<'_, ()>) -> bool
+        requires { IsView unit_shape _key }
+        ensures { result ≡ true }
+    {
+        true
+    }
+
+    ghost query = { unit_query };
+}
+
+impl NativeKey<()> for () {
+    ghost native = { unit_fits_its_equal };
+}
+
+impl MatchesNative<()> for () {
+    ghost equals = { unit_stands };
+
+    #[inline]
+    fn eq_native(_view: View<'_, ()>, _value: &()) -> bool
+        requires { IsView unit_shape _view }
+        ensures { result ≡ true }
+    {
+        true
+    }
+
+    ghost written = { λ v b p h st. st };
+}
+
+impl Deserialize<()> for () {
+    ghost refuses = { nothing_fails };
+
+    #[inline]
+    fn deserialize(_alloc: Global, _view: View<'_, ()>) -> Result<(), ReadError>
+        requires { IsView unit_shape _view }
+        ensures { MatchResult result
+            (Here unit_stands _view.entry)
+            (Here nothing_fails _view.entry) }
+    {
+        Ok(())
+    }
+}

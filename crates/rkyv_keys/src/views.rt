@@ -1,0 +1,37 @@
+//! Keys that stand in an archive, as queries.
+
+ghost use Rattle.std.specs.Prelude.{◌≡◌};
+ghost use Rattle.rkyv_base.specs.View.{IsView};
+ghost use Rattle.rkyv_keys.specs.Places.{at_view};
+ghost use Rattle.rkyv_keys.specs.OfViews.{view_calls, view_fits, view_query};
+
+use crate::hash::KeyHash;
+use crate::keys::{KeyElement, Query};
+use rkyv_base::view::View;
+use rkyv_scan::hash::KeyHasher;
+
+impl<'a, K: KeyElement> KeyHash for View<'a, K> {
+    ghost calls = { view_calls K.key_calls };
+
+    ghost can_read = { IsView K.shape };
+
+    #[inline]
+    fn hash<H: KeyHasher>(&self, state: &mut H) {
+        K::hash_view(*self, state);
+    }
+}
+
+impl<'a, K: KeyElement> Query<K> for View<'a, K> {
+    ghost fits = { view_fits K.same };
+
+    #[inline]
+    fn same(&self, key: View<'_, K>) -> bool
+        requires query { IsView K.shape self.now }
+        requires key { IsView K.shape key }
+        ensures { result ≡ at_view (view_fits K.same self.now) key.entry }
+    {
+        K::same(*self, key)
+    }
+
+    ghost query = { view_query K.shape K.same K.key_calls K.equivalence K.key };
+}

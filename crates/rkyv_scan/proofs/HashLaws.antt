@@ -1,0 +1,121 @@
+-- Proofs of the laws of the hash.
+use Rattle.std.proofs.Common.{◌≡◌, ℕ, zero, suc, ◌+◌, ◌*◌, ◌/◌, ◌%◌, ◌<◌, ◌≤◌, cond, eqb, List, [], ◌∷◌, ◌++◌, length, get_or, map, drop, refl, sym, ap, ◌∙◌, arith, add-zero, zero-add, get_or-drop, append-nil, append_assoc, length-append, w8, w16, w32, w64}
+use Rattle.std.specs.List.{range_with_len, flat_map, fold, All}
+use Rattle.std.specs.Int.{Width, from_le_bytes}
+use Rattle.std.proofs.lemmas.List.{get_or_append_left}
+use Rattle.std.proofs.Math.Seq.{drop-append-add}
+use Rattle.std.proofs.lemmas.List.Sums.{fold-append}
+use Rattle.rkyv_scan.specs.Hash.{HasherCall, Bytes, U8, U16, U32, U64, U128, Usize, I8, I16, I32, I64, I128, Isize, hash_word, hash_words, byte_words, whole_words, rest_words, number_at, SizeWords, call_words, fx_feed}
+use Rattle.rkyv_scan.specs.Laws.{WritesJoin, EightBytesAreOneWord, IsFixed, FixedCallsAgree, FixedCallsHashAlike, CallsHashTheirWords}
+
+pub fixed_agree : FixedCallsAgree
+fixed_agree one other (Bytes bs) h = refl
+fixed_agree one other (U8 n) h = refl
+fixed_agree one other (U16 n) h = refl
+fixed_agree one other (U32 n) h = refl
+fixed_agree one other (U64 n) h = refl
+fixed_agree one other (U128 n) h = refl
+fixed_agree one other (Usize n) h = absurd h
+fixed_agree one other (I8 z) h = refl
+fixed_agree one other (I16 z) h = refl
+fixed_agree one other (I32 z) h = refl
+fixed_agree one other (I64 z) h = refl
+fixed_agree one other (I128 z) h = refl
+fixed_agree one other (Isize z) h = absurd h
+
+held_alike : (one other : SizeWords) (held : ℕ) (calls : List HasherCall) → All IsFixed calls
+    → fold (fx_feed one) held calls ≡ fold (fx_feed other) held calls
+held_alike one other held [] h = refl
+held_alike one other held (call ∷ calls) h =
+    held_alike one other (fx_feed one held call) calls (λ k default l. h (suc k) default (omega arith))
+    ∙ ap (λ words. fold (fx_feed other) (hash_words held words) calls) (fixed_agree one other call (h 0 call (omega arith)))
+
+pub fixed_alike : FixedCallsHashAlike
+fixed_alike one other calls h = held_alike one other 0 calls h
+
+words_held : (sizes : SizeWords) (held : ℕ) (calls : List HasherCall)
+    → fold (fx_feed sizes) held calls ≡ hash_words held (flat_map (call_words sizes) calls)
+words_held sizes held [] = refl
+words_held sizes held (call ∷ calls) =
+    words_held sizes (fx_feed sizes held call) calls
+    ∙ sym (fold-append hash_word held (call_words sizes call) (flat_map (call_words sizes) calls))
+
+pub calls_words : CallsHashTheirWords
+calls_words sizes calls = words_held sizes 0 calls
+
+-- no rest where all words are whole
+rest_none : (a : List ℕ) → length a % 8 ≡ 0 → rest_words a ≡ []
+unfolding rest_words
+rest_none a h =
+    let n = length a in
+    let four : n / 4 % 2 ≡ 0 = omega arith in
+    let two : n / 2 % 2 ≡ 0 = omega arith in
+    let one : n % 2 ≡ 0 = omega arith in
+    rw (four, two, one) refl
+
+pub eight_bytes : EightBytesAreOneWord
+unfolding byte_words
+eight_bytes sizes held a long =
+    let none = rest_none a (rw long refl) in
+    rw (none, long) refl
+
+from_eight : (xs ys : List ℕ) → ((j : ℕ) → j < 8 → get_or xs j 0 ≡ get_or ys j 0) → from_le_bytes w64 xs ≡ from_le_bytes w64 ys
+from_eight xs ys h =
+    (λ i. h 0 (omega arith) i + h 1 (omega arith) i * 256 + h 2 (omega arith) i * 65536 + h 3 (omega arith) i * 16777216 + h 4 (omega arith) i * 4294967296
+    + h 5 (omega arith) i * 1099511627776 + h 6 (omega arith) i * 281474976710656 + h 7 (omega arith) i * 72057594037927936)
+
+-- a word of the first list, and of the second
+number_left : (a b : List ℕ) (i : ℕ) → i + 8 ≤ length a → number_at w64 (a ++ b) i ≡ number_at w64 a i
+number_left a b i l =
+    from_eight (drop i (a ++ b)) (drop i a) (λ j p. get_or-drop i (a ++ b) j 0 ∙ get_or_append_left a b 0 (i + j) (omega arith) ∙ sym (get_or-drop i a j 0))
+
+number_right : (w : Width) (a b : List ℕ) (i j : ℕ) → i ≡ length a + j → number_at w (a ++ b) i ≡ number_at w b j
+number_right w a b i j e = ap (from_le_bytes w) (ap (λ x. drop x (a ++ b)) e ∙ drop-append-add a b j)
+
+map_range : (f g : ℕ → ℕ) (a c n : ℕ) → ((j : ℕ) → j < n → f (a + j) ≡ g (c + j)) → map f (range_with_len a n) ≡ map g (range_with_len c n)
+map_range f g a c zero h = refl
+map_range f g a c (suc n) h =
+    let here : f a ≡ g c = ap f (sym (add-zero a)) ∙ h 0 (omega arith) ∙ ap g (add-zero c) in
+    let rest = map_range f g (a + 1) (c + 1) n (λ j l. ap f (let e : a + 1 + j ≡ a + (j + 1) = omega arith in e) ∙ h (j + 1) (omega arith) ∙ ap g (let e : c + (j + 1) ≡ c + 1 + j = omega arith in e)) in
+    (λ i. here i ∷ rest i)
+
+map_split : (f : ℕ → ℕ) (a m n : ℕ) → map f (range_with_len a (m + n)) ≡ map f (range_with_len a m) ++ map f (range_with_len (a + m) n)
+map_split f a zero n = (λ i. map f (range_with_len (sym (add-zero a) i) (zero-add n i)))
+map_split f a (suc m) n =
+    let e : suc m + n ≡ suc (m + n) = omega arith in
+    ap (λ x. map f (range_with_len a x)) e ∙ ap (λ t. f a ∷ t) (map_split f (a + 1) m n ∙ ap (λ x. map f (range_with_len (a + 1) m) ++ map f (range_with_len x n)) (let g : a + 1 + m ≡ a + suc m = omega arith in g))
+
+whole_join : (a b : List ℕ) (m n : ℕ) → length a ≡ 8 * m → whole_words (a ++ b) (m + n) ≡ whole_words a m ++ whole_words b n
+whole_join a b m n long =
+    let f = λ (k : ℕ). number_at w64 (a ++ b) (8 * k) in
+    map_split f 0 m n
+    ∙ (λ i. map_range f (λ k. number_at w64 a (8 * k)) 0 0 m (λ j l. number_left a b (8 * (0 + j)) (omega arith)) i
+    ++ map_range f (λ k. number_at w64 b (8 * k)) (0 + m) 0 n (λ j l. number_right w64 a b (8 * (0 + m + j)) (8 * (0 + j)) (omega arith)) i)
+
+rest_join : (a b : List ℕ) → length a % 8 ≡ 0 → rest_words (a ++ b) ≡ rest_words b
+unfolding rest_words
+rest_join a b h =
+    let n = length (a ++ b) in
+    let l = length b in
+    let sum : n ≡ length a + l = length-append a b in
+    let four : n / 4 % 2 ≡ l / 4 % 2 = omega arith in
+    let two : n / 2 % 2 ≡ l / 2 % 2 = omega arith in
+    let one : n % 2 ≡ l % 2 = omega arith in
+    let wide = number_right w32 a b (n / 8 * 8) (l / 8 * 8) (omega arith) in
+    let half = number_right w16 a b (n / 4 * 4) (l / 4 * 4) (omega arith) in
+    let last = number_right w8 a b (n / 2 * 2) (l / 2 * 2) (omega arith) in
+    (λ i. cond (eqb (four i) 1) (wide i ∷ []) [] ++ cond (eqb (two i) 1) (half i ∷ []) [] ++ cond (eqb (one i) 1) (last i ∷ []) [])
+
+words_join : (a b : List ℕ) → length a % 8 ≡ 0 → byte_words (a ++ b) ≡ byte_words a ++ byte_words b
+unfolding byte_words
+words_join a b h =
+    let m = length a / 8 in
+    let n = length b / 8 in
+    let count : length (a ++ b) / 8 ≡ m + n = omega (arith, length-append a b) in
+    let left : whole_words a m ++ rest_words a ≡ whole_words a m = ap (λ r. whole_words a m ++ r) (rest_none a h) ∙ append-nil (whole_words a m) in
+    (λ i. (ap (whole_words (a ++ b)) count ∙ whole_join a b m n (omega arith)) i ++ rest_join a b h i)
+    ∙ append_assoc (whole_words a m) (whole_words b n) (rest_words b)
+    ∙ ap (λ x. x ++ (whole_words b n ++ rest_words b)) (sym left)
+
+pub writes_join : WritesJoin
+writes_join sizes held a b whole = sym (ap (hash_words held) (words_join a b whole) ∙ fold-append hash_word held (byte_words a) (byte_words b))

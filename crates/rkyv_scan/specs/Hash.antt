@@ -1,0 +1,114 @@
+-- The calls that a key makes of a hasher, the words that they feed, and what they hash to.
+use Rattle.std.specs.Prelude.{ℕ, ◌*◌, ◌/◌, ◌%◌, ◌^◌, ◌==◌, if◌then◌else◌, List, [], ◌∷◌, ◌++◌, length, map, fold, drop, ℤ, bit_xor}
+use Rattle.std.specs.List.{range_with_len}
+use Rattle.std.specs.Int.{Width, w8, w16, w32, w64, w128, rotate_left, from_le_bytes, cast_unsigned, cast_signed}
+
+-- one call of a hasher
+pub data HasherCall : Type 0 where
+  Bytes : List ℕ → HasherCall
+  U8 U16 U32 U64 U128 Usize : ℕ → HasherCall
+  I8 I16 I32 I64 I128 Isize : ℤ → HasherCall
+
+-- the number after a list of calls, which are fed in order from the initial state on
+abbrev pub hash_of_calls : {State : Type 0} → State → (State → HasherCall → State) → (State → ℕ)
+    → List HasherCall → ℕ
+hash_of_calls initial feed finish calls = finish (fold feed initial calls)
+
+-- the little endian number of the first bytes from i on, as many as the width has
+abbrev pub number_at : Width → List ℕ → ℕ → ℕ
+number_at w bytes i = from_le_bytes w (drop i bytes)
+
+-- n whole words of eight bytes, from the start
+abbrev pub whole_words : List ℕ → ℕ → List ℕ
+whole_words bytes n = map (λ k. number_at w64 bytes (8 * k)) (range_with_len 0 n)
+
+-- of the up to seven bytes past the last whole word: the first four, where there are as many
+abbrev pub four_bytes : List ℕ → List ℕ
+four_bytes bytes =
+    let n = length bytes in
+    if n / 4 % 2 == 1 then number_at w32 bytes (n / 8 * 8) ∷ [] else []
+
+-- the next two
+abbrev pub two_bytes : List ℕ → List ℕ
+two_bytes bytes =
+    let n = length bytes in
+    if n / 2 % 2 == 1 then number_at w16 bytes (n / 4 * 4) ∷ [] else []
+
+-- and the last one
+abbrev pub last_byte : List ℕ → List ℕ
+last_byte bytes =
+    let n = length bytes in
+    if n % 2 == 1 then number_at w8 bytes (n / 2 * 2) ∷ [] else []
+
+-- the words past the last whole one
+unfoldable pub rest_words : List ℕ → List ℕ
+rest_words bytes = four_bytes bytes ++ two_bytes bytes ++ last_byte bytes
+
+-- what `write` feeds
+unfoldable pub byte_words : List ℕ → List ℕ
+byte_words bytes = whole_words bytes (length bytes / 8) ++ rest_words bytes
+
+-- a signed number as the unsigned one of its width
+abbrev pub signed_word : Width → ℤ → List ℕ
+signed_word w z = cast_unsigned w z ∷ []
+
+-- the low 64 bits, and then the high ones
+abbrev pub wide_words : ℕ → List ℕ
+wide_words n = n % 2 ^ 64 ∷ n / 2 ^ 64 ∷ []
+
+-- how a hasher makes one word of a `usize`, and one of an `isize`
+pub record SizeWords : Type 0 where
+  pub usize_word : ℕ → ℕ
+  pub isize_word : ℤ → ℕ
+
+-- the low 32 bits as a signed number, widened with its sign
+abbrev pub narrow_isize : ℤ → ℕ
+narrow_isize z = cast_unsigned w64 (cast_signed w32 (cast_unsigned w64 z % 2 ^ 32))
+
+-- the low 32 bits alone
+abbrev pub low_halves : SizeWords
+low_halves = record { usize_word = λ n. n % 2 ^ 32; isize_word = narrow_isize }
+
+-- all 64 bits
+abbrev pub all_bits : SizeWords
+all_bits = record { usize_word = λ n. n; isize_word = cast_unsigned w64 }
+
+-- the words that one call feeds
+abbrev pub call_words : SizeWords → HasherCall → List ℕ
+call_words sizes (Bytes bytes) = byte_words bytes
+call_words sizes (U8 n) = n ∷ []
+call_words sizes (U16 n) = n ∷ []
+call_words sizes (U32 n) = n ∷ []
+call_words sizes (U64 n) = n ∷ []
+call_words sizes (U128 n) = wide_words n
+call_words sizes (Usize n) = sizes.usize_word n ∷ []
+call_words sizes (I8 z) = signed_word w8 z
+call_words sizes (I16 z) = signed_word w16 z
+call_words sizes (I32 z) = signed_word w32 z
+call_words sizes (I64 z) = signed_word w64 z
+call_words sizes (I128 z) = wide_words (cast_unsigned w128 z)
+call_words sizes (Isize z) = sizes.isize_word z ∷ []
+
+-- the words that `FxHasher64` is fed by a call
+abbrev pub fx_words : HasherCall → List ℕ
+fx_words = call_words low_halves
+
+-- the words that `FxHasher64Wide` is fed by a call
+abbrev pub wide_fx_words : HasherCall → List ℕ
+wide_fx_words = call_words all_bits
+
+-- the held number after one word
+unfoldable pub hash_word : ℕ → ℕ → ℕ
+hash_word held word = (bit_xor (rotate_left w64 held 5) word * 0x517c_c1b7_2722_0a95) % 2 ^ 64
+
+-- the held number after a list of words
+abbrev pub hash_words : ℕ → List ℕ → ℕ
+hash_words held words = fold hash_word held words
+
+-- the held number after a call
+abbrev pub fx_feed : SizeWords → ℕ → HasherCall → ℕ
+fx_feed sizes held call = hash_words held (call_words sizes call)
+
+-- the number that a new hasher answers after a list of calls
+abbrev pub fx_hash : SizeWords → List HasherCall → ℕ
+fx_hash sizes calls = hash_of_calls 0 (fx_feed sizes) (λ held. held) calls

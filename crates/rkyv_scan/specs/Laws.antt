@@ -1,0 +1,36 @@
+-- Laws of the hash, over its definition alone.
+-- Each holds of every rule for `usize` and `isize`, so of both hashers.
+use Rattle.std.specs.Prelude.{◌≡◌, ℕ, ◌%◌, List, ◌++◌, length, All, flat_map}
+use Rattle.std.specs.Int.{w64, from_le_bytes}
+use Rattle.rkyv_scan.specs.Hash.{HasherCall, Bytes, U64, Usize, Isize, SizeWords, hash_words, call_words, fx_feed, fx_hash}
+
+-- a list of calls hashes as the list of all words that they feed, from 0
+abbrev pub CallsHashTheirWords : Type 0
+CallsHashTheirWords = (sizes : SizeWords) (calls : List HasherCall)
+    → fx_hash sizes calls ≡ hash_words 0 (flat_map (call_words sizes) calls)
+
+-- two writes are one of both, where the first ends at a whole word
+abbrev pub WritesJoin : Type 0
+WritesJoin = (sizes : SizeWords) (held : ℕ) (a b : List ℕ) → length a % 8 ≡ 0
+    → fx_feed sizes (fx_feed sizes held (Bytes a)) (Bytes b) ≡ fx_feed sizes held (Bytes (a ++ b))
+
+-- a write of eight bytes is one of their little endian number
+abbrev pub EightBytesAreOneWord : Type 0
+EightBytesAreOneWord = (sizes : SizeWords) (held : ℕ) (a : List ℕ) → length a ≡ 8
+    → fx_feed sizes held (Bytes a) ≡ fx_feed sizes held (U64 (from_le_bytes w64 a))
+
+-- the call feeds no `usize` and no `isize`
+abbrev pub IsFixed : HasherCall → Type 0
+IsFixed (Usize n) = ⊥
+IsFixed (Isize z) = ⊥
+IsFixed call = Unit {0}
+
+-- any two rules feed the same words of such a call
+abbrev pub FixedCallsAgree : Type 0
+FixedCallsAgree = (one other : SizeWords) (call : HasherCall) → IsFixed call
+    → call_words one call ≡ call_words other call
+
+-- and answer the same number after a list of such calls
+abbrev pub FixedCallsHashAlike : Type 0
+FixedCallsHashAlike = (one other : SizeWords) (calls : List HasherCall) → All IsFixed calls
+    → fx_hash one calls ≡ fx_hash other calls

@@ -1,0 +1,4 @@
+pub mod Groups
+pub mod Hash
+pub mod Laws
+pub mod KindLaws

@@ -1,0 +1,133 @@
+//! Eight control bytes, each looked at by itself.
+ghost use Rattle.std.specs.Prelude.{◌≡◌, ℕ, Bool, false, slice_index_or};
+ghost use Rattle.std.specs.Iterator.{YieldsFirst, item_count};
+ghost use Rattle.rkyv_scan.specs.Groups.{flag_places, bytewise_kind, IsFirstFlag};
+ghost use Rattle.rkyv_scan.specs.KindLaws.{equal_lawful};
+ghost use Rattle.std.proofs.Common.{refl, arith};
+
+use crate::simd::{GroupKind, Marks};
+use std::simd::prelude::*;
+
+/// A mark or none for each place.
+#[derive(Clone, Copy)]
+pub struct Bitmask {
+    marks: [bool; 8],
+}
+
+impl Bitmask {
+    /// No mark.
+    pub const EMPTY: Self = Bitmask { marks: [false; 8] };
+}
+
+// The first mark's place, or 8.
+#[inline]
+fn first(marks: &[bool; 8]) -> usize
+    ensures { IsFirstFlag marks.now result }
+{
+    for place in 0..8 {
+        if marks[place] {
+            return place;
+        }
+    }
+    8
+}
+
+impl Marks for Bitmask {
+    ghost places = { λ m. flag_places m.marks };
+
+    ghost can = { λ _. tt };
+
+    ghost gives = { λ _ _ _ h. h };
+
+    ghost ends = { λ _. refl };
+
+    #[inline]
+    fn any_bit_set(self) -> bool {
+        first(&self.marks) < 8
+    }
+
+    #[inline]
+    fn remove_lowest_bit(self) -> Self {
+        let place = first(&self.marks);
+        let mut marks = self.marks;
+        marks[place] = false;
+        Bitmask { marks }
+    }
+
+    #[inline]
+    fn lowest_set_bit(self) -> Option<usize> {
+        let place = first(&self.marks);
+        if place < 8 { Some(place) } else { None }
+    }
+}
+
+impl Iterator for Bitmask {
+    type Item = usize;
+
+    ghost next_gives = { YieldsFirst (λ m. flag_places m.marks) };
+
+    ghost remaining = { item_count (λ m. flag_places m.marks) };
+
+    #[inline]
+    fn next(&mut self) -> Option<usize> {
+        let place = self.lowest_set_bit()?;
+        *self = self.remove_lowest_bit();
+        Some(place)
+    }
+}
+
+/// Eight control bytes.
+#[derive(Clone, Copy)]
+pub struct Group {
+    bytes: [u8; 8],
+}
+
+impl GroupKind for Group {
+    type Mask = Bitmask;
+
+    const WIDTH: usize = 8;
+
+    ghost WIDTH = { 8 };
+
+    ghost controls = { λ g. g.bytes };
+
+    ghost kind = { bytewise_kind };
+
+    ghost width = { refl };
+
+    ghost lawful = { equal_lawful 3 (omega arith) };
+
+    #[inline]
+    fn read(bytes: &[u8], pos: usize) -> Self {
+        Group {
+            bytes: u8x8::from_slice(&bytes[pos..]).to_array(),
+        }
+    }
+
+    #[inline]
+    fn match_byte(self, byte: u8) -> Bitmask {
+        let mut marks = [false; 8];
+        for place in 0..8 {
+            marks[place] = self.bytes[place] == byte;
+        }
+        Bitmask { marks }
+    }
+
+    #[inline]
+    fn match_empty(self) -> Bitmask {
+        let mut marks = [false; 8];
+        for place in 0..8 {
+            marks[place] = self.bytes[place] >= 0x80;
+        }
+        Bitmask { marks }
+    }
+
+    #[inline]
+    fn match_full(self) -> Bitmask {
+        let mut marks = [false; 8];
+        for place in 0..8 {
+            marks[place] = self.bytes[place] < 0x80;
+        }
+        Bitmask { marks }
+    }
+}

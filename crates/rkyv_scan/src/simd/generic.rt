@@ -1,0 +1,131 @@
+//! Eight control bytes in one word.
+ghost use Rattle.std.specs.Prelude.{◌≡◌, ℕ, ◌*◌, bit_and};
+ghost use Rattle.std.specs.Iterator.{YieldsFirst, item_count};
+ghost use Rattle.std.specs.Int.{w64, to_le_bytes};
+ghost use Rattle.rkyv_scan.specs.Groups.{mask_places, generic_kind};
+ghost use Rattle.rkyv_scan.specs.KindLaws.{word_lawful};
+ghost use Rattle.std.proofs.Common.{refl, arith};
+
+use crate::simd::{GroupKind, Marks};
+use std::num::NonZeroU64;
+use std::simd::prelude::*;
+
+/// The word of a group, the byte at the lowest position in the lowest bits.
+pub type Word = u64;
+
+/// A word that is not zero.
+pub type NonZeroWord = NonZeroU64;
+
+/// Marks, each the high bit of its byte.
+#[derive(Clone, Copy)]
+pub struct Bitmask {
+    bits: Word,
+    ghost high_bits: { bit_and bits 0x8080_8080_8080_8080 ≡ bits },
+}
+
+impl Bitmask {
+    /// No mark.
+    pub const EMPTY: Self = Bitmask { bits: 0 };
+}
+
+impl Marks for Bitmask {
+    ghost places = { λ m. mask_places 8 7 8 m.bits };
+
+    ghost can = { λ _. tt };
+
+    ghost gives = { λ _ _ _ h. h };
+
+    ghost ends = { λ _. refl };
+
+    #[inline]
+    fn any_bit_set(self) -> bool {
+        self.bits != 0
+    }
+
+    #[inline]
+    fn remove_lowest_bit(self) -> Self {
+        Bitmask {
+            bits: self.bits & (self.bits - 1),
+        }
+    }
+
+    #[inline]
+    fn lowest_set_bit(self) -> Option<usize> {
+        match NonZeroWord::new(self.bits) {
+            Some(bits) => Some(bits.trailing_zeros() as usize / 8),
+            None => None,
+        }
+    }
+}
+
+impl Iterator for Bitmask {
+    type Item = usize;
+
+    ghost next_gives = { YieldsFirst (λ m. mask_places 8 7 8 m.bits) };
+
+    ghost remaining = { item_count (λ m. mask_places 8 7 8 m.bits) };
+
+    #[inline]
+    fn next(&mut self) -> Option<usize> {
+        let place = self.lowest_set_bit()?;
+        *self = self.remove_lowest_bit();
+        Some(place)
+    }
+}
+
+/// Eight control bytes.
+#[derive(Clone, Copy)]
+pub struct Group {
+    word: Word,
+}
+
+#[inline]
+fn repeat(byte: u8) -> Word
+    ensures { result ≡ byte * 0x0101_0101_0101_0101 }
+{
+    Word::from(byte) * 0x0101_0101_0101_0101
+}
+
+impl GroupKind for Group {
+    type Mask = Bitmask;
+
+    const WIDTH: usize = 8;
+
+    ghost WIDTH = { 8 };
+
+    ghost controls = { λ g. to_le_bytes w64 g.word };
+
+    ghost kind = { generic_kind };
+
+    ghost width = { refl };
+
+    ghost lawful = { word_lawful };
+
+    #[inline]
+    fn read(bytes: &[u8], pos: usize) -> Self {
+        Group {
+            word: Word::from_le_bytes(u8x8::from_slice(&bytes[pos..]).to_array()),
+        }
+    }
+
+    #[inline]
+    fn match_byte(self, byte: u8) -> Bitmask {
+        let differences = self.word ^ repeat(byte);
+        let bits = differences.wrapping_sub(repeat(1)) & !differences & repeat(0x80);
+        Bitmask { bits }
+    }
+
+    #[inline]
+    fn match_empty(self) -> Bitmask {
+        Bitmask {
+            bits: self.word & repeat(0x80),
+        }
+    }
+
+    #[inline]
+    fn match_full(self) -> Bitmask {
+        Bitmask {
+            bits: !self.word & repeat(0x80),
+        }
+    }
+}

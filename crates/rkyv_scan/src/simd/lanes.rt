@@ -1,0 +1,117 @@
+//! Sixteen control bytes in one vector.
+ghost use Rattle.std.specs.Prelude.{◌≡◌, ℕ, length};
+ghost use Rattle.std.specs.Iterator.{YieldsFirst, item_count};
+ghost use Rattle.rkyv_scan.specs.Groups.{mask_places, lanes_kind};
+ghost use Rattle.rkyv_scan.specs.KindLaws.{equal_lawful};
+ghost use Rattle.std.proofs.Common.{refl, arith};
+
+use crate::simd::{GroupKind, Marks};
+use std::simd::prelude::*;
+
+/// Marks, each the bit of its place.
+#[derive(Clone, Copy)]
+pub struct Bitmask {
+    bits: u16,
+}
+
+impl Bitmask {
+    /// No mark.
+    pub const EMPTY: Self = Bitmask { bits: 0 };
+}
+
+impl Marks for Bitmask {
+    ghost places = { λ m. mask_places 1 0 16 m.bits };
+
+    ghost can = { λ _. tt };
+
+    ghost gives = { λ _ _ _ h. h };
+
+    ghost ends = { λ _. refl };
+
+    #[inline]
+    fn any_bit_set(self) -> bool {
+        self.bits != 0
+    }
+
+    #[inline]
+    fn remove_lowest_bit(self) -> Self {
+        Bitmask {
+            bits: self.bits & (self.bits - 1),
+        }
+    }
+
+    #[inline]
+    fn lowest_set_bit(self) -> Option<usize> {
+        if self.bits == 0 {
+            None
+        } else {
+            Some(self.bits.trailing_zeros() as usize)
+        }
+    }
+}
+
+impl Iterator for Bitmask {
+    type Item = usize;
+
+    ghost next_gives = { YieldsFirst (λ m. mask_places 1 0 16 m.bits) };
+
+    ghost remaining = { item_count (λ m. mask_places 1 0 16 m.bits) };
+
+    #[inline]
+    fn next(&mut self) -> Option<usize> {
+        let place = self.lowest_set_bit()?;
+        *self = self.remove_lowest_bit();
+        Some(place)
+    }
+}
+
+/// Sixteen control bytes.
+#[derive(Clone, Copy)]
+pub struct Group {
+    lanes: u8x16,
+    ghost sixteen: { length lanes ≡ 16 },
+}
+
+impl GroupKind for Group {
+    type Mask = Bitmask;
+
+    const WIDTH: usize = 16;
+
+    ghost WIDTH = { 16 };
+
+    ghost controls = { λ g. g.lanes };
+
+    ghost kind = { lanes_kind };
+
+    ghost width = { refl };
+
+    ghost lawful = { equal_lawful 4 (omega arith) };
+
+    #[inline]
+    fn read(bytes: &[u8], pos: usize) -> Self {
+        Group {
+            lanes: u8x16::from_slice(&bytes[pos..]),
+        }
+    }
+
+    #[inline]
+    fn match_byte(self, byte: u8) -> Bitmask {
+        Bitmask {
+            bits: self.lanes.simd_eq(u8x16::splat(byte)).to_bitmask() as u16,
+        }
+    }
+
+    #[inline]
+    fn match_empty(self) -> Bitmask {
+        Bitmask {
+            bits: self.lanes.simd_ge(u8x16::splat(0x80)).to_bitmask() as u16,
+        }
+    }
+
+    #[inline]
+    fn match_full(self) -> Bitmask {
+        Bitmask {
+            bits: self.lanes.simd_lt(u8x16::splat(0x80)).to_bitmask() as u16,
+        }
+    }
+}

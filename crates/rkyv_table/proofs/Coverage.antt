@@ -1,0 +1,176 @@
+-- Strides are the places below the probe capacity congruent to the start modulo 16, each once. Shown names every bucket.
+use Rattle.std.proofs.Common.{◌≡◌, ℕ, ◌+◌, ◌*◌, ◌-◌, ◌/◌, ◌%◌, ◌^◌, ◌<◌, ◌≤◌, inl, inr, refl, sym, ap, ◌∙◌, arith, List, Bool, true, false, ◌&&◌, eqb, ltb, length, map}
+use Rattle.std.specs.List.{list_any, range_with_len, IsDistinct}
+use Rattle.std.proofs.Math.Nat.{mod-eq_of_lt, mod-add-mod, add-mul-mod_self_right}
+use Rattle.std.proofs.lemmas.Nat.{pow_pos, mod_below, mod-mul-add, div-add-mod'}
+use Rattle.std.proofs.lemmas.Bool.{cases_lt, and_parts, and_from, eqb-true, eq-eqb, ltb-true, lt-ltb}
+use Rattle.std.proofs.lemmas.Map.Made.{length-from_same_keys}
+use Rattle.std.specs.Cmp.{nat_eq_equiv}
+use Rattle.std.proofs.lemmas.List.FromFn.{length-map-range_with_len}
+use Rattle.rkyv_table.specs.Numbers.{start, modulus, probe_capacity}
+use Rattle.rkyv_table.specs.Probe.{probe_place, strides}
+use Rattle.rkyv_table.proofs.Triangle.{triangle, hits, hits_once}
+use Rattle.rkyv_table.proofs.Lists.{any_filter, any_map_range, from_map_range, distinct_filter, distinct_map_range}
+use Rattle.rkyv_table.proofs.Modulus.{modulus_power}
+
+-- the k-th place, where the modulus is 16 n
+pub place_is : (s n k : ℕ) → 0 < n → probe_place s (16 * n) k ≡ 16 * ((s / 16 + triangle k) % n) + s % 16
+place_is s n k pos =
+    let r = (s / 16 + triangle k) % n in
+    let lr : r < n = mod_below (s / 16 + triangle k) n pos in
+    let q = (s / 16 + triangle k) / n in
+    let d = div-add-mod' (s / 16 + triangle k) n in
+    let small : 16 * r + s % 16 < 16 * n = omega arith in
+    let e : q * (16 * n) + (16 * r + s % 16) ≡ s + 16 * triangle k = omega arith in
+    let m = mod-mul-add q (16 * n) (16 * r + s % 16) small in
+    rw e at m
+
+-- a + t is j modulo n, where t is j - a
+turn : (a t j n : ℕ) → j < n → t % n ≡ (j + (n - a % n)) % n → (a + t) % n ≡ j
+turn a t j n h e =
+    let la : a % n < n = mod_below a n (omega arith) in
+    let d = div-add-mod' a n in
+    let dt = div-add-mod' t n in
+    let u = j + (n - a % n) in
+    let du = div-add-mod' u n in
+    let s : a + t + u / n * n ≡ (a / n + t / n + 1) * n + j = omega arith in
+    let m = add-mul-mod_self_right (a + t) (u / n) n in
+    let m' = mod-mul-add (a / n + t / n + 1) n j h in
+    sym m ∙ ap (λ z. z % n) s ∙ m'
+
+-- the converse
+unturn : (a t u n : ℕ) → 0 < n → (a + t) % n ≡ (a + u) % n → t % n ≡ u % n
+unturn a t u n pos e =
+    let b = n - a % n in
+    let la : a % n < n = mod_below a n pos in
+    let d = div-add-mod' a n in
+    let f = λ (z : ℕ). (let m = add-mul-mod_self_right z (a / n + 1) n in
+    let s : a + z + b ≡ z + (a / n + 1) * n = omega arith in
+    ap (λ w. w % n) s ∙ m) in
+    let ft : (a + t + b) % n ≡ t % n = f t in
+    let fu : (a + u + b) % n ≡ u % n = f u in
+    let p = mod-add-mod (a + t) n b in
+    let p' = mod-add-mod (a + u) n b in
+    sym ft ∙ sym p ∙ ap (λ w. (w + b) % n) e ∙ p' ∙ fu
+
+-- each residue is a place, and only one
+place_hit : (s n j : ℕ) → j < 2 ^ n → (k : ℕ) × (k < 2 ^ n) × (probe_place s (16 * 2 ^ n) k ≡ 16 * j + s % 16)
+place_hit s n j h =
+    let pos : 0 < 2 ^ n = pow_pos n in
+    let a = s / 16 % 2 ^ n in
+    let la : a < 2 ^ n = mod_below (s / 16) (2 ^ n) pos in
+    let lr : (j + (2 ^ n - a)) % 2 ^ n < 2 ^ n = mod_below (j + (2 ^ n - a)) (2 ^ n) pos in
+    let t = hits n ((j + (2 ^ n - a)) % 2 ^ n) lr in
+    (t.0, t.1, place_is s (2 ^ n) t.0 pos ∙ ap (λ z. 16 * z + s % 16) (turn (s / 16) (triangle t.0) j (2 ^ n) h t.2))
+
+place_once : (s n x y : ℕ) → x < 2 ^ n → y < 2 ^ n → probe_place s (16 * 2 ^ n) x ≡ probe_place s (16 * 2 ^ n) y → x ≡ y
+place_once s n x y hx hy e =
+    let pos : 0 < 2 ^ n = pow_pos n in
+    let ex = place_is s (2 ^ n) x pos in
+    let ey = place_is s (2 ^ n) y pos in
+    let same : (s / 16 + triangle x) % 2 ^ n ≡ (s / 16 + triangle y) % 2 ^ n = omega arith in
+    hits_once n x y hx hy (unturn (s / 16) (triangle x) (triangle y) (2 ^ n) pos same)
+
+pub same_tests : (b c : Bool) → (b ≡ true → c ≡ true) → (c ≡ true → b ≡ true) → b ≡ c
+same_tests true c f g = sym (f refl)
+same_tests false true f g = g refl
+same_tests false false f g = refl
+
+-- all places, below the modulus or not
+places : ℕ → ℕ → List ℕ
+places s m = map (probe_place s m) (range_with_len 0 (m / 16))
+
+has_place : (s m n x : ℕ) → m ≡ 16 * 2 ^ n → x < m → list_any (eqb x) (places s m) ≡ eqb (x % 16) (s % 16)
+unfolding places
+has_place s m n x e h =
+    let f = probe_place s (16 * 2 ^ n) in
+    let len : m / 16 ≡ 2 ^ n = omega arith in
+    let goal : list_any (eqb x) (map f (range_with_len 0 (2 ^ n))) ≡ eqb (x % 16) (s % 16) =
+    same_tests (list_any (eqb x) (map f (range_with_len 0 (2 ^ n)))) (eqb (x % 16) (s % 16))
+    (λ t. let w = from_map_range f (2 ^ n) x t in
+    let p = place_is s (2 ^ n) w.0 (pow_pos n) in
+    eq-eqb (x % 16) (s % 16) (omega arith))
+    (λ t. let u = eqb-true (x % 16) (s % 16) t in
+    let j : x / 16 < 2 ^ n = omega arith in
+    let w = place_hit s n (x / 16) j in
+    let a = any_map_range f (2 ^ n) w.0 w.1 in
+    let k : f w.0 ≡ x = w.2 ∙ omega arith in
+    rw k at a) in
+    rw (len, e) goal
+
+distinct_places : (s m n : ℕ) → m ≡ 16 * 2 ^ n → IsDistinct eqb (places s m)
+unfolding places
+distinct_places s m n e =
+    let len : m / 16 ≡ 2 ^ n = omega arith in
+    rw (len, e) (distinct_map_range (probe_place s (16 * 2 ^ n)) (2 ^ n) (λ i j hi hj q. place_once s n i j hi hj q))
+
+-- a place is in the strides exactly where it is below the probe capacity and congruent to the start modulo 16
+pub has_stride : (h cap p : ℕ) → 0 < cap → list_any (eqb p) (strides h cap) ≡ (ltb p (probe_capacity cap) && eqb (p % 16) (start h cap % 16))
+unfolding strides places
+has_stride h cap p pos =
+    let w = modulus_power cap pos in
+    let m = modulus cap in
+    let s = start h cap in
+    any_filter p (λ x. ltb x (probe_capacity cap)) (places s m)
+    ∙ same_tests (list_any (eqb p) (places s m) && ltb p (probe_capacity cap)) (ltb p (probe_capacity cap) && eqb (p % 16) (s % 16))
+    (λ t. let u = and_parts (list_any (eqb p) (places s m)) (ltb p (probe_capacity cap)) t in
+    let l = ltb-true p (probe_capacity cap) u.1 in
+    let v = has_place s m w.0 p w.1 (omega arith) in
+    and_from (ltb p (probe_capacity cap)) (eqb (p % 16) (s % 16)) u.1 (sym v ∙ u.0))
+    (λ t. let u = and_parts (ltb p (probe_capacity cap)) (eqb (p % 16) (s % 16)) t in
+    let l = ltb-true p (probe_capacity cap) u.0 in
+    let v = has_place s m w.0 p w.1 (omega arith) in
+    and_from (list_any (eqb p) (places s m)) (ltb p (probe_capacity cap)) (v ∙ u.1) u.0)
+
+pub stride_below : (h cap p : ℕ) → 0 < cap → list_any (eqb p) (strides h cap) ≡ true → p < probe_capacity cap
+stride_below h cap p pos m = ltb-true p (probe_capacity cap) (and_parts (ltb p (probe_capacity cap)) (eqb (p % 16) (start h cap % 16)) (sym (has_stride h cap p pos) ∙ m)).0
+
+-- each once
+pub distinct_strides : (h cap : ℕ) → 0 < cap → IsDistinct eqb (strides h cap)
+unfolding strides places
+distinct_strides h cap pos =
+    let w = modulus_power cap pos in
+    distinct_filter (λ x. ltb x (probe_capacity cap)) (places (start h cap) (modulus cap)) (distinct_places (start h cap) (modulus cap) w.0 w.1)
+
+-- so there are P / 16 of them
+pub count_strides : (h cap : ℕ) → 0 < cap → length (strides h cap) ≡ probe_capacity cap / 16
+count_strides h cap pos =
+    let s = start h cap % 16 in
+    let ls : s < 16 = omega arith in
+    let n = probe_capacity cap / 16 in
+    let f = λ (j : ℕ). 16 * j + s in
+    let xs = map f (range_with_len 0 n) in
+    let d : IsDistinct eqb xs = distinct_map_range f n (λ i j hi hj e. omega arith) in
+    let l : length xs ≡ n = length-map-range_with_len f 0 n in
+    length-from_same_keys nat_eq_equiv (strides h cap) xs (distinct_strides h cap pos) d (λ q.
+    has_stride h cap q pos
+    ∙ same_tests (ltb q (probe_capacity cap) && eqb (q % 16) s) (list_any (eqb q) xs)
+    (λ t. let u = and_parts (ltb q (probe_capacity cap)) (eqb (q % 16) s) t in
+    let a = ltb-true q (probe_capacity cap) u.0 in
+    let b = eqb-true (q % 16) s u.1 in
+    let m = any_map_range f n (q / 16) (omega arith) in
+    let e : 16 * (q / 16) + s ≡ q = omega arith in
+    rw e at m)
+    (λ t. let w = from_map_range f n q t in
+    and_from (ltb q (probe_capacity cap)) (eqb (q % 16) s) (lt-ltb q (probe_capacity cap) (omega arith)) (eq-eqb (q % 16) s (omega arith))))
+    ∙ l
+
+pub mod_more : (b c : ℕ) → b < c → (b + c) % c ≡ b
+mod_more b c h = let m = mod-mul-add 1 c b h in let e : 1 * c + b ≡ b + c = omega arith in rw e at m
+
+-- every bucket is at a place of some stride
+pub covered : (h cap b : ℕ) → b < cap → (p : ℕ) × (q : ℕ) × (list_any (eqb p) (strides h cap) ≡ true) × (p ≤ q) × (q < p + 16) × (q < 2 * cap) × (q % cap ≡ b)
+covered h cap b hb =
+    let s = start h cap in
+    let pos : 0 < cap = omega arith in
+    let step = λ (q : ℕ) (lo : s % 16 ≤ q) (hi : q < s % 16 + probe_capacity cap) (two : q < 2 * cap) (m : q % cap ≡ b).
+    (let p = q - (q - s % 16) % 16 in
+    let r : p % 16 ≡ s % 16 = omega arith in
+    let l : p < probe_capacity cap = omega arith in
+    let t = has_stride h cap p pos in
+    let t' = and_from (ltb p (probe_capacity cap)) (eqb (p % 16) (s % 16)) (lt-ltb p (probe_capacity cap) l) (eq-eqb (p % 16) (s % 16) r) in
+    let out : (p : ℕ) × (q : ℕ) × (list_any (eqb p) (strides h cap) ≡ true) × (p ≤ q) × (q < p + 16) × (q < 2 * cap) × (q % cap ≡ b) = (p, q, t ∙ t', omega arith, omega arith, two, m) in out) in
+    elim (cases_lt b (s % 16)) [
+      | inl a ↦ step (b + cap) (omega arith) (omega arith) (omega arith) (mod_more b cap hb)
+      | inr a ↦ step b a (omega arith) (omega arith) (mod-eq_of_lt hb)
+    ]

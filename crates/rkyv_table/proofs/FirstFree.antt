@@ -1,0 +1,186 @@
+-- Placing: the first empty place of a stride, and the first of all strides.
+use Rattle.std.proofs.Common.{◌≡◌, ℕ, zero, suc, ◌+◌, ◌*◌, ◌-◌, ◌%◌, ◌<◌, ◌≤◌, ◌⊎◌, inl, inr, refl, sym, ap, ◌∙◌, arith, List, [], ◌∷◌, Bool, true, false, ◌&&◌, eqb, leb, ltb, length, get_or, take, drop, set, filter, Option, Some, None, get_or-take, get_or-drop}
+use Rattle.std.specs.List.{find, list_any, range_with_len, flat_map, slice_get}
+use Rattle.std.specs.Option.{option_map}
+use Rattle.std.proofs.lemmas.List.Folds.{find-append}
+use Rattle.std.proofs.lemmas.List.{length-set, set_past}
+use Rattle.std.proofs.lemmas.Bool.{cases_Bool, cases_lt, and_from, and_left, and_right, lt-ltb, le-ltb, both_ways, false_from_ne_true, eq-eqb, or_left, or_right}
+use Rattle.rkyv_scan.specs.Groups.{places_where}
+use Rattle.rkyv_table.specs.Numbers.{start, control_count, probe_capacity}
+use Rattle.rkyv_table.specs.Probe.{strides, buckets_at, shown}
+use Rattle.rkyv_table.specs.Placing.{Repeats}
+use Rattle.rkyv_table.specs.Controls.{is_empty_at, empty_place, with_control}
+use Rattle.rkyv_table.proofs.Coverage.{covered}
+use Rattle.rkyv_table.proofs.Search.{control_of, tail_shows_all, strides_head}
+use Rattle.rkyv_table.proofs.Groups.{range_append}
+use Rattle.rkyv_table.proofs.Written.{find_buckets, taken_at}
+use Rattle.rkyv_table.proofs.Lists.{any_range, any_flat_map, any_map_filter, any_member, find_none, none_find, first_range, range_first, none_range}
+
+-- ---- one stride
+
+pub head_filter : (P : ℕ → Bool) (xs : List ℕ) → slice_get (filter P xs) 0 ≡ find P xs
+head_filter P [] = refl
+head_filter P (x ∷ xs) = elim (cases_Bool (P x)) [ inl t ↦ rw t refl | inr e ↦ rw e (head_filter P xs) ]
+
+find_shift : (P P' : ℕ → Bool) (c i n : ℕ) → ((j : ℕ) → i ≤ j → j < i + n → P (c + j) ≡ P' j) → find P (range_with_len (c + i) n) ≡ option_map (λ j. c + j) (find P' (range_with_len i n))
+find_shift P P' c i zero h = refl
+find_shift P P' c i (suc n) h =
+    let e = h i (omega arith) (omega arith) in
+    let f : c + i + 1 ≡ c + (i + 1) = omega arith in
+    let ih = find_shift P P' c (i + 1) n (λ j lo hi. h j (omega arith) (omega arith)) in
+    elim (cases_Bool (P' i)) [ inl t ↦ rw (e, t) refl | inr t ↦ rw (e, t, f, ih) refl ]
+
+-- one group more: g is its controls, i its number
+pub more_places : (controls g : List ℕ) (p i w : ℕ) (r : Option ℕ) → g ≡ take w (drop (p + i * w) controls) → find (is_empty_at controls) (range_with_len p (i * w)) ≡ None
+    → r ≡ slice_get (filter (λ j. leb 128 (get_or g j 0)) (range_with_len 0 w)) 0
+    → find (is_empty_at controls) (range_with_len p ((i + 1) * w)) ≡ option_map (λ j. p + i * w + j) r
+more_places controls g p i w r e none is =
+    let a = i * w in
+    let len : (i + 1) * w ≡ a + w = omega arith in
+    let s = find_shift (is_empty_at controls) (λ j. leb 128 (get_or g j 0)) (p + a) 0 w (λ j lo hi'.
+    let hi : j < w = omega arith in
+    let x = get_or-take w (drop (p + a) controls) j 0 hi in
+    let y = get_or-drop (p + a) controls j 0 in
+    rw (e, x, y) refl) in
+    let z : p + a + 0 ≡ p + a = omega arith in
+    let s' = rw z at s in
+    let r' = is ∙ head_filter (λ j. leb 128 (get_or g j 0)) (range_with_len 0 w) in
+    ap (λ n. find (is_empty_at controls) (range_with_len p n)) len
+    ∙ ap (find (is_empty_at controls)) (range_append p a w)
+    ∙ find-append (is_empty_at controls) (range_with_len p a) (range_with_len (p + a) w)
+    ∙ rw none (s' ∙ ap (option_map (λ j. p + a + j)) (sym r'))
+
+pub whole_stride : (P : ℕ → Bool) (p n q : ℕ) → n ≤ 16 → find P (range_with_len p n) ≡ Some q → find P (range_with_len p 16) ≡ Some q
+whole_stride P p n q le h =
+    let e : 16 ≡ n + (16 - n) = omega arith in
+    ap (λ z. find P (range_with_len p z)) e ∙ ap (find P) (range_append p n (16 - n)) ∙ find-append P (range_with_len p n) (range_with_len (p + n) (16 - n)) ∙ rw h refl
+
+-- the first marked place of a group lies in it
+pub place_inside : (P : ℕ → Bool) (n j : ℕ) (ps : List ℕ) → ps ≡ places_where P n → Some j ≡ slice_get ps 0 → j < n
+unfolding places_where
+place_inside P n j ps e h =
+    let f = first_range P 0 n j (sym (h ∙ ap (λ xs. slice_get xs 0) e ∙ head_filter P (range_with_len 0 n))) in
+    omega (arith, f.to)
+
+-- ---- all strides
+
+-- the place's control is that of its bucket
+same_test : (cap : ℕ) (controls : List ℕ) (q : ℕ) → 0 < cap → Repeats cap controls → q < 2 * cap → q < control_count cap → is_empty_at controls q ≡ is_empty_at controls (q % cap)
+same_test cap controls q pos r two c = ap (leb 128) (control_of cap controls q pos r two c)
+
+-- a stride with no empty place shows no free bucket
+pub none_shown : (cap : ℕ) (controls : List ℕ) (p : ℕ) → 0 < cap → Repeats cap controls → p < probe_capacity cap → find (is_empty_at controls) (range_with_len p 16) ≡ None → list_any (is_empty_at controls) (buckets_at cap p) ≡ false
+unfolding buckets_at
+none_shown cap controls p pos r lp h =
+    let n = none_find (is_empty_at controls) (range_with_len p 16) h in
+    any_map_filter (is_empty_at controls) (λ q. ltb q (2 * cap)) (λ q. q % cap) (range_with_len p 16)
+    ∙ none_range (λ q. ltb q (2 * cap) && is_empty_at controls (q % cap)) p 16 (λ q lo hi.
+    elim (cases_lt q (2 * cap)) [
+      | inr g ↦ and_left (ltb q (2 * cap)) (is_empty_at controls (q % cap)) (le-ltb q (2 * cap) g)
+      | inl l ↦ and_right (ltb q (2 * cap)) (is_empty_at controls (q % cap))
+          (false_from_ne_true (is_empty_at controls (q % cap)) (λ t.
+          both_ways (list_any (is_empty_at controls) (range_with_len p 16)) n
+          (any_range (is_empty_at controls) p 16 q lo hi (same_test cap controls q pos r l (omega arith) ∙ t))))
+    ])
+
+-- the first empty place of a stride is that of the first free bucket that the stride shows
+pub some_shown : (h cap : ℕ) (controls : List ℕ) (p q b : ℕ) → Repeats cap controls → b < cap → is_empty_at controls b ≡ true
+    → list_any (eqb p) (strides h cap) ≡ true → p < probe_capacity cap
+    → (list_any (is_empty_at controls) (buckets_at cap (start h cap)) ≡ false) ⊎ (p ≡ start h cap)
+    → find (is_empty_at controls) (range_with_len p 16) ≡ Some q → (q < 2 * cap) × (find (is_empty_at controls) (buckets_at cap p) ≡ Some (q % cap))
+some_shown h cap controls p q b r hb fb hp lp started e =
+    let pos : 0 < cap = omega arith in
+    let f = first_range (is_empty_at controls) p 16 q e in
+    let lo = f.from in
+    let hi = f.to in
+    let two : q < 2 * cap = elim (cases_lt q (2 * cap)) [
+      | inl l ↦ l
+      | inr g ↦
+          let w = tail_shows_all h cap p b hb hp (omega arith) in
+          let q' = w.0 in
+          let here = λ (l : p ≤ q') (u : q' < p + 16).
+          (let t = same_test cap controls q' pos r w.1 (omega arith) ∙ ap (is_empty_at controls) w.2 ∙ fb in
+          let less : q' < q = omega (arith, w.1) in
+          both_ways (is_empty_at controls q') (f.no q' l less) t) in
+          absurd (elim w.3 [
+            | inl u ↦ here u.0 u.1
+            | inr u ↦ elim started [
+              | inl none ↦ both_ways (is_empty_at controls b) (ap (is_empty_at controls) (sym w.2) ∙ taken_at (is_empty_at controls) cap (start h cap) q' none u.0 u.1 w.1) fb
+              | inr s ↦ let u0 = u.0 in let u1 = u.1 in here (omega arith) (omega arith)
+            ]
+          ])
+    ] in (
+      two,
+      find_buckets (is_empty_at controls) cap p
+          ∙ ap (option_map (λ x. x % cap)) (range_first (λ x. ltb x (2 * cap) && is_empty_at controls (x % cap)) p 16 q (record {
+            from = lo;
+            to = hi;
+            yes = and_from (ltb q (2 * cap)) (is_empty_at controls (q % cap)) (lt-ltb q (2 * cap) two) (sym (same_test cap controls q pos r two (omega arith)) ∙ f.yes);
+            no = λ i l g. let i2 : i < 2 * cap = omega arith in
+                and_right (ltb i (2 * cap)) (is_empty_at controls (i % cap)) (sym (same_test cap controls i pos r i2 (omega arith)) ∙ f.no i l g);
+          })),
+    )
+
+-- some bucket that a hash shows is free
+pub free_shown : (h cap : ℕ) (free : ℕ → Bool) (b : ℕ) → b < cap → free b ≡ true → list_any free (shown h cap) ≡ true
+unfolding buckets_at
+free_shown h cap free b hb fb =
+    let v = covered h cap b hb in
+    let p = v.0 in
+    let q = v.1 in
+    let t = and_from (ltb q (2 * cap)) (free (q % cap)) (lt-ltb q (2 * cap) v.5) (ap free v.6 ∙ fb) in
+    let a = any_range (λ q. ltb q (2 * cap) && free (q % cap)) p 16 q v.3 v.4 t in
+    let m = any_map_filter free (λ q. ltb q (2 * cap)) (λ q. q % cap) (range_with_len p 16) in
+    any_flat_map free (buckets_at cap) (strides h cap) ∙ any_member (λ p. list_any free (buckets_at cap p)) p (strides h cap) v.2 (m ∙ a)
+
+-- ---- steps of the walk over the strides
+
+pub head_of : (xs ys : List ℕ) (x y : ℕ) → x ∷ xs ≡ y ∷ ys → x ≡ y
+head_of xs ys x y e = cc
+
+pub begun : (h cap p : ℕ) (free : ℕ → Bool) (ps qs : List ℕ) → 0 < cap → (qs ≡ strides h cap) ⊎ (list_any free (buckets_at cap (start h cap)) ≡ false) → qs ≡ p ∷ ps
+    → (list_any free (buckets_at cap (start h cap)) ≡ false) ⊎ (p ≡ start h cap)
+begun h cap p free ps qs pos c e = elim c [
+  | inl s ↦ let w = strides_head h cap pos in inr (head_of ps w.0 p (start h cap) (sym e ∙ s ∙ w.1))
+  | inr n ↦ inl n
+]
+
+-- a stride that shows no free bucket
+pub passes_on : (h cap p : ℕ) (free : ℕ → Bool) (ps qs : List ℕ) → qs ≡ p ∷ ps → list_any free (buckets_at cap p) ≡ false
+    → find free (shown h cap) ≡ find free (flat_map (buckets_at cap) qs)
+    → find free (shown h cap) ≡ find free (flat_map (buckets_at cap) ps)
+passes_on h cap p free ps qs e none same =
+    let n = find_none free (buckets_at cap p) none in
+    same ∙ ap (λ xs. find free (flat_map (buckets_at cap) xs)) e ∙ find-append free (buckets_at cap p) (flat_map (buckets_at cap) ps) ∙ rw n refl
+
+pub first_at : (h cap p b : ℕ) (free : ℕ → Bool) (ps qs : List ℕ) → qs ≡ p ∷ ps → find free (buckets_at cap p) ≡ Some b
+    → find free (shown h cap) ≡ find free (flat_map (buckets_at cap) qs)
+    → find free (shown h cap) ≡ Some b
+first_at h cap p b free ps qs e some same =
+    same ∙ ap (λ xs. find free (flat_map (buckets_at cap) xs)) e ∙ find-append free (buckets_at cap p) (flat_map (buckets_at cap) ps) ∙ rw some refl
+
+pub later_started : (h cap p : ℕ) (free : ℕ → Bool) → (list_any free (buckets_at cap (start h cap)) ≡ false) ⊎ (p ≡ start h cap) → list_any free (buckets_at cap p) ≡ false → list_any free (buckets_at cap (start h cap)) ≡ false
+later_started h cap p free c n = elim c [ inl m ↦ m | inr e ↦ rw e at n ]
+
+pub member_front : (p : ℕ) (ps qs : List ℕ) → qs ≡ p ∷ ps → list_any (eqb p) qs ≡ true
+member_front p ps qs e = ap (list_any (eqb p)) e ∙ or_left (eqb p p) (list_any (eqb p) ps) (eq-eqb p p refl)
+
+pub member_rest : (p x : ℕ) (ps qs : List ℕ) → qs ≡ p ∷ ps → list_any (eqb x) ps ≡ true → list_any (eqb x) qs ≡ true
+member_rest p x ps qs e m = ap (list_any (eqb x)) e ∙ or_right (eqb x p) (list_any (eqb x) ps) m
+
+-- the strides can't run out where a bucket is free
+pub runs_out : (h cap b : ℕ) (free : ℕ → Bool) (qs : List ℕ) → b < cap → free b ≡ true → qs ≡ [] → find free (shown h cap) ≡ find free (flat_map (buckets_at cap) qs) → ⊥
+runs_out h cap b free qs hb fb e same =
+    let n : find free (shown h cap) ≡ None = same ∙ ap (λ xs. find free (flat_map (buckets_at cap) xs)) e in
+    both_ways (list_any free (shown h cap)) (none_find free (shown h cap) n) (free_shown h cap free b hb fb)
+
+pub empty_place_is : (controls : List ℕ) (p : ℕ) → empty_place controls p ≡ find (is_empty_at controls) (range_with_len p 16)
+unfolding empty_place
+empty_place_is controls p = refl
+
+pub no_range : (P : ℕ → Bool) (p n : ℕ) → n ≡ 0 → find P (range_with_len p n) ≡ None
+no_range P p n e = rw e refl
+
+-- the two writes of a bucket's control
+pub one_write : (controls : List ℕ) (cap b t : ℕ) → length controls ≤ cap + b → set controls b t ≡ with_control controls cap b t
+one_write controls cap b t h = let l = length-set controls b t in sym (set_past (set controls b t) (cap + b) t (omega arith))

@@ -1,0 +1,106 @@
+-- Homes, and the controls of a written table, are lists that capacity and hashes determine.
+use Rattle.std.proofs.Common.{◌≡◌, ℕ, zero, suc, ◌+◌, ◌*◌, ◌-◌, ◌%◌, ◌<◌, ◌≤◌, inl, inr, refl, sym, ap, ◌∙◌, arith, List, [], ◌∷◌, ◌++◌, Bool, true, false, cond, not, eqb, ltb, length, get_or, take, map, Some, get_or-take, length-take}
+use Rattle.std.specs.List.{list_any, find, fold, range_with_len, position_or_len}
+use Rattle.std.specs.Option.{unwrap_or}
+use Rattle.std.proofs.lemmas.Nat.{mod_below}
+use Rattle.std.proofs.lemmas.List.{take_all, take_more, take-append-le, get_or_append_left, get_or_push, length_push, ext_get_or, get_or_past, get_or-map, length-map}
+use Rattle.std.proofs.lemmas.List.FromFn.{length-map-range_with_len, get_or-map-range_with_len}
+use Rattle.std.proofs.lemmas.List.Folds.{find_at}
+use Rattle.std.proofs.lemmas.List.Sums.{fold-append, passes_at_first}
+use Rattle.std.proofs.lemmas.Bool.{cases_Bool, cases_lt, or_parts, eqb-true, lt-ltb, le-ltb, not-false, not-true, both_ways}
+use Rattle.rkyv_table.specs.Numbers.{tag, control_count}
+use Rattle.rkyv_table.specs.Probe.{shown}
+use Rattle.rkyv_table.specs.Placing.{is_free, Homes, with_home, homes, Written, bucket_control, written_controls}
+use Rattle.rkyv_table.proofs.FirstFree.{free_shown}
+use Rattle.rkyv_table.proofs.Lists.{none_find}
+use Rattle.rkyv_table.proofs.Search.{cases_option, control_of}
+use Rattle.rkyv_table.proofs.Written.{first_within}
+use Rattle.rkyv_table.proofs.WrittenStep.{free_bucket, homes_more}
+
+-- ---- homes
+
+with_home_is : (cap h b : ℕ) (taken : List ℕ) → find (is_free taken) (shown h cap) ≡ Some b → with_home cap taken h ≡ taken ++ b ∷ []
+unfolding with_home
+with_home_is cap h b taken e = ap (λ o. taken ++ unwrap_or o 0 ∷ []) e
+
+one_more_home : (cap : ℕ) (hashes : List ℕ) (i : ℕ) → i < length hashes → homes cap (take (i + 1) hashes) ≡ with_home cap (homes cap (take i hashes)) (get_or hashes i 0)
+one_more_home cap hashes i h = ap (fold (with_home cap) []) (take_more hashes i 0 h) ∙ fold-append (with_home cap) [] (take i hashes) (get_or hashes i 0 ∷ [])
+
+front_homes : (cap : ℕ) (hashes xs : List ℕ) → Homes cap hashes xs → (i : ℕ) → i ≤ length hashes → homes cap (take i hashes) ≡ take i xs
+front_homes cap hashes xs p zero h = refl
+front_homes cap hashes xs p (suc i) h =
+    let count = p.count in
+    let s : suc i ≡ i + 1 = omega arith in
+    let ih = front_homes cap hashes xs p i (omega arith) in
+    let f = with_home_is cap (get_or hashes i 0) (get_or xs i 0) (take i xs) (p.first i (omega arith)) in
+    rw s (one_more_home cap hashes i (omega arith) ∙ ap (λ t. with_home cap t (get_or hashes i 0)) ih ∙ f ∙ sym (take_more xs i 0 (omega arith)))
+
+pub homes_one_list : (cap : ℕ) (hashes xs : List ℕ) → Homes cap hashes xs → xs ≡ homes cap hashes
+homes_one_list cap hashes xs p =
+    let count = p.count in
+    let f = front_homes cap hashes xs p (length hashes) (omega arith) in
+    sym (take_all (length hashes) xs (omega arith)) ∙ sym f ∙ ap (homes cap) (take_all (length hashes) hashes (omega arith))
+
+-- fewer homes than buckets leave one for the next item
+next_home : (cap h : ℕ) (taken : List ℕ) → length taken < cap → (b : ℕ) × (find (is_free taken) (shown h cap) ≡ Some b)
+next_home cap h taken room =
+    let f = free_bucket cap taken room in
+    elim (cases_option (find (is_free taken) (shown h cap))) [
+      | inl none ↦ absurd (both_ways (list_any (is_free taken) (shown h cap)) (none_find (is_free taken) (shown h cap) none) (free_shown h cap (is_free taken) f.0 f.1 f.2))
+      | inr some ↦ some
+    ]
+
+front_exist : (cap : ℕ) (hashes : List ℕ) → length hashes < cap → (i : ℕ) → i ≤ length hashes → Homes cap (take i hashes) (homes cap (take i hashes))
+front_exist cap hashes room zero h = record { count = refl; first = λ i l. absurd (omega arith) }
+front_exist cap hashes room (suc i) h =
+    let s : suc i ≡ i + 1 = omega arith in
+    let ih = front_exist cap hashes room i (omega arith) in
+    let count = ih.count in
+    let l = length-take i hashes in
+    let n = next_home cap (get_or hashes i 0) (homes cap (take i hashes)) (omega arith) in
+    let e = one_more_home cap hashes i (omega arith) ∙ with_home_is cap (get_or hashes i 0) n.0 (homes cap (take i hashes)) n.1 in
+    rw (s, e, take_more hashes i 0 (omega arith)) (homes_more cap (get_or hashes i 0) n.0 (take i hashes) (homes cap (take i hashes)) ih n.1)
+
+pub homes_stand : (cap : ℕ) (hashes : List ℕ) → length hashes < cap → Homes cap hashes (homes cap hashes)
+homes_stand cap hashes room =
+    let f = front_exist cap hashes room (length hashes) (omega arith) in
+    rw (take_all (length hashes) hashes (omega arith)) at f
+
+-- ---- written controls
+
+none_within : (P : ℕ → Bool) (xs : List ℕ) → list_any P xs ≡ false → length xs ≤ position_or_len P xs
+none_within P [] h = omega arith
+none_within P (x ∷ xs) h = let u = or_parts (P x) (list_any P xs) h in let ih = none_within P xs u.1 in rw u.0 (omega arith)
+
+bucket_is : (cap : ℕ) (hashes xs controls : List ℕ) (b : ℕ) → Written cap hashes xs controls → b < cap → get_or controls b 0 ≡ bucket_control cap hashes b
+bucket_is cap hashes xs controls b w hb =
+    let count = w.placed.count in
+    let same = homes_one_list cap hashes xs w.placed in
+    let lm = length-map hashes tag in
+    let i = position_or_len (eqb b) xs in
+    elim (cases_Bool (list_any (eqb b) xs)) [
+      | inr none ↦
+          let f : is_free xs b ≡ true = rw none refl in
+          let past : length xs ≤ i = none_within (eqb b) xs none in
+          w.others b hb f ∙ sym (rw (← same) (get_or_past (map tag hashes) i 255 (omega arith)))
+      | inl some ↦
+          let l : i < length xs = first_within (eqb b) xs some in
+          let e = eqb-true b (get_or xs i 0) (passes_at_first (eqb b) xs 0 l) in
+          ap (λ z. get_or controls z 0) e ∙ w.tags i (omega arith) ∙ sym (rw (← same) (get_or-map tag hashes i 0 255 (omega arith)))
+    ]
+
+pub written_one_list : (cap : ℕ) (hashes xs controls : List ℕ) → 0 < cap → Written cap hashes xs controls → controls ≡ written_controls cap hashes
+unfolding written_controls
+written_one_list cap hashes xs controls pos w =
+    let f = λ (q : ℕ). cond (ltb q (2 * cap)) (bucket_control cap hashes (q % cap)) 255 in
+    let n = control_count cap in
+    let count = w.repeats.count in
+    let l = length-map-range_with_len f 0 n in
+    ext_get_or 0 controls (map f (range_with_len 0 n)) (omega arith) (λ q h.
+    let hq : q < n = omega arith in
+    let e = get_or-map-range_with_len f 0 n q q 0 hq (omega arith) in
+    let at : get_or controls q 0 ≡ f q = elim (cases_lt q (2 * cap)) [
+      | inl two ↦ rw (lt-ltb q (2 * cap) two) (control_of cap controls q pos w.repeats two hq ∙ bucket_is cap hashes xs controls (q % cap) w (mod_below q cap pos))
+      | inr past ↦ rw (le-ltb q (2 * cap) past) (w.past q past hq)
+    ] in
+    at ∙ sym e)

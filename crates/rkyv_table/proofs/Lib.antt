@@ -1,0 +1,15 @@
+pub mod Triangle
+pub mod Lists
+pub mod Modulus
+pub mod Coverage
+pub mod Search
+pub mod Written
+pub mod ProbeSteps
+pub mod Marks
+pub mod Groups
+pub mod Lookup
+pub mod FirstFree
+pub mod WrittenStep
+pub mod Walks
+pub mod WrittenAccepted
+pub mod HomeList

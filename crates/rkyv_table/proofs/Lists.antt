@@ -1,0 +1,176 @@
+-- Lists made by `filter`, `map` and `range_with_len`: membership, distinctness, and the first that passes.
+use Rattle.std.proofs.Common.{◌≡◌, ℕ, zero, suc, ◌+◌, ◌<◌, ◌≤◌, inl, inr, refl, sym, ap, ◌∙◌, arith, List, [], ◌∷◌, Bool, true, false, ◌&&◌, ◌||◌, eqb, map, filter, Some, None}
+use Rattle.std.specs.List.{list_any, Contains, find, range_with_len, flat_map, IsDistinct, AllByRecursion}
+use Rattle.std.specs.Option.{option_map}
+use Rattle.std.proofs.lemmas.List.{get_or_default}
+use Rattle.std.proofs.lemmas.List.FromFn.{length-range_with_len, get_or-range_with_len, length-map-range_with_len, get_or-map-range_with_len}
+use Rattle.std.proofs.lemmas.List.Folds.{list_any-append, list_any_at, Any-from_list_any}
+use Rattle.std.proofs.lemmas.Bool.{cases_eq, cases_Bool, eqb-true, eq-eqb, ne_eqb, or_parts, or_left, or_right, or_from, false≢true}
+use Rattle.std.proofs.lemmas.Option.{none-some, same_Some}
+use Rattle.std.proofs.lemmas.Map.Keys.{IsDistinct-from_apart}
+
+-- ---- membership
+
+and_no : (b : Bool) → (b && false) ≡ false
+and_no true = refl
+and_no false = refl
+
+pub any_filter : (x : ℕ) (p : ℕ → Bool) (xs : List ℕ) → list_any (eqb x) (filter p xs) ≡ (list_any (eqb x) xs && p x)
+any_filter x p [] = refl
+any_filter x p (y ∷ ys) =
+    let ih = any_filter x p ys in
+    elim (cases_Bool (eqb x y)) [
+      | inl e ↦ let same : p x ≡ p y = ap p (eqb-true x y e) in
+          elim (cases_Bool (p y)) [
+            | inl t ↦ rw (t, e, same, t) refl
+            | inr f ↦ rw (f, ih, e, same, f) (and_no (list_any (eqb x) ys))
+          ]
+      | inr e ↦ elim (cases_Bool (p y)) [
+        | inl t ↦ rw (t, e, ih) refl
+        | inr f ↦ rw (f, e, ih) refl
+      ]
+    ]
+
+-- an element of a list, by test and by place
+pub member_contains : (x : ℕ) (xs : List ℕ) → list_any (eqb x) xs ≡ true → Contains xs x
+member_contains x xs h =
+    let a = Any-from_list_any (eqb x) xs h in
+    let e = eqb-true x a.1 a.4 in
+    (a.0, a.2, get_or_default xs a.0 x a.1 a.2 ∙ a.3 ∙ sym e)
+
+pub contains_member : (x : ℕ) (xs : List ℕ) → Contains xs x → list_any (eqb x) xs ≡ true
+contains_member x xs c = list_any_at (eqb x) xs c.0 x c.1 (rw c.2 (eq-eqb x x refl))
+
+pub any_map_range : (f : ℕ → ℕ) (n i : ℕ) → i < n → list_any (eqb (f i)) (map f (range_with_len 0 n)) ≡ true
+any_map_range f n i h =
+    let e = get_or-map-range_with_len f 0 n i i 0 h (omega arith) in
+    let l = length-map-range_with_len f 0 n in
+    list_any_at (eqb (f i)) (map f (range_with_len 0 n)) i 0 (omega arith) (rw e (eq-eqb (f i) (f i) refl))
+
+pub from_map_range : (f : ℕ → ℕ) (n x : ℕ) → list_any (eqb x) (map f (range_with_len 0 n)) ≡ true → (i : ℕ) × (i < n) × (f i ≡ x)
+from_map_range f n x h =
+    let a = Any-from_list_any (eqb x) (map f (range_with_len 0 n)) h in
+    let l = length-map-range_with_len f 0 n in
+    let lt : a.0 < n = omega arith in
+    let e = get_or-map-range_with_len f 0 n a.0 a.0 a.1 lt (omega arith) in
+    let t = eqb-true x a.1 a.4 in
+    (a.0, lt, sym e ∙ a.3 ∙ sym t)
+
+-- ---- distinctness
+
+fresh_filter : (P : ℕ → Type 0) (p : ℕ → Bool) (xs : List ℕ) → AllByRecursion P xs → AllByRecursion P (filter p xs)
+fresh_filter P p [] h = h
+fresh_filter P p (x ∷ xs) h = let ih = fresh_filter P p xs h.1 in
+    elim (cases_Bool (p x)) [ inl t ↦ rw t (h.0, ih) | inr f ↦ rw f ih ]
+
+pub distinct_filter : (p : ℕ → Bool) (xs : List ℕ) → IsDistinct eqb xs → IsDistinct eqb (filter p xs)
+unfolding IsDistinct
+distinct_filter p [] h = h
+distinct_filter p (x ∷ xs) h = let ih = distinct_filter p xs h.1 in
+    elim (cases_Bool (p x)) [ inl t ↦ rw t (fresh_filter (λ y. eqb x y ≡ false) p xs h.0, ih) | inr f ↦ rw f ih ]
+
+pub distinct_map_range : (f : ℕ → ℕ) (n : ℕ) → ((i j : ℕ) → i < n → j < n → f i ≡ f j → i ≡ j) → IsDistinct eqb (map f (range_with_len 0 n))
+distinct_map_range f n inj =
+    let l = length-map-range_with_len f 0 n in
+    IsDistinct-from_apart eqb (map f (range_with_len 0 n)) (λ i j d ij h.
+    let hj : j < n = omega arith in
+    let hi : i < n = omega arith in
+    let ei = get_or-map-range_with_len f 0 n i i d hi (omega arith) in
+    let ej = get_or-map-range_with_len f 0 n j j d hj (omega arith) in
+    rw (ei, ej) (ne_eqb (f i) (f j) (λ e. let s = inj i j hi hj e in omega arith)))
+
+-- ---- tests of some element
+
+pub any_map_filter : (P m : ℕ → Bool) (f : ℕ → ℕ) (xs : List ℕ) → list_any P (map f (filter m xs)) ≡ list_any (λ x. m x && P (f x)) xs
+any_map_filter P m f [] = refl
+any_map_filter P m f (x ∷ xs) = let ih = any_map_filter P m f xs in
+    elim (cases_Bool (m x)) [ inl t ↦ rw (t, ih) refl | inr e ↦ rw (e, ih) refl ]
+
+pub any_member : (P : ℕ → Bool) (x : ℕ) (xs : List ℕ) → list_any (eqb x) xs ≡ true → P x ≡ true → list_any P xs ≡ true
+any_member P x [] h t = absurd (false≢true h)
+any_member P x (y ∷ ys) h t = elim (cases_Bool (eqb x y)) [
+  | inl e ↦ let s = ap P (eqb-true x y e) in or_left (P y) (list_any P ys) (sym s ∙ t)
+  | inr e ↦ let h' = rw e at h in or_right (P y) (list_any P ys) (any_member P x ys h' t)
+]
+
+pub any_flat_map : (P : ℕ → Bool) (f : ℕ → List ℕ) (xs : List ℕ) → list_any P (flat_map f xs) ≡ list_any (λ x. list_any P (f x)) xs
+any_flat_map P f [] = refl
+any_flat_map P f (x ∷ xs) = list_any-append P (f x) (flat_map f xs) ∙ ap (λ b. list_any P (f x) || b) (any_flat_map P f xs)
+
+pub any_range : (P : ℕ → Bool) (a n i : ℕ) → a ≤ i → i < a + n → P i ≡ true → list_any P (range_with_len a n) ≡ true
+any_range P a zero i lo hi t = absurd (omega arith)
+any_range P a (suc n) i lo hi t = elim (cases_eq a i) [
+  | inl e ↦ or_left (P a) (list_any P (range_with_len (a + 1) n)) (ap P e ∙ t)
+  | inr e ↦ or_right (P a) (list_any P (range_with_len (a + 1) n)) (any_range P (a + 1) n i (omega arith) (omega arith) t)
+]
+
+pub none_range : (P : ℕ → Bool) (a n : ℕ) → ((i : ℕ) → a ≤ i → i < a + n → P i ≡ false) → list_any P (range_with_len a n) ≡ false
+none_range P a zero h = refl
+none_range P a (suc n) h = or_from (P a) (list_any P (range_with_len (a + 1) n)) (h a (omega arith) (omega arith))
+    (none_range P (a + 1) n (λ i lo hi. h i (omega arith) (omega arith)))
+
+pub in_range : (n q : ℕ) → list_any (eqb q) (range_with_len 0 n) ≡ true → q < n
+in_range n q m =
+    let l = length-range_with_len 0 n in
+    let w = Any-from_list_any (eqb q) (range_with_len 0 n) m in
+    let lt : w.0 < n = omega arith in
+    let g = get_or-range_with_len 0 n w.0 w.1 lt in
+    let e = eqb-true q w.1 w.4 in
+    let s = w.3 in
+    omega arith
+
+-- ---- the first that passes
+
+pub find_none : {X : Type 0} (P : X → Bool) (xs : List X) → list_any P xs ≡ false → find P xs ≡ None
+find_none P [] h = refl
+find_none P (x ∷ xs) h = let u = or_parts (P x) (list_any P xs) h in rw u.0 (find_none P xs u.1)
+
+pub none_find : {X : Type 0} (P : X → Bool) (xs : List X) → find P xs ≡ None → list_any P xs ≡ false
+none_find P [] h = refl
+none_find P (x ∷ xs) h = elim (cases_Bool (P x)) [
+  | inl t ↦ let h' = rw t at h in absurd (none-some x (sym h'))
+  | inr e ↦ let h' = rw e at h in rw e (none_find P xs h')
+]
+
+pub some_find : {X : Type 0} (P : X → Bool) (xs : List X) (x : X) → find P xs ≡ Some x → (list_any P xs ≡ true) × (P x ≡ true)
+some_find P [] x h = absurd (none-some x h)
+some_find P (y ∷ ys) x h = elim (cases_Bool (P y)) [
+  | inl t ↦ let h' = rw t at h in let s = same_Some y x h' in (or_left (P y) (list_any P ys) t, sym (ap P s) ∙ t)
+  | inr e ↦ let h' = rw e at h in let ih = some_find P ys x h' in (or_right (P y) (list_any P ys) ih.0, ih.1)
+]
+
+pub find_map_filter : (P m : ℕ → Bool) (f : ℕ → ℕ) (xs : List ℕ) → find P (map f (filter m xs)) ≡ option_map f (find (λ x. m x && P (f x)) xs)
+find_map_filter P m f [] = refl
+find_map_filter P m f (x ∷ xs) = let ih = find_map_filter P m f xs in
+    elim (cases_Bool (m x)) [
+      | inl t ↦ elim (cases_Bool (P (f x))) [ inl u ↦ rw (t, u) refl | inr u ↦ rw (t, u, ih) refl ]
+      | inr e ↦ rw (e, ih) refl
+    ]
+
+-- the first of a range
+pub record FirstIn (P : ℕ → Bool) (a n q : ℕ) : Type 0 where
+  pub from : a ≤ q
+  pub to : q < a + n
+  pub yes : P q ≡ true
+  pub no : (i : ℕ) → a ≤ i → i < q → P i ≡ false
+
+later : (P : ℕ → Bool) (a q : ℕ) → P a ≡ false → ((i : ℕ) → a + 1 ≤ i → i < q → P i ≡ false) → (i : ℕ) → a ≤ i → i < q → P i ≡ false
+later P a q e h i lo hi = elim (cases_eq a i) [ inl s ↦ sym (ap P s) ∙ e | inr s ↦ h i (omega arith) hi ]
+
+pub first_range : (P : ℕ → Bool) (a n q : ℕ) → find P (range_with_len a n) ≡ Some q → FirstIn P a n q
+first_range P a zero q h = absurd (none-some q h)
+first_range P a (suc n) q h = elim (cases_Bool (P a)) [
+  | inl t ↦ let h' = rw t at h in let s = same_Some a q h' in
+      record { from = omega arith; to = omega arith; yes = sym (ap P s) ∙ t; no = λ i lo hi. absurd (omega arith) }
+  | inr e ↦ let h' = rw e at h in let ih = first_range P (a + 1) n q h' in
+      record { from = omega (arith, ih.from); to = omega (arith, ih.to); yes = ih.yes; no = λ i lo hi. later P a q e ih.no i lo hi }
+]
+
+pub range_first : (P : ℕ → Bool) (a n q : ℕ) → FirstIn P a n q → find P (range_with_len a n) ≡ Some q
+range_first P a zero q f = absurd (omega (arith, f.from, f.to))
+range_first P a (suc n) q f = elim (cases_eq a q) [
+  | inl e ↦ let t = ap P e ∙ f.yes in rw t (ap Some e)
+  | inr e ↦ let lo = f.from in let hi = f.to in
+      let t = f.no a (omega arith) (omega arith) in
+      rw t (range_first P (a + 1) n q (record { from = omega arith; to = omega arith; yes = f.yes; no = λ i l u. f.no i (omega arith) u }))
+]

@@ -1,0 +1,145 @@
+-- The steps of a lookup over the strides, and that an accepted table ends it.
+use Rattle.std.proofs.Common.{◌≡◌, ℕ, suc, ◌+◌, ◌*◌, ◌/◌, ◌%◌, ◌^◌, ◌<◌, ◌≤◌, inl, inr, refl, sym, ap, ◌∙◌, arith, List, [], ◌∷◌, Bool, true, false, not, eqb, leb, ltb, length, get_or, filter, take, drop, get_or-take, get_or-drop, Some, None}
+use Rattle.std.specs.List.{find, list_any, Contains, range_with_len, position_or_len}
+use Rattle.std.proofs.lemmas.List.FromFn.{length-range_with_len, get_or-range_with_len}
+use Rattle.std.proofs.lemmas.List.Folds.{Any-from_list_any}
+use Rattle.std.proofs.lemmas.Nat.{mod_below}
+use Rattle.std.proofs.lemmas.Bool.{cases_Bool, cases_eq, cases_lt, eq-eqb, ne_eqb, or_left, or_right, or_from, or_parts, ltb-true, ltb-false, le-leb, not-false, not-true, and_parts, and_from, lt-ltb}
+use Rattle.rkyv_table.specs.Numbers.{start, tag, control_count, probe_capacity}
+use Rattle.rkyv_table.specs.Probe.{strides}
+use Rattle.rkyv_table.specs.Controls.{IsFullBucket}
+use Rattle.rkyv_table.specs.Seen.{IsShown}
+use Rattle.rkyv_table.specs.Placing.{Accepted, walk}
+use Rattle.rkyv_scan.specs.Groups.{Kind, IsKind}
+use Rattle.rkyv_table.specs.Finding.{marked, candidates, shows_empty, ends_at, found, end}
+use Rattle.rkyv_table.proofs.Coverage.{covered, has_stride, count_strides, stride_below}
+use Rattle.rkyv_table.proofs.Lists.{any_member, any_range, contains_member, none_find, some_find}
+use Rattle.rkyv_table.proofs.Search.{answer, answer_cons, control_of, mark_full}
+use Rattle.rkyv_table.proofs.Walks.{full_walked}
+use Rattle.rkyv_table.proofs.Written.{first_within}
+
+module _ (kind : Kind) (controls : List ℕ) (cap t : ℕ) (accept : ℕ → Bool) where
+  abbrev pub place : List ℕ → ℕ
+  place ps = position_or_len (ends_at kind controls cap t accept) ps
+
+  pub ends_by_item : (p b : ℕ) (ps qs : List ℕ) → qs ≡ p ∷ ps → find accept (candidates kind controls cap t p) ≡ Some b
+      → (answer kind controls cap t accept qs ≡ Some b) × (place qs ≡ 0)
+  ends_by_item p b ps qs q h =
+      let k = some_find accept (candidates kind controls cap t p) b h in
+      let e : ends_at kind controls cap t accept p ≡ true = or_left (list_any accept (candidates kind controls cap t p)) (shows_empty controls p) k.0 in
+      rw q (answer_cons kind controls cap t accept p ps ∙ rw e h, rw e refl)
+
+  pub ends_by_empty : (p : ℕ) (ps qs : List ℕ) → qs ≡ p ∷ ps → find accept (candidates kind controls cap t p) ≡ None → shows_empty controls p ≡ true
+      → (answer kind controls cap t accept qs ≡ None) × (place qs ≡ 0)
+  ends_by_empty p ps qs q h s =
+      let e : ends_at kind controls cap t accept p ≡ true = or_right (list_any accept (candidates kind controls cap t p)) (shows_empty controls p) s in
+      rw q (answer_cons kind controls cap t accept p ps ∙ rw e h, rw e refl)
+
+  pub goes_on : (p : ℕ) (ps qs : List ℕ) → qs ≡ p ∷ ps → find accept (candidates kind controls cap t p) ≡ None → shows_empty controls p ≡ false
+      → (answer kind controls cap t accept qs ≡ answer kind controls cap t accept ps) × (place qs ≡ 1 + place ps)
+  goes_on p ps qs q h s =
+      let k = none_find accept (candidates kind controls cap t p) h in
+      let e : ends_at kind controls cap t accept p ≡ false = or_from (list_any accept (candidates kind controls cap t p)) (shows_empty controls p) k s in
+      rw q (answer_cons kind controls cap t accept p ps ∙ rw e refl, rw e refl)
+
+-- ---- an accepted table has an empty bucket, so some stride ends the search
+
+full_filter : (P : ℕ → Bool) (xs : List ℕ) → list_any (λ x. not (P x)) xs ≡ false → length (filter P xs) ≡ length xs
+full_filter P [] h = refl
+full_filter P (x ∷ xs) h =
+    let u = or_parts (not (P x)) (list_any (λ x. not (P x)) xs) h in
+    rw (not-false (P x) u.0) (ap suc (full_filter P xs u.1))
+
+pub empty_bucket : (cap len : ℕ) (controls : List ℕ) → Accepted cap len controls → (b : ℕ) × (b < cap) × (128 ≤ get_or controls b 0)
+unfolding walk
+empty_bucket cap len controls a =
+    let P = λ (b : ℕ). ltb (get_or controls b 0) 128 in
+    let l = length-range_with_len 0 cap in
+    let room = a.room in
+    let full = a.full in
+    elim (cases_Bool (list_any (λ x. not (P x)) (range_with_len 0 cap))) [
+      | inl t ↦
+          let w = Any-from_list_any (λ x. not (P x)) (range_with_len 0 cap) t in
+          let lt : w.0 < cap = omega arith in
+          let g = get_or-range_with_len 0 cap w.0 w.1 lt in
+          let e : w.1 ≡ w.0 = sym w.3 ∙ g ∙ omega arith in
+          let f = ltb-false (get_or controls w.1 0) 128 (not-true (P w.1) w.4) in
+          (w.1, omega arith, f)
+      | inr f ↦ let e = full_filter P (range_with_len 0 cap) f in absurd (omega arith)
+    ]
+
+pub ends_somewhere : (kind : Kind) (controls : List ℕ) (cap len h t : ℕ) (accept : ℕ → Bool) → Accepted cap len controls
+    → position_or_len (ends_at kind controls cap t accept) (strides h cap) < length (strides h cap)
+unfolding shows_empty
+ends_somewhere kind controls cap len h t accept a =
+    let w = empty_bucket cap len controls a in
+    let pos : 0 < cap = omega (arith, w.1) in
+    let v = covered h cap w.0 w.1 in
+    let p = v.0 in
+    let q = v.1 in
+    let below = (and_parts (ltb p (probe_capacity cap)) (eqb (p % 16) (start h cap % 16)) (sym (has_stride h cap p pos) ∙ v.2)).0 in
+    let lp = ltb-true p (probe_capacity cap) below in
+    let k = control_of cap controls q pos a.repeats v.5 (omega arith) in
+    let e : 128 ≤ get_or controls q 0 = rw (k, v.6) w.2 in
+    let s = any_range (λ q. leb 128 (get_or controls q 0)) p 16 q v.3 v.4 (le-leb 128 (get_or controls q 0) e) in
+    let d = or_right (list_any accept (candidates kind controls cap t p)) (shows_empty controls p) s in
+    first_within (ends_at kind controls cap t accept) (strides h cap) (any_member (ends_at kind controls cap t accept) p (strides h cap) v.2 d)
+
+-- a full control of a stride is that of a full bucket
+pub stride_full : (cap len : ℕ) (controls stride : List ℕ) (p q : ℕ) → Accepted cap len controls → p < probe_capacity cap → q < 16 → stride ≡ take 16 (drop p controls) → get_or stride q 0 < 128
+    → (p + q < 2 * cap) × IsFullBucket cap controls ((p + q) % cap)
+stride_full cap len controls stride p q a lp lq e f =
+    let room = a.room in
+    let some : 0 < cap = omega arith in
+    let at : get_or stride q 0 ≡ get_or controls (p + q) 0 = ap (λ xs. get_or xs q 0) e ∙ get_or-take 16 (drop p controls) q 0 lq ∙ get_or-drop p controls q 0 in
+    let f' : get_or controls (p + q) 0 < 128 = rw at at f in
+    let inside : p + q < control_count cap = omega arith in
+    elim (cases_lt (p + q) (2 * cap)) [
+      | inl two ↦ (two, (mod_below (p + q) cap some, rw (control_of cap controls (p + q) some a.repeats two inside) at f'))
+      | inr over ↦ let n : 128 ≤ get_or controls (p + q) 0 = a.repeats.past (p + q) over inside in absurd (omega arith)
+    ]
+
+-- the bucket of a full control of a stride
+pub shown_full : (cap len : ℕ) (controls stride : List ℕ) (p : ℕ) → Accepted cap len controls → p < probe_capacity cap → stride ≡ take 16 (drop p controls) → (b : ℕ) → IsShown stride p cap b → IsFullBucket cap controls b
+shown_full cap len controls stride p a lp e b s = let k = stride_full cap len controls stride p s.0 a lp s.1 e s.2 in rw s.3 (k.1)
+
+pub found_is : (kind : Kind) (controls : List ℕ) (cap len h : ℕ) (accept : ℕ → Bool) → (len ≡ 0 → ⊥) → found kind controls cap len h accept ≡ answer kind controls cap (tag h) accept (strides h cap)
+found_is kind controls cap len h accept n = rw (ne_eqb len 0 n) refl
+
+pub end_is : (kind : Kind) (controls : List ℕ) (cap len h : ℕ) (accept : ℕ → Bool) → (len ≡ 0 → ⊥) → end kind controls cap len h accept ≡ suc (place kind controls cap (tag h) accept (strides h cap))
+end_is kind controls cap len h accept n = rw (ne_eqb len 0 n) refl
+
+-- there are few strides
+pub few_strides : (h cap : ℕ) → 0 < cap → control_count cap < 2 ^ 64 → length (strides h cap) < 2 ^ 60
+few_strides h cap pos c = let n = count_strides h cap pos in omega arith
+
+-- the bound: at most one stride per sixteen places
+pub end_within : (kind : Kind) (controls : List ℕ) (cap len h : ℕ) (accept : ℕ → Bool) → (0 < len → Accepted cap len controls) → end kind controls cap len h accept ≤ probe_capacity cap / 16
+end_within kind controls cap len h accept a = elim (cases_eq len 0) [
+  | inl z ↦ rw (eq-eqb len 0 z) (omega arith)
+  | inr n ↦
+      let b = a (omega arith) in
+      let room = b.room in
+      let e = end_is kind controls cap len h accept n in
+      let s = ends_somewhere kind controls cap len h (tag h) accept b in
+      let k = count_strides h cap (omega arith) in
+      omega arith
+]
+
+-- the bucket of a marked place is a walked one
+pub marked_walked : (kind : Kind) (cap len h t p q : ℕ) (controls : List ℕ) → IsKind kind → Accepted cap len controls → t < 128 → Contains (strides h cap) p → p ≤ q → q < p + 16
+    → marked kind controls t p q ≡ true → (q < 2 * cap) × Contains (walk controls cap) (q % cap)
+marked_walked kind cap len h t p q controls law a small here lo hi mark =
+    let room = a.room in
+    let some : 0 < cap = omega arith in
+    let lp = stride_below h cap p some (contains_member p (strides h cap) here) in
+    let inside : q < control_count cap = omega arith in
+    let full = mark_full kind law controls t p q small lo mark in
+    let two : q < 2 * cap = elim (cases_lt q (2 * cap)) [
+      | inl l ↦ l
+      | inr over ↦ let n : 128 ≤ get_or controls q 0 = a.repeats.past q over inside in absurd (omega arith)
+    ] in
+    let b = q % cap in
+    let lb = mod_below q cap some in
+    let full' : get_or controls b 0 < 128 = rw (control_of cap controls q some a.repeats two inside) at full in
+    (two, full_walked cap controls b (lb, full'))

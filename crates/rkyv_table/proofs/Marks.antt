@@ -1,0 +1,69 @@
+-- A mask's first place, and the others.
+use Rattle.std.proofs.Common.{◌≡◌, ◌∙◌, ℕ, zero, suc, ◌+◌, ◌%◌, ◌<◌, ◌≤◌, inl, inr, refl, sym, ap, arith, List, [], ◌∷◌, Bool, true, false, map, filter, drop, take, length, get_or, get_or-take, get_or-drop, Some, None}
+use Rattle.rkyv_scan.specs.Groups.{Kind, IsKind, places_where}
+use Rattle.std.proofs.lemmas.Bool.{cases_Bool}
+use Rattle.std.specs.List.{find, slice_get, range_with_len}
+use Rattle.rkyv_table.specs.Seen.{IsMarked, IsShown}
+use Rattle.std.proofs.lemmas.Option.{none-some, same_Some}
+
+pub head_found : (f : ℕ → ℕ) (accept : ℕ → Bool) (xs : List ℕ) (j : ℕ) → Some j ≡ slice_get xs 0 → accept (f j) ≡ true → Some (f j) ≡ find accept (map f xs)
+head_found f accept [] j e t = absurd (none-some j (sym e))
+head_found f accept (x ∷ xs) j e t = let s = same_Some j x e in let t' : accept (f x) ≡ true = rw s at t in rw t' (ap Some (ap f s))
+
+pub none_found : (f : ℕ → ℕ) (accept : ℕ → Bool) (xs : List ℕ) → None ≡ slice_get xs 0 → None ≡ find accept (map f xs)
+none_found f accept [] e = refl
+none_found f accept (x ∷ xs) e = absurd (none-some x e)
+
+pub head_skipped : (f : ℕ → ℕ) (accept : ℕ → Bool) (xs : List ℕ) (j : ℕ) → Some j ≡ slice_get xs 0 → accept (f j) ≡ false → find accept (map f xs) ≡ find accept (map f (drop 1 xs))
+head_skipped f accept [] j e t = absurd (none-some j (sym e))
+head_skipped f accept (x ∷ xs) j e t = let s = same_Some j x e in let t' : accept (f x) ≡ false = rw s at t in rw t' refl
+
+-- the first of those that are left, as one of all
+pub head_at : (ps : List ℕ) (n j : ℕ) → Some j ≡ slice_get (drop n ps) 0 → (n < length ps) × (get_or ps n 0 ≡ j)
+head_at [] zero j e = absurd (none-some j (sym e))
+head_at [] (suc n) j e = absurd (none-some j (sym e))
+head_at (x ∷ xs) zero j e = (omega arith, sym (same_Some j x e))
+head_at (x ∷ xs) (suc n) j e = let ih = head_at xs n j e in (omega (arith, ih.0), ih.1)
+
+-- an item of the places that pass
+pub in_filter : (P : ℕ → Bool) (a n k : ℕ) → k < length (filter P (range_with_len a n)) → (get_or (filter P (range_with_len a n)) k 0 < a + n) × (P (get_or (filter P (range_with_len a n)) k 0) ≡ true)
+in_filter P a zero k h = absurd (omega arith)
+in_filter P a (suc n) zero h = elim (cases_Bool (P a)) [
+  | inl t ↦ rw t (omega arith, t)
+  | inr f ↦
+      let h' : 0 < length (filter P (range_with_len (a + 1) n)) = rw f at h in
+      let r = in_filter P (a + 1) n 0 h' in
+      rw f (omega (arith, r.0), r.1)
+]
+in_filter P a (suc n) (suc k) h = elim (cases_Bool (P a)) [
+  | inl t ↦
+      let h' : suc k < suc (length (filter P (range_with_len (a + 1) n))) = rw t at h in
+      let r = in_filter P (a + 1) n k (omega arith) in
+      rw t (omega (arith, r.0), r.1)
+  | inr f ↦
+      let h' : suc k < length (filter P (range_with_len (a + 1) n)) = rw f at h in
+      let r = in_filter P (a + 1) n (suc k) h' in
+      rw f (omega (arith, r.0), r.1)
+]
+
+-- a marked place of the group at `at` is full
+pub place_full : (kind : Kind) → IsKind kind → (t : ℕ) (stride shows ps : List ℕ) (at k : ℕ) → t < 128 → shows ≡ take kind.width (drop at stride)
+    → ps ≡ places_where (kind.marks shows t) kind.width → k < length ps → (get_or ps k 0 < kind.width) × (get_or stride (at + get_or ps k 0) 0 < 128)
+unfolding places_where
+place_full kind law t stride shows ps at k ht e p h =
+    let h' : k < length (filter (kind.marks shows t) (range_with_len 0 kind.width)) = rw p at h in
+    let r = in_filter (kind.marks shows t) 0 kind.width k h' in
+    let j = get_or (filter (kind.marks shows t) (range_with_len 0 kind.width)) k 0 in
+    let lt : j < kind.width = omega (arith, r.0) in
+    let full : get_or shows j 0 < 128 = law.full shows t j ht r.1 in
+    let at_place : get_or shows j 0 ≡ get_or stride (at + j) 0 = ap (λ xs. get_or xs j 0) e ∙ get_or-take kind.width (drop at stride) j 0 lt ∙ get_or-drop at stride j 0 in
+    rw p (lt, rw at_place at full)
+
+-- the bucket of a marked place is that of a full control of the stride
+pub marked_shown : (kind : Kind) → IsKind kind → (t p cap at : ℕ) (stride shows ps : List ℕ) → t < 128 → at + kind.width ≤ 16 → shows ≡ take kind.width (drop at stride)
+    → ps ≡ places_where (kind.marks shows t) kind.width → (b : ℕ) → IsMarked (p + at) cap ps b → IsShown stride p cap b
+marked_shown kind law t p cap at stride shows ps ht fits e m b k =
+    let f = place_full kind law t stride shows ps at k.0 ht e m k.1 in
+    let j = get_or ps k.0 0 in
+    let a : p + at + j ≡ p + (at + j) = omega arith in
+    (at + j, omega (arith, f.0), f.1, k.2 ∙ ap (λ x. x % cap) a)

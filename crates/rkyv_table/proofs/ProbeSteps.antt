@@ -1,0 +1,110 @@
+-- The steps of a `Probe`.
+use Rattle.std.proofs.Common.{◌≡◌, ℕ, zero, suc, inl, inr, ◌+◌, ◌*◌, ◌-◌, ◌/◌, ◌%◌, ◌^◌, ◌<◌, ◌≤◌, refl, sym, ap, ◌∙◌, arith, [], ◌∷◌, true, false, ltb, bit_and, add-zero, add_comm}
+use Rattle.std.specs.List.{range_with_len}
+use Rattle.std.proofs.Math.Nat.{mod-add-mod, mod-eq_of_lt}
+use Rattle.std.proofs.Math.Pow.{pow_mono}
+use Rattle.std.proofs.lemmas.Nat.{and_mask, mod_below, pow_pos}
+use Rattle.std.proofs.lemmas.Bool.{cases_lt, lt-ltb, le-ltb}
+use Rattle.rkyv_table.specs.Numbers.{modulus, control_count, probe_capacity}
+use Rattle.rkyv_table.specs.Probe.{probe_place, strides, strides_from, IsProbe}
+use Rattle.rkyv_table.proofs.Triangle.{triangle, twice}
+use Rattle.rkyv_table.proofs.Modulus.{modulus_power}
+
+twice_below : (k : ℕ) → 2 * (k * (k - 1) / 2) ≡ k * (k - 1)
+twice_below zero = refl
+twice_below (suc j) =
+    let t = twice j in
+    let m : suc j - 1 ≡ j = omega arith in
+    let e : suc j * (suc j - 1) ≡ j * (j + 1) = ap (λ z. suc j * z) m ∙ omega arith in
+    ap (λ z. 2 * (z / 2)) e ∙ t ∙ sym e
+
+-- the offset of the k-th place, from that of the one before
+triangle_step : (k : ℕ) → 0 < k → 16 * (k * (k - 1) / 2) + 16 * k ≡ 16 * triangle k
+triangle_step zero h = absurd (omega arith)
+triangle_step (suc j) h =
+    let a = twice_below (suc j) in
+    let b = twice (suc j) in
+    let m : suc j - 1 ≡ j = omega arith in
+    let e : suc j * (suc j - 1) ≡ suc j * j = ap (λ z. suc j * z) m in
+    omega arith
+
+offset_next : (m k offset : ℕ) → 0 < k → offset ≡ 16 * (k * (k - 1) / 2) % m → (offset + 16 * k) % m ≡ 16 * triangle k % m
+offset_next m k offset h e =
+    ap (λ z. (z + 16 * k) % m) e ∙ mod-add-mod (16 * (k * (k - 1) / 2)) m (16 * k) ∙ ap (λ z. z % m) (triangle_step k h)
+
+place_of : (s m x : ℕ) → (s + x % m) % m ≡ (s + x) % m
+place_of s m x = ap (λ z. z % m) (add_comm s (x % m)) ∙ mod-add-mod x m s ∙ ap (λ z. z % m) (add_comm x s)
+
+-- ---- bounds
+
+pow_small : (e : ℕ) → 2 ^ e < 2 ^ 64 → 2 ^ e ≤ 2 ^ 63
+pow_small e h = elim (cases_lt e 64) [
+  | inl a ↦ pow_mono {i = e} {j = 63} (omega arith)
+  | inr b ↦ let u : 2 ^ 64 ≤ 2 ^ e = pow_mono {i = 64} {j = e} b in absurd (omega arith)
+]
+
+pub modulus_small : (cap : ℕ) → modulus cap < 2 ^ 64 → modulus cap ≤ 2 ^ 63
+unfolding modulus
+modulus_small cap h = pow_small _ h
+
+pub masked_below : (cap x : ℕ) → bit_and x (modulus cap - 1) < modulus cap
+unfolding modulus
+masked_below cap x = rw (and_mask x _) (mod_below x (modulus cap) (pow_pos _))
+
+pub offset_below : (cap s offset k : ℕ) → IsProbe cap s offset k → offset < modulus cap
+unfolding modulus
+offset_below cap s offset k is = rw is.at (mod_below (16 * (k * (k - 1) / 2)) (modulus cap) (pow_pos _))
+
+-- ---- what the code computes for the k-th place
+
+pub stepped : (cap s offset k : ℕ) → 0 < k → IsProbe cap s offset k → IsProbe cap s (bit_and (offset + 16 * k) (modulus cap - 1)) (k + 1)
+unfolding modulus
+stepped cap s offset k h is =
+    let m : k + 1 - 1 ≡ k = omega arith in
+    let t : (k + 1) * (k + 1 - 1) ≡ k * (k + 1) = ap (λ z. (k + 1) * z) m ∙ omega arith in
+    record {
+      begun = is.begun;
+      fits = is.fits;
+      at = and_mask (offset + 16 * k) _ ∙ offset_next (modulus cap) k offset h is.at ∙ ap (λ z. 16 * (z / 2) % modulus cap) (sym t);
+    }
+
+pub place_is : (cap s offset k : ℕ) → 0 < k → IsProbe cap s offset k → bit_and (s + bit_and (offset + 16 * k) (modulus cap - 1)) (modulus cap - 1) ≡ probe_place s (modulus cap) k
+unfolding modulus
+place_is cap s offset k h is =
+    let o = and_mask (offset + 16 * k) _ ∙ offset_next (modulus cap) k offset h is.at in
+    and_mask (s + bit_and (offset + 16 * k) (modulus cap - 1)) _
+    ∙ ap (λ z. (s + z) % modulus cap) o
+    ∙ place_of s (modulus cap) (16 * triangle k)
+
+range_cons : (k n : ℕ) → k < n → range_with_len k (n - k) ≡ k ∷ range_with_len (k + 1) (n - (k + 1))
+range_cons k n h = let e : n - k ≡ suc (n - (k + 1)) = omega arith in rw e refl
+
+pub takes : (cap s k p : ℕ) → k < modulus cap / 16 → p ≡ probe_place s (modulus cap) k → p < probe_capacity cap → strides_from cap s k ≡ p ∷ strides_from cap s (k + 1)
+unfolding strides_from
+takes cap s k p lt e below =
+    let t = lt-ltb p (probe_capacity cap) below in
+    let t' : ltb (probe_place s (modulus cap) k) (probe_capacity cap) ≡ true = rw e at t in
+    rw (range_cons k (modulus cap / 16) lt, t', e) refl
+
+pub skips : (cap s k p : ℕ) → k < modulus cap / 16 → p ≡ probe_place s (modulus cap) k → probe_capacity cap ≤ p → strides_from cap s k ≡ strides_from cap s (k + 1)
+unfolding strides_from
+skips cap s k p lt e above =
+    let t = le-ltb p (probe_capacity cap) above in
+    let t' : ltb (probe_place s (modulus cap) k) (probe_capacity cap) ≡ false = rw e at t in
+    rw (range_cons k (modulus cap / 16) lt, t') refl
+
+pub ends : (cap s k : ℕ) → modulus cap / 16 ≤ k → strides_from cap s k ≡ []
+unfolding strides_from
+ends cap s k h = let e : modulus cap / 16 - k ≡ 0 = omega arith in rw e refl
+
+pub all_strides : (hash cap : ℕ) → strides_from cap (hash % cap) 0 ≡ strides hash cap
+unfolding strides_from strides
+all_strides hash cap = let z : modulus cap / 16 - 0 ≡ modulus cap / 16 = omega arith in rw z refl
+
+-- the first place is the start
+pub first_taken : (cap s : ℕ) → s < cap → strides_from cap s 0 ≡ s ∷ strides_from cap s 1
+first_taken cap s h =
+    let w = modulus_power cap (omega arith) in
+    let some : 0 < modulus cap / 16 = let u = pow_pos w.0 in omega arith in
+    let l : s < modulus cap = omega arith in
+    takes cap s 0 s some (sym (ap (λ z. z % modulus cap) (add-zero s) ∙ mod-eq_of_lt l)) (omega arith)

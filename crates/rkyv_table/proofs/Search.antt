@@ -1,0 +1,136 @@
+-- On the controls of a written table the lookup answers the first home that is accepted.
+use Rattle.std.proofs.Common.{◌≡◌, ℕ, zero, suc, ◌+◌, ◌*◌, ◌-◌, ◌/◌, ◌%◌, ◌<◌, ◌≤◌, ◌⊎◌, inl, inr, refl, sym, ap, ◌∙◌, arith, List, [], ◌∷◌, Bool, true, false, cond, eqb, ltb, get_or, take, drop, map, filter, Option, Some, None, get_or-take, get_or-drop, add-zero}
+use Rattle.std.specs.List.{list_any, find, range_with_len, flat_map}
+use Rattle.std.specs.Option.{option_and_then}
+use Rattle.std.proofs.Math.Nat.{mod-eq_of_lt}
+use Rattle.std.proofs.lemmas.Nat.{pow_pos, mod_below, div-add-mod'}
+use Rattle.std.proofs.lemmas.List.Folds.{find-append}
+use Rattle.std.proofs.lemmas.Option.{none-some, same_Some}
+use Rattle.std.proofs.lemmas.Bool.{cases_Bool, cases_lt, and_parts, or_left, or_right, or_from, eqb-true, eq-eqb, ltb-true, lt-ltb}
+use Rattle.rkyv_table.specs.Numbers.{start, modulus, control_count, probe_capacity}
+use Rattle.rkyv_table.specs.Probe.{probe_place, strides, buckets_at}
+use Rattle.rkyv_table.specs.Placing.{Repeats}
+use Rattle.rkyv_scan.specs.Groups.{Kind, IsKind}
+use Rattle.rkyv_table.specs.Finding.{marked, candidates, shows_empty, ends_at}
+use Rattle.rkyv_table.proofs.Coverage.{has_stride, mod_more}
+use Rattle.rkyv_table.proofs.Modulus.{modulus_power}
+use Rattle.rkyv_table.proofs.Lists.{none_find, some_find}
+
+pub cases_option : (o : Option ℕ) → (o ≡ None) ⊎ ((x : ℕ) × (o ≡ Some x))
+cases_option None = inl refl
+cases_option (Some x) = inr (x, refl)
+
+-- ---- the controls
+
+-- a control below 2 * cap is that of its bucket
+pub control_of : (cap : ℕ) (controls : List ℕ) (q : ℕ) → 0 < cap → Repeats cap controls → q < 2 * cap → q < control_count cap → get_or controls q 0 ≡ get_or controls (q % cap) 0
+control_of cap controls q pos r two c = elim (cases_lt q cap) [
+  | inl a ↦ ap (λ z. get_or controls z 0) (sym (mod-eq_of_lt a))
+  | inr b ↦ let m = mod_more (q - cap) cap (omega arith) in
+      let e : q - cap + cap ≡ q = omega arith in
+      let m' = rw e at m in
+      r.repeated q b two c ∙ ap (λ z. get_or controls z 0) (sym m')
+]
+
+-- a stride that shows a place from 2 * cap on shows, with the first stride, every bucket
+pub tail_shows_all : (h cap p b : ℕ) → b < cap → list_any (eqb p) (strides h cap) ≡ true → 2 * cap < p + 16
+    → (q : ℕ) × (q < 2 * cap) × (q % cap ≡ b) × (((p ≤ q) × (q < p + 16)) ⊎ ((start h cap ≤ q) × (q < start h cap + 16)))
+tail_shows_all h cap p b hb hp over =
+    let pos : 0 < cap = omega arith in
+    let t = sym (has_stride h cap p pos) ∙ hp in
+    let u = and_parts (ltb p (probe_capacity cap)) (eqb (p % 16) (start h cap % 16)) t in
+    let l = ltb-true p (probe_capacity cap) u.0 in
+    let m = eqb-true (p % 16) (start h cap % 16) u.1 in
+    let s = start h cap in
+    let ls : s < cap = mod_below h cap pos in (
+      b + cap,
+      omega arith,
+      mod_more b cap hb,
+      elim (cases_lt (b + cap) p) [
+        | inl a ↦ inr (omega arith, omega arith)
+        | inr a ↦ inl (a, omega arith)
+      ],
+    )
+
+range_head : (f : ℕ → ℕ) (P : ℕ → Bool) (n : ℕ) → 0 < n → P (f 0) ≡ true → (rest : List ℕ) × (filter P (map f (range_with_len 0 n)) ≡ f 0 ∷ rest)
+range_head f P zero h t = absurd (omega arith)
+range_head f P (suc n) h t = (filter P (map f (range_with_len (0 + 1) n)), rw t refl)
+
+-- the first stride begins at the start
+pub strides_head : (h cap : ℕ) → 0 < cap → (rest : List ℕ) × (strides h cap ≡ start h cap ∷ rest)
+unfolding strides
+strides_head h cap pos =
+    let w = modulus_power cap pos in
+    let m = modulus cap in
+    let s = start h cap in
+    let ls : s < cap = mod_below h cap pos in
+    let some : 0 < m / 16 = let u = pow_pos w.0 in omega arith in
+    let e : probe_place s m 0 ≡ s = ap (λ z. z % m) (add-zero s) ∙ mod-eq_of_lt (let l : s < m = omega arith in l) in
+    let r = range_head (probe_place s m) (λ p. ltb p (probe_capacity cap)) (m / 16) some (rw e (lt-ltb s (probe_capacity cap) (omega arith))) in
+    (r.0, r.1 ∙ ap (λ z. z ∷ r.0) e)
+
+-- ---- what a mark says
+
+at_mark : (kind : Kind) (controls : List ℕ) (p q : ℕ) → 0 < kind.width → p ≤ q → get_or (take kind.width (drop (p + (q - p) / kind.width * kind.width) controls)) ((q - p) % kind.width) 0 ≡ get_or controls q 0
+at_mark kind controls p q pos le =
+    let w = kind.width in
+    let l : (q - p) % w < w = mod_below (q - p) w pos in
+    let d = div-add-mod' (q - p) w in
+    let e : p + (q - p) / w * w + (q - p) % w ≡ q = omega arith in
+    get_or-take w (drop (p + (q - p) / w * w) controls) ((q - p) % w) 0 l ∙ get_or-drop (p + (q - p) / w * w) controls ((q - p) % w) 0 ∙ ap (λ z. get_or controls z 0) e
+
+pub width_some : (kind : Kind) → IsKind kind → 0 < kind.width
+width_some kind law = rw law.power.2 (pow_pos law.power.0)
+
+pub mark_equal : (kind : Kind) → IsKind kind → (controls : List ℕ) (t p q : ℕ) → p ≤ q → get_or controls q 0 ≡ t → marked kind controls t p q ≡ true
+mark_equal kind law controls t p q le e =
+    let some = width_some kind law in
+    law.equal (take kind.width (drop (p + (q - p) / kind.width * kind.width) controls)) t ((q - p) % kind.width) (mod_below (q - p) kind.width some) (at_mark kind controls p q some le ∙ e)
+
+pub mark_full : (kind : Kind) → IsKind kind → (controls : List ℕ) (t p q : ℕ) → t < 128 → p ≤ q → marked kind controls t p q ≡ true → get_or controls q 0 < 128
+mark_full kind law controls t p q ht le e =
+    let f = law.full (take kind.width (drop (p + (q - p) / kind.width * kind.width) controls)) t ((q - p) % kind.width) ht e in
+    rw (at_mark kind controls p q (width_some kind law) le) at f
+
+-- ---- the walk over the strides, for any tests
+
+pub record GoodStride (cap b : ℕ) (free accept : ℕ → Bool) (kind : Kind) (controls : List ℕ) (t p : ℕ) : Type 0 where
+  pub passes : find free (buckets_at cap p) ≡ None → (find accept (candidates kind controls cap t p) ≡ None) × (shows_empty controls p ≡ false)
+  pub hits : find free (buckets_at cap p) ≡ Some b → find accept (candidates kind controls cap t p) ≡ Some b
+
+abbrev pub answer : Kind → List ℕ → ℕ → ℕ → (ℕ → Bool) → List ℕ → Option ℕ
+answer kind controls cap t accept ps = option_and_then (λ p. find accept (candidates kind controls cap t p)) (find (ends_at kind controls cap t accept) ps)
+
+-- one stride, and then the others
+pub answer_cons : (kind : Kind) (controls : List ℕ) (cap t : ℕ) (accept : ℕ → Bool) (p : ℕ) (ps : List ℕ) →
+    answer kind controls cap t accept (p ∷ ps) ≡ cond (ends_at kind controls cap t accept p) (find accept (candidates kind controls cap t p)) (answer kind controls cap t accept ps)
+answer_cons kind controls cap t accept p ps = elim (cases_Bool (ends_at kind controls cap t accept p)) [ inl e ↦ rw e refl | inr e ↦ rw e refl ]
+
+pub walk_on : (cap b : ℕ) (free accept : ℕ → Bool) (kind : Kind) (controls : List ℕ) (t p : ℕ) (ps : List ℕ) → GoodStride cap b free accept kind controls t p
+    → (find free (buckets_at cap p) ≡ None → find free (flat_map (buckets_at cap) ps) ≡ Some b → answer kind controls cap t accept ps ≡ Some b)
+    → find free (flat_map (buckets_at cap) (p ∷ ps)) ≡ Some b → answer kind controls cap t accept (p ∷ ps) ≡ Some b
+walk_on cap b free accept kind controls t p ps good rest h =
+    let h' = sym (find-append free (buckets_at cap p) (flat_map (buckets_at cap) ps)) ∙ h in
+    answer_cons kind controls cap t accept p ps ∙ (elim (cases_option (find free (buckets_at cap p))) [
+      | inl none ↦
+          let g = good.passes none in
+          let k = none_find accept (candidates kind controls cap t p) g.0 in
+          let e : ends_at kind controls cap t accept p ≡ false = or_from (list_any accept (candidates kind controls cap t p)) (shows_empty controls p) k g.1 in
+          let h'' = rw none at h' in
+          rw e (rest none h'')
+      | inr some ↦
+          let x = some.0 in
+          let h'' = rw some.1 at h' in
+          let same : x ≡ b = same_Some x b h'' in
+          let g = good.hits (some.1 ∙ ap Some same) in
+          let k = some_find accept (candidates kind controls cap t p) b g in
+          let e : ends_at kind controls cap t accept p ≡ true = or_left (list_any accept (candidates kind controls cap t p)) (shows_empty controls p) k.0 in
+          rw e g
+    ])
+
+pub walk_all : (cap b : ℕ) (free accept : ℕ → Bool) (kind : Kind) (controls : List ℕ) (t : ℕ) (ps : List ℕ) → ((p : ℕ) → list_any (eqb p) ps ≡ true → GoodStride cap b free accept kind controls t p)
+    → find free (flat_map (buckets_at cap) ps) ≡ Some b → answer kind controls cap t accept ps ≡ Some b
+walk_all cap b free accept kind controls t [] good h = absurd (none-some b h)
+walk_all cap b free accept kind controls t (p ∷ ps) good h =
+    walk_on cap b free accept kind controls t p ps (good p (or_left (eqb p p) (list_any (eqb p) ps) (eq-eqb p p refl)))
+    (λ none h'. walk_all cap b free accept kind controls t ps (λ q m. good q (or_right (eqb q p) (list_any (eqb q) ps) m)) h') h

@@ -1,0 +1,239 @@
+-- The steps of a walk.
+use Rattle.std.proofs.Common.{◌≡◌, ℕ, zero, suc, ◌+◌, ◌-◌, ◌%◌, ◌<◌, ◌≤◌, inl, inr, refl, sym, ap, ◌∙◌, arith, List, [], ◌∷◌, ◌++◌, Bool, true, false, eqb, ltb, map, filter, drop, take, length, get_or, Some, None, get_or-take, get_or-drop}
+use Rattle.std.specs.List.{range_with_len, slice_get, list_any, Contains}
+use Rattle.std.proofs.lemmas.Bool.{cases_Bool, cases_lt, cases_eq, and_parts, and_from, eq-eqb, ltb-true, lt-ltb, le-ltb}
+use Rattle.std.proofs.Math.Nat.{mod-eq_of_lt}
+use Rattle.std.proofs.lemmas.Option.{none-some, same_Some}
+use Rattle.std.proofs.lemmas.List.Sums.{length-filter, count_by-le-length}
+use Rattle.std.proofs.lemmas.List.FromFn.{length-range_with_len}
+use Rattle.rkyv_table.specs.Numbers.{control_count}
+use Rattle.rkyv_table.specs.Placing.{walk}
+use Rattle.rkyv_scan.specs.Groups.{places_where}
+use Rattle.rkyv_table.specs.Walking.{IsWalk, full_from, left, first_place}
+use Rattle.rkyv_table.proofs.Groups.{filter_shift}
+use Rattle.rkyv_table.proofs.FirstFree.{head_filter}
+use Rattle.rkyv_table.proofs.Lists.{FirstIn, first_range, any_filter, any_range, in_range, member_contains, contains_member}
+use Rattle.rkyv_table.specs.Controls.{IsFullBucket}
+
+pub filter_agree_range : (P Q : ℕ → Bool) (a n : ℕ) → ((j : ℕ) → a ≤ j → j < a + n → P j ≡ Q j) → filter P (range_with_len a n) ≡ filter Q (range_with_len a n)
+filter_agree_range P Q a zero h = refl
+filter_agree_range P Q a (suc n) h =
+    let e = h a (omega arith) (omega arith) in
+    let ih = filter_agree_range P Q (a + 1) n (λ j lo hi. h j (omega arith) (omega arith)) in
+    rw (e, ih) refl
+
+cut : (F : ℕ → Bool) (cap a n : ℕ) → filter (λ q. ltb q cap) (filter F (range_with_len a n)) ++ filter F (range_with_len (a + n) (cap - (a + n))) ≡ filter F (range_with_len a (cap - a))
+cut F cap a zero = let e : a + 0 ≡ a = omega arith in rw e refl
+cut F cap a (suc n) =
+    let e : a + suc n ≡ a + 1 + n = omega arith in
+    let ih = cut F cap (a + 1) n in
+    elim (cases_lt a cap) [
+      | inl l ↦
+          let t = lt-ltb a cap l in
+          let d : cap - a ≡ suc (cap - (a + 1)) = omega arith in
+          elim (cases_Bool (F a)) [
+            | inl f ↦ rw (f, t, e, d, f) (ap (λ xs. a ∷ xs) ih)
+            | inr f ↦ rw (f, e, d, f) ih
+          ]
+      | inr g ↦
+          let t = le-ltb a cap g in
+          let d : cap - a ≡ 0 = omega arith in
+          let d' : cap - (a + 1) ≡ 0 = omega arith in
+          let ih' = rw d' at ih in
+          elim (cases_Bool (F a)) [
+            | inl f ↦ rw (f, t, e, d) ih'
+            | inr f ↦ rw (f, e, d) ih'
+          ]
+    ]
+
+-- ---- the places of the mask are all full ones from some place on
+
+pub record WalkFrom (controls : List ℕ) (cap base width : ℕ) (places : List ℕ) : Type 0 where
+  pub count : control_count cap ≤ length controls
+  pub below : base ≤ cap
+  pub next : ℕ
+  pub inside : next ≤ width
+  pub marks : places ≡ filter (λ j. ltb (get_or controls (base + j) 0) 128) (range_with_len next (width - next))
+
+pub walk_from : (controls : List ℕ) (cap base width : ℕ) (places : List ℕ) → IsWalk controls cap base width places → WalkFrom controls cap base width places
+walk_from controls cap base width places w = record { count = w.count; below = w.below; next = first_place width places; inside = w.inside; marks = w.marks }
+
+-- a filtered range begins at its first element
+head_range : (P : ℕ → Bool) (a n : ℕ) → (a ≤ get_or (filter P (range_with_len a n)) 0 (a + n)) × (get_or (filter P (range_with_len a n)) 0 (a + n) ≤ a + n)
+    × (filter P (range_with_len a n) ≡ filter P (range_with_len (get_or (filter P (range_with_len a n)) 0 (a + n)) (a + n - get_or (filter P (range_with_len a n)) 0 (a + n))))
+head_range P a zero = let z : a + 0 - (a + 0) ≡ 0 = omega arith in (omega arith, omega arith, rw z refl)
+head_range P a (suc n) =
+    let e : a + suc n ≡ a + 1 + n = omega arith in
+    elim (cases_Bool (P a)) [
+      | inl t ↦ let d : a + suc n - a ≡ suc n = omega arith in rw t (omega arith, omega arith, rw (d, t) refl)
+      | inr f ↦ let ih = head_range P (a + 1) n in rw (f, e) (omega (arith, ih.0), ih.1, ih.2)
+    ]
+
+pub walk_of : (controls : List ℕ) (cap base width : ℕ) (places : List ℕ) → WalkFrom controls cap base width places → IsWalk controls cap base width places
+walk_of controls cap base width places w =
+    let P = λ (j : ℕ). ltb (get_or controls (base + j) 0) 128 in
+    let inside = w.inside in
+    let h = head_range P w.next (width - w.next) in
+    let e : w.next + (width - w.next) ≡ width = omega arith in
+    let h' = rw (e, ← w.marks) at h in
+    record { count = w.count; below = w.below; inside = h'.1; marks = h'.2 }
+
+-- what is left, as the full buckets from a place on
+pub left_is : (controls : List ℕ) (cap base width : ℕ) (places : List ℕ) → (w : WalkFrom controls cap base width places) → left controls cap base width places ≡ full_from controls cap (base + w.next)
+unfolding left full_from
+left_is controls cap base width places w =
+    let inside = w.inside in
+    let F = λ (q : ℕ). ltb (get_or controls q 0) 128 in
+    let s = filter_shift F (λ j. F (base + j)) base w.next (width - w.next) (λ j lo hi. refl) in
+    let e : base + width ≡ base + w.next + (width - w.next) = omega arith in
+    ap (λ xs. filter (λ q. ltb q cap) (map (λ j. base + j) xs) ++ filter F (range_with_len (base + width) (cap - (base + width)))) w.marks
+    ∙ ap (λ xs. filter (λ q. ltb q cap) xs ++ filter F (range_with_len (base + width) (cap - (base + width)))) (sym s)
+    ∙ ap (λ z. filter (λ q. ltb q cap) (filter F (range_with_len (base + w.next) (width - w.next))) ++ filter F (range_with_len z (cap - z))) e
+    ∙ cut F cap (base + w.next) (width - w.next)
+
+-- ---- a place is taken
+
+pub takes_place : (controls : List ℕ) (cap base width j : ℕ) (places : List ℕ) → Some j ≡ slice_get places 0 → base + j < cap → left controls cap base width places ≡ (base + j) ∷ left controls cap base width (drop 1 places)
+unfolding left
+takes_place controls cap base width j [] e h = absurd (none-some j (sym e))
+takes_place controls cap base width j (x ∷ xs) e h =
+    let s = same_Some j x e in
+    let t : ltb (base + x) cap ≡ true = rw s at (lt-ltb (base + j) cap h) in
+    rw (s, t) refl
+
+drop_first : (P : ℕ → Bool) (a n q : ℕ) → FirstIn P a n q → drop 1 (filter P (range_with_len a n)) ≡ filter P (range_with_len (q + 1) (a + n - (q + 1)))
+drop_first P a zero q f = absurd (omega (arith, f.from, f.to))
+drop_first P a (suc n) q f = elim (cases_eq a q) [
+  | inl s ↦
+      let t = ap P s ∙ f.yes in
+      let e : a + suc n - (q + 1) ≡ n = omega arith in
+      rw (t, e, s) refl
+  | inr d ↦
+      let lo = f.from in
+      let hi = f.to in
+      let t = f.no a (omega arith) (omega arith) in
+      let e : a + suc n - (q + 1) ≡ a + 1 + n - (q + 1) = omega arith in
+      rw (t, e) (drop_first P (a + 1) n q (record { from = omega arith; to = omega arith; yes = f.yes; no = λ i l g. f.no i (omega arith) g }))
+]
+
+first_left : (controls : List ℕ) (cap base width j : ℕ) (places : List ℕ) (w : WalkFrom controls cap base width places) → Some j ≡ slice_get places 0 → FirstIn (λ i. ltb (get_or controls (base + i) 0) 128) w.next (width - w.next) j
+first_left controls cap base width j places w e =
+    let P = λ (i : ℕ). ltb (get_or controls (base + i) 0) 128 in
+    let e' : Some j ≡ slice_get (filter P (range_with_len w.next (width - w.next))) 0 = e ∙ ap (λ xs. slice_get xs 0) w.marks in
+    first_range P w.next (width - w.next) j (sym (e' ∙ head_filter P (range_with_len w.next (width - w.next))))
+
+pub head_inside : (controls : List ℕ) (cap base width j : ℕ) (places : List ℕ) → IsWalk controls cap base width places → Some j ≡ slice_get places 0 → j < width
+head_inside controls cap base width j places w e =
+    let f = first_left controls cap base width j places (walk_from controls cap base width places w) e in
+    let inside = w.inside in
+    omega (arith, f.to)
+
+pub keeps_walk : (controls : List ℕ) (cap base width j : ℕ) (places rest : List ℕ) → IsWalk controls cap base width places → Some j ≡ slice_get places 0 → rest ≡ drop 1 places → IsWalk controls cap base width rest
+keeps_walk controls cap base width j places rest is e r =
+    let P = λ (i : ℕ). ltb (get_or controls (base + i) 0) 128 in
+    let w = walk_from controls cap base width places is in
+    let f = first_left controls cap base width j places w e in
+    let inside = w.inside in
+    let hi = f.to in
+    let n : w.next + (width - w.next) - (j + 1) ≡ width - (j + 1) = omega arith in
+    walk_of controls cap base width rest (record {
+      count = w.count;
+      below = w.below;
+      next = j + 1;
+      inside = omega arith;
+      marks = r ∙ ap (drop 1) w.marks ∙ drop_first P w.next (width - w.next) j f ∙ ap (λ z. filter P (range_with_len (j + 1) z)) n;
+    })
+
+-- ---- the end
+
+none_full : (F : ℕ → Bool) (a n : ℕ) → ((q : ℕ) → a ≤ q → q < a + n → F q ≡ false) → filter F (range_with_len a n) ≡ []
+none_full F a zero h = refl
+none_full F a (suc n) h = rw (h a (omega arith) (omega arith)) (none_full F (a + 1) n (λ q lo hi. h q (omega arith) (omega arith)))
+
+pub ends_past : (controls : List ℕ) (cap base width j : ℕ) (places : List ℕ) → WalkFrom controls cap base width places → Some j ≡ slice_get places 0 → cap ≤ base + j → left controls cap base width places ≡ []
+unfolding full_from
+ends_past controls cap base width j places w e h =
+    let f = first_left controls cap base width j places w e in
+    let lo = f.from in
+    left_is controls cap base width places w
+    ∙ none_full (λ q. ltb (get_or controls q 0) 128) (base + w.next) (cap - (base + w.next)) (λ q l u.
+    let n = f.no (q - base) (omega arith) (omega arith) in
+    let b : base + (q - base) ≡ q = omega arith in
+    rw b at n)
+
+no_places : (places : List ℕ) → None ≡ slice_get places 0 → places ≡ []
+no_places [] e = refl
+no_places (x ∷ xs) e = absurd (none-some x e)
+
+pub left_none : (controls : List ℕ) (cap base width : ℕ) (places : List ℕ) → None ≡ slice_get places 0 → left controls cap base width places ≡ full_from controls cap (base + width)
+unfolding left
+left_none controls cap base width places e = ap (λ xs. filter (λ q. ltb q cap) (map (λ j. base + j) xs) ++ full_from controls cap (base + width)) (no_places places e)
+
+past_end : (controls : List ℕ) (cap b : ℕ) → cap ≤ b → full_from controls cap b ≡ []
+unfolding full_from
+past_end controls cap b h = let e : cap - b ≡ 0 = omega arith in rw e refl
+
+pub ends_last : (controls : List ℕ) (cap base width : ℕ) (places : List ℕ) → None ≡ slice_get places 0 → cap ≤ base + width → left controls cap base width places ≡ []
+ends_last controls cap base width places e h = left_none controls cap base width places e ∙ past_end controls cap (base + width) h
+
+pub ends_full : (controls : List ℕ) (cap base width : ℕ) (places : List ℕ) → WalkFrom controls cap base width places → cap ≤ base → left controls cap base width places ≡ []
+ends_full controls cap base width places w h = left_is controls cap base width places w ∙ past_end controls cap (base + w.next) (omega arith)
+
+-- ---- a group
+
+unfoldable pub group_walk : (controls g : List ℕ) (cap base width : ℕ) (places : List ℕ) → control_count cap ≤ length controls → base ≤ cap → g ≡ take width (drop base controls) → places ≡ places_where (λ j. ltb (get_or g j 0) 128) width → WalkFrom controls cap base width places
+unfolding places_where
+group_walk controls g cap base width places n h e p =
+    let z : width - 0 ≡ width = omega arith in
+    record {
+      count = n;
+      below = h;
+      next = 0;
+      inside = omega arith;
+      marks = p ∙ filter_agree_range (λ j. ltb (get_or g j 0) 128) (λ j. ltb (get_or controls (base + j) 0) 128) 0 width (λ j lo hi.
+          let x = get_or-take width (drop base controls) j 0 (omega arith) in
+          let y = get_or-drop base controls j 0 in
+          rw (e, x, y) refl)
+          ∙ ap (λ n. filter (λ j. ltb (get_or controls (base + j) 0) 128) (range_with_len 0 n)) (sym z);
+    }
+
+-- what is left of a group that is read anew
+pub left_group : (controls g : List ℕ) (cap base width : ℕ) (places : List ℕ) → control_count cap ≤ length controls → base ≤ cap → g ≡ take width (drop base controls) → places ≡ places_where (λ j. ltb (get_or g j 0) 128) width
+    → left controls cap base width places ≡ full_from controls cap base
+unfolding group_walk
+left_group controls g cap base width places n h e p =
+    let z : base + 0 ≡ base = omega arith in
+    left_is controls cap base width places (group_walk controls g cap base width places n h e p) ∙ ap (full_from controls cap) z
+
+pub whole_walk : (controls : List ℕ) (cap : ℕ) → full_from controls cap 0 ≡ walk controls cap
+unfolding full_from walk
+whole_walk controls cap = let z : cap - 0 ≡ cap = omega arith in rw z refl
+
+pub walk_none : (controls : List ℕ) → walk controls 0 ≡ []
+unfolding walk
+walk_none controls = refl
+
+pub walk_small : (controls : List ℕ) (cap : ℕ) → length (walk controls cap) ≤ cap
+unfolding walk
+walk_small controls cap =
+    let P = λ (b : ℕ). ltb (get_or controls b 0) 128 in
+    let a = length-filter P (range_with_len 0 cap) in
+    let b = count_by-le-length P (range_with_len 0 cap) in
+    let c = length-range_with_len 0 cap in
+    omega arith
+
+-- ---- the walked buckets are the full ones
+
+pub full_walked : (cap : ℕ) (controls : List ℕ) (b : ℕ) → IsFullBucket cap controls b → Contains (walk controls cap) b
+unfolding walk
+full_walked cap controls b f =
+    let F = λ (x : ℕ). ltb (get_or controls x 0) 128 in
+    member_contains b (filter F (range_with_len 0 cap)) (any_filter b F (range_with_len 0 cap)
+    ∙ and_from (list_any (eqb b) (range_with_len 0 cap)) (F b) (any_range (eqb b) 0 cap b (omega arith) (omega (arith, f.0)) (eq-eqb b b refl)) (lt-ltb (get_or controls b 0) 128 f.1))
+
+pub walked_full : (cap : ℕ) (controls : List ℕ) (b : ℕ) → Contains (walk controls cap) b → IsFullBucket cap controls b
+unfolding walk
+walked_full cap controls b c =
+    let F = λ (x : ℕ). ltb (get_or controls x 0) 128 in
+    let t = and_parts (list_any (eqb b) (range_with_len 0 cap)) (F b) (sym (any_filter b F (range_with_len 0 cap)) ∙ contains_member b (filter F (range_with_len 0 cap)) c) in
+    (in_range cap b t.0, ltb-true (get_or controls b 0) 128 t.1)

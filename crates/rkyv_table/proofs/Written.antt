@@ -1,0 +1,266 @@
+-- On the controls of a written table the lookup answers the first home that is accepted.
+use Rattle.std.proofs.Common.{◌≡◌, ℕ, ◌+◌, ◌*◌, ◌%◌, ◌^◌, ◌<◌, ◌≤◌, inl, inr, refl, sym, ap, ◌∙◌, arith, List, [], ◌∷◌, Bool, true, false, ◌&&◌, eqb, ltb, leb, length, get_or, take, map, Option, Some, None, get_or-take, length-take}
+use Rattle.std.specs.List.{list_any, find, range_with_len, flat_map, position_or_len}
+use Rattle.std.specs.Option.{option_map}
+use Rattle.std.proofs.lemmas.Nat.{mod_below}
+use Rattle.std.proofs.lemmas.List.{get_or_default, nil_from_length}
+use Rattle.std.proofs.lemmas.List.Folds.{find-append, find_at, Any-from_list_any}
+use Rattle.std.proofs.lemmas.List.Sums.{passes_at_first, fails_before_first}
+use Rattle.std.proofs.lemmas.Option.{none-some, same_Some, slice_get-get_or}
+use Rattle.std.proofs.lemmas.Bool.{cases_Bool, cases_lt, and_parts, and_from, and_cases, and_left, and_right, or_left, or_right, eqb-true, eq-eqb, ltb-true, lt-ltb, lt-leb, not-false, true≢false, false_from_ne_true, both_ways}
+use Rattle.rkyv_table.specs.Numbers.{start, tag, control_count, probe_capacity}
+use Rattle.rkyv_table.specs.Probe.{strides, buckets_at, shown}
+use Rattle.rkyv_table.specs.Placing.{is_free, Written}
+use Rattle.rkyv_scan.specs.Groups.{Kind, IsKind}
+use Rattle.rkyv_table.specs.Finding.{marked, candidates, shows_empty, ends_at, found}
+use Rattle.rkyv_table.proofs.Coverage.{has_stride}
+use Rattle.rkyv_table.proofs.Search.{cases_option, control_of, tail_shows_all, strides_head, mark_equal, mark_full, GoodStride, answer, answer_cons, walk_on, walk_all}
+use Rattle.rkyv_table.proofs.Lists.{any_map_filter, any_member, any_range, none_range, find_none, none_find, some_find, find_map_filter, FirstIn, first_range, range_first}
+
+-- ---- what a stride shows
+
+pub find_buckets : (free : ℕ → Bool) (cap p : ℕ) → find free (buckets_at cap p) ≡ option_map (λ q. q % cap) (find (λ q. ltb q (2 * cap) && free (q % cap)) (range_with_len p 16))
+unfolding buckets_at
+find_buckets free cap p = find_map_filter free (λ q. ltb q (2 * cap)) (λ q. q % cap) (range_with_len p 16)
+
+find_candidates : (accept : ℕ → Bool) (kind : Kind) (controls : List ℕ) (cap t p : ℕ) →
+    find accept (candidates kind controls cap t p) ≡ option_map (λ q. q % cap) (find (λ q. marked kind controls t p q && accept (q % cap)) (range_with_len p 16))
+unfolding candidates
+find_candidates accept kind controls cap t p = find_map_filter accept (marked kind controls t p) (λ q. q % cap) (range_with_len p 16)
+
+-- a bucket that a stride shows where no shown bucket is free
+pub taken_at : (free : ℕ → Bool) (cap p q : ℕ) → list_any free (buckets_at cap p) ≡ false → p ≤ q → q < p + 16 → q < 2 * cap → free (q % cap) ≡ false
+unfolding buckets_at
+taken_at free cap p q none lo hi two =
+    false_from_ne_true (free (q % cap)) (λ t.
+    let a = any_range (λ q. ltb q (2 * cap) && free (q % cap)) p 16 q lo hi (and_from (ltb q (2 * cap)) (free (q % cap)) (lt-ltb q (2 * cap) two) t) in
+    let m = any_map_filter free (λ q. ltb q (2 * cap)) (λ q. q % cap) (range_with_len p 16) in
+    both_ways (list_any free (buckets_at cap p)) none (m ∙ a))
+
+-- the first free bucket of a stride, as its place
+option_map_some : (f : ℕ → ℕ) (o : Option ℕ) (b : ℕ) → option_map f o ≡ Some b → (q : ℕ) × (o ≡ Some q) × (f q ≡ b)
+option_map_some f None b h = absurd (none-some b h)
+option_map_some f (Some q) b h = (q, refl, same_Some (f q) b h)
+
+pub first_free : (free : ℕ → Bool) (cap p b : ℕ) → find free (buckets_at cap p) ≡ Some b → (q : ℕ) × FirstIn (λ q. ltb q (2 * cap) && free (q % cap)) p 16 q × (q % cap ≡ b)
+first_free free cap p b h =
+    let w = option_map_some (λ q. q % cap) (find (λ q. ltb q (2 * cap) && free (q % cap)) (range_with_len p 16)) b (sym (find_buckets free cap p) ∙ h) in
+    (w.0, first_range (λ q. ltb q (2 * cap) && free (q % cap)) p 16 w.0 w.1, w.2)
+
+pub shown_below : (free : ℕ → Bool) (cap b : ℕ) (ps : List ℕ) → 0 < cap → find free (flat_map (buckets_at cap) ps) ≡ Some b → b < cap
+shown_below free cap b [] pos h = absurd (none-some b h)
+shown_below free cap b (p ∷ ps) pos h =
+    let h' = sym (find-append free (buckets_at cap p) (flat_map (buckets_at cap) ps)) ∙ h in
+    elim (cases_option (find free (buckets_at cap p))) [
+      | inl none ↦ let h'' = rw none at h' in shown_below free cap b ps pos h''
+      | inr some ↦ let h'' = rw some.1 at h' in
+          let same : some.0 ≡ b = same_Some some.0 b h'' in
+          let w = first_free free cap p some.0 some.1 in
+          let l = mod_below w.0 cap pos in omega (arith, w.2)
+    ]
+
+-- ---- taken buckets
+
+-- a bucket that isn't free is an earlier home
+pub taken_home : (homes : List ℕ) (i b : ℕ) → i ≤ length homes → is_free (take i homes) b ≡ false → (j : ℕ) × (j < i) × (get_or homes j 0 ≡ b)
+taken_home homes i b hi h =
+    let a = Any-from_list_any (eqb b) (take i homes) (not-false (list_any (eqb b) (take i homes)) h) in
+    let l = length-take i homes in
+    let lt : a.0 < i = omega arith in
+    let e = eqb-true b a.1 a.4 in
+    (a.0, lt, get_or_default homes a.0 0 a.1 (omega arith) ∙ sym (get_or-take i homes a.0 a.1 lt) ∙ a.3 ∙ sym e)
+
+-- ---- a written table, asked under the hash h of its item i, the first that is accepted
+
+pub record Asked (cap h i : ℕ) (hashes homes controls : List ℕ) (kind : Kind) (accept : ℕ → Bool) : Type 0 where
+  pub written : Written cap hashes homes controls
+  pub law : IsKind kind
+  pub hash_fits : (j : ℕ) → j < length hashes → get_or hashes j 0 < 2 ^ 64
+  pub some : 0 < cap
+  pub within : i < length hashes
+  pub asked : get_or hashes i 0 ≡ h
+  pub yes : accept (get_or homes i 0) ≡ true
+  pub no : (j : ℕ) → j < i → accept (get_or homes j 0) ≡ false
+
+tag_small : (h : ℕ) → h < 2 ^ 64 → tag h < 128
+tag_small h l = omega arith
+
+module _ (cap h i : ℕ) (hashes homes controls : List ℕ) (kind : Kind) (accept : ℕ → Bool) (a : Asked cap h i hashes homes controls kind accept) where
+  unfoldable pub b : ℕ
+  b = get_or homes i 0
+
+  free : ℕ → Bool
+  free = is_free (take i homes)
+
+  -- the bucket of a taken place is not accepted, and its control is full
+  at_taken : (q : ℕ) → q < 2 * cap → q < control_count cap → free (q % cap) ≡ false → (accept (q % cap) ≡ false) × (get_or controls q 0 < 128)
+  unfolding free
+  at_taken q two c f =
+      let len = a.written.placed.count in
+      let wi = a.within in
+      let w = taken_home homes i (q % cap) (omega arith) f in
+      let j = w.0 in
+      let lj : j < length hashes = omega (arith, w.1) in
+      let k = control_of cap controls q a.some a.written.repeats two c in
+      let t = a.written.tags j lj in
+      let s = tag_small (get_or hashes j 0) (a.hash_fits j lj) in
+      let e : get_or controls (q % cap) 0 ≡ get_or controls (get_or homes j 0) 0 = ap (λ z. get_or controls z 0) (sym w.2) in
+      (ap accept (sym w.2) ∙ a.no j w.1, omega arith)
+
+  stride_below : (p : ℕ) → list_any (eqb p) (strides h cap) ≡ true → p < probe_capacity cap
+  stride_below p hp = ltb-true p (probe_capacity cap) (and_parts (ltb p (probe_capacity cap)) (eqb (p % 16) (start h cap % 16)) (sym (has_stride h cap p a.some) ∙ hp)).0
+
+  -- where the stride's shown buckets are taken, its places lie below 2 * cap
+  fits_below : (p : ℕ) → b < cap → free b ≡ true → list_any (eqb p) (strides h cap) ≡ true → list_any free (buckets_at cap p) ≡ false → list_any free (buckets_at cap (start h cap)) ≡ false → p + 16 ≤ 2 * cap
+  fits_below p hb fb hp none first =
+      elim (cases_lt (2 * cap) (p + 16)) [
+        | inl over ↦
+            let w = tail_shows_all h cap p b hb hp over in
+            absurd (elim w.3 [
+              | inl u ↦ both_ways (free b) (ap free (sym w.2) ∙ taken_at free cap p w.0 none u.0 u.1 w.1) fb
+              | inr u ↦ both_ways (free b) (ap free (sym w.2) ∙ taken_at free cap (start h cap) w.0 first u.0 u.1 w.1) fb
+            ])
+        | inr l ↦ l
+      ]
+
+  -- such a stride is passed by
+  passed : (p : ℕ) → p < probe_capacity cap → p + 16 ≤ 2 * cap → list_any free (buckets_at cap p) ≡ false →
+      (find accept (candidates kind controls cap (tag h) p) ≡ None) × (shows_empty controls p ≡ false)
+  unfolding candidates shows_empty
+  passed p lp two none =
+      let at = λ (q : ℕ) (lo : p ≤ q) (hi : q < p + 16). at_taken q (omega arith) (omega arith) (taken_at free cap p q none lo hi (omega arith)) in (
+        find_none accept (candidates kind controls cap (tag h) p)
+            (any_map_filter accept (marked kind controls (tag h) p) (λ q. q % cap) (range_with_len p 16)
+            ∙ none_range (λ q. marked kind controls (tag h) p q && accept (q % cap)) p 16
+            (λ q lo hi. and_right (marked kind controls (tag h) p q) (accept (q % cap)) (at q lo hi).0)),
+        none_range (λ q. leb 128 (get_or controls q 0)) p 16 (λ q lo hi. lt-leb 128 (get_or controls q 0) (at q lo hi).1),
+      )
+
+  -- the stride that shows the home finds it
+  met : (p : ℕ) → p < probe_capacity cap → find free (buckets_at cap p) ≡ Some b → find accept (candidates kind controls cap (tag h) p) ≡ Some b
+  unfolding free b
+  met p lp hb =
+      let w = first_free free cap p b hb in
+      let q = w.0 in
+      let f = w.1 in
+      let lo = f.from in
+      let hi = f.to in
+      let u = and_parts (ltb q (2 * cap)) (free (q % cap)) f.yes in
+      let two = ltb-true q (2 * cap) u.0 in
+      let k = control_of cap controls q a.some a.written.repeats two (omega arith) in
+      let t : get_or controls q 0 ≡ tag h = k ∙ ap (λ z. get_or controls z 0) w.2 ∙ a.written.tags i a.within ∙ ap tag a.asked in
+      let m = mark_equal kind a.law controls (tag h) p q lo t in
+      let r = range_first (λ q. marked kind controls (tag h) p q && accept (q % cap)) p 16 q (record {
+        from = lo;
+        to = hi;
+        yes = and_from (marked kind controls (tag h) p q) (accept (q % cap)) m (ap accept w.2 ∙ a.yes);
+        no = λ j l g.
+            let v = and_cases (ltb j (2 * cap)) (free (j % cap)) (f.no j l g) in
+            let tj : j < 2 * cap = omega arith in
+            let nf : free (j % cap) ≡ false = elim v [ inl x ↦ absurd (both_ways (ltb j (2 * cap)) x (lt-ltb j (2 * cap) tj)) | inr x ↦ x ] in
+            and_right (marked kind controls (tag h) p j) (accept (j % cap)) (at_taken j tj (omega arith) nf).0;
+      }) in
+      find_candidates accept kind controls cap (tag h) p ∙ ap (option_map (λ q. q % cap)) r ∙ ap Some w.2
+
+  -- the answer is that item's home
+  pub answers_home : answer kind controls cap (tag h) accept (strides h cap) ≡ Some (get_or homes i 0)
+  unfolding free b
+  answers_home =
+      let home = a.written.placed.first i a.within in
+      let home' : find free (shown h cap) ≡ Some b = rw a.asked at home in
+      let fb = (some_find free (shown h cap) b home').1 in
+      let lb = shown_below free cap b (strides h cap) a.some home' in
+      let st = strides_head h cap a.some in
+      let s = start h cap in
+      let here : list_any (eqb s) (strides h cap) ≡ true = ap (list_any (eqb s)) st.1 ∙ or_left (eqb s s) (list_any (eqb s) st.0) (eq-eqb s s refl) in
+      let good = λ (p : ℕ) (hp : list_any (eqb p) (strides h cap) ≡ true) (first : list_any free (buckets_at cap p) ≡ false → list_any free (buckets_at cap s) ≡ false).
+      (let lp = stride_below p hp in
+      let g : GoodStride cap b free accept kind controls (tag h) p = record {
+        passes = λ n. let none = none_find free (buckets_at cap p) n in passed p lp (fits_below p lb fb hp none (first none)) none;
+        hits = λ n. met p lp n;
+      } in g) in
+      let h' : find free (flat_map (buckets_at cap) (s ∷ st.0)) ≡ Some b = ap (λ ps. find free (flat_map (buckets_at cap) ps)) (sym st.1) ∙ home' in
+      ap (answer kind controls cap (tag h) accept) st.1
+      ∙ walk_on cap b free accept kind controls (tag h) s st.0 (good s here (λ n. n))
+      (λ n hr. let none = none_find free (buckets_at cap s) n in
+      walk_all cap b free accept kind controls (tag h) st.0 (λ p hp. good p (ap (list_any (eqb p)) st.1 ∙ or_right (eqb p s) (list_any (eqb p) st.0) hp) (λ _. none)) hr) h'
+
+-- where no home is accepted, no candidate is
+none_accepted : (cap h p : ℕ) (hashes homes controls : List ℕ) (kind : Kind) (accept : ℕ → Bool) → 0 < cap → h < 2 ^ 64 → IsKind kind → Written cap hashes homes controls
+    → list_any accept homes ≡ false → p < probe_capacity cap → find accept (candidates kind controls cap (tag h) p) ≡ None
+unfolding candidates
+none_accepted cap h p hashes homes controls kind accept pos hh law w none lp =
+    find_none accept (candidates kind controls cap (tag h) p)
+    (any_map_filter accept (marked kind controls (tag h) p) (λ q. q % cap) (range_with_len p 16)
+    ∙ none_range (λ q. marked kind controls (tag h) p q && accept (q % cap)) p 16
+    (λ q lo hi. elim (cases_Bool (marked kind controls (tag h) p q)) [
+      | inr n ↦ and_left (marked kind controls (tag h) p q) (accept (q % cap)) n
+      | inl m ↦
+          let f = mark_full kind law controls (tag h) p q (tag_small h hh) lo m in
+          let two : q < 2 * cap = elim (cases_lt q (2 * cap)) [ inl l ↦ l | inr g ↦ let e = w.past q g (omega arith) in absurd (omega arith) ] in
+          let k = control_of cap controls q pos w.repeats two (omega arith) in
+          let lb = mod_below q cap pos in
+          let taken : is_free homes (q % cap) ≡ false = false_from_ne_true (is_free homes (q % cap)) (λ t. let e = w.others (q % cap) lb t in absurd (omega arith)) in
+          let has : list_any (eqb (q % cap)) homes ≡ true = not-false (list_any (eqb (q % cap)) homes) taken in
+          and_right (marked kind controls (tag h) p q) (accept (q % cap))
+          (false_from_ne_true (accept (q % cap)) (λ t. both_ways (list_any accept homes) none (any_member accept (q % cap) homes has t)))
+    ]))
+
+answer_none : (kind : Kind) (controls : List ℕ) (cap t : ℕ) (accept : ℕ → Bool) (ps : List ℕ) → ((p : ℕ) → list_any (eqb p) ps ≡ true → find accept (candidates kind controls cap t p) ≡ None) → answer kind controls cap t accept ps ≡ None
+answer_none kind controls cap t accept [] h = refl
+answer_none kind controls cap t accept (p ∷ ps) h =
+    answer_cons kind controls cap t accept p ps ∙ (elim (cases_Bool (ends_at kind controls cap t accept p)) [
+      | inl e ↦ rw e (h p (or_left (eqb p p) (list_any (eqb p) ps) (eq-eqb p p refl)))
+      | inr e ↦ rw e (answer_none kind controls cap t accept ps (λ q m. h q (or_right (eqb q p) (list_any (eqb q) ps) m)))
+    ])
+
+pub first_within : (P : ℕ → Bool) (xs : List ℕ) → list_any P xs ≡ true → position_or_len P xs < length xs
+first_within P [] h = absurd (true≢false (sym h))
+first_within P (x ∷ xs) h = elim (cases_Bool (P x)) [
+  | inl t ↦ rw t (omega arith)
+  | inr e ↦ let h' = rw e at h in let ih = first_within P xs h' in rw e (omega arith)
+]
+
+-- on a written table, where only items under the asked hash are accepted, the lookup answers the home of the first item that is
+pub found_written : (cap h : ℕ) (hashes homes controls : List ℕ) (kind : Kind) (accept : ℕ → Bool) → length hashes < cap → h < 2 ^ 64 → IsKind kind → Written cap hashes homes controls
+    → ((j : ℕ) → j < length hashes → get_or hashes j 0 < 2 ^ 64)
+    → ((j : ℕ) → j < length hashes → accept (get_or homes j 0) ≡ true → get_or hashes j 0 ≡ h)
+    → found kind controls cap (length hashes) h accept ≡ find accept homes
+found_written cap h hashes homes controls kind accept room hh law w fits asked =
+    let len = w.placed.count in
+    elim (cases_Bool (eqb (length hashes) 0)) [
+      | inl e ↦
+          let z = eqb-true (length hashes) 0 e in
+          let n : homes ≡ [] = nil_from_length homes (omega arith) in
+          rw e (sym (ap (find accept) n))
+      | inr e ↦
+          rw e (elim (cases_Bool (list_any accept homes)) [
+            | inr none ↦ answer_none kind controls cap (tag h) accept (strides h cap)
+                (λ p hp. none_accepted cap h p hashes homes controls kind accept (omega arith) hh law w none
+                (ltb-true p (probe_capacity cap) (and_parts (ltb p (probe_capacity cap)) (eqb (p % 16) (start h cap % 16)) (sym (has_stride h cap p (omega arith)) ∙ hp)).0))
+                ∙ sym (find_none accept homes none)
+            | inl some ↦
+                let i = position_or_len accept homes in
+                let l : i < length homes = first_within accept homes some in
+                let y = passes_at_first accept homes 0 l in
+                let hi = asked i (omega arith) y in
+                let a : Asked cap h i hashes homes controls kind accept = record { written = w; law = law; hash_fits = fits; some = omega arith; within = omega arith; asked = hi; yes = y; no = λ j lj. fails_before_first accept homes j 0 lj } in
+                answers_home cap h i hashes homes controls kind accept a
+                ∙ sym (find_at accept homes ∙ slice_get-get_or homes i 0 l)
+          ])
+    ]
+
+-- in the items' terms: where item_at says what stands at a bucket, the answer is First of the list
+find_through : {X : Type 0} (f : ℕ → X) (c : X → Bool) (bs : List ℕ) → find c (map f bs) ≡ option_map f (find (λ b. c (f b)) bs)
+find_through f c [] = refl
+find_through f c (b ∷ bs) = elim (cases_Bool (c (f b))) [ inl t ↦ rw t refl | inr e ↦ rw e (find_through f c bs) ]
+
+pub found_first : {X : Type 0} (cap h : ℕ) (hashes homes controls : List ℕ) (kind : Kind) (items : List X) (item_at : ℕ → X) (c : X → Bool) → length hashes < cap → h < 2 ^ 64 → IsKind kind → Written cap hashes homes controls
+    → ((j : ℕ) → j < length hashes → get_or hashes j 0 < 2 ^ 64)
+    → items ≡ map item_at homes
+    → ((j : ℕ) → j < length hashes → c (item_at (get_or homes j 0)) ≡ true → get_or hashes j 0 ≡ h)
+    → option_map item_at (found kind controls cap (length hashes) h (λ b. c (item_at b))) ≡ find c items
+found_first cap h hashes homes controls kind items item_at c room hh law w fits e asked =
+    ap (option_map item_at) (found_written cap h hashes homes controls kind (λ b. c (item_at b)) room hh law w fits asked)
+    ∙ sym (find_through item_at c homes)
+    ∙ ap (find c) (sym e)

@@ -1,0 +1,85 @@
+-- The controls of a written table are those of an accepted one: as many full buckets as items.
+use Rattle.std.proofs.Common.{◌≡◌, ℕ, ◌+◌, ◌^◌, ◌<◌, refl, sym, ◌∙◌, arith, List, true, false, ◌&&◌, eqb, ltb, length, get_or, take, replicate, get_or-take, length-take}
+use Rattle.std.specs.List.{list_any, range_with_len, IsDistinct}
+use Rattle.std.specs.Cmp.{nat_eq_equiv}
+use Rattle.std.proofs.lemmas.Map.Keys.{IsDistinct-from_apart}
+use Rattle.std.proofs.lemmas.Map.Made.{length-from_same_keys}
+use Rattle.std.proofs.lemmas.List.{get_or_default, length-replicate, get_or-replicate}
+use Rattle.std.proofs.lemmas.List.Folds.{list_any_at, Any-from_list_any}
+use Rattle.std.proofs.lemmas.List.FromFn.{length-range_with_len, get_or-range_with_len}
+use Rattle.std.proofs.lemmas.Bool.{and_parts, and_from, eqb-true, eq-eqb, ne_eqb, leb-false, ltb-true, lt-ltb, not-true, not-false, false_from_ne_true, both_ways}
+use Rattle.rkyv_table.specs.Probe.{shown}
+use Rattle.rkyv_table.specs.Placing.{is_free, Homes, Written, Accepted, walk}
+use Rattle.rkyv_table.proofs.Coverage.{same_tests}
+use Rattle.rkyv_table.proofs.Lists.{any_filter, any_range, in_range, some_find, distinct_filter}
+use Rattle.rkyv_table.proofs.WrittenStep.{free_empty, home_below}
+
+-- no home is another's
+homes_apart : (cap : ℕ) (hashes homes : List ℕ) → Homes cap hashes homes → (i j : ℕ) → i < j → j < length homes → get_or homes i 0 ≡ get_or homes j 0 → ⊥
+homes_apart cap hashes homes p i j ij hj e =
+    let count = p.count in
+    let f = (some_find (is_free (take j homes)) (shown (get_or hashes j 0) cap) (get_or homes j 0) (p.first j (omega arith))).1 in
+    let none = not-true (list_any (eqb (get_or homes j 0)) (take j homes)) f in
+    let l = length-take j homes in
+    let g = get_or-take j homes i 0 ij in
+    let a = list_any_at (eqb (get_or homes j 0)) (take j homes) i 0 (omega arith) (rw g (eq-eqb (get_or homes j 0) (get_or homes i 0) (sym e))) in
+    both_ways (list_any (eqb (get_or homes j 0)) (take j homes)) none a
+
+distinct_homes : (cap : ℕ) (hashes homes : List ℕ) → Homes cap hashes homes → IsDistinct eqb homes
+distinct_homes cap hashes homes p = IsDistinct-from_apart eqb homes (λ i j d ij hj.
+    let a = get_or_default homes i d 0 (omega arith) in
+    let b = get_or_default homes j d 0 hj in
+    rw (a, b) (ne_eqb (get_or homes i 0) (get_or homes j 0) (λ e. homes_apart cap hashes homes p i j ij hj e)))
+
+distinct_range : (n : ℕ) → IsDistinct eqb (range_with_len 0 n)
+distinct_range n = let l = length-range_with_len 0 n in
+    IsDistinct-from_apart eqb (range_with_len 0 n) (λ i j d ij hj.
+    let jc : j < n = omega arith in
+    let ic : i < n = omega arith in
+    let gi = get_or-range_with_len 0 n i d ic in
+    let gj = get_or-range_with_len 0 n j d jc in
+    rw (gi, gj) (ne_eqb (0 + i) (0 + j) (λ e. omega arith)))
+
+-- a full bucket is a home
+full_home : (cap : ℕ) (hashes homes controls : List ℕ) (q : ℕ) → 0 < cap → Written cap hashes homes controls → ((j : ℕ) → j < length hashes → get_or hashes j 0 < 2 ^ 64)
+    → list_any (eqb q) (walk controls cap) ≡ list_any (eqb q) homes
+unfolding walk
+full_home cap hashes homes controls q pos w fits =
+    let F = λ (b : ℕ). ltb (get_or controls b 0) 128 in
+    let count = w.placed.count in
+    any_filter q F (range_with_len 0 cap)
+    ∙ same_tests (list_any (eqb q) (range_with_len 0 cap) && F q) (list_any (eqb q) homes)
+    (λ t.
+    let u = and_parts (list_any (eqb q) (range_with_len 0 cap)) (F q) t in
+    let l = in_range cap q u.0 in
+    let f = ltb-true (get_or controls q 0) 128 u.1 in
+    not-false (list_any (eqb q) homes) (false_from_ne_true (is_free homes q) (λ y. let e = w.others q l y in omega arith)))
+    (λ m.
+    let a = Any-from_list_any (eqb q) homes m in
+    let e = eqb-true q a.1 a.4 in
+    let d = get_or_default homes a.0 a.1 0 a.2 in
+    let same : get_or homes a.0 0 ≡ q = sym d ∙ a.3 ∙ sym e in
+    let l = home_below cap hashes homes controls a.0 pos w (omega (arith, a.2)) in
+    let lq : q < cap = omega arith in
+    let n = free_empty cap hashes homes controls q w fits lq in
+    let free : is_free homes q ≡ false = rw m refl in
+    let g = leb-false 128 (get_or controls q 0) (sym n ∙ free) in
+    and_from (list_any (eqb q) (range_with_len 0 cap)) (F q) (any_range (eqb q) 0 cap q (omega arith) (omega arith) (eq-eqb q q refl)) (lt-ltb (get_or controls q 0) 128 (omega arith)))
+
+pub accepted_written : (cap : ℕ) (hashes homes controls : List ℕ) → length hashes < cap → Written cap hashes homes controls → ((j : ℕ) → j < length hashes → get_or hashes j 0 < 2 ^ 64) → Accepted cap (length hashes) controls
+unfolding walk
+accepted_written cap hashes homes controls room w fits =
+    let F = λ (b : ℕ). ltb (get_or controls b 0) 128 in
+    let d = distinct_filter F (range_with_len 0 cap) (distinct_range cap) in
+    record {
+      room = room;
+      full = length-from_same_keys nat_eq_equiv (walk controls cap) homes d (distinct_homes cap hashes homes w.placed) (λ q. full_home cap hashes homes controls q (omega arith) w fits) ∙ w.placed.count;
+      repeats = w.repeats;
+    }
+
+-- sixteen items under one hash, as a test has them
+pub accepted_alike : (cap n h : ℕ) (homes controls : List ℕ) → n < cap → h < 2 ^ 64 → Written cap (replicate n h) homes controls → Accepted cap n controls
+accepted_alike cap n h homes controls room fits w =
+    let l = length-replicate n h in
+    let a = accepted_written cap (replicate n h) homes controls (omega arith) w (λ j lj. let lt : j < n = omega arith in rw (get_or-replicate n j h 0 lt) fits) in
+    rw l at a

@@ -1,0 +1,208 @@
+-- One item more on a written table.
+use Rattle.std.proofs.Common.{◌≡◌, ℕ, ◌+◌, ◌*◌, ◌-◌, ◌%◌, ◌^◌, ◌<◌, ◌≢◌, inl, inr, refl, sym, ap, ◌∙◌, arith, List, [], ◌∷◌, ◌++◌, Bool, true, false, ◌&&◌, eqb, ltb, length, get_or, take, set, replicate, Some, get_or-set_same, get_or-set_other, length-set, length-take, get_or-take}
+use Rattle.std.specs.List.{find, list_any, range_with_len, flat_map, IsDistinct}
+use Rattle.std.specs.Cmp.{nat_eq_equiv}
+use Rattle.std.proofs.lemmas.Map.Keys.{IsDistinct-from_apart}
+use Rattle.std.proofs.lemmas.Map.Made.{length-le_from_is_member}
+use Rattle.std.proofs.lemmas.List.FromFn.{length-range_with_len, get_or-range_with_len}
+use Rattle.std.specs.Option.{option_map}
+use Rattle.std.proofs.lemmas.List.{take_all, take-append-le, get_or_append_left, get_or_push, length_push, get_or-replicate, length-replicate}
+use Rattle.std.proofs.lemmas.List.Folds.{list_any-append, find-append, Any-from_list_any}
+use Rattle.std.proofs.lemmas.Nat.{mod_below}
+use Rattle.std.proofs.lemmas.Bool.{cases_Bool, cases_eq, cases_lt, or_parts, eq-eqb, le-leb, lt-leb, leb-true, not-true, not-false, not_from_false, both_ways, ne_eqb, false_from_ne_true}
+use Rattle.rkyv_table.specs.Numbers.{tag, control_count}
+use Rattle.rkyv_table.specs.Probe.{strides, buckets_at, shown}
+use Rattle.rkyv_table.specs.Placing.{is_free, Homes, Written}
+use Rattle.rkyv_table.specs.Controls.{HasRoom, is_empty_at, with_control}
+use Rattle.rkyv_table.proofs.Written.{find_buckets, shown_below, taken_home}
+use Rattle.rkyv_table.proofs.Lists.{some_find, any_member}
+
+tag_small : (h : ℕ) → h < 2 ^ 64 → tag h < 128
+tag_small h l = omega arith
+
+-- ---- reading a control after the two writes
+
+at_bucket : (controls : List ℕ) (cap b t : ℕ) → 0 < cap → b < length controls → get_or (with_control controls cap b t) b 0 ≡ t
+at_bucket controls cap b t pos h =
+    let ne : b ≢ cap + b = omega arith in
+    get_or-set_other (set controls b t) (cap + b) b t 0 ne ∙ get_or-set_same controls b t 0 h
+
+at_repeat : (controls : List ℕ) (cap b t : ℕ) → cap + b < length controls → get_or (with_control controls cap b t) (cap + b) 0 ≡ t
+at_repeat controls cap b t h = let l = length-set controls b t in get_or-set_same (set controls b t) (cap + b) t 0 (omega arith)
+
+elsewhere : (controls : List ℕ) (cap b t q : ℕ) → q ≢ b → q ≢ cap + b → get_or (with_control controls cap b t) q 0 ≡ get_or controls q 0
+elsewhere controls cap b t q n m = get_or-set_other (set controls b t) (cap + b) q t 0 m ∙ get_or-set_other controls b q t 0 n
+
+-- ---- tests that agree below cap find the same
+
+find_ext : (P Q : ℕ → Bool) (xs : List ℕ) → ((x : ℕ) → P x ≡ Q x) → find P xs ≡ find Q xs
+find_ext P Q [] h = refl
+find_ext P Q (x ∷ xs) h = rw (h x, find_ext P Q xs h) refl
+
+shown_agree : (P Q : ℕ → Bool) (cap : ℕ) (ps : List ℕ) → 0 < cap → ((b : ℕ) → b < cap → P b ≡ Q b) → find P (flat_map (buckets_at cap) ps) ≡ find Q (flat_map (buckets_at cap) ps)
+shown_agree P Q cap [] pos h = refl
+shown_agree P Q cap (p ∷ ps) pos h =
+    let one : find P (buckets_at cap p) ≡ find Q (buckets_at cap p) =
+    find_buckets P cap p
+    ∙ ap (option_map (λ q. q % cap)) (find_ext (λ q. ltb q (2 * cap) && P (q % cap)) (λ q. ltb q (2 * cap) && Q (q % cap)) (range_with_len p 16)
+    (λ q. ap (λ z. ltb q (2 * cap) && z) (h (q % cap) (mod_below q cap pos))))
+    ∙ sym (find_buckets Q cap p) in
+    find-append P (buckets_at cap p) (flat_map (buckets_at cap) ps)
+    ∙ rw (one, shown_agree P Q cap ps pos h) (sym (find-append Q (buckets_at cap p) (flat_map (buckets_at cap) ps)))
+
+-- ---- the step
+
+-- on a written table a bucket is free exactly where its control is empty
+pub free_empty : (cap : ℕ) (hashes homes controls : List ℕ) (b : ℕ) → Written cap hashes homes controls → ((j : ℕ) → j < length hashes → get_or hashes j 0 < 2 ^ 64) → b < cap → is_free homes b ≡ is_empty_at controls b
+free_empty cap hashes homes controls b w fits hb =
+    let len = w.placed.count in
+    elim (cases_Bool (is_free homes b)) [
+      | inl t ↦ let e = w.others b hb t in t ∙ sym (le-leb 128 (get_or controls b 0) (omega arith))
+      | inr f ↦
+          let whole = take_all (length homes) homes (omega arith) in
+          let f' : is_free (take (length homes) homes) b ≡ false = rw whole f in
+          let k = taken_home homes (length homes) b (omega arith) f' in
+          let lj : k.0 < length hashes = omega (arith, k.1) in
+          let t = w.tags k.0 lj in
+          let s = tag_small (get_or hashes k.0 0) (fits k.0 lj) in
+          let e : get_or controls b 0 ≡ get_or controls (get_or homes k.0 0) 0 = ap (λ z. get_or controls z 0) (sym k.2) in
+          f ∙ sym (lt-leb 128 (get_or controls b 0) (omega arith))
+    ]
+
+pub home_below : (cap : ℕ) (hashes homes controls : List ℕ) (i : ℕ) → 0 < cap → Written cap hashes homes controls → i < length hashes → get_or homes i 0 < cap
+home_below cap hashes homes controls i pos w hi = shown_below (is_free (take i homes)) cap (get_or homes i 0) (strides (get_or hashes i 0) cap) pos (w.placed.first i hi)
+
+pub homes_more : (cap h b : ℕ) (hashes homes : List ℕ) → Homes cap hashes homes → find (is_free homes) (shown h cap) ≡ Some b → Homes cap (hashes ++ h ∷ []) (homes ++ b ∷ [])
+homes_more cap h b hashes homes p e =
+    let n = length hashes in
+    let len = p.count in
+    let lenh = length_push hashes h in
+    let lenb = length_push homes b in
+    let whole = take_all n homes (omega arith) in
+    record {
+      count = omega arith;
+      first = λ i hi. elim (cases_lt i n) [
+        | inl l ↦
+            let a = take-append-le i homes (b ∷ []) (omega arith) in
+            let x = get_or_append_left hashes (h ∷ []) 0 i l in
+            let y = get_or_append_left homes (b ∷ []) 0 i (omega arith) in
+            rw (a, x, y) (p.first i l)
+        | inr g ↦
+            let s : i ≡ n = omega arith in
+            let a = take-append-le n homes (b ∷ []) (omega arith) in
+            let x = get_or_push hashes h 0 n refl in
+            let y = get_or_push homes b 0 n len in
+            rw (s, a, x, y, whole) e
+      ];
+    }
+
+pub one_more : (cap h b : ℕ) (hashes homes controls : List ℕ) → 0 < cap → Written cap hashes homes controls → ((j : ℕ) → j < length hashes → get_or hashes j 0 < 2 ^ 64) → h < 2 ^ 64
+    → find (is_empty_at controls) (shown h cap) ≡ Some b
+    → Written cap (hashes ++ h ∷ []) (homes ++ b ∷ []) (with_control controls cap b (tag h))
+one_more cap h b hashes homes controls pos w fits hh e =
+    let n = length hashes in
+    let len = w.placed.count in
+    let r = w.repeats in
+    let count = r.count in
+    let hb : b < cap = shown_below (is_empty_at controls) cap b (strides h cap) pos e in
+    let fb = (some_find (is_empty_at controls) (shown h cap) b e).1 in
+    let lb = leb-true 128 (get_or controls b 0) fb in
+    let bc : b < length controls = omega arith in
+    let t = tag h in
+    let lenh = length_push hashes h in
+    let lenb = length_push homes b in
+    let whole = take_all n homes (omega arith) in
+    record {
+      placed = homes_more cap h b hashes homes w.placed (shown_agree (is_free homes) (is_empty_at controls) cap (strides h cap) pos (λ c hc. free_empty cap hashes homes controls c w fits hc) ∙ e);
+      repeats = record {
+        count = let l = length-set (set controls b t) (cap + b) t in let m = length-set controls b t in omega arith;
+        repeated = λ q lo two c. elim (cases_eq q (cap + b)) [
+          | inl s ↦
+              let d : q - cap ≡ b = omega arith in
+              let W = with_control controls cap b t in
+              ap (λ z. get_or W z 0) s ∙ at_repeat controls cap b t (omega arith) ∙ sym (ap (λ z. get_or W z 0) d ∙ at_bucket controls cap b t pos bc)
+          | inr m ↦
+              elsewhere controls cap b t q (λ z. omega arith) m ∙ r.repeated q lo two c
+              ∙ sym (elsewhere controls cap b t (q - cap) (λ z. m (omega arith)) (λ z. omega arith))
+        ];
+        past = λ q g c. let x = elsewhere controls cap b t q (λ z. omega arith) (λ z. omega arith) in let y = r.past q g c in omega arith;
+      };
+      tags = λ i hi. elim (cases_lt i n) [
+        | inl l ↦
+            let x = get_or_append_left hashes (h ∷ []) 0 i l in
+            let y = get_or_append_left homes (b ∷ []) 0 i (omega arith) in
+            let k = w.tags i l in
+            let s = tag_small (get_or hashes i 0) (fits i l) in
+            let below = home_below cap hashes homes controls i pos w l in
+            let apart : get_or homes i 0 ≢ b = λ z. (let q = ap (λ y. get_or controls y 0) z in omega arith) in
+            rw (x, y) (elsewhere controls cap b t (get_or homes i 0) apart (λ z. omega arith) ∙ k)
+        | inr g ↦
+            let s : i ≡ n = omega arith in
+            let x = get_or_push hashes h 0 n refl in
+            let y = get_or_push homes b 0 n len in
+            rw (s, x, y) (at_bucket controls cap b t pos bc)
+      ];
+      others = λ c hc f.
+          let none = not-true (list_any (eqb c) (homes ++ b ∷ [])) f in
+          let u = or_parts (list_any (eqb c) homes) (list_any (eqb c) (b ∷ [])) (sym (list_any-append (eqb c) homes (b ∷ [])) ∙ none) in
+          let v = or_parts (eqb c b) false u.1 in
+          let apart : c ≢ b = λ z. both_ways (eqb c b) v.0 (eq-eqb c b z) in
+          elsewhere controls cap b t c apart (λ z. omega arith) ∙ w.others c hc (not_from_false (list_any (eqb c) homes) u.0);
+      past = λ q g c. let x = elsewhere controls cap b t q (λ z. omega arith) (λ z. omega arith) in x ∙ w.past q g c;
+    }
+
+fresh_at : (n q : ℕ) → q < n → get_or {A = ℕ} (replicate n 255) q 0 ≡ 255
+fresh_at n q h = get_or-replicate n q 255 0 h
+
+-- the fresh controls are those of no item
+pub fresh : (cap : ℕ) → 0 < cap → Written cap [] [] (replicate (control_count cap) 255)
+fresh cap pos =
+    let at = λ (q : ℕ) (h : q < control_count cap). fresh_at (control_count cap) q h in
+    record {
+      placed = record { count = refl; first = λ i hi. absurd (omega arith) };
+      repeats = record {
+        count = length-replicate (control_count cap) 255;
+        repeated = λ q lo two c. at q c ∙ sym (at (q - cap) (omega arith));
+        past = λ q g c. let e = at q c in omega arith;
+      };
+      tags = λ i hi. absurd (omega arith);
+      others = λ b hb f. at b (omega arith);
+      past = λ q g c. at q c;
+    }
+
+-- fewer homes than buckets leave one free
+pub free_bucket : (cap : ℕ) (homes : List ℕ) → length homes < cap → (b : ℕ) × (b < cap) × (is_free homes b ≡ true)
+free_bucket cap homes h =
+    let xs = range_with_len 0 cap in
+    let l = length-range_with_len 0 cap in
+    elim (cases_Bool (list_any (is_free homes) xs)) [
+      | inl t ↦
+          let w = Any-from_list_any (is_free homes) xs t in
+          let lt : w.0 < cap = omega arith in
+          let g = get_or-range_with_len 0 cap w.0 w.1 lt in
+          let e : w.1 ≡ w.0 = sym w.3 ∙ g ∙ omega arith in
+          (w.1, omega arith, w.4)
+      | inr f ↦
+          let d : IsDistinct eqb xs = IsDistinct-from_apart eqb xs (λ i j d ij hj.
+          let jc : j < cap = omega arith in
+          let ic : i < cap = omega arith in
+          let gi = get_or-range_with_len 0 cap i d ic in
+          let gj = get_or-range_with_len 0 cap j d jc in
+          rw (gi, gj) (ne_eqb (0 + i) (0 + j) (λ e. omega arith))) in
+          let m = length-le_from_is_member nat_eq_equiv xs homes d (λ q m.
+          not-false (list_any (eqb q) homes) (false_from_ne_true (is_free homes q) (λ t.
+          both_ways (list_any (is_free homes) xs) f (any_member (is_free homes) q xs m t)))) in
+          absurd (omega arith)
+    ]
+
+-- the controls of a written table leave a bucket empty
+pub room_left : (cap : ℕ) (hashes homes controls : List ℕ) → Written cap hashes homes controls → ((j : ℕ) → j < length hashes → get_or hashes j 0 < 2 ^ 64) → length hashes < cap → HasRoom cap controls
+room_left cap hashes homes controls w fits h =
+    let len = w.placed.count in
+    let f = free_bucket cap homes (omega arith) in
+    (f.0, f.1, leb-true 128 (get_or controls f.0 0) (sym (free_empty cap hashes homes controls f.0 w fits f.1) ∙ f.2))
+
+pub all_fit : (hashes : List ℕ) (i : ℕ) → ((j : ℕ) → get_or hashes j 0 < 2 ^ 64) → (j : ℕ) → j < length (take i hashes) → get_or (take i hashes) j 0 < 2 ^ 64
+all_fit hashes i fits j h =
+    let l = length-take i hashes in
+    rw (get_or-take i hashes j 0 (omega arith)) (fits j)

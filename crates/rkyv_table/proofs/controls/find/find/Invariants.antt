@@ -1,0 +1,25 @@
+use Rattle.std.proofs.Common.{◌≡◌, ℕ, ◌+◌, ◌≤◌, Bool, eqb, true, length}
+use Rattle.std.specs.List.{list_any}
+use Rattle.rkyv_table.specs.Controls.{IsFullBucket}
+use Rattle.rkyv_table.specs.Finding.{AnswersAs}
+use Rattle.rkyv_table.specs.Numbers.{tag}
+use Rattle.rkyv_table.specs.Probe.{strides}
+use Rattle.rkyv_table.proofs.Search.{answer}
+use Rattle.rkyv_table.proofs.Lookup.{place}
+use Rattle.rkyv_table.proofs.controls.find.find.Given as goal
+
+abbrev pub invariant-loop-pos : goal.invariant-loop-pos
+invariant-loop-pos g l = record {
+  room : l.strides + length (l.pos-iterator) ≡ l.initial.strides + length (strides l.hash l.cap);
+  members : (p : ℕ) → list_any (eqb p) l.pos-iterator ≡ true → list_any (eqb p) (strides l.hash l.cap) ≡ true;
+  up : l.initial.strides ≤ l.strides;
+  same : (accept : ℕ → Bool) → AnswersAs (goal.F-post g l.cmp) (IsFullBucket l.cap l.controls) accept
+      → answer (g.G.GroupKind.kind) l.controls l.cap (tag l.hash) accept (strides l.hash l.cap)
+      ≡ answer (g.G.GroupKind.kind) l.controls l.cap (tag l.hash) accept (l.pos-iterator);
+  counted : (accept : ℕ → Bool) → AnswersAs (goal.F-post g l.cmp) (IsFullBucket l.cap l.controls) accept
+      → l.strides + place (g.G.GroupKind.kind) l.controls l.cap (tag l.hash) accept (l.pos-iterator)
+      ≡ l.initial.strides + place (g.G.GroupKind.kind) l.controls l.cap (tag l.hash) accept (strides l.hash l.cap);
+}
+
+abbrev pub decreases-loop-pos : goal.decreases-loop-pos
+decreases-loop-pos g l = length (l.pos-iterator)

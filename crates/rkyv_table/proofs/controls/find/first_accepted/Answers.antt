@@ -1,0 +1,65 @@
+use Rattle.std.proofs.Common.{◌≡◌, ℕ, List, ◌+◌, ◌%◌, ◌<◌, sym, ap, ◌∙◌, arith, true, false, map, drop, length, get_or, Some}
+use Rattle.std.specs.List.{find, slice_get}
+use Rattle.std.proofs.lemmas.List.{drop-drop}
+use Rattle.rkyv_table.specs.Seen.{IsMarked}
+use Rattle.rkyv_table.proofs.Marks.{head_found, none_found, head_skipped, head_at}
+use Rattle.rkyv_table.proofs.controls.find.first_accepted.Goals as goal
+
+-- the first of the places that are left, as one of all
+at_head : (places rest : List ℕ) (n j : ℕ) → rest ≡ drop n places → Some j ≡ slice_get rest 0 → (n < length places) × (get_or places n 0 ≡ j)
+at_head places rest n j e h = head_at places n j (h ∙ ap (λ xs. slice_get xs 0) e)
+
+marked_head : (at cap : ℕ) (places rest : List ℕ) (n j : ℕ) → rest ≡ drop n places → Some j ≡ slice_get rest 0 → IsMarked at cap places ((at + j) % cap)
+marked_head at cap places rest n j e h = let w = at_head places rest n j e h in (n, w.0, ap (λ z. (at + z) % cap) (sym w.1))
+
+pub overflow_add-at : goal.overflow_add-at
+overflow_add-at g c =
+    let gone = c.loop-j.invariant.gone in
+    let w = at_head (g.M.Marks.places c.args.marks) (g.M.Marks.places c.loop-j.rest) gone.0 c.in-Some.j gone.1 c.in-Some.ensures in
+    let b = c.requires.below gone.0 w.0 in
+    let e = w.1 in
+    let s = c.requires.small in
+    record { fits = omega arith }
+
+pub bucket_of-bucket-requires : goal.bucket_of-bucket-requires
+bucket_of-bucket-requires g c =
+    let gone = c.loop-j.invariant.gone in
+    let w = at_head (g.M.Marks.places c.args.marks) (g.M.Marks.places c.loop-j.rest) gone.0 c.in-Some.j gone.1 c.in-Some.ensures in
+    record { below = rw w.1 at (c.requires.below gone.0 w.0) }
+
+pub cmp-requires : goal.cmp-requires
+cmp-requires g c =
+    let gone = c.loop-j.invariant.gone in
+    let m = marked_head c.args.at c.args.cap (g.M.Marks.places c.args.marks) (g.M.Marks.places c.loop-j.rest) gone.0 c.in-Some.j gone.1 c.in-Some.ensures in
+    c.requires.callable c.bucket_of-bucket.result (rw c.bucket_of-bucket.ensures m)
+
+pub returns-then-cmp-clause-first : goal.returns-then-cmp-clause-first
+returns-then-cmp-clause-first g c = λ accept answers.
+    let gone = c.loop-j.invariant.gone in
+    let m = marked_head c.args.at c.args.cap (g.M.Marks.places c.args.marks) (g.M.Marks.places c.loop-j.rest) gone.0 c.in-Some.j gone.1 c.in-Some.ensures in
+    let e = c.bucket_of-bucket.ensures in
+    let m' : IsMarked c.args.at c.args.cap (g.M.Marks.places c.args.marks) c.bucket_of-bucket.result = rw e m in
+    let yes : accept ((c.args.at + c.in-Some.j) % c.args.cap) ≡ true = ap accept (sym e) ∙ sym (answers c.bucket_of-bucket.result true m' c.if-cmp.ensures) in
+    ap Some e
+    ∙ head_found (λ j. (c.args.at + j) % c.args.cap) accept (g.M.Marks.places c.loop-j.rest) c.in-Some.j c.in-Some.ensures yes
+    ∙ sym (c.loop-j.invariant.same accept answers)
+
+pub returns-clause-first : goal.returns-clause-first
+returns-clause-first g c = λ accept answers.
+    none_found (λ j. (c.args.at + j) % c.args.cap) accept (g.M.Marks.places c.loop-j.rest) c.in_default.ensures
+    ∙ sym (c.loop-j.invariant.same accept answers)
+
+pub loop-j-preserved : goal.loop-j-preserved
+loop-j-preserved g c =
+    let gone = c.loop-j.invariant.gone in
+    record {
+      gone = (gone.0 + 1, c.remove_lowest_bit-rest.ensures ∙ ap (drop 1) gone.1 ∙ drop-drop 1 gone.0 (g.M.Marks.places c.args.marks));
+      same = λ accept answers.
+          let m = marked_head c.args.at c.args.cap (g.M.Marks.places c.args.marks) (g.M.Marks.places c.loop-j.rest) gone.0 c.in-Some.j gone.1 c.in-Some.ensures in
+          let e = c.bucket_of-bucket.ensures in
+          let m' : IsMarked c.args.at c.args.cap (g.M.Marks.places c.args.marks) c.bucket_of-bucket.result = rw e m in
+          let no : accept ((c.args.at + c.in-Some.j) % c.args.cap) ≡ false = ap accept (sym e) ∙ sym (answers c.bucket_of-bucket.result false m' c.if-cmp.ensures) in
+          c.loop-j.invariant.same accept answers
+          ∙ head_skipped (λ j. (c.args.at + j) % c.args.cap) accept (g.M.Marks.places c.loop-j.rest) c.in-Some.j c.in-Some.ensures no
+          ∙ ap (λ xs. find accept (map (λ j. (c.args.at + j) % c.args.cap) xs)) (sym c.remove_lowest_bit-rest.ensures);
+    }

@@ -1,0 +1,20 @@
+use Rattle.std.proofs.Common.{◌%◌, eqb, ltb}
+use Rattle.std.proofs.lemmas.Bool.{and_parts, and_from, eqb-true, eq-eqb, ltb-true, lt-ltb}
+use Rattle.std.proofs.Common.{sym, ◌∙◌}
+use Rattle.rkyv_table.specs.Numbers.{probe_capacity, start}
+use Rattle.rkyv_table.specs.Probe.{strides}
+use Rattle.rkyv_table.proofs.Coverage.{has_stride, distinct_strides, count_strides}
+use Rattle.rkyv_table.proofs.Lists.{member_contains, contains_member}
+use Rattle.rkyv_table.proofs.controls.laws.strides_cover.Goals as goal
+
+pub returns : goal.returns
+returns c = λ hash cap some. record {
+  members = λ p. (
+    λ here.
+        let t = and_parts (ltb p (probe_capacity cap)) (eqb (p % 16) (start hash cap % 16)) (sym (has_stride hash cap p some) ∙ contains_member p (strides hash cap) here) in
+        (ltb-true p (probe_capacity cap) t.0, eqb-true (p % 16) (start hash cap % 16) t.1),
+    λ is. member_contains p (strides hash cap) (has_stride hash cap p some ∙ and_from (ltb p (probe_capacity cap)) (eqb (p % 16) (start hash cap % 16)) (lt-ltb p (probe_capacity cap) is.0) (eq-eqb (p % 16) (start hash cap % 16) is.1)),
+  );
+  once = distinct_strides hash cap some;
+  count = count_strides hash cap some;
+}

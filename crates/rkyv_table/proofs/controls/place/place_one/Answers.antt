@@ -1,0 +1,86 @@
+use Rattle.std.proofs.Common.{arith, ◌≡◌, ◌*◌, ◌%◌, ◌<◌, get_or, set, length, inr, ℕ, sym, ap, ◌∙◌, Some, length-set}
+use Rattle.std.specs.List.{find}
+use Rattle.std.proofs.lemmas.Bool.{le-leb}
+use Rattle.rkyv_table.specs.Controls.{is_empty_at, with_control}
+use Rattle.rkyv_table.specs.Numbers.{tag}
+use Rattle.rkyv_table.specs.Probe.{shown}
+use Rattle.rkyv_table.proofs.Coverage.{stride_below}
+use Rattle.rkyv_table.proofs.FirstFree.{some_shown, none_shown, begun, passes_on, first_at, later_started, member_front, member_rest, runs_out, empty_place_is, one_write}
+use Rattle.rkyv_table.proofs.controls.place.place_one.Goals as goal
+use Rattle.rkyv_table.proofs.controls.place.place_one.Goals.{In-Some-first_empty}
+
+-- the first empty place is that of the first bucket shown whose control is empty
+found_here : (g : _) (c : In-Some-first_empty g)
+    → (c.in-Some-first_empty.place < 2 * c.args.cap) × (find (is_empty_at c.args.controls.now) (shown c.args.hash c.args.cap) ≡ Some (c.in-Some-first_empty.place % c.args.cap))
+found_here g c =
+    let h = c.args.hash in
+    let cap' = c.args.cap in
+    let inv = c.loop-pos.invariant in
+    let more = c.in-Some.ensures.steps in
+    let lp = stride_below h cap' c.in-Some.pos (omega (arith, c.requires.room.1)) (inv.members c.in-Some.pos (member_front c.in-Some.pos c.next.new.self c.loop-pos.pos-iterator more)) in
+    let controls = c.args.controls.now in
+    let same = rw inv.kept at inv.same in
+    let st = rw inv.kept at inv.started in
+    let e = rw inv.kept at c.in-Some-first_empty.ensures in
+    let e' = sym (e ∙ empty_place_is controls c.in-Some.pos) in
+    let w = c.requires.room in
+    let before = c.loop-pos.pos-iterator in
+    let after = c.next.new.self in
+    let s = some_shown h cap' controls c.in-Some.pos c.in-Some-first_empty.place w.0 c.requires.repeats w.1 (le-leb 128 (get_or controls w.0 0) w.2)
+    (inv.members c.in-Some.pos (member_front c.in-Some.pos after before more)) lp
+    (begun h cap' c.in-Some.pos (is_empty_at controls) after before (omega (arith, w.1)) st more) e' in
+    (s.0, first_at h cap' c.in-Some.pos (c.in-Some-first_empty.place % cap') (is_empty_at controls) after before more s.1 same)
+
+pub first_empty-requires : goal.first_empty-requires
+first_empty-requires g c =
+    let inv = c.loop-pos.invariant in
+    let lp = stride_below c.args.hash c.args.cap c.in-Some.pos (omega (arith, c.requires.room.1)) (inv.members c.in-Some.pos (member_front c.in-Some.pos c.next.new.self c.loop-pos.pos-iterator c.in-Some.ensures.steps)) in
+    let count = c.requires.repeats.count in
+    let l = ap length inv.kept in
+    omega arith
+
+pub bucket_of-bucket-requires : goal.bucket_of-bucket-requires
+bucket_of-bucket-requires g c = record { below = (found_here g c).0 }
+
+pub returns-then-bucket-controls-clause-first : goal.returns-then-bucket-controls-clause-first
+returns-then-bucket-controls-clause-first g c = (found_here g (goal.at.returns-then-bucket-controls-clause-first g c).In-Some-first_empty).1 ∙ ap Some (sym c.bucket_of-bucket.ensures)
+
+pub returns-else-bucket-controls-clause-first : goal.returns-else-bucket-controls-clause-first
+returns-else-bucket-controls-clause-first g c = (found_here g (goal.at.returns-else-bucket-controls-clause-first g c).In-Some-first_empty).1 ∙ ap Some (sym c.bucket_of-bucket.ensures)
+
+pub returns-then-bucket-controls-clause-after : goal.returns-then-bucket-controls-clause-after
+returns-then-bucket-controls-clause-after g c =
+    ap (λ z. with_control c.loop-pos.controls c.args.cap c.bucket_of-bucket.result z) c.tag-tag.ensures
+    ∙ ap (λ z. with_control z c.args.cap c.bucket_of-bucket.result (tag c.args.hash)) c.loop-pos.invariant.kept
+
+pub returns-else-bucket-controls-clause-after : goal.returns-else-bucket-controls-clause-after
+returns-else-bucket-controls-clause-after g c =
+    ap (λ z. set c.loop-pos.controls c.bucket_of-bucket.result z) c.tag-tag.ensures
+    ∙ one_write c.loop-pos.controls c.args.cap c.bucket_of-bucket.result (tag c.args.hash) (omega (arith, length-set {A = ℕ}, c.if-bucket-controls.false))
+    ∙ ap (λ z. with_control z c.args.cap c.bucket_of-bucket.result (tag c.args.hash)) c.loop-pos.invariant.kept
+
+pub loop-pos-preserved : goal.loop-pos-preserved
+loop-pos-preserved g c =
+    let h = c.args.hash in
+    let cap' = c.args.cap in
+    let inv = c.loop-pos.invariant in
+    let more = c.in-Some.ensures.steps in
+    let lp = stride_below h cap' c.in-Some.pos (omega (arith, c.requires.room.1)) (inv.members c.in-Some.pos (member_front c.in-Some.pos c.next.new.self c.loop-pos.pos-iterator more)) in
+    let free = is_empty_at c.loop-pos.controls in
+    let w = c.requires.room in
+    let r = rw (← inv.kept) at c.requires.repeats in
+    let e = sym (c.in_default.ensures ∙ empty_place_is c.loop-pos.controls c.in-Some.pos) in
+    let none = none_shown cap' c.loop-pos.controls c.in-Some.pos (omega (arith, w.1)) r lp e in
+    record {
+      kept = inv.kept;
+      same = passes_on h cap' c.in-Some.pos free c.next.new.self c.loop-pos.pos-iterator more none inv.same;
+      members = λ p m. inv.members p (member_rest c.in-Some.pos p c.next.new.self c.loop-pos.pos-iterator more m);
+      started = inr (later_started h cap' c.in-Some.pos free (begun h cap' c.in-Some.pos free c.next.new.self c.loop-pos.pos-iterator (omega (arith, w.1)) inv.started more) none);
+    }
+
+pub unreachable-requires : goal.unreachable-requires
+unreachable-requires g c =
+    let inv = c.loop-pos.invariant in
+    let w = c.requires.room in
+    let same = rw inv.kept at inv.same in
+    runs_out c.args.hash c.args.cap w.0 (is_empty_at c.args.controls.now) c.loop-pos.pos-iterator w.1 (le-leb 128 (get_or c.args.controls.now w.0 0) w.2) c.in-None.ensures.steps.0 same

@@ -1,0 +1,17 @@
+use Rattle.std.proofs.Common.{◌≡◌, ◌⊎◌, ℕ, length, eqb, true, false}
+use Rattle.std.specs.List.{find, flat_map, list_any}
+use Rattle.rkyv_table.specs.Controls.{is_empty_at}
+use Rattle.rkyv_table.specs.Numbers.{start}
+use Rattle.rkyv_table.specs.Probe.{strides, shown, buckets_at}
+use Rattle.rkyv_table.proofs.controls.place.place_one.Given as goal
+
+abbrev pub invariant-loop-pos : goal.invariant-loop-pos
+invariant-loop-pos g l = record {
+  kept : l.controls ≡ l.initial.controls;
+  same : find (is_empty_at l.controls) (shown l.hash l.cap) ≡ find (is_empty_at l.controls) (flat_map (buckets_at l.cap) (l.pos-iterator));
+  members : (p : ℕ) → list_any (eqb p) (l.pos-iterator) ≡ true → list_any (eqb p) (strides l.hash l.cap) ≡ true;
+  started : (l.pos-iterator ≡ strides l.hash l.cap) ⊎ (list_any (is_empty_at l.controls) (buckets_at l.cap (start l.hash l.cap)) ≡ false);
+}
+
+abbrev pub decreases-loop-pos : goal.decreases-loop-pos
+decreases-loop-pos g l = length (l.pos-iterator)

@@ -1,0 +1,31 @@
+use Rattle.std.proofs.Common.{◌≡◌, ℕ, ◌<◌, ◌≤◌, ◌∙◌, arith, inl, inr, subst, sym, rules, false}
+use Rattle.std.proofs.lemmas.Bool.{cases_eq, true≢false}
+use Rattle.rkyv_table.specs.Repeating.{RepeatsAt}
+use Rattle.rkyv_table.proofs.controls.repeats.check_repeats.Goals as goal
+
+pub returns-then-not-is_repeated-clause-fails : goal.returns-then-not-is_repeated-clause-fails
+returns-then-not-is_repeated-clause-fails c =
+    let count = c.requires.count in
+    record {
+      from = c.loop-place.auto.place;
+      below = omega arith;
+      unlike = λ r. true≢false (sym (c.is_repeated.ensures.1 r) ∙ c.if-not-is_repeated.true);
+      least = c.loop-place.invariant;
+    }
+
+pub loop-place-preserved : goal.loop-place-preserved
+loop-place-preserved c = λ q lo hi. elim (cases_eq q c.loop-place.place) [
+  | inl e ↦ subst (RepeatsAt c.args.cap c.args.controls.now) (sym e) (c.is_repeated.ensures.0 c.if-not-is_repeated.false)
+  | inr n ↦ c.loop-place.invariant q lo (omega arith)
+]
+
+pub returns-clause-repeats : goal.returns-clause-repeats
+returns-clause-repeats c =
+    let count = c.requires.count in
+    let inv = c.loop-place.invariant in
+    let done = c.loop-place-test.false in
+    record {
+      count = count;
+      repeated = λ q lo two l. (inv q lo (omega arith)).0 two;
+      past = λ q two l. (inv q (omega arith) (omega arith)).1 two;
+    }

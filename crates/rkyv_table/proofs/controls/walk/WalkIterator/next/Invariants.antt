@@ -1,0 +1,14 @@
+use Rattle.std.proofs.Common.{◌≡◌, ◌-◌, ◌≤◌, length}
+use Rattle.rkyv_table.specs.Numbers.{control_count}
+use Rattle.rkyv_table.specs.Walking.{IsWalk, left}
+use Rattle.rkyv_table.proofs.controls.walk.WalkIterator.next.Given as goal
+
+abbrev pub invariant-loop-self : goal.invariant-loop-self
+invariant-loop-self g l = record {
+  is : IsWalk l.self-inside.controls.now l.self-inside.cap l.self-inside.base g.G.GroupKind.kind.width (g.G.Mask.Marks.places l.self-inside.marks);
+  value : left l.initial.self-inside.controls.now l.initial.self-inside.cap l.initial.self-inside.base g.G.GroupKind.kind.width (g.G.Mask.Marks.places l.initial.self-inside.marks)
+      ≡ left l.self-inside.controls.now l.self-inside.cap l.self-inside.base g.G.GroupKind.kind.width (g.G.Mask.Marks.places l.self-inside.marks);
+}
+
+abbrev pub decreases-loop-self : goal.decreases-loop-self
+decreases-loop-self g l = l.self-inside.cap - l.self-inside.base

@@ -1,0 +1,10 @@
+pub mod Numbers
+pub mod Capacity
+pub mod Probe
+pub mod Controls
+pub mod Placing
+pub mod Finding
+pub mod Seen
+pub mod Walking
+pub mod Repeating
+pub mod Laws

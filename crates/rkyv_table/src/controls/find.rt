@@ -1,0 +1,162 @@
+//! Finding an item by the controls.
+ghost use Rattle.std.specs.Prelude.{Bool, IfSome, List, drop, length, map, slice_index, take, ℕ, ◌%◌, ◌*◌, ◌+◌, ◌/◌, ◌<◌, ◌^◌, ◌≡◌, ◌≤◌};
+ghost use Rattle.std.specs.List.{find};
+ghost use Rattle.rkyv_table.specs.Controls.{IsFullBucket};
+ghost use Rattle.rkyv_table.specs.Finding.{AnswersAs, ReadsWithin, end, found};
+ghost use Rattle.rkyv_table.specs.Numbers.{probe_capacity};
+ghost use Rattle.rkyv_table.specs.Placing.{Accepted};
+ghost use Rattle.rkyv_table.specs.Seen.{IsMarked, IsSeen, IsShown, IsShownIfAccepted};
+
+use crate::controls::numbers::{bucket_of, tag};
+use crate::controls::probe::Probe;
+use rkyv_scan::simd::{GroupKind, Marks};
+use std::marker::Model;
+
+/// Gives out strides of sixteen controls, and counts them.
+#[derive(Drop)]
+pub struct Strides {
+    count: u64,
+}
+
+impl Model for Strides {
+    ghost Value = { ℕ };
+
+    ghost view = { λ s. s.count };
+}
+
+impl Strides {
+    /// None was given out.
+    pub fn new() -> Strides
+        ensures { result ≡ 0 }
+    {
+        Strides { count: 0 }
+    }
+
+    /// How many were given out.
+    #[inline]
+    pub fn count(&self) -> u64
+        ensures { result ≡ self.now }
+    {
+        self.count
+    }
+
+    // The sixteen controls from `pos` on.
+    #[inline]
+    fn stride<'a>(&mut self, controls: &'a [u8], pos: usize) -> &'a [u8]
+        requires inside { pos + 16 ≤ length controls.now }
+        requires room { self.old + 1 < 2 ^ 64 }
+        ensures value { result.now ≡ take 16 (drop pos controls.now) }
+        ensures counted { self.new ≡ self.old + 1 }
+    {
+        self.count += 1;
+        &controls[pos..pos + 16]
+    }
+}
+
+// The first bucket of the marked places that the comparison accepts; the group begins at `at`.
+#[inline]
+fn first_accepted<M: Marks, F: Fn(usize) -> bool>(
+    marks: M,
+    at: usize,
+    cap: usize,
+    cmp: &F,
+) -> Option<usize>
+    requires small { cap < 2 ^ 63 }
+    requires below { (k : ℕ) → k < length (M.places marks)
+        → at + slice_index (M.places marks) k < 2 * cap }
+    requires callable { (b : ℕ) → IsMarked at cap (M.places marks) b → F.pre cmp.now b }
+    ensures among { IfSome result (IsMarked at cap (M.places marks)) }
+    ensures first { (accept : ℕ → Bool)
+        → AnswersAs (F.post cmp.now) (IsMarked at cap (M.places marks)) accept
+        → result ≡ find accept (map (λ j. (at + j) % cap) (M.places marks)) }
+{
+    let mut rest = marks;
+    while let Some(j) = rest.lowest_set_bit() {
+        let bucket = bucket_of(at + j, cap);
+        if cmp(bucket) {
+            return Some(bucket);
+        }
+        rest = rest.remove_lowest_bit();
+    }
+    None
+}
+
+// What one stride shows.
+#[derive(Drop)]
+enum Seen {
+    Accepted(usize),
+    Empty,
+    Full,
+}
+
+// Reads one stride in groups.
+#[inline]
+fn scan<G: GroupKind, F: Fn(usize) -> bool>(
+    stride: &[u8],
+    pos: usize,
+    cap: usize,
+    tag: u8,
+    cmp: &F,
+) -> Seen
+    requires whole { length stride.now ≡ 16 }
+    requires small { cap < 2 ^ 63 }
+    requires fits { pos + 16 < 2 ^ 64 }
+    requires tag { tag < 128 }
+    requires below { (q : ℕ) → q < 16 → slice_index stride.now q < 128 → pos + q < 2 * cap }
+    requires callable { (b : ℕ) → IsShown stride.now pos cap b → F.pre cmp.now b }
+    ensures full { IsShownIfAccepted stride.now pos cap result }
+    ensures seen { (controls : List ℕ) → stride.now ≡ take 16 (drop pos controls)
+        → (accept : ℕ → Bool) → AnswersAs (F.post cmp.now) (IsShown stride.now pos cap) accept
+        → IsSeen G.kind controls cap tag pos accept result }
+{
+    let mut empty = false;
+    for i in 0..16 / G::WIDTH {
+        let at = i * G::WIDTH;
+        let group = G::read(stride, at);
+        if let Some(bucket) = first_accepted(group.match_byte(tag), pos + at, cap, cmp) {
+            return Seen::Accepted(bucket);
+        }
+        if group.match_empty().any_bit_set() {
+            empty = true;
+        }
+    }
+    if empty { Seen::Empty } else { Seen::Full }
+}
+
+/// Finds the bucket of an item under `hash` that the comparison accepts.
+///
+/// The comparison is asked for buckets whose control is full. Each stride that is read is counted.
+#[inline]
+pub fn find<G: GroupKind, F: Fn(usize) -> bool>(
+    controls: &[u8],
+    cap: usize,
+    len: usize,
+    hash: u64,
+    cmp: F,
+    strides: &mut Strides,
+) -> Option<usize>
+    requires accepted { 0 < len → Accepted cap len controls.now }
+    requires room { strides.old ≤ 2 ^ 63 }
+    requires callable { (b : ℕ) → IsFullBucket cap controls.now b → F.pre cmp b }
+    ensures walked { IfSome result (IsFullBucket cap controls.now) }
+    ensures bounded { ReadsWithin len (probe_capacity cap / 16) strides.old strides.new }
+    ensures answer { (accept : ℕ → Bool)
+        → AnswersAs (F.post cmp) (IsFullBucket cap controls.now) accept
+        → result ≡ found G.kind controls.now cap len hash accept }
+    ensures counted { (accept : ℕ → Bool)
+        → AnswersAs (F.post cmp) (IsFullBucket cap controls.now) accept
+        → strides.new ≡ strides.old + end G.kind controls.now cap len hash accept }
+{
+    if len == 0 {
+        return None;
+    }
+    let tag = tag(hash);
+    for pos in Probe::new(hash, cap) {
+        match scan::<G, F>(strides.stride(controls, pos), pos, cap, tag, &cmp) {
+            Seen::Accepted(bucket) => return Some(bucket),
+            Seen::Empty => return None,
+            Seen::Full => {}
+        }
+    }
+    None
+}

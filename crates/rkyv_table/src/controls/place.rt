@@ -1,0 +1,72 @@
+//! Placing items.
+ghost use Rattle.std.specs.Prelude.{IfErr, IfOk, IsOk, Some, [], length, ◌+◌, ◌<◌, ◌≡◌, ◌≤◌};
+ghost use Rattle.std.specs.List.{find};
+ghost use Rattle.rkyv_table.specs.Controls.{HasRoom, empty_place, fresh_controls, is_empty_at, with_control};
+ghost use Rattle.rkyv_table.specs.Numbers.{tag};
+ghost use Rattle.rkyv_table.specs.Placing.{Repeats, Written};
+ghost use Rattle.rkyv_table.specs.Probe.{shown};
+
+use crate::controls::numbers::{bucket_of, tag};
+use crate::controls::probe::Probe;
+use rkyv_scan::simd::{GroupKind, Marks};
+use std::alloc::{AllocError, Global};
+
+// The first empty place of the stride that begins at `pos`.
+#[inline]
+fn first_empty<G: GroupKind>(controls: &[u8], pos: usize) -> Option<usize>
+    requires { pos + 16 ≤ length controls.now }
+    ensures { result ≡ empty_place controls.now pos }
+{
+    for i in 0..16 / G::WIDTH {
+        let at = pos + i * G::WIDTH;
+        if let Some(j) = G::read(controls, at).match_empty().lowest_set_bit() {
+            return Some(at + j);
+        }
+    }
+    None
+}
+
+/// Puts the tag of a hash into the first empty bucket that it shows, and answers the bucket.
+#[inline]
+pub fn place_one<G: GroupKind>(controls: &mut [u8], cap: usize, hash: u64) -> usize
+    requires repeats { Repeats cap controls.old }
+    requires room { HasRoom cap controls.old }
+    ensures first { find (is_empty_at controls.old) (shown hash cap) ≡ Some result }
+    ensures after { controls.new ≡ with_control controls.old cap result (tag hash) }
+{
+    for pos in Probe::new(hash, cap) {
+        if let Some(place) = first_empty::<G>(controls, pos) {
+            let bucket = bucket_of(place, cap);
+            let tag = tag(hash);
+            controls[bucket] = tag;
+            if bucket < controls.len() - cap {
+                controls[cap + bucket] = tag;
+            }
+            return bucket;
+        }
+    }
+    unreachable!()
+}
+
+/// Places an item for each hash, in order, and answers their buckets.
+///
+/// Errors: the memory for the answer was refused; nothing was placed.
+pub fn place<G: GroupKind>(
+    alloc: Global,
+    controls: &mut [u8],
+    cap: usize,
+    hashes: &[u64],
+) -> Result<Vec<usize>, AllocError>
+    requires fresh { controls.old ≡ fresh_controls cap }
+    requires room { length hashes.now < cap }
+    ensures written { IfOk result (λ homes. Written cap hashes.now homes.items controls.new) }
+    ensures succeeds { hashes.now ≡ [] → IsOk result }
+    ensures kept { IfErr result (λ _. controls.new ≡ controls.old) }
+{
+    let mut homes = Vec::with_capacity(alloc, hashes.len())?;
+    for hash in hashes {
+        let bucket = place_one::<G>(controls, cap, *hash);
+        homes.push_reserved(bucket);
+    }
+    Ok(homes)
+}

@@ -1,0 +1,72 @@
+//! The probe sequence of a hash.
+ghost use Rattle.std.specs.Prelude.{List, ℕ, ◌<◌, ◌^◌, ◌≡◌, ◌≤◌};
+ghost use Rattle.std.specs.Iterator.{YieldsFirst, item_count};
+ghost use Rattle.rkyv_table.specs.Numbers.{control_count};
+ghost use Rattle.rkyv_table.specs.Probe.{IsProbe, strides, strides_from};
+
+use crate::controls::numbers;
+use std::marker::Model;
+
+/// The places at which the strides of a hash begin that are still to come, in order.
+#[derive(Drop)]
+pub struct Probe {
+    cap: usize,
+    start: usize,
+    // How far the last place stands from the start, modulo the modulus.
+    offset: usize,
+    // How many places of the sequence were looked at.
+    index: usize,
+}
+
+impl Model for Probe {
+    ghost Value = { List ℕ };
+
+    ghost view = { λ p. strides_from p.cap p.start p.index };
+
+    ghost invariant = { λ p. IsProbe p.cap p.start p.offset p.index };
+}
+
+impl Probe {
+    /// Those of a hash in a table of `cap` buckets.
+    #[inline]
+    pub fn new(hash: u64, cap: usize) -> Probe
+        requires some { 0 < cap }
+        requires fits { control_count cap ≤ 2 ^ 63 }
+        ensures { result ≡ strides hash cap }
+    {
+        Probe {
+            cap,
+            start: (hash % cap as u64) as usize,
+            offset: 0,
+            index: 0,
+        }
+    }
+}
+
+impl Iterator for Probe {
+    type Item = usize;
+
+    ghost next_gives = { YieldsFirst (λ p. p) };
+
+    ghost remaining = { item_count (λ p. p) };
+
+    // The modulus is wanted from the second place on.
+    #[inline]
+    fn next(&mut self) -> Option<usize> {
+        if self.index == 0 {
+            self.index = 1;
+            return Some(self.start);
+        }
+        let limit = numbers::probe_capacity(self.cap);
+        let modulus = numbers::modulus(self.cap);
+        while self.index < modulus / 16 {
+            self.offset = (self.offset + 16 * self.index) & (modulus - 1);
+            self.index += 1;
+            let pos = (self.start + self.offset) & (modulus - 1);
+            if pos < limit {
+                return Some(pos);
+            }
+        }
+        None
+    }
+}

@@ -1,0 +1,96 @@
+//! Walking the full buckets, a group at a time.
+ghost use Rattle.std.specs.Prelude.{List, [], length, ℕ, ◌<◌, ◌≡◌, ◌≤◌};
+ghost use Rattle.std.specs.Iterator.{YieldsFirst, item_count};
+ghost use Rattle.rkyv_table.specs.Numbers.{control_count};
+ghost use Rattle.rkyv_table.specs.Placing.{walk};
+ghost use Rattle.rkyv_table.specs.Walking.{IsWalk, left};
+
+use rkyv_scan::simd::{GroupKind, MAX_GROUP_WIDTH, Marks};
+use std::marker::Model;
+
+/// The full buckets that are still to come, ascending.
+#[derive(Drop)]
+pub struct Walk<'a, G: GroupKind> {
+    controls: &'a [u8],
+    cap: usize,
+    // The first place of the current group.
+    base: usize,
+    // The full places of that group that are still to come.
+    marks: G::Mask,
+}
+
+impl<'a, G: GroupKind> Model for Walk<'a, G> {
+    ghost Value = { List ℕ };
+
+    ghost view = { λ w. left w.controls.now w.cap w.base G.kind.width (G.Mask.places w.marks) };
+
+    ghost invariant = { λ w. IsWalk w.controls.now w.cap w.base G.kind.width (G.Mask.places w.marks) };
+}
+
+// A group of controls, all empty.
+static NO_CONTROLS: [u8; MAX_GROUP_WIDTH] = [0xff; MAX_GROUP_WIDTH];
+
+impl<G: GroupKind> Walk<'static, G> {
+    /// None.
+    #[inline]
+    pub fn empty() -> Walk<'static, G>
+        ensures { result ≡ [] }
+    {
+        Walk::new(&NO_CONTROLS, 0)
+    }
+}
+
+impl<'a, G: GroupKind> Walk<'a, G> {
+    /// Those of the first `cap` buckets.
+    #[inline]
+    pub fn new(controls: &'a [u8], cap: usize) -> Walk<'a, G>
+        requires some { 16 ≤ length controls.now }
+        requires count { control_count cap ≤ length controls.now }
+        ensures { result ≡ walk controls.now cap }
+    {
+        Walk {
+            controls,
+            cap,
+            base: 0,
+            marks: G::read(controls, 0).match_full(),
+        }
+    }
+}
+
+impl<'a, G: GroupKind> Iterator for Walk<'a, G> {
+    type Item = usize;
+
+    ghost next_gives = { YieldsFirst (λ s. s) };
+
+    ghost remaining = { item_count (λ s. s) };
+
+    #[inline]
+    fn next(&mut self) -> Option<usize> {
+        while self.base < self.cap {
+            if let Some(j) = self.marks.lowest_set_bit() {
+                let bucket = self.base + j;
+                if bucket >= self.cap {
+                    return None;
+                }
+                self.marks = self.marks.remove_lowest_bit();
+                return Some(bucket);
+            }
+            if self.cap - self.base <= G::WIDTH {
+                return None;
+            }
+            self.base += G::WIDTH;
+            self.marks = G::read(self.controls, self.base).match_full();
+        }
+        None
+    }
+}
+
+/// How many of the first `cap` buckets are full.
+#[inline]
+pub fn count_full<G: GroupKind>(controls: &[u8], cap: usize) -> usize
+    requires some { 0 < cap }
+    requires count { length controls.now ≡ control_count cap }
+    ensures { result ≡ length (walk controls.now cap) }
+{
+    Walk::<G>::new(controls, cap).count()
+}

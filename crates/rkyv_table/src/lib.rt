@@ -1,0 +1,6 @@
+//! Archived hash tables.
+#![tactic(auto)]
+
+pub mod controls;
+#[cfg(test)]
+mod tests;
