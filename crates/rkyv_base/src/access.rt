@@ -1,6 +1,6 @@
 //! Reading an archive of a stranger.
 
-ghost use Rattle.std.specs.Prelude.{◌≡◌, ◌-◌, length, IsOk, MatchResult};
+ghost use Rattle.std.specs.Prelude.{◌≡◌, ◌-◌, length, IfOk, IsOk, MatchResult};
 ghost use Rattle.rkyv_base.specs.Access.{Accepted, AccessFails};
 ghost use Rattle.rkyv_base.specs.Seal.{ArchiveAt};
 ghost use Rattle.rkyv_base.specs.Shape.{Viewed};
@@ -23,6 +23,7 @@ pub fn access_in<'a, W: Width, T: Element>(bytes: &'a [u8]) -> Result<View<'a, T
         (λ v. Accepted W.LIMIT T.shape bytes.now × IsAt v bytes.entry (length bytes.now - T.shape.size))
         (AccessFails W.LIMIT T.shape bytes.now) }
     ensures accepts { Accepted W.LIMIT T.shape bytes.now → IsOk result }
+    ensures viewed { IfOk result (IsView T.shape) }
 {
     let len = bytes.len() as u64;
     let size = T::size() as u64;
@@ -53,6 +54,7 @@ pub fn access<'a, T: Element>(bytes: &'a [u8]) -> Result<View<'a, T>, VerifyErro
         (λ v. Accepted 4294967295 T.shape bytes.now × IsAt v bytes.entry (length bytes.now - T.shape.size))
         (AccessFails 4294967295 T.shape bytes.now) }
     ensures accepts { Accepted 4294967295 T.shape bytes.now → IsOk result }
+    ensures viewed { IfOk result (IsView T.shape) }
 {
     access_in::<Narrow, T>(bytes)
 }

@@ -9,7 +9,3 @@ at_view f v = f (bytes_of v) (place_of v)
 
 abbrev pub at_views : {T X : Type 0} → (List ℕ → ℕ → List ℕ → ℕ → X) → View T → View T → X
 at_views f v w = f (bytes_of v) (place_of v) (bytes_of w) (place_of w)
-
--- a relation of places and values, where a view is
-abbrev pub Here : {T V : Type 0} → (List ℕ → ℕ → V → Type 0) → View T → V → Type 0
-Here relation view = relation (bytes_of view) (place_of view)

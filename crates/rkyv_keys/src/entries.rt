@@ -3,8 +3,8 @@
 ghost use Rattle.std.specs.Prelude.{◌≡◌, IsTrue, ◌↔◌, MatchResult};
 ghost use Rattle.rkyv_base.specs.Entry.{entry_shape};
 ghost use Rattle.rkyv_base.specs.Pairs.{PairStands};
-ghost use Rattle.rkyv_base.specs.View.{IsView};
-ghost use Rattle.rkyv_keys.specs.Places.{at_view, at_views, Here};
+ghost use Rattle.rkyv_base.specs.View.{IsView, StandsAt};
+ghost use Rattle.rkyv_keys.specs.Places.{at_view, at_views};
 ghost use Rattle.rkyv_keys.specs.Calls.{after_calls};
 ghost use Rattle.rkyv_keys.specs.Fixed.{entry_fixed};
 ghost use Rattle.rkyv_keys.specs.OfEntries.{
@@ -115,7 +115,7 @@ impl<A, B, K: MatchesNative<A>, V: MatchesNative<B>> MatchesNative<(A, B)> for E
     fn eq_native(view: View<'_, Entry<K, V>>, value: &(A, B)) -> bool
         requires { IsView (entry_shape K.shape V.shape) view }
         ensures { IsTrue result
-            ↔ Here (entry_equals K.shape V.shape K.equals V.equals) view.entry value.now }
+            ↔ StandsAt (entry_equals K.shape V.shape K.equals V.equals) view.entry value.now }
     {
         K::eq_native(view.key(), &value.0) && V::eq_native(view.value(), &value.1)
     }
@@ -131,8 +131,8 @@ impl<A: Drop, B, K: Deserialize<A>, V: Deserialize<B>> Deserialize<(A, B)> for E
     fn deserialize(alloc: Global, view: View<'_, Entry<K, V>>) -> Result<(A, B), ReadError>
         requires { IsView (entry_shape K.shape V.shape) view }
         ensures { MatchResult result
-            (Here (PairStands K.shape V.shape K.stands V.stands) view.entry)
-            (Here (entry_refuses K.shape V.shape K.refuses V.refuses) view.entry) }
+            (StandsAt (PairStands K.shape V.shape K.stands V.stands) view.entry)
+            (StandsAt (entry_refuses K.shape V.shape K.refuses V.refuses) view.entry) }
     {
         let key = K::deserialize(alloc, view.key())?;
         let value = V::deserialize(alloc, view.value())?;

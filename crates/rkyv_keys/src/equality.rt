@@ -1,8 +1,8 @@
 //! Equality of values that stand in archives.
 
 ghost use Rattle.std.specs.Prelude.{◌≡◌, ℕ, Bool, List, IsTrue, ◌↔◌};
-ghost use Rattle.rkyv_base.specs.View.{IsView};
-ghost use Rattle.rkyv_keys.specs.Places.{at_views, Here};
+ghost use Rattle.rkyv_base.specs.View.{IsView, StandsAt};
+ghost use Rattle.rkyv_keys.specs.Places.{at_views};
 ghost use Rattle.rkyv_keys.specs.Equality.{Comparison, EqualsWhatStands, IsEquivalence};
 
 use rkyv_base::element::{Element, StandsFor};
@@ -33,7 +33,7 @@ pub trait MatchesNative<V>: StandsFor<V> {
     /// Whether the value equals the other.
     fn eq_native(view: View<'_, Self>, value: &V) -> bool
         requires { IsView Self.shape view }
-        ensures { IsTrue result ↔ Here equals view.entry value.now };
+        ensures { IsTrue result ↔ StandsAt equals view.entry value.now };
 
     ghost written: { EqualsWhatStands Self.shape Self.stands equals };
 }

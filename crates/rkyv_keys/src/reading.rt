@@ -1,8 +1,7 @@
 //! Reading values back.
 
 ghost use Rattle.std.specs.Prelude.{MatchResult};
-ghost use Rattle.rkyv_base.specs.View.{IsView};
-ghost use Rattle.rkyv_keys.specs.Places.{Here};
+ghost use Rattle.rkyv_base.specs.View.{IsView, StandsAt};
 ghost use Rattle.rkyv_keys.specs.Reading.{Refusals};
 
 use rkyv_base::element::StandsFor;
@@ -23,6 +22,6 @@ pub trait Deserialize<V>: StandsFor<V> {
     fn deserialize(alloc: Global, view: View<'_, Self>) -> Result<V, ReadError>
         requires { IsView Self.shape view }
         ensures { MatchResult result
-            (Here Self.stands view.entry)
-            (Here refuses view.entry) };
+            (StandsAt Self.stands view.entry)
+            (StandsAt refuses view.entry) };
 }

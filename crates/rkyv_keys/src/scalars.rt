@@ -5,8 +5,8 @@ ghost use Rattle.std.specs.Cmp.{booleans_Decides, signed_Decides, unsigned_Decid
 ghost use Rattle.rkyv_scan.specs.Hash.{HasherCall, I8, I16, I32, I64, U8, U16, U32, U64};
 ghost use Rattle.rkyv_scan.specs.Laws.{IsFixed};
 ghost use Rattle.rkyv_base.specs.Scalar.{ScalarStands, scalar_shape};
-ghost use Rattle.rkyv_base.specs.View.{IsView};
-ghost use Rattle.rkyv_keys.specs.Places.{at_view, at_views, Here};
+ghost use Rattle.rkyv_base.specs.View.{IsView, StandsAt};
+ghost use Rattle.rkyv_keys.specs.Places.{at_view, at_views};
 ghost use Rattle.rkyv_keys.specs.Calls.{after_calls, bool_call};
 ghost use Rattle.rkyv_keys.specs.Equality.{TellsApart};
 ghost use Rattle.rkyv_keys.specs.Reading.{nothing_fails};
@@ -248,7 +248,7 @@ impl<N: ScalarKey> MatchesNative<N> for N {
     #[inline]
     fn eq_native(view: View<'_, N>, value: &N) -> bool
         requires { IsView (scalar_shape N.encoding) view }
-        ensures { IsTrue result ↔ Here (ScalarStands N.encoding) view.entry value.now }
+        ensures { IsTrue result ↔ StandsAt (ScalarStands N.encoding) view.entry value.now }
     {
         view.to_native() == *value
     }
@@ -263,8 +263,8 @@ impl<N: ScalarKey> Deserialize<N> for N {
     fn deserialize(_alloc: Global, view: View<'_, N>) -> Result<N, ReadError>
         requires { IsView (scalar_shape N.encoding) view }
         ensures { MatchResult result
-            (Here (ScalarStands N.encoding) view.entry)
-            (Here nothing_fails view.entry) }
+            (StandsAt (ScalarStands N.encoding) view.entry)
+            (StandsAt nothing_fails view.entry) }
     {
         Ok(view.to_native())
     }

@@ -2,8 +2,8 @@
 
 ghost use Rattle.std.specs.Prelude.{◌≡◌, string_bytes, IsTrue, ◌↔◌, MatchResult};
 ghost use Rattle.rkyv_base.specs.Text.{text_shape};
-ghost use Rattle.rkyv_base.specs.View.{IsView};
-ghost use Rattle.rkyv_keys.specs.Places.{Here, at_view, at_views};
+ghost use Rattle.rkyv_base.specs.View.{IsView, StandsAt};
+ghost use Rattle.rkyv_keys.specs.Places.{at_view, at_views};
 ghost use Rattle.rkyv_keys.specs.Calls.{after_calls, text_calls};
 ghost use Rattle.rkyv_keys.specs.Reading.{memory_fails};
 ghost use Rattle.rkyv_keys.specs.OfTexts.{
@@ -128,7 +128,7 @@ impl<W: Width> MatchesNative<&str> for Text<W> {
     #[inline]
     fn eq_native(view: View<'_, Text<W>>, value: &&str) -> bool
         requires { IsView (text_shape W.word) view }
-        ensures { IsTrue result ↔ Here (IsTextOf W.word (λ t. t.now)) view.entry value.now }
+        ensures { IsTrue result ↔ StandsAt (IsTextOf W.word (λ t. t.now)) view.entry value.now }
     {
         view.as_str() == *value
     }
@@ -143,7 +143,7 @@ impl<W: Width> MatchesNative<String> for Text<W> {
     fn eq_native(view: View<'_, Text<W>>, value: &String) -> bool
         requires { IsView (text_shape W.word) view }
         ensures { IsTrue result
-            ↔ Here (IsTextOf W.word (λ t. string_bytes t)) view.entry value.now }
+            ↔ StandsAt (IsTextOf W.word (λ t. string_bytes t)) view.entry value.now }
     {
         view.as_str() == value.as_str()
     }
@@ -158,8 +158,8 @@ impl<W: Width> Deserialize<String> for Text<W> {
     fn deserialize(alloc: Global, view: View<'_, Text<W>>) -> Result<String, ReadError>
         requires { IsView (text_shape W.word) view }
         ensures { MatchResult result
-            (Here (IsTextOf W.word (λ t. string_bytes t)) view.entry)
-            (Here memory_fails view.entry) }
+            (StandsAt (IsTextOf W.word (λ t. string_bytes t)) view.entry)
+            (StandsAt memory_fails view.entry) }
     {
         match String::from_str(alloc, view.as_str()) {
             Ok(text) => Ok(text),

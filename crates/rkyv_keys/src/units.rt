@@ -2,8 +2,7 @@
 
 ghost use Rattle.std.specs.Prelude.{◌≡◌, true, IsTrue, ◌↔◌, MatchResult};
 ghost use Rattle.rkyv_base.specs.Empty.{unit_shape, unit_stands};
-ghost use Rattle.rkyv_base.specs.View.{IsView};
-ghost use Rattle.rkyv_keys.specs.Places.{Here};
+ghost use Rattle.rkyv_base.specs.View.{IsView, StandsAt};
 ghost use Rattle.rkyv_keys.specs.Calls.{after_calls};
 ghost use Rattle.rkyv_keys.specs.Reading.{nothing_fails};
 ghost use Rattle.rkyv_keys.specs.OfUnits.{
@@ -106,8 +105,8 @@ impl Deserialize<()> for () {
     fn deserialize(_alloc: Global, _view: View<'_, ()>) -> Result<(), ReadError>
         requires { IsView unit_shape _view }
         ensures { MatchResult result
-            (Here unit_stands _view.entry)
-            (Here nothing_fails _view.entry) }
+            (StandsAt unit_stands _view.entry)
+            (StandsAt nothing_fails _view.entry) }
     {
         Ok(())
     }

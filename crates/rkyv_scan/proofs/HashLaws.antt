@@ -5,7 +5,7 @@ use Rattle.std.specs.Int.{Width, from_le_bytes}
 use Rattle.std.proofs.lemmas.List.{get_or_append_left}
 use Rattle.std.proofs.Math.Seq.{drop-append-add}
 use Rattle.std.proofs.lemmas.List.Sums.{fold-append}
-use Rattle.rkyv_scan.specs.Hash.{HasherCall, Bytes, U8, U16, U32, U64, U128, Usize, I8, I16, I32, I64, I128, Isize, hash_word, hash_words, byte_words, whole_words, rest_words, number_at, SizeWords, call_words, fx_feed}
+use Rattle.rkyv_scan.specs.Hash.{HasherCall, Bytes, U8, U16, U32, U64, U128, Usize, I8, I16, I32, I64, I128, Isize, hash_word, hash_words, byte_words, whole_words, rest_words, number_from, SizeWords, call_words, fx_feed}
 use Rattle.rkyv_scan.specs.Laws.{WritesJoin, EightBytesAreOneWord, IsFixed, FixedCallsAgree, FixedCallsHashAlike, CallsHashTheirWords}
 
 pub fixed_agree : FixedCallsAgree
@@ -65,11 +65,11 @@ from_eight xs ys h =
     + h 5 (omega arith) i * 1099511627776 + h 6 (omega arith) i * 281474976710656 + h 7 (omega arith) i * 72057594037927936)
 
 -- a word of the first list, and of the second
-number_left : (a b : List ℕ) (i : ℕ) → i + 8 ≤ length a → number_at w64 (a ++ b) i ≡ number_at w64 a i
+number_left : (a b : List ℕ) (i : ℕ) → i + 8 ≤ length a → number_from w64 (a ++ b) i ≡ number_from w64 a i
 number_left a b i l =
     from_eight (drop i (a ++ b)) (drop i a) (λ j p. get_or-drop i (a ++ b) j 0 ∙ get_or_append_left a b 0 (i + j) (omega arith) ∙ sym (get_or-drop i a j 0))
 
-number_right : (w : Width) (a b : List ℕ) (i j : ℕ) → i ≡ length a + j → number_at w (a ++ b) i ≡ number_at w b j
+number_right : (w : Width) (a b : List ℕ) (i j : ℕ) → i ≡ length a + j → number_from w (a ++ b) i ≡ number_from w b j
 number_right w a b i j e = ap (from_le_bytes w) (ap (λ x. drop x (a ++ b)) e ∙ drop-append-add a b j)
 
 map_range : (f g : ℕ → ℕ) (a c n : ℕ) → ((j : ℕ) → j < n → f (a + j) ≡ g (c + j)) → map f (range_with_len a n) ≡ map g (range_with_len c n)
@@ -87,10 +87,10 @@ map_split f a (suc m) n =
 
 whole_join : (a b : List ℕ) (m n : ℕ) → length a ≡ 8 * m → whole_words (a ++ b) (m + n) ≡ whole_words a m ++ whole_words b n
 whole_join a b m n long =
-    let f = λ (k : ℕ). number_at w64 (a ++ b) (8 * k) in
+    let f = λ (k : ℕ). number_from w64 (a ++ b) (8 * k) in
     map_split f 0 m n
-    ∙ (λ i. map_range f (λ k. number_at w64 a (8 * k)) 0 0 m (λ j l. number_left a b (8 * (0 + j)) (omega arith)) i
-    ++ map_range f (λ k. number_at w64 b (8 * k)) (0 + m) 0 n (λ j l. number_right w64 a b (8 * (0 + m + j)) (8 * (0 + j)) (omega arith)) i)
+    ∙ (λ i. map_range f (λ k. number_from w64 a (8 * k)) 0 0 m (λ j l. number_left a b (8 * (0 + j)) (omega arith)) i
+    ++ map_range f (λ k. number_from w64 b (8 * k)) (0 + m) 0 n (λ j l. number_right w64 a b (8 * (0 + m + j)) (8 * (0 + j)) (omega arith)) i)
 
 rest_join : (a b : List ℕ) → length a % 8 ≡ 0 → rest_words (a ++ b) ≡ rest_words b
 unfolding rest_words

@@ -15,30 +15,30 @@ abbrev pub hash_of_calls : {State : Type 0} → State → (State → HasherCall 
 hash_of_calls initial feed finish calls = finish (fold feed initial calls)
 
 -- the little endian number of the first bytes from i on, as many as the width has
-abbrev pub number_at : Width → List ℕ → ℕ → ℕ
-number_at w bytes i = from_le_bytes w (drop i bytes)
+abbrev pub number_from : Width → List ℕ → ℕ → ℕ
+number_from w bytes i = from_le_bytes w (drop i bytes)
 
 -- n whole words of eight bytes, from the start
 abbrev pub whole_words : List ℕ → ℕ → List ℕ
-whole_words bytes n = map (λ k. number_at w64 bytes (8 * k)) (range_with_len 0 n)
+whole_words bytes n = map (λ k. number_from w64 bytes (8 * k)) (range_with_len 0 n)
 
 -- of the up to seven bytes past the last whole word: the first four, where there are as many
 abbrev pub four_bytes : List ℕ → List ℕ
 four_bytes bytes =
     let n = length bytes in
-    if n / 4 % 2 == 1 then number_at w32 bytes (n / 8 * 8) ∷ [] else []
+    if n / 4 % 2 == 1 then number_from w32 bytes (n / 8 * 8) ∷ [] else []
 
 -- the next two
 abbrev pub two_bytes : List ℕ → List ℕ
 two_bytes bytes =
     let n = length bytes in
-    if n / 2 % 2 == 1 then number_at w16 bytes (n / 4 * 4) ∷ [] else []
+    if n / 2 % 2 == 1 then number_from w16 bytes (n / 4 * 4) ∷ [] else []
 
 -- and the last one
 abbrev pub last_byte : List ℕ → List ℕ
 last_byte bytes =
     let n = length bytes in
-    if n % 2 == 1 then number_at w8 bytes (n / 2 * 2) ∷ [] else []
+    if n % 2 == 1 then number_from w8 bytes (n / 2 * 2) ∷ [] else []
 
 -- the words past the last whole one
 unfoldable pub rest_words : List ℕ → List ℕ

@@ -5,7 +5,7 @@
 //! rest on it.
 ghost use Rattle.std.specs.Prelude.{◌≡◌, ℕ, ◌+◌, ◌≤◌, ◌%◌, ◌^◌, length, List};
 ghost use Rattle.std.specs.Int.{w8, w16, w32, w64};
-ghost use Rattle.rkyv_scan.specs.Hash.{HasherCall, Bytes, U8, U16, U32, U64, U128, Usize, I8, I16, I32, I64, I128, Isize, SizeWords, low_halves, all_bits, number_at, four_bytes, two_bytes, last_byte, byte_words, rest_words, hash_word, hash_words, fx_feed};
+ghost use Rattle.rkyv_scan.specs.Hash.{HasherCall, Bytes, U8, U16, U32, U64, U128, Usize, I8, I16, I32, I64, I128, Isize, SizeWords, low_halves, all_bits, number_from, four_bytes, two_bytes, last_byte, byte_words, rest_words, hash_word, hash_words, fx_feed};
 
 use std::marker::{Model, PhantomData};
 use std::simd::prelude::*;
@@ -152,7 +152,7 @@ fn hash_word(held: u64, word: u64) -> u64
 #[inline]
 fn read_u64(bytes: &[u8], at: usize) -> u64
     requires { at + 8 ≤ length bytes.now }
-    ensures { result ≡ number_at w64 bytes.now at }
+    ensures { result ≡ number_from w64 bytes.now at }
 {
     u64::from_le_bytes(u8x8::from_slice(&bytes[at..]).to_array())
 }
@@ -160,7 +160,7 @@ fn read_u64(bytes: &[u8], at: usize) -> u64
 #[inline]
 fn read_u32(bytes: &[u8], at: usize) -> u32
     requires { at + 4 ≤ length bytes.now }
-    ensures { result ≡ number_at w32 bytes.now at }
+    ensures { result ≡ number_from w32 bytes.now at }
 {
     u32::from_le_bytes(u8x4::from_slice(&bytes[at..]).to_array())
 }
@@ -168,7 +168,7 @@ fn read_u32(bytes: &[u8], at: usize) -> u32
 #[inline]
 fn read_u16(bytes: &[u8], at: usize) -> u16
     requires { at + 2 ≤ length bytes.now }
-    ensures { result ≡ number_at w16 bytes.now at }
+    ensures { result ≡ number_from w16 bytes.now at }
 {
     u16::from_le_bytes(u8x2::from_slice(&bytes[at..]).to_array())
 }

@@ -8,3 +8,6 @@ pub mod Seen
 pub mod Walking
 pub mod Repeating
 pub mod Laws
+pub mod Header
+pub mod Places
+pub mod Table

@@ -2,5 +2,6 @@
 #![tactic(auto)]
 
 pub mod controls;
+pub mod table;
 #[cfg(test)]
 mod tests;

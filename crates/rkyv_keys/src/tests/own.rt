@@ -2,9 +2,9 @@
 ghost use Rattle.std.specs.Prelude.{◌≡◌, MatchResult};
 ghost use Rattle.std.specs.Int.{w32};
 ghost use Rattle.rkyv_base.specs.Bytes.{number_at};
-ghost use Rattle.rkyv_base.specs.View.{IsView};
+ghost use Rattle.rkyv_base.specs.View.{IsView, StandsAt};
 ghost use Rattle.rkyv_keys.specs.Calls.{after_calls};
-ghost use Rattle.rkyv_keys.specs.Places.{Here, at_view, at_views};
+ghost use Rattle.rkyv_keys.specs.Places.{at_view, at_views};
 ghost use Rattle.rkyv_keys.specs.LowByte.{
   byte_call,
   low_calls,
@@ -125,8 +125,8 @@ impl Deserialize<u32> for LowByte {
     fn deserialize(_alloc: Global, view: View<'_, LowByte>) -> Result<u32, ReadError>
         requires { IsView low_shape view }
         ensures { MatchResult result
-            (Here low_stands view.entry)
-            (Here low_refuses view.entry) }
+            (StandsAt low_stands view.entry)
+            (StandsAt low_refuses view.entry) }
     {
         let value = number(view);
         if value % 256 == 0 {

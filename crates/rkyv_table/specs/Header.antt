@@ -1,0 +1,30 @@
+-- The header of a table: a distance, the length and the capacity, each of one word.
+use Rattle.std.specs.Prelude.{◌≡◌, ℕ, ◌+◌, ◌*◌, ◌<◌, ◌⊎◌, ℤ, pos, ◌+ℤ◌, ◌-ℤ◌, FitsSigned, List, ◌++◌}
+use Rattle.std.specs.Int.{Width, byte_len, to_le_bytes, cast_unsigned}
+use Rattle.rkyv_base.specs.Bytes.{number_at, signed_at}
+
+-- what the header at p tells: how many items there are, and how many buckets
+abbrev pub len_at : Width → List ℕ → ℕ → ℕ
+len_at w b p = number_at w b (p + byte_len w)
+
+abbrev pub cap_at : Width → List ℕ → ℕ → ℕ
+cap_at w b p = number_at w b (p + 2 * byte_len w)
+
+-- where it tells that the buckets begin, of items of this size
+abbrev pub begin_told : Width → ℕ → List ℕ → ℕ → ℤ
+begin_told w size b p = (pos p +ℤ signed_at w b p) -ℤ pos (cap_at w b p * size)
+
+-- the bytes of a header
+abbrev pub header_bytes : Width → ℤ → ℕ → ℕ → List ℕ
+header_bytes w distance len cap = to_le_bytes w (cast_unsigned w distance) ++ (to_le_bytes w len ++ to_le_bytes w cap)
+
+-- out is the header that stands at p, of a table whose first control stands at z; the distance of an empty table is 1
+pub record IsHeader (w : Width) (len cap z p : ℕ) (out : List ℕ) : Type 0 where
+  pub distance : ℤ
+  pub fits : FitsSigned w distance
+  pub told : ((len ≡ 0) × (distance ≡ pos 1)) ⊎ ((0 < len) × (distance ≡ pos z -ℤ pos p))
+  pub is : out ≡ header_bytes w distance len cap
+
+-- the distance from a header at p to the first control of a table with items doesn't fit
+abbrev pub HeaderFar : Width → ℕ → ℕ → ℕ → Type 0
+HeaderFar w len z p = (0 < len) × (FitsSigned w (pos z -ℤ pos p) → ⊥)
