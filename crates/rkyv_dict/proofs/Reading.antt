@@ -5,7 +5,7 @@ use Rattle.std.specs.List.{flat_map}
 use Rattle.std.proofs.lemmas.Nat.{from_le_bytes-to_le_bytes_4}
 use Rattle.std.proofs.lemmas.List.{drop-drop, get_or-reverse, length-reverse}
 use Rattle.std.proofs.Math.Seq.{drop-append-add}
-use Rattle.rkyv_scan.specs.Hash.{number_at}
+use Rattle.rkyv_scan.specs.Hash.{number_from}
 use Rattle.rkyv_dict.specs.Buckets.{IsPair, bucket_bytes, descending_bytes, pair_read}
 
 length_bucket : (x : Option (ℕ × ℕ)) → length (bucket_bytes x) ≡ 8
@@ -35,7 +35,7 @@ drop_buckets (x ∷ xs) tail (suc k) l =
 number_first : (n : ℕ) (rest : List ℕ) → n < 2 ^ 32 → from_le_bytes w32 (to_le_bytes w32 n ++ rest) ≡ n
 number_first n rest l = from_le_bytes-to_le_bytes_4 n l
 
-number_second : (m n : ℕ) (rest : List ℕ) → n < 2 ^ 32 → number_at w32 (to_le_bytes w32 m ++ (to_le_bytes w32 n ++ rest)) 4 ≡ n
+number_second : (m n : ℕ) (rest : List ℕ) → n < 2 ^ 32 → number_from w32 (to_le_bytes w32 m ++ (to_le_bytes w32 n ++ rest)) 4 ≡ n
 number_second m n rest l = from_le_bytes-to_le_bytes_4 n l
 
 -- the pair that stands in a bucket is read there
@@ -54,9 +54,9 @@ pair_there buckets tail b p l e fits =
     ∙ ap (λ l. flat_map bucket_bytes l ++ tail) (drop-cons down k None (omega arith))
     ∙ ap (λ x. (bucket_bytes x ++ more) ++ tail) here
     ∙ simp append_assoc in
-    let first : number_at w32 (descending_bytes buckets ++ tail) (8 * k) ≡ p.0 =
+    let first : number_from w32 (descending_bytes buckets ++ tail) (8 * k) ≡ p.0 =
     ap (from_le_bytes w32) cut ∙ number_first p.0 (to_le_bytes w32 p.1 ++ (more ++ tail)) fits.0 in
-    let second : number_at w32 (descending_bytes buckets ++ tail) (8 * k + 4) ≡ p.1 =
+    let second : number_from w32 (descending_bytes buckets ++ tail) (8 * k + 4) ≡ p.1 =
     ap (λ l. from_le_bytes w32 l) (sym (drop-drop 4 (8 * k) (descending_bytes buckets ++ tail)) ∙ ap (drop 4) cut)
     ∙ number_second p.0 p.1 (more ++ tail) fits.1 in
     (λ i. (first i, second i))

@@ -3,7 +3,7 @@ use Rattle.std.specs.Prelude.{◌≢◌, Bool, ℕ, ◌+◌, ◌*◌, ◌-◌, �
 use Rattle.std.specs.List.{flat_map, range_with_len, zip}
 use Rattle.std.specs.Option.{option_map}
 use Rattle.std.specs.Int.{w32, to_le_bytes}
-use Rattle.rkyv_scan.specs.Hash.{number_at}
+use Rattle.rkyv_scan.specs.Hash.{number_from}
 
 -- the pair that stands in a bucket: that of the item whose home it is
 abbrev pub held_at : List ℕ → List (ℕ × ℕ) → ℕ → Option (ℕ × ℕ)
@@ -28,7 +28,7 @@ bucket_begin count bucket = 8 * (count - (bucket + 1))
 
 -- the pair that the bytes of a bucket say, of so many
 abbrev pub pair_read : List ℕ → ℕ → ℕ → ℕ × ℕ
-pair_read bytes count bucket = (number_at w32 bytes (bucket_begin count bucket), number_at w32 bytes (bucket_begin count bucket + 4))
+pair_read bytes count bucket = (number_from w32 bytes (bucket_begin count bucket), number_from w32 bytes (bucket_begin count bucket + 4))
 
 -- the bytes of a bucket, of so many, say this key
 abbrev pub holds_key : List ℕ → ℕ → ℕ → ℕ → Bool

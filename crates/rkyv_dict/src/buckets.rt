@@ -1,6 +1,6 @@
 //! The buckets of an archived map as bytes.
 ghost use Rattle.rkyv_dict.specs.Buckets.{IsPair, IsPlacing, bucket_begin, bucket_bytes, buckets_with, descending_bytes, pair_read};
-ghost use Rattle.rkyv_scan.specs.Hash.{number_at};
+ghost use Rattle.rkyv_scan.specs.Hash.{number_from};
 ghost use Rattle.std.specs.Int.{w32};
 ghost use Rattle.std.specs.List.{All};
 ghost use Rattle.std.specs.Prelude.{◌≡◌, ◌<◌, ◌≤◌, ◌+◌, ◌*◌, ◌++◌, None, OnOk, length, replicate, slice_set};
@@ -55,7 +55,7 @@ pub fn push_buckets(bytes: &mut Vec<u8>, buckets: &[Option<(u32, u32)>]) -> Resu
 /// The little endian number at a place.
 fn number(bytes: &[u8], at: usize) -> u32
     requires { at + 4 ≤ length bytes.now }
-    ensures { result ≡ number_at w32 bytes.now at }
+    ensures { result ≡ number_from w32 bytes.now at }
 {
     u32::from_le_bytes(*bytes[at..].first_chunk::<4>().unwrap())
 }
