@@ -203,7 +203,7 @@ impl<'a, T, W: Width> ArchivedHashTable<'a, T, W> {
         serializer: &mut S,
     ) -> Result<HashTableResolver<W>, WriteError<S::Fault>>
         requires { I.can_next items × J.can_next hashes }
-        ensures { let f = table_format W.word ⟦<T as Element>⟧.shape (written_as X.lent U.format) load_factor in let gave = GaveBoth I.next_gives J.next_gives items hashes in
+        ensures { let f = table_format W.word T.shape (written_as X.lent U.format) load_factor in let gave = GaveBoth I.next_gives J.next_gives items hashes in
             let o = S.output serializer.old in let o' = S.output serializer.new in MatchResult result
             (WroteTable gave len load_factor W.MAX_CAPACITY f o o')
             (NoTable gave len load_factor W.MAX_CAPACITY f o o' (Uneven I.next_gives J.next_gives len items hashes) W.LIMIT) }
@@ -236,7 +236,7 @@ impl<'a, T, W: Width> ArchivedHashTable<'a, T, W> {
         serializer: &mut S,
     ) -> Result<HashTableResolver<W>, WriteError<S::Fault>>
         requires { I.can_next pairs }
-        ensures { let f = table_format W.word ⟦<T as Element>⟧.shape (written_as X.lent U.format) load_factor in let gave = Drains I.next_gives pairs in
+        ensures { let f = table_format W.word T.shape (written_as X.lent U.format) load_factor in let gave = Drains I.next_gives pairs in
             let o = S.output serializer.old in let o' = S.output serializer.new in MatchResult result
             (WroteTable gave len load_factor W.MAX_CAPACITY f o o')
             (NoTable gave len load_factor W.MAX_CAPACITY f o o' (GaveOther I.next_gives len pairs) W.LIMIT) }
