@@ -13,3 +13,7 @@ pub mod WrittenStep
 pub mod Walks
 pub mod WrittenAccepted
 pub mod HomeList
+pub mod Taking
+pub mod PartSteps
+pub mod BucketSteps
+pub mod TableSteps
