@@ -17,3 +17,4 @@ pub mod Taking
 pub mod PartSteps
 pub mod BucketSteps
 pub mod TableSteps
+pub mod Given
