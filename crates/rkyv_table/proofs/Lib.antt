@@ -16,3 +16,8 @@ pub mod HomeList
 pub mod Headers
 pub mod Items
 pub mod FirstFound
+pub mod Taking
+pub mod PartSteps
+pub mod BucketSteps
+pub mod TableSteps
+pub mod Given

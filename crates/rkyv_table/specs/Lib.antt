@@ -14,3 +14,9 @@ pub mod Table
 pub mod PlaceLaws
 pub mod TableLaws
 pub mod Reading
+pub mod Slots
+pub mod Taking
+pub mod Counting
+pub mod TableFormat
+pub mod Serializing
+pub mod Buckets

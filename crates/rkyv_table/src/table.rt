@@ -6,6 +6,13 @@ pub(crate) mod items;
 mod lookup;
 mod reading;
 mod verify;
+pub mod buckets;
+pub mod bytes;
+pub mod hands_in;
+pub mod parts;
+pub mod resolve;
+pub mod serialize;
+pub mod take;
 
 use rkyv_base::view::View;
 use rkyv_base::width::Narrow;
