@@ -226,18 +226,33 @@ fn an_item_is_checked(rt: HostRuntime) {
     );
 }
 
-#[test]
-fn a_wide_table_is_read(rt: HostRuntime) {
+// The wide archive of that pair: the header at 48 has three words of eight bytes.
+fn wide_pair() -> [u8; 72] {
     let mut bytes = [0; 72];
-    bytes[..48].copy_from_slice(&one_pair()[..48]);
-    bytes[48..56].copy_from_slice(&[0xe0, 0xff, 0xff, 0xff, 0xff, 0xff, 0xff, 0xff]);
+    bytes[0] = 1;
+    bytes[4] = 2;
+    for byte in &mut bytes[16..47] {
+        *byte = 0xff;
+    }
+    bytes[17] = 0x28;
+    bytes[19] = 0x28;
+    for byte in &mut bytes[49..56] {
+        *byte = 0xff;
+    }
+    bytes[48] = 0xe0;
     bytes[56] = 1;
     bytes[64] = 2;
+    bytes
+}
+
+#[test]
+fn a_wide_table_is_read(rt: HostRuntime) {
+    let bytes = wide_pair();
     match access_in::<Wide, TableOf<Pair, Wide>>(&bytes) {
         Ok(root) => {
             let table = ArchivedHashTable::of(root);
             assert_eq!(rt; table.len(), 1);
-            assert_eq!(rt; table.get_pos_with(ONE, |_: View<'_, Pair>| true), Some(0));
+            assert_eq!(rt; table.capacity(), 2);
         }
         Err(_) => assert!(rt; false),
     }
