@@ -21,3 +21,5 @@ pub mod PartSteps
 pub mod BucketSteps
 pub mod TableSteps
 pub mod Given
+pub mod RawWalks
+pub mod WalkedHomes

@@ -20,3 +20,5 @@ pub mod Counting
 pub mod TableFormat
 pub mod Serializing
 pub mod Buckets
+pub mod RawItems
+pub mod WalkLaws
