@@ -11,9 +11,14 @@ pub mod Laws
 pub mod Header
 pub mod Places
 pub mod Table
+pub mod Lending
 pub mod Slots
 pub mod Taking
 pub mod Counting
 pub mod TableFormat
 pub mod Serializing
 pub mod Buckets
+pub mod SlotWalk
+pub mod SlotSound
+pub mod HeaderReads
+pub mod TableSound
