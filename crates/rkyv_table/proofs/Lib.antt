@@ -18,3 +18,4 @@ pub mod PartSteps
 pub mod BucketSteps
 pub mod TableSteps
 pub mod Given
+pub mod TableNear
