@@ -7,7 +7,7 @@ use Rattle.std.proofs.lemmas.List.Elements.{All-get_or}
 use Rattle.std.proofs.lemmas.Option.{slice_get_within}
 use Rattle.std.specs.Int.{Width, byte_len, cast_signed, from_le_bytes}
 use Rattle.std.specs.List.{list_any}
-use Rattle.std.specs.Prelude.{◌≡◌, ℕ, ◌+◌, ◌-◌, ◌*◌, ◌^◌, ◌<◌, ◌≤◌, ⊤, ℤ, pos, ◌+ℤ◌, ◌-ℤ◌, List, [], ◌∷◌, eqb, true, length, slice_get, slice_index, slice_range, Some}
+use Rattle.std.specs.Prelude.{◌≡◌, ℕ, ◌+◌, ◌-◌, ◌*◌, ◌^◌, ◌<◌, ◌≤◌, pos, ◌+ℤ◌, ◌-ℤ◌, List, [], ◌∷◌, eqb, true, length, slice_get, slice_index, Some}
 use Rattle.rkyv_base.specs.Bytes.{Same, number_at, same_part, signed_at}
 use Rattle.rkyv_base.specs.Format.{StandsNear}
 use Rattle.rkyv_base.specs.Shape.{IsElement, Shape}
@@ -18,7 +18,7 @@ use Rattle.rkyv_table.specs.Header.{begin_told, cap_at, len_at}
 use Rattle.rkyv_table.specs.Numbers.{capacity, control_count}
 use Rattle.rkyv_table.specs.Placing.{Written, walk}
 use Rattle.rkyv_table.specs.Places.{AllHold}
-use Rattle.rkyv_table.specs.Table.{ItemsHold, TableAt, TableHolds, bucket_at, controls_at, part_size, table_shape}
+use Rattle.rkyv_table.specs.Table.{ItemsHold, bucket_at, controls_at, part_size, table_shape}
 use Rattle.rkyv_table.specs.TableFormat.{BucketsStand, TableStands}
 use Rattle.rkyv_table.specs.Taking.{hashes_of, items_of}
 
