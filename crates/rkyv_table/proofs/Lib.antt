@@ -23,3 +23,4 @@ pub mod TableSteps
 pub mod Given
 pub mod RawWalks
 pub mod WalkedHomes
+pub mod TableNear

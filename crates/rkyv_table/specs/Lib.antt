@@ -14,6 +14,7 @@ pub mod Table
 pub mod PlaceLaws
 pub mod TableLaws
 pub mod Reading
+pub mod Lending
 pub mod Slots
 pub mod Taking
 pub mod Counting
@@ -22,3 +23,7 @@ pub mod Serializing
 pub mod Buckets
 pub mod RawItems
 pub mod WalkLaws
+pub mod SlotWalk
+pub mod SlotSound
+pub mod HeaderReads
+pub mod TableSound

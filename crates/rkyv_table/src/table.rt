@@ -15,6 +15,8 @@ pub mod parts;
 pub mod resolve;
 pub mod serialize;
 pub mod take;
+pub mod take_two;
+pub mod written;
 
 use rkyv_base::view::View;
 use rkyv_base::width::Narrow;

@@ -1,4 +1,7 @@
 //! Worked rows, with each kind of group.
+
+mod writing;
+
 ghost use Rattle.std.specs.Prelude.{IfSome, length, ◌<◌, ◌^◌};
 ghost use Rattle.rkyv_table.specs.Controls.{IsFullBucket};
 ghost use Rattle.rkyv_table.specs.Placing.{Accepted};
