@@ -13,3 +13,5 @@ pub mod WrittenStep
 pub mod Walks
 pub mod WrittenAccepted
 pub mod HomeList
+pub mod SealedTable
+pub mod Items

@@ -1,5 +1,8 @@
 //! Tables of items.
 
+pub mod misplaced;
+pub mod sealed;
+
 use rkyv_base::view::View;
 use rkyv_base::width::Narrow;
 use std::marker::PhantomData;
