@@ -15,3 +15,4 @@ pub mod WrittenAccepted
 pub mod HomeList
 pub mod SealedTable
 pub mod Items
+pub mod Misplaced
