@@ -1,8 +1,5 @@
 //! Tables of items.
 
-pub mod misplaced;
-pub mod sealed;
-
 use rkyv_base::view::View;
 use rkyv_base::width::Narrow;
 use std::marker::PhantomData;
