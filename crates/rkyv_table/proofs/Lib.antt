@@ -13,6 +13,6 @@ pub mod WrittenStep
 pub mod Walks
 pub mod WrittenAccepted
 pub mod HomeList
+pub mod Headers
 pub mod SealedTable
-pub mod Items
 pub mod Misplaced

@@ -11,3 +11,8 @@ pub mod Laws
 pub mod Header
 pub mod Places
 pub mod Table
+pub mod PlaceLaws
+pub mod TableLaws
+pub mod Reading
+pub mod SealedTable
+pub mod Misplaced

@@ -1,5 +1,14 @@
 //! Tables of items.
 
+mod element;
+mod header;
+pub(crate) mod items;
+mod lookup;
+pub mod misplaced;
+mod reading;
+pub mod sealed;
+mod verify;
+
 use rkyv_base::view::View;
 use rkyv_base::width::Narrow;
 use std::marker::PhantomData;
