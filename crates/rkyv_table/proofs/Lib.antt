@@ -16,3 +16,4 @@ pub mod HomeList
 pub mod Headers
 pub mod SealedTable
 pub mod Misplaced
+pub mod Items

@@ -1,23 +1,26 @@
 -- A write of one item in place keeps the table.
-use Rattle.std.specs.Prelude.{◌≡◌, ◌≢◌, ℕ, suc, ◌+◌, ◌-◌, ◌*◌, ◌<◌, ◌≤◌, ℤ, pos, ◌+ℤ◌, ◌-ℤ◌, List, [], ◌∷◌, slice_index, slice_range, unsigned_abs}
+use Rattle.std.specs.Prelude.{◌≡◌, ◌≢◌, ℕ, suc, ◌+◌, ◌-◌, ◌*◌, ◌<◌, ◌≤◌, ℤ, pos, ◌+ℤ◌, ◌-ℤ◌, List, [], ◌∷◌, Bool, length, slice_index, slice_range, unsigned_abs}
 use Rattle.std.specs.Int.{Width, byte_len, cast_signed, from_le_bytes}
 use Rattle.std.proofs.Common.{arith, refl, subst, sym, ◌∙◌, ap, inl, inr, get_or, ltb}
-use Rattle.std.proofs.lemmas.Bool.{cases_eq, cases_lt, lt-ltb}
+use Rattle.std.proofs.lemmas.Bool.{cases_eq, cases_lt}
+use Rattle.std.proofs.lemmas.Int.{ints}
 use Rattle.std.proofs.Math.Nat.{mul-le-mul_right}
 use Rattle.rkyv_base.specs.Bytes.{Same, number_at, same_part, signed_at}
 use Rattle.rkyv_base.specs.Parts.{PartIn}
-use Rattle.rkyv_base.specs.Sealing.{Keeps, Outside, Sealed}
+use Rattle.rkyv_base.specs.Entry.{entry_element, entry_shape, parts_inside, size_of_small, whole_size}
+use Rattle.rkyv_base.specs.Sealing.{Keeps, Outside, Sealed, value_place}
 use Rattle.rkyv_base.specs.Shape.{IsElement, Shape, Viewed}
-use Rattle.rkyv_base.proofs.Sealing.{holds_elsewhere, same_outside}
-use Rattle.rkyv_table.proofs.Items.{controls_is, item_is, one_holds, part_of, place_is}
-use Rattle.rkyv_table.specs.Reading.{IsWalked, controls_place, item_at, table_controls}
+use Rattle.rkyv_base.proofs.Sealing.{entry_kept, holds_elsewhere, same_outside, sealed_wider}
+use Rattle.rkyv_table.proofs.Items.{Part, bucket_holds, controls_are, item_is, item_viewed, part_of, place_is}
+use Rattle.rkyv_table.specs.Reading.{IsWalked, WrittenAt, bucket_found, controls_place, item_at, table_controls}
 use Rattle.rkyv_table.specs.SealedTable.{KeepsTable, SameValue}
-use Rattle.rkyv_scan.specs.Groups.{is_full}
+use Rattle.rkyv_scan.specs.Groups.{Kind, is_full}
+use Rattle.rkyv_table.specs.Finding.{found}
 use Rattle.rkyv_table.specs.Header.{begin_told, cap_at, len_at}
 use Rattle.rkyv_table.specs.Numbers.{control_count}
 use Rattle.rkyv_table.specs.Places.{AllHold}
 use Rattle.rkyv_table.specs.PlaceLaws.{AllBelow, range_below}
-use Rattle.rkyv_table.specs.Placing.{Accepted, walk}
+use Rattle.rkyv_table.specs.Placing.{Accepted, Written, walk}
 use Rattle.rkyv_table.specs.Table.{IsPart, TableAt, TableHolds, bucket_at, controls_at, part_size, table_shape}
 use Rattle.rkyv_table.specs.TableLaws.{bucket_inside, of_numbers}
 
@@ -85,16 +88,14 @@ module _ (w : Width) (b c : List ℕ) (p : ℕ) (same : Same b c p (p + 3 * byte
   pub place_kept : controls_place w c p ≡ controls_place w b p
   place_kept = ap (λ n. unsigned_abs (pos p +ℤ n)) distance_kept
 
--- a walked item holds before the buckets, and leaves a lower end there
-item_holds : (w : Width) (s : Shape) (law : IsElement s) (b : List ℕ) (p begin j l : ℕ) → PartIn (begin_told w s.size b p) (part_size s.size (cap_at w b p)) s.align 0 p begin
-    → IsPart s b (cap_at w b p) (len_at w b p) 0 begin → IsWalked w b p j → s.holds b (bucket_at s.size begin (cap_at w b p) j) 0 (bucket_at s.size begin (cap_at w b p) j) l → l ≤ begin
-unfolding walk
-item_holds w s law b p begin j l part is walked h =
+-- what stands in a walked bucket has its parts before the buckets
+parts_before : (w : Width) (s : Shape) (law : IsElement s) (b : List ℕ) (p : ℕ) (view : Viewed (table_shape w s) b p) (begin j l : ℕ) → Part w s b p begin → IsWalked w b p j
+    → s.holds b (bucket_at s.size begin (cap_at w b p) j) 0 (bucket_at s.size begin (cap_at w b p) j) l → l ≤ begin
+parts_before w s law b p view begin j l t walked h =
     let cap = cap_at w b p in
     let q = bucket_at s.size begin cap j in
-    let full : get_or (controls_at s.size b begin cap) j 0 < 128 = subst (λ xs. get_or xs j 0 < 128) (controls_is w s law b p begin part.begins) walked.1 in
-    let one = one_holds s law (bucket_at s.size begin cap) (λ k. ltb (get_or (controls_at s.size b begin cap) k 0) 128) b begin 0 cap 0 is.last j (omega arith) is.items
-    (omega arith) (omega (arith, walked.0)) (lt-ltb (get_or (controls_at s.size b begin cap) j 0) 128 full) in
+    let full : slice_index (controls_at s.size b begin cap) j < 128 = subst (λ (xs : List ℕ). slice_index xs j < 128) (controls_are w s law b p view begin t) walked.1 in
+    let one = bucket_holds s law b begin cap 0 t.is.last j (omega arith) t.is.items walked.0 full in
     let d : (l' : ℕ) × s.holds b q 0 begin l' × (l' ≤ one.1) = law.lower b q one.0 0 begin one.1 (omega arith) one.2 one.3 in
     let k : (one.0 ≤ one.1) × (one.1 ≤ begin) = law.between b q one.0 begin one.1 one.2 one.3 in
     let e : l ≡ d.0 = law.one b q 0 q l d.0 h (law.higher b q 0 begin q d.0 (omega arith) d.1) in
@@ -102,58 +103,101 @@ item_holds w s law b p begin j l part is walked h =
 
 module _ (w : Width) (s : Shape) (law : IsElement s) (b : List ℕ) (p i : ℕ) (view : Viewed (table_shape w s) b p) (walked : IsWalked w b p i)
     (c : List ℕ) (sealed : Sealed b (item_at w s.size b p i) s.size c) (keeps : Keeps s b c (item_at w s.size b p i)) where
-  module _ (begin lo hi : ℕ) (part : PartIn (begin_told w s.size b p) (part_size s.size (cap_at w b p)) s.align lo hi begin) where
-    at_is : (j : ℕ) → j < cap_at w b p → item_at w s.size b p j ≡ bucket_at s.size begin (cap_at w b p) j
-    at_is j h = item_is w s law b p begin j part.begins h
-
-    sealed_at : Sealed b (bucket_at s.size begin (cap_at w b p) i) s.size c
-    sealed_at = subst (λ q. Sealed b q s.size c) (at_is i walked.0) sealed
-
-    keeps_at : Keeps s b c (bucket_at s.size begin (cap_at w b p) i)
-    keeps_at = subst (Keeps s b c) (at_is i walked.0) keeps
-
-  whole : (begin : ℕ) × PartIn (begin_told w s.size b p) (part_size s.size (cap_at w b p)) s.align 0 p begin × IsPart s b (cap_at w b p) (len_at w b p) 0 begin
+  whole : (begin : ℕ) × Part w s b p begin
   whole = part_of w s law b p view (omega (arith, walked.0))
+
+  at_is : (j : ℕ) → j < cap_at w b p → item_at w s.size b p j ≡ bucket_at s.size whole.0 (cap_at w b p) j
+  at_is j h = item_is w s law b p view whole.0 j whole.1 h
+
+  sealed_at : Sealed b (bucket_at s.size whole.0 (cap_at w b p) i) s.size c
+  sealed_at = subst (λ q. Sealed b q s.size c) (at_is i walked.0) sealed
+
+  keeps_at : Keeps s b c (bucket_at s.size whole.0 (cap_at w b p) i)
+  keeps_at = subst (Keeps s b c) (at_is i walked.0) keeps
 
   header_same : Same b c p (p + 3 * byte_len w)
   header_same =
-      let n = whole in
-      let u = bucket_inside s.size n.0 (cap_at w b p) i walked.0 in
-      same_outside b (bucket_at s.size n.0 (cap_at w b p) i) s.size c (sealed_at n.0 0 p n.1) p (p + 3 * byte_len w) (omega arith) (inr (omega (arith, u.1, n.1.below)))
+      let u = bucket_inside s.size whole.0 (cap_at w b p) i walked.0 in
+      let below = whole.1.part.below in
+      same_outside b (bucket_at s.size whole.0 (cap_at w b p) i) s.size c sealed_at p (p + 3 * byte_len w) (omega arith) (inr (omega (arith, u.1)))
 
   at_kept : (lo hi l : ℕ) → TableAt s b (begin_told w s.size b p) (cap_at w b p) (len_at w b p) lo hi l → TableAt s c (begin_told w s.size b p) (cap_at w b p) (len_at w b p) lo hi l
   at_kept lo hi l (inl h) = inl h
   at_kept lo hi l (inr (n, part, is, e)) =
-      inr (n, part, part_kept s law b c n (cap_at w b p) i walked.0 (sealed_at n lo hi part) (keeps_at n lo hi part) (len_at w b p) lo part.above is, e)
+      let same : whole.0 ≡ n = let x = whole.1.part.begins in let y = part.begins in omega (arith, ints, x, y) in
+      inr (n, part,
+      part_kept s law b c n (cap_at w b p) i walked.0 (subst (λ m. Sealed b (bucket_at s.size m (cap_at w b p) i) s.size c) same sealed_at)
+      (subst (λ m. Keeps s b c (bucket_at s.size m (cap_at w b p) i)) same keeps_at) (len_at w b p) lo part.above is, e)
 
   other_same : (j : ℕ) → IsWalked w b p j → j ≢ i → SameValue s b c (item_at w s.size b p j)
   other_same j there ne =
-      let n = whole in
-      let q = bucket_at s.size n.0 (cap_at w b p) i in
-      let r = bucket_at s.size n.0 (cap_at w b p) j in
-      let z = sealed_at n.0 0 p n.1 in
-      subst (SameValue s b c) (sym (at_is n.0 0 p n.1 j there.0))
+      let q = bucket_at s.size whole.0 (cap_at w b p) i in
+      let r = bucket_at s.size whole.0 (cap_at w b p) j in
+      subst (SameValue s b c) (sym (at_is j there.0))
       record {
-        fixed = same_outside b q s.size c z r (r + s.size) (omega arith) (buckets_apart s.size n.0 (cap_at w b p) i j walked.0 there.0 ne);
+        fixed = same_outside b q s.size c sealed_at r (r + s.size) (omega arith) (buckets_apart s.size whole.0 (cap_at w b p) i j walked.0 there.0 ne);
         parts = λ l h.
-            let low : l ≤ n.0 = item_holds w s law b p n.0 j l n.1 n.2 there h in
-            same_outside b q s.size c z 0 l (omega arith) (inl (omega (arith, low)));
+            let low : l ≤ whole.0 = parts_before w s law b p view whole.0 j l whole.1 there h in
+            same_outside b q s.size c sealed_at 0 l (omega arith) (inl (omega (arith, low)));
       }
 
   pub table_kept : KeepsTable w s b c p i
   table_kept =
-      let n = whole in
       let same = header_same in
-      let told = begin_kept w b c p same s.size in
       let caps = cap_kept w b c p same in
       record {
-        holds = λ lo hi l o o' h. of_numbers s law c (sym told) (sym caps) (sym (len_kept w b c p same)) (at_kept lo hi l h);
+        holds = λ lo hi l o o' h. of_numbers s c (sym (begin_kept w b c p same s.size)) (sym caps) (sym (len_kept w b c p same)) (at_kept lo hi l h);
         header = same;
         controls =
             ap (λ z. slice_range c z (z + control_count (cap_at w c p))) (place_kept w b c p same)
             ∙ ap (λ k. slice_range c (controls_place w b p) (controls_place w b p + control_count k)) caps
-            ∙ ap (λ z. slice_range c z (z + control_count (cap_at w b p))) (place_is w s law b p n.0 n.1.begins)
-            ∙ sym (controls_kept s law b c n.0 (cap_at w b p) i walked.0 (sealed_at n.0 0 p n.1) (keeps_at n.0 0 p n.1))
-            ∙ sym (controls_is w s law b p n.0 n.1.begins);
+            ∙ ap (λ z. slice_range c z (z + control_count (cap_at w b p))) (place_is w s law b p view whole.0 whole.1)
+            ∙ sym (controls_kept s law b c whole.0 (cap_at w b p) i walked.0 sealed_at keeps_at)
+            ∙ sym (controls_are w s law b p view whole.0 whole.1);
         others = other_same;
       }
+
+-- a lookup answers in a kept table what it answered
+module _ (w : Width) (s : Shape) (b c : List ℕ) (p i : ℕ) (kept : KeepsTable w s b c p i) where
+  pub item_stays : (j : ℕ) → item_at w s.size c p j ≡ item_at w s.size b p j
+  item_stays j = ap (λ n. n - (j + 1) * s.size) (place_kept w b c p kept.header)
+
+  pub lookup_kept : (kind : Kind) (hash : ℕ) (accept : ℕ → Bool) → bucket_found kind w s.size c p hash accept ≡ bucket_found kind w s.size b p hash accept
+  lookup_kept kind hash accept =
+      ap (λ x. found kind x (cap_at w c p) (len_at w c p) hash (λ j. accept (item_at w s.size c p j))) kept.controls
+      ∙ ap (λ n. found kind (table_controls w b p) n (len_at w c p) hash (λ j. accept (item_at w s.size c p j))) (cap_kept w b c p kept.header)
+      ∙ ap (λ n. found kind (table_controls w b p) (cap_at w b p) n hash (λ j. accept (item_at w s.size c p j))) (len_kept w b c p kept.header)
+      ∙ ap (λ n. found kind (table_controls w b p) (cap_at w b p) (len_at w b p) hash (λ j. accept (n - (j + 1) * s.size))) (place_kept w b c p kept.header)
+
+  pub written_kept : (hashes homes : List ℕ) → WrittenAt w b p hashes homes → WrittenAt w c p hashes homes
+  written_kept hashes homes x = record {
+    count = len_kept w b c p kept.header ∙ x.count;
+    fit = x.fit;
+    placed = elim x.placed [
+      | inl e ↦ inl e
+      | inr u ↦ inr (subst (λ n. length hashes < n) (sym (cap_kept w b c p kept.header)) u.0,
+        subst (λ n. Written n hashes homes (table_controls w c p)) (sym (cap_kept w b c p kept.header)) (subst (Written (cap_at w b p) hashes homes) (sym kept.controls) u.1))
+    ];
+  }
+
+-- a write of the value of an entry alone keeps the table and the key
+module _ (w : Width) (k v : Shape) (kl : IsElement k) (vl : IsElement v) (b : List ℕ) (p i : ℕ) (view : Viewed (table_shape w (entry_shape k v)) b p) (walked : IsWalked w b p i)
+    (c : List ℕ) (sealed : Sealed b (value_place k v (item_at w (entry_shape k v).size b p i)) v.size c) (keeps : Keeps v b c (value_place k v (item_at w (entry_shape k v).size b p i))) where
+  pub value_kept : KeepsTable w (entry_shape k v) b c p i × SameValue k b c (item_at w (entry_shape k v).size b p i)
+  value_kept =
+      let s = entry_shape k v in
+      let law = entry_element k v kl vl in
+      let q = item_at w s.size b p i in
+      let there = item_viewed w s law b p view i walked in
+      let small = size_of_small (whole_size k v) there.stands.1.0 in
+      let inside = parts_inside k v in (
+        table_kept w s law b p i view walked c
+        (sealed_wider b c (value_place k v q) v.size q s.size (omega arith) (omega (arith, small, inside.1)) sealed)
+        (entry_kept k v kl vl b c q sealed keeps),
+        record {
+          fixed = same_outside b (value_place k v q) v.size c sealed q (q + k.size) (omega arith) (inl (omega (arith, inside.0)));
+          parts = λ l h.
+              let m : (0 ≤ l) × (l ≤ q) = kl.between b q 0 q l (omega arith) h in
+              same_outside b (value_place k v q) v.size c sealed 0 l (omega arith) (inl (omega (arith, m.1)));
+        },
+      )
