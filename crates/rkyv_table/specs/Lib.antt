@@ -15,4 +15,5 @@ pub mod PlaceLaws
 pub mod TableLaws
 pub mod Reading
 pub mod SealedTable
+pub mod SealedLookup
 pub mod Misplaced
