@@ -17,3 +17,4 @@ pub mod Headers
 pub mod SealedTable
 pub mod Misplaced
 pub mod Items
+pub mod FirstFound
