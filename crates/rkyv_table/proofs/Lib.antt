@@ -18,3 +18,4 @@ pub mod SealedTable
 pub mod Misplaced
 pub mod Items
 pub mod FirstFound
+pub mod SealedLookup
