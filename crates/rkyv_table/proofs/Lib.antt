@@ -19,3 +19,5 @@ pub mod Misplaced
 pub mod Items
 pub mod FirstFound
 pub mod SealedLookup
+pub mod RawWalks
+pub mod WalkedHomes

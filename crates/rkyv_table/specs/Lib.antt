@@ -17,3 +17,6 @@ pub mod Reading
 pub mod SealedTable
 pub mod SealedLookup
 pub mod Misplaced
+pub mod RawItems
+pub mod WalkLaws
+pub mod SealedItems

@@ -9,6 +9,7 @@ use Rattle.rkyv_table.specs.Reading.{IsWalked, controls_place, item_at, table_co
 use Rattle.rkyv_table.specs.SealedTable.{KeptByWrites}
 use Rattle.rkyv_table.specs.Table.{table_shape}
 use Rattle.rkyv_table.specs.Walking.{full_from}
+use Rattle.rkyv_table.specs.declared.table.raw_iter_seal.Place.{Place}
 use Rattle.rkyv_table.specs.declared.table.raw_iter_seal.RawIterSeal.{RawIterSeal}
 
 -- the archive of a cursor, and how many items it has left
@@ -64,3 +65,10 @@ LendsFirst s before result =
     (w : Width) (p : ℕ) → IsSealIter w s p before
     → MatchOption result (buckets_left w p before ≡ [])
     (λ x. (i : ℕ) × (rest : List ℕ) × (buckets_left w p before ≡ i ∷ rest) × IsItemAt w s before.archive.now p i (place_in x))
+
+-- the first item that a cursor over a table has left, by its bucket and its place
+abbrev pub FindsFirstLeft : {T : Type 0} → Shape → RawIterSeal T → Option Place → Type 0
+FindsFirstLeft s r result =
+    (w : Width) (p : ℕ) → IsSealIter w s p r
+    → MatchOption result (buckets_left w p r ≡ [])
+    (λ f. (f.bucket + 1 ≤ r.cap) × (buckets_left w p r ≡ f.bucket ∷ full_from (table_controls w r.archive.now p) r.cap (f.bucket + 1)) × IsItemAt w s r.archive.now p f.bucket f.at)

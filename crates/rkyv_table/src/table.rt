@@ -3,9 +3,12 @@
 mod element;
 mod header;
 pub(crate) mod items;
+pub mod laws;
 mod lookup;
 pub mod misplaced;
+pub mod raw_iter;
 mod reading;
+pub mod raw_iter_seal;
 pub mod sealed;
 mod verify;
 

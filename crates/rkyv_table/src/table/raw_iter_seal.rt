@@ -7,11 +7,11 @@ ghost use Rattle.rkyv_base.specs.Sealing.{with_value};
 ghost use Rattle.rkyv_table.specs.Header.{cap_at, len_at};
 ghost use Rattle.rkyv_table.specs.Placing.{walk};
 ghost use Rattle.rkyv_table.specs.Reading.{table_controls};
-ghost use Rattle.rkyv_table.specs.SealedItems.{CountsDown, IsSealIter, LendsFirst, SameArchive, TakesPosition, buckets_left, cursor_bytes, items_left};
+ghost use Rattle.rkyv_table.specs.SealedItems.{CountsDown, FindsFirstLeft, IsSealIter, LendsFirst, SameArchive, TakesPosition, buckets_left, cursor_bytes, items_left};
+ghost use Rattle.rkyv_table.specs.RawItems.{place_before};
 ghost use Rattle.rkyv_table.specs.SealedLookup.{IsTableSeal};
 ghost use Rattle.rkyv_table.specs.Walking.{full_from};
 
-use crate::table::header::buckets_size;
 use crate::table::items::Items;
 use crate::table::{ArchivedHashTable, TableOf};
 use rkyv_base::element::Element;
@@ -47,17 +47,105 @@ fn part(bytes: &[u8], place: usize, count: usize) -> Option<&[u8]>
     Some(&bytes[place..place + count])
 }
 
-/// Where a bucket stands before the first control, where it does.
+/// Where a bucket stands before the first control, where there is room for it.
 #[inline]
 fn place_before(place: usize, bucket: usize, size: usize) -> Option<usize>
     requires { size ≤ 1073741824 }
-    requires { bucket < place }
     ensures { MatchOption result (place < (bucket + 1) * size)
-        (λ q. ((bucket + 1) * size ≤ place) × (q ≡ place - (bucket + 1) * size)) }
+        (λ q. ((bucket + 1) * size ≤ place) × (q ≡ place_before place size bucket)) }
 {
-    let behind = buckets_size(bucket as u64 + 1, size);
+    let behind = (bucket as u128 + 1) * size as u128;
     if behind > place as u128 {
         return None;
     }
     Some(place - behind as usize)
+}
+
+/// A bucket, and where its item stands.
+#[derive(Clone, Copy)]
+struct Place {
+    bucket: usize,
+    at: usize,
+}
+
+/// The items of a table, by ascending bucket, each of which is lent to be written.
+///
+/// It gives as many as `len` tells.
+#[derive(Drop)]
+pub struct RawIterSeal<'a, T> {
+    archive: &'a mut [u8],
+    // The place of the first control, before which the buckets stand.
+    place: usize,
+    cap: usize,
+    // The bucket that is looked at next.
+    next: usize,
+    left: usize,
+    kind: PhantomData<T>,
+}
+
+impl<'a, T: Element> RawIterSeal<'a, T> {
+    /// How many items are left.
+    #[inline]
+    pub fn len(&self) -> usize
+        ensures { result ≡ items_left self.now }
+    {
+        self.left
+    }
+
+    // The first that is left.
+    #[inline]
+    fn first(&self) -> Option<Place>
+        ensures some { IfSome result (λ _. 0 < items_left self.now) }
+        ensures inside { IfSome result (λ f. f.at + T.shape.size ≤ length (cursor_bytes self.now)) }
+        ensures first { FindsFirstLeft T.shape self.now result }
+    {
+        if self.left == 0 {
+            return None;
+        }
+        let bucket = match part(&*self.archive, self.place, self.cap) {
+            Some(controls) => match next_full(controls, self.cap, self.next) {
+                Some(bucket) => bucket,
+                None => return None,
+            },
+            None => return None,
+        };
+        match place_before(self.place, bucket, T::size()) {
+            Some(at) => Some(Place { bucket, at }),
+            None => None,
+        }
+    }
+
+    /// Where the next item stands.
+    #[inline]
+    pub fn next_pos(&mut self) -> Option<u64>
+        ensures archive { SameArchive self.old self.new }
+        ensures counts { CountsDown self.old result self.new }
+        ensures inside { IfSome result (λ q. q + T.shape.size ≤ length (cursor_bytes self.old)) }
+        ensures takes { TakesPosition T.shape self.old result self.new }
+    {
+        match self.first() {
+            Some(first) => {
+                self.next = first.bucket + 1;
+                self.left -= 1;
+                Some(first.at as u64)
+            }
+            None => None,
+        }
+    }
+
+    /// The next item, to be written.
+    #[inline]
+    pub fn next_seal(&mut self) -> Option<Seal<'_, T>>
+        ensures inside { IfSome result (LiesIn T.shape) }
+        ensures bytes { IfSome result (λ s. bytes_in s ≡ cursor_bytes self.old) }
+        ensures first { LendsFirst T.shape self.old result }
+    {
+        match self.next_pos() {
+            Some(pos) => {
+                let bytes = &mut *self.archive;
+                Some(Seal::over(bytes, pos as usize))
+            }
+            None => None,
+        }
+    }
 }
