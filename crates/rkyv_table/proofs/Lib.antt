@@ -21,3 +21,4 @@ pub mod FirstFound
 pub mod SealedLookup
 pub mod RawWalks
 pub mod WalkedHomes
+pub mod SealedItems

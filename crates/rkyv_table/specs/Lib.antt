@@ -20,3 +20,4 @@ pub mod Misplaced
 pub mod RawItems
 pub mod WalkLaws
 pub mod SealedItems
+pub mod MisplacedIn

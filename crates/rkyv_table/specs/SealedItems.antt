@@ -6,7 +6,9 @@ use Rattle.rkyv_base.specs.Shape.{Shape, Viewed}
 use Rattle.rkyv_base.specs.declared.seal.Seal.{Seal}
 use Rattle.rkyv_table.specs.Header.{cap_at}
 use Rattle.rkyv_table.specs.Reading.{IsWalked, controls_place, item_at, table_controls}
-use Rattle.rkyv_table.specs.SealedTable.{KeptByWrites}
+use Rattle.rkyv_base.specs.declared.seal.ArchiveSeal.{ArchiveSeal}
+use Rattle.rkyv_table.specs.SealedTable.{KeepsTable, KeptByWrites}
+use Rattle.rkyv_table.specs.declared.table.TableOf.{TableOf}
 use Rattle.rkyv_table.specs.Table.{table_shape}
 use Rattle.rkyv_table.specs.Walking.{full_from}
 use Rattle.rkyv_table.specs.declared.table.raw_iter_seal.Place.{Place}
@@ -71,4 +73,23 @@ abbrev pub FindsFirstLeft : {T : Type 0} → Shape → RawIterSeal T → Option 
 FindsFirstLeft s r result =
     (w : Width) (p : ℕ) → IsSealIter w s p r
     → MatchOption result (buckets_left w p r ≡ [])
-    (λ f. (f.bucket + 1 ≤ r.cap) × (buckets_left w p r ≡ f.bucket ∷ full_from (table_controls w r.archive.now p) r.cap (f.bucket + 1)) × IsItemAt w s r.archive.now p f.bucket f.at)
+    (λ f. (buckets_left w p r ≡ f.bucket ∷ full_from (table_controls w r.archive.now p) r.cap (f.bucket + 1)) × IsItemAt w s r.archive.now p f.bucket f.at)
+
+-- the cursor lends what the seal lent
+pub record LendsArchive {T W : Type 0} (a : ArchiveSeal (TableOf T W)) (r : RawIterSeal T) : Type 0 where
+  pub reference : r.archive.ghost_name ≡ a.archive.ghost_name
+  pub bytes : r.archive.now ≡ a.archive.now
+
+-- the cursor is where it was, over the same reference, whatever its bytes are by now
+pub record StaysThere {T : Type 0} (before after : RawIterSeal T) : Type 0 where
+  pub reference : after.archive.ghost_name ≡ before.archive.ghost_name
+  pub place : after.place ≡ before.place
+  pub cap : after.cap ≡ before.cap
+  pub next : after.next ≡ before.next
+  pub left : after.left ≡ before.left
+
+-- a cursor over a table of which the item at q was written is one over the table, which is kept, with the same buckets left
+abbrev pub KeepsCursor : {T : Type 0} → Shape → RawIterSeal T → ℕ → RawIterSeal T → Type 0
+KeepsCursor s before q after =
+    (w : Width) (p i : ℕ) → IsSealIter w s p before → IsItemAt w s before.archive.now p i q
+    → KeepsTable w s before.archive.now after.archive.now p i × IsSealIter w s p after × (buckets_left w p after ≡ buckets_left w p before)

@@ -1,5 +1,5 @@
 //! Walking over the items of a table to write them.
-ghost use Rattle.std.specs.Prelude.{IfSome, MatchOption, [], length, slice_range, ◌*◌, ◌+◌, ◌-◌, ◌<◌, ◌∷◌, ◌≡◌, ◌≤◌, ◌×◌};
+ghost use Rattle.std.specs.Prelude.{IfSome, MatchOption, [], length, slice_index, slice_range, ◌*◌, ◌+◌, ◌-◌, ◌<◌, ◌∷◌, ◌≡◌, ◌≤◌};
 ghost use Rattle.std.specs.Int.{byte_len};
 ghost use Rattle.rkyv_base.specs.Scalar.{scalar_shape};
 ghost use Rattle.rkyv_base.specs.Seal.{LiesIn, archive_in, bytes_in, pos_in};
@@ -7,7 +7,7 @@ ghost use Rattle.rkyv_base.specs.Sealing.{with_value};
 ghost use Rattle.rkyv_table.specs.Header.{cap_at, len_at};
 ghost use Rattle.rkyv_table.specs.Placing.{walk};
 ghost use Rattle.rkyv_table.specs.Reading.{table_controls};
-ghost use Rattle.rkyv_table.specs.SealedItems.{CountsDown, FindsFirstLeft, IsSealIter, LendsFirst, SameArchive, TakesPosition, buckets_left, cursor_bytes, items_left};
+ghost use Rattle.rkyv_table.specs.SealedItems.{CountsDown, FindsFirstLeft, IsSealIter, KeepsCursor, LendsArchive, LendsFirst, SameArchive, StaysThere, TakesPosition, buckets_left, cursor_bytes, items_left};
 ghost use Rattle.rkyv_table.specs.RawItems.{place_before};
 ghost use Rattle.rkyv_table.specs.SealedLookup.{IsTableSeal};
 ghost use Rattle.rkyv_table.specs.Walking.{full_from};
@@ -25,7 +25,7 @@ use std::marker::PhantomData;
 fn next_full(controls: &[u8], cap: usize, from: usize) -> Option<usize>
     requires { cap ≤ length controls.now }
     ensures { MatchOption result (full_from controls.now cap from ≡ [])
-        (λ b. (b < cap) × (full_from controls.now cap from ≡ b ∷ full_from controls.now cap (b + 1))) }
+        (λ b. (b < cap) × (slice_index controls.now b < 128) × (full_from controls.now cap from ≡ b ∷ full_from controls.now cap (b + 1))) }
 {
     for bucket in from..cap {
         if controls[bucket] < 0x80 {
@@ -96,6 +96,7 @@ impl<'a, T: Element> RawIterSeal<'a, T> {
     #[inline]
     fn first(&self) -> Option<Place>
         ensures some { IfSome result (λ _. 0 < items_left self.now) }
+        ensures below { IfSome result (λ f. f.bucket < self.now.cap) }
         ensures inside { IfSome result (λ f. f.at + T.shape.size ≤ length (cursor_bytes self.now)) }
         ensures first { FindsFirstLeft T.shape self.now result }
     {
@@ -146,6 +147,45 @@ impl<'a, T: Element> RawIterSeal<'a, T> {
                 Some(Seal::over(bytes, pos as usize))
             }
             None => None,
+        }
+    }
+}
+
+impl<'a, N: Scalar> RawIterSeal<'a, N> {
+    /// Writes the value at a position.
+    #[inline]
+    pub fn set_at(&mut self, pos: u64, value: N)
+        requires { pos + byte_len N.encoding.word ≤ length (cursor_bytes self.old) }
+        ensures stays { StaysThere self.old self.new }
+        ensures written { cursor_bytes self.new ≡ with_value N.encoding (cursor_bytes self.old) pos value }
+        ensures kept { KeepsCursor (scalar_shape N.encoding) self.old pos self.new }
+    {
+        let bytes = &mut *self.archive;
+        set_at(bytes, pos as usize, value);
+    }
+}
+
+impl<'a, T: Element, W: Width> ArchivedHashTable<'a, T, W> {
+    /// Its items, by ascending bucket, to be written.
+    #[inline]
+    pub fn raw_iter_seal(this: ArchiveSeal<'a, TableOf<T, W>>) -> RawIterSeal<'a, T>
+        requires table { IsTableSeal W.word T.shape this }
+        ensures archive { LendsArchive this.entry result }
+        ensures iter { IsSealIter W.word T.shape (pos_in this.entry) result }
+        ensures buckets { buckets_left W.word (pos_in this.entry) result
+            ≡ walk (table_controls W.word (archive_in this.entry) (pos_in this.entry)) (cap_at W.word (archive_in this.entry) (pos_in this.entry)) }
+        ensures count { items_left result ≡ len_at W.word (archive_in this.entry) (pos_in this.entry) }
+    {
+        let items = Items::of(ArchivedHashTable::of(this.as_view()));
+        let (place, cap, left) = (items.place, items.cap, items.len);
+        let (archive, _) = this.into_parts();
+        RawIterSeal {
+            archive,
+            place,
+            cap,
+            next: 0,
+            left,
+            kind: PhantomData,
         }
     }
 }
