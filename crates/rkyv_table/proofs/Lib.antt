@@ -14,6 +14,8 @@ pub mod Walks
 pub mod WrittenAccepted
 pub mod HomeList
 pub mod Headers
+pub mod SealedTable
+pub mod Misplaced
 pub mod Items
 pub mod FirstFound
 pub mod Taking
@@ -24,3 +26,5 @@ pub mod Given
 pub mod RawWalks
 pub mod WalkedHomes
 pub mod TableNear
+pub mod SealedLookup
+pub mod SealedItems

@@ -27,3 +27,8 @@ pub mod SlotWalk
 pub mod SlotSound
 pub mod HeaderReads
 pub mod TableSound
+pub mod SealedTable
+pub mod SealedLookup
+pub mod Misplaced
+pub mod SealedItems
+pub mod MisplacedIn
