@@ -22,3 +22,4 @@ pub mod SealedLookup
 pub mod RawWalks
 pub mod WalkedHomes
 pub mod SealedItems
+pub mod MisplacedIn
