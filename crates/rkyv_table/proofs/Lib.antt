@@ -28,3 +28,4 @@ pub mod WalkedHomes
 pub mod TableNear
 pub mod SealedLookup
 pub mod SealedItems
+pub mod MisplacedIn

@@ -1,10 +1,11 @@
 //! Counting the items that a lookup of their own doesn't answer.
+ghost use Rattle.std.specs.Prelude.{not, ◌≡◌};
 ghost use Rattle.rkyv_scan.specs.Groups.{generic_kind};
-ghost use Rattle.rkyv_table.specs.Misplaced.{NoneMisplacedIsComplete, RepeatedAreMisplaced};
-ghost use Rattle.rkyv_table.specs.MisplacedIn.{CountsMisplaced, MayCompare, TellsMisplaced};
-ghost use Rattle.rkyv_table.specs.Reading.{IsItem, IsTable, IsWalked, MayAsk, table_bytes, table_place};
+ghost use Rattle.rkyv_table.specs.Misplaced.{is_answer, NoneMisplacedIsComplete, RepeatedAreMisplaced};
+ghost use Rattle.rkyv_table.specs.MisplacedIn.{AnswersOf, CountsMisplaced, FindsOwn, MayCompare};
+ghost use Rattle.rkyv_table.specs.Reading.{AreItems, IsTable, IsWalked, MayAsk, table_bytes, table_place};
 
-use crate::controls::find::Strides;
+use crate::controls::find::{Strides, find};
 use crate::table::ArchivedHashTable;
 use crate::table::items::Items;
 use rkyv_base::element::Element;
@@ -12,35 +13,45 @@ use rkyv_base::view::View;
 use rkyv_base::width::Width;
 use rkyv_scan::Group;
 
+// Whether a lookup didn't answer the bucket.
+#[inline]
+fn is_elsewhere(bucket: usize, found: Option<usize>) -> bool
+    ensures { result ≡ not (is_answer bucket found) }
+{
+    match found {
+        Some(found) => bucket != found,
+        None => true,
+    }
+}
+
 impl<'a, T: Element, W: Width> ArchivedHashTable<'a, T, W> {
-    // Whether a lookup of the bucket's own item doesn't answer the bucket.
-    fn is_misplaced<H: Fn(View<'a, T>) -> u64, S: Fn(View<'a, T>, View<'a, T>) -> bool>(
-        self,
+    // The bucket that a lookup of a bucket's own item answers.
+    #[inline]
+    fn own_lookup<S: Fn(View<'a, T>, View<'a, T>) -> bool>(
+        items: Items<'a, T, W>,
         bucket: usize,
-        hash_of: &H,
+        hash: u64,
         same: &S,
-    ) -> bool
-        requires table { IsTable W.word T.shape self }
-        requires walked { IsWalked W.word (table_bytes self) (table_place self) bucket }
-        requires hashable { MayAsk (H.pre hash_of.now) W.word T.shape self }
-        requires comparable { MayCompare (S.pre same.now) W.word T.shape self }
-        ensures { TellsMisplaced (H.post hash_of.now) (S.post same.now) generic_kind W.word T.shape self.entry bucket result }
+    ) -> Option<usize>
+        requires items { AreItems W.word T.shape items }
+        requires walked { IsWalked W.word (table_bytes items.table) (table_place items.table) bucket }
+        requires comparable { MayCompare (S.pre same.now) W.word T.shape items.table }
+        ensures { FindsOwn (S.post same.now) generic_kind W.word T.shape items.entry.table hash bucket result }
     {
-        let item = Items::of(self).item(bucket);
-        let found = self.find::<Group, _>(
-            hash_of(item),
+        find::<Group, _>(
+            items.controls,
+            items.cap,
+            items.len,
+            hash,
             |other|
-                requires own { IsItem W.word T.shape self item }
-                requires other { IsItem W.word T.shape self other }
-                requires comparable { MayCompare (S.pre same.now) W.word T.shape self }
-                ensures { S.post same.now item.entry other.entry result }
-            { same(item, other) },
+                requires items { AreItems W.word T.shape items }
+                requires walked { IsWalked W.word (table_bytes items.table) (table_place items.table) bucket }
+                requires other { IsWalked W.word (table_bytes items.table) (table_place items.table) other }
+                requires comparable { MayCompare (S.pre same.now) W.word T.shape items.table }
+                ensures { AnswersOf (S.post same.entry.now) W.word T.shape items.entry.table bucket other result }
+            { same(items.item(bucket), items.item(other)) },
             &mut Strides::new(),
-        );
-        match found {
-            Some(found) => found.bucket != bucket,
-            None => true,
-        }
+        )
     }
 
     /// How many items a lookup of their own doesn't answer: under the hash that `hash_of` gives of
@@ -59,9 +70,11 @@ impl<'a, T: Element, W: Width> ArchivedHashTable<'a, T, W> {
         requires comparable { MayCompare (S.pre same) W.word T.shape self }
         ensures { CountsMisplaced (H.post hash_of) (S.post same) generic_kind W.word T.shape self.entry result }
     {
+        let items = Items::of(self);
         let mut count = 0;
-        for bucket in Items::of(self).walk::<Group>() {
-            if self.is_misplaced(bucket, &hash_of, &same) {
+        for bucket in items.walk::<Group>() {
+            let hash = hash_of(items.item(bucket));
+            if is_elsewhere(bucket, Self::own_lookup(items, bucket, hash, &same)) {
                 count += 1;
             }
         }
