@@ -5,7 +5,7 @@ pub mod bytes;
 pub mod hands_in;
 pub mod parts;
 pub mod resolve;
-//pub mod serialize;
+pub mod serialize;
 pub mod take;
 
 use rkyv_base::view::View;

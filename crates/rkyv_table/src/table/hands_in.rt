@@ -10,7 +10,7 @@ use crate::table::take::{take_none, take_pairs, take_two};
 use rkyv_scan::simd::GroupKind;
 
 /// Hands in the items of a table, each with its hash.
-pub(crate) trait HandsIn<X> {
+pub(crate) trait HandsIn<X>: Drop {
     // It may be asked.
     ghost can: { Self → Type 0 };
 
@@ -44,11 +44,13 @@ pub(crate) trait HandsIn<X> {
 }
 
 /// One iterator of pairs of hash and item.
+#[derive(Drop)]
 pub(crate) struct Pairs<I> {
     pub(crate) pairs: I,
 }
 
 /// An iterator of items, and one of their hashes.
+#[derive(Drop)]
 pub(crate) struct ItemsAndHashes<I, J> {
     pub(crate) items: I,
     pub(crate) hashes: J,
