@@ -16,3 +16,6 @@ pub mod Taking
 pub mod Counting
 pub mod TableFormat
 pub mod Serializing
+pub mod PlaceLaws
+pub mod TableLaws
+pub mod Reading
