@@ -2,6 +2,8 @@
 mod archives;
 mod controls;
 mod headers;
+mod lookups;
 mod refusals;
+mod strangers;
 mod writers;
 mod writing;
