@@ -14,3 +14,7 @@ pub mod Walks
 pub mod WrittenAccepted
 pub mod HomeList
 pub mod Headers
+pub mod Taking
+pub mod PartSteps
+pub mod BucketSteps
+pub mod TableSteps

@@ -19,3 +19,4 @@ pub mod Serializing
 pub mod PlaceLaws
 pub mod TableLaws
 pub mod Reading
+pub mod Buckets
