@@ -18,3 +18,6 @@ pub mod Taking
 pub mod PartSteps
 pub mod BucketSteps
 pub mod TableSteps
+pub mod SealedTable
+pub mod Misplaced
+pub mod Items

@@ -20,3 +20,5 @@ pub mod PlaceLaws
 pub mod TableLaws
 pub mod Reading
 pub mod Buckets
+pub mod SealedTable
+pub mod Misplaced

@@ -11,7 +11,9 @@ mod element;
 mod header;
 pub(crate) mod items;
 mod lookup;
+pub mod misplaced;
 mod reading;
+pub mod sealed;
 mod verify;
 
 use rkyv_base::view::View;
