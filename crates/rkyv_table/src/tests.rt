@@ -1,9 +1,12 @@
 //! Worked examples, and one call of each public function.
 mod archives;
+mod changes;
 mod controls;
 mod headers;
 mod lookups;
 mod refusals;
 mod strangers;
+mod walks;
+mod wide;
 mod writers;
 mod writing;

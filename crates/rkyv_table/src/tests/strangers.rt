@@ -172,23 +172,6 @@ fn fronts_of_an_archive_are_answered(rt: HostRuntime) {
 }
 
 #[test]
-fn a_capacity_of_64_bits_is_out_of_range(rt: HostRuntime) {
-    let bytes = [
-        0, 0, 0, 0, 0, 0, 0, 0, 1, 0, 0, 0, 0, 0, 0, 0, 0xff, 0xff, 0xff, 0xff, 0xff, 0xff, 0xff,
-        0xff,
-    ];
-    assert!(rt;
-        matches!(
-            access_in::<Wide, TableOf<Entry<u32, u32>, Wide>>(&bytes),
-            Err(VerifyError::OutOfRange {
-                pos: -147_573_952_589_676_412_920,
-                size: 166_020_696_663_385_964_551,
-            })
-        )
-    );
-}
-
-#[test]
 fn a_narrow_archive_is_no_wide_one(rt: HostRuntime) {
     assert!(rt;
         matches!(

@@ -1,10 +1,11 @@
 //! The bytes of written tables.
 
-use crate::table::ArchivedHashTable;
+use crate::table::{ArchivedHashTable, TableOf};
 use crate::tests::archives::{
     FOUR_PAIRS, ONE_PAIR, SIXTEEN, archived, hash_of_i8, hash_of_u32, hash_of_usize, is_then_empty,
     written,
 };
+use rkyv_base::access::access;
 use rkyv_base::archive::Serialize;
 use rkyv_base::width::Narrow;
 use rkyv_base::writer::{VecWriter, append};
@@ -197,5 +198,25 @@ fn a_table_begins_at_a_multiple_of_the_alignment(rt: HostRuntime) -> Result<(), 
     assert_eq!(rt; resolver.len(), 1);
     assert_eq!(rt; resolver.load_factor(), (7, 8));
     assert!(rt; is_then_empty(writer.bytes(), &[9, 0, 0, 0, 7, 0, 0, 0xff, 0], 28));
+    Ok(())
+}
+
+// How many buckets a table of these numbers has, and how many bytes.
+fn room_of(alloc: Global, items: &[u8], hashes: &[u64]) -> Result<(usize, usize), Fail> {
+    let (bytes, _) = written(alloc, items, hashes, (7, 8))?;
+    let archive = archived(alloc, items, hashes, (7, 8))?;
+    let table = ArchivedHashTable::of(access::<TableOf<u8>>(archive.as_slice())?);
+    Ok((table.capacity(), bytes.len()))
+}
+
+#[test]
+fn an_eighth_of_the_buckets_is_empty(rt: HostRuntime) -> Result<(), Fail> {
+    let alloc = rt.alloc();
+    assert_eq!(rt; room_of(alloc, &[], &[])?, (0, 0));
+    assert_eq!(rt; room_of(alloc, &[7], &[0])?, (2, 2 + 31));
+    assert_eq!(rt; room_of(alloc, &[7; 3], &[0; 3])?, (4, 4 + 31));
+    assert_eq!(rt; room_of(alloc, &[7; 5], &[0; 5])?, (6, 6 + 31));
+    assert_eq!(rt; room_of(alloc, &[7; 7], &[0; 7])?, (8, 8 + 31));
+    assert_eq!(rt; room_of(alloc, &[7; 100], &[0; 100])?, (114, 114 + 143));
     Ok(())
 }
