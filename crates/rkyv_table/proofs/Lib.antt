@@ -21,3 +21,4 @@ pub mod TableSteps
 pub mod SealedTable
 pub mod Misplaced
 pub mod Items
+pub mod Given

@@ -8,8 +8,7 @@ use Rattle.rkyv_base.specs.Format.{Format}
 use Rattle.rkyv_base.specs.Shape.{Shape}
 use Rattle.rkyv_base.proofs.GivingUp.{appends_after, end-appends, told_after}
 use Rattle.rkyv_table.specs.Buckets.{images_length}
-use Rattle.rkyv_table.specs.Slots.{SlotParts, SlotImages, PartsNext, PartsRefuse, BucketNext, BucketFar, TableNext, TableRefuses, TableBytes, WroteBuckets, WroteTable}
-use Rattle.rkyv_table.proofs.PartSteps.{parts_filled}
+use Rattle.rkyv_table.specs.Slots.{SlotParts, SlotImages, PartsNext, PartsRefuse, BucketNext, BucketFar, TableNext, TableRefuses, TableBytes, WroteBuckets}
 
 -- nothing was appended
 pub none_appended : (o : Output) → Appends o o []

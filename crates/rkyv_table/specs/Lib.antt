@@ -11,6 +11,7 @@ pub mod Laws
 pub mod Header
 pub mod Places
 pub mod Table
+pub mod Lending
 pub mod Slots
 pub mod Taking
 pub mod Counting
@@ -22,3 +23,7 @@ pub mod Reading
 pub mod Buckets
 pub mod SealedTable
 pub mod Misplaced
+pub mod SlotWalk
+pub mod SlotSound
+pub mod HeaderReads
+pub mod TableSound

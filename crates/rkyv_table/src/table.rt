@@ -15,6 +15,7 @@ pub mod misplaced;
 mod reading;
 pub mod sealed;
 mod verify;
+pub mod written;
 
 use rkyv_base::view::View;
 use rkyv_base::width::Narrow;

@@ -86,7 +86,7 @@ returns-then-came-len g c =
     let n1 : c.loop-count.count + 1 ≡ length (items_of i.0) + 1 = (let n = items_count i.0 in omega (arith, i.3)) in
     let n0 = hashes_count i.0 in
     let k = counted_after g.I.Iterator.next_gives c.args.len c.count_rest-came.result _ _ _ (items_of i.0) c.in-Some.item i.1 c.in-Some.ensures.steps (rw n1 at c.count_rest-came.ensures) in
-    inr (rw c.if-came-len.true at k, (hashes_of i.0, omega (arith, n0, i.3), inl (omega (arith, c.loop-count-test.true), (_, (_, i.2, c.in-None-next_item.ensures.steps)))), λ z. omega (arith, z, c.loop-count-test.true))
+    inr (rw c.if-came-len.true at k, ((hashes_of i.0, omega (arith, n0, i.3), inl (omega (arith, c.loop-count-test.true), (_, (_, i.2, c.in-None-next_item.ensures.steps)))), λ z. omega (arith, z, c.loop-count-test.true)))
 
 pub returns-in-None-next_item : goal.returns-in-None-next_item
 returns-in-None-next_item g c =
@@ -112,6 +112,5 @@ returns-in-Some-next_item-3 g c =
     let m = length_push (hashes_of i.0) c.in-Some-next_item-3.field-0 in
     inr (
       (items_of i.0, omega (arith, n1, i.3, e), inl (omega arith, (_, (_, i.1, c.in-None-next_item-2.ensures.steps)))),
-      (hashes_of i.0 ++ c.in-Some-next_item-3.field-0 ∷ [], omega (arith, m, n0, i.3, e), inr (refl, (_, yields_more g.J.Iterator.next_gives _ _ _ (hashes_of i.0) _ i.2 c.in-Some-next_item-3.ensures.steps))),
-      λ z. omega (arith, z),
+      ((hashes_of i.0 ++ c.in-Some-next_item-3.field-0 ∷ [], omega (arith, m, n0, i.3, e), inr (refl, (_, yields_more g.J.Iterator.next_gives _ _ _ (hashes_of i.0) _ i.2 c.in-Some-next_item-3.ensures.steps))), λ z. omega (arith, z)),
     )
