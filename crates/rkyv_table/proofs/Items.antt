@@ -1,20 +1,23 @@
 -- What an accepted table gives to its readers.
-use Rattle.std.proofs.Common.{◌≡◌, ℕ, zero, suc, ◌+◌, ◌-◌, ◌*◌, ◌<◌, ◌≤◌, ◌%◌, inl, inr, sym, ap, subst, ◌∙◌, arith, List, ◌∷◌, Bool, true, false, filter, length, slice_index, ℤ, pos, ◌+ℤ◌, slice_range}
+use Rattle.std.proofs.Common.{◌≡◌, ℕ, zero, suc, ◌+◌, ◌-◌, ◌*◌, ◌<◌, ◌≤◌, ◌%◌, inl, inr, refl, sym, ap, subst, ◌∙◌, arith, List, ◌∷◌, Bool, true, false, filter, length, slice_index, ℤ, pos, ◌+ℤ◌, slice_range}
 use Rattle.std.specs.List.{range_with_len}
 use Rattle.std.specs.Prelude.{unsigned_abs}
 use Rattle.std.specs.Int.{Width}
 use Rattle.std.proofs.lemmas.Int.{ints}
 use Rattle.std.proofs.lemmas.Bool.{cases_Bool, cases_eq, lt-ltb, both_ways}
 use Rattle.std.proofs.Math.Nat.{mul-le-mul_right, add-mul}
-use Rattle.rkyv_scan.specs.Groups.{is_full}
+use Rattle.rkyv_scan.specs.Groups.{Kind, is_full}
 use Rattle.rkyv_base.specs.Bytes.{signed_at}
 use Rattle.rkyv_base.specs.Parts.{PartIn}
 use Rattle.rkyv_base.specs.Shape.{Shape, IsElement, Standing, Viewed, standing}
+use Rattle.rkyv_table.specs.Controls.{IsFullBucket}
+use Rattle.rkyv_table.specs.Finding.{end, found}
 use Rattle.rkyv_table.specs.Header.{len_at, cap_at, begin_told}
 use Rattle.rkyv_table.specs.Numbers.{control_count}
 use Rattle.rkyv_table.specs.Places.{AllHold}
 use Rattle.rkyv_table.specs.Placing.{Accepted, walk}
-use Rattle.rkyv_table.specs.Reading.{IsWalked, controls_place, item_at, table_controls}
+use Rattle.rkyv_table.specs.Reading.{AreItems, IsWalked, controls_place, item_at, table_bytes, table_controls, table_place}
+use Rattle.rkyv_table.specs.declared.table.items.Items.{Items}
 use Rattle.rkyv_table.specs.Table.{ItemsHold, bucket_at, controls_at, IsPart, part_size, table_shape}
 use Rattle.rkyv_table.specs.TableLaws.{bucket_inside, bucket_aligned}
 
@@ -40,7 +43,7 @@ module _ (s : Shape) (law : IsElement s) (at : ℕ → ℕ) where
   ]
 
 -- the item in a full bucket holds in a range of its own
-pub bucket_holds : (s : Shape) → IsElement s → (b : List ℕ) (begin cap lo l i : ℕ) → lo ≤ begin → ItemsHold s b begin cap lo l → i < cap
+bucket_holds : (s : Shape) → IsElement s → (b : List ℕ) (begin cap lo l i : ℕ) → lo ≤ begin → ItemsHold s b begin cap lo l → i < cap
     → slice_index (controls_at s.size b begin cap) i < 128 → (m : ℕ) × (m' : ℕ) × (m ≤ begin) × s.holds b (bucket_at s.size begin cap i) m begin m'
 unfolding walk
 bucket_holds s law b begin cap lo l i o h below full =
@@ -69,16 +72,16 @@ module _ (w : Width) (s : Shape) (law : IsElement s) (b : List ℕ) (p : ℕ) (v
     | inr t ↦ (t.0, record { part = t.1; is = t.2 })
   ]
 
-  pub place_is : (begin : ℕ) → Part w s b p begin → controls_place w b p ≡ begin + cap_at w b p * s.size
+  place_is : (begin : ℕ) → Part w s b p begin → controls_place w b p ≡ begin + cap_at w b p * s.size
   place_is begin t =
       let begins : pos begin ≡ begin_told w s.size b p = t.part.begins in
       let e : pos (begin + cap_at w b p * s.size) ≡ pos p +ℤ signed_at w b p = omega (arith, ints, begins) in
       one_place (begin + cap_at w b p * s.size) (pos p +ℤ signed_at w b p) e
 
-  pub controls_are : (begin : ℕ) → Part w s b p begin → table_controls w b p ≡ controls_at s.size b begin (cap_at w b p)
+  controls_are : (begin : ℕ) → Part w s b p begin → table_controls w b p ≡ controls_at s.size b begin (cap_at w b p)
   controls_are begin t = ap (λ z. slice_range b z (z + control_count (cap_at w b p))) (place_is begin t)
 
-  pub item_is : (begin i : ℕ) → Part w s b p begin → i < cap_at w b p → item_at w s.size b p i ≡ bucket_at s.size begin (cap_at w b p) i
+  item_is : (begin i : ℕ) → Part w s b p begin → i < cap_at w b p → item_at w s.size b p i ≡ bucket_at s.size begin (cap_at w b p) i
   item_is begin i t h = ap (λ z. z - (i + 1) * s.size) (place_is begin t) ∙ place_less s.size begin (cap_at w b p) i h
 
   -- its controls are accepted ones
@@ -137,4 +140,34 @@ module _ (w : Width) (s : Shape) (law : IsElement s) (b : List ℕ) (p : ℕ) (v
   no_items h = elim v.stands.1 [
     | inl e ↦ e.0
     | inr t ↦ let r = t.2.controls.room in absurd (omega arith)
+  ]
+
+-- what was read of a header serves as what the header tells
+module _ {T W : Type 0} (w : Width) (s : Shape) (law : IsElement s) (items : Items T W) (are : AreItems w s items) where
+  pub read_accepted : 0 < items.len → Accepted items.cap items.len items.controls.now
+  read_accepted some =
+      let v = are.table in
+      let n = some_cap w s law (table_bytes items.table) (table_place items.table) v (rw are.len at some) in
+      let a = controls_accepted w s law (table_bytes items.table) (table_place items.table) v n in
+      rw (are.controls (rw are.cap n), are.cap, are.len) a
+
+  pub read_walked : (i : ℕ) → IsFullBucket items.cap items.controls.now i → IsWalked w (table_bytes items.table) (table_place items.table) i
+  read_walked i full = rw (are.controls (omega (arith, full.0)), are.cap) at full
+
+  pub read_found : (kind : Kind) (hash : ℕ) (accept : ℕ → Bool) → found kind items.controls.now items.cap items.len hash accept
+      ≡ found kind (table_controls w (table_bytes items.table) (table_place items.table)) (cap_at w (table_bytes items.table) (table_place items.table)) (len_at w (table_bytes items.table) (table_place items.table)) hash accept
+  read_found kind hash accept = elim (cases_eq items.cap 0) [
+    | inl none ↦
+        let z = no_items w s law (table_bytes items.table) (table_place items.table) are.table (sym are.cap ∙ none) in
+        rw (are.len, z) refl
+    | inr some ↦ rw (are.controls (omega arith), are.cap, are.len) refl
+  ]
+
+  pub read_end : (kind : Kind) (hash : ℕ) (accept : ℕ → Bool) → end kind items.controls.now items.cap items.len hash accept
+      ≡ end kind (table_controls w (table_bytes items.table) (table_place items.table)) (cap_at w (table_bytes items.table) (table_place items.table)) (len_at w (table_bytes items.table) (table_place items.table)) hash accept
+  read_end kind hash accept = elim (cases_eq items.cap 0) [
+    | inl none ↦
+        let z = no_items w s law (table_bytes items.table) (table_place items.table) are.table (sym are.cap ∙ none) in
+        rw (are.len, z) refl
+    | inr some ↦ rw (are.controls (omega arith), are.cap, are.len) refl
   ]

@@ -22,3 +22,6 @@ pub mod SealedTable
 pub mod Misplaced
 pub mod Items
 pub mod Given
+pub mod FirstFound
+pub mod RawWalks
+pub mod WalkedHomes

@@ -27,3 +27,5 @@ pub mod SlotWalk
 pub mod SlotSound
 pub mod HeaderReads
 pub mod TableSound
+pub mod RawItems
+pub mod WalkLaws
