@@ -22,6 +22,7 @@ pub mod TableLaws
 pub mod Reading
 pub mod Buckets
 pub mod SealedTable
+pub mod SealedLookup
 pub mod Misplaced
 pub mod SlotWalk
 pub mod SlotSound

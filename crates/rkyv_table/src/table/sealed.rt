@@ -1,13 +1,39 @@
 //! Writing the items of a table in place.
-ghost use Rattle.std.specs.Prelude.{List, ℕ};
+ghost use Rattle.std.specs.Prelude.{IfSome, List, ℕ};
 ghost use Rattle.rkyv_base.specs.Entry.{entry_shape};
 ghost use Rattle.rkyv_base.specs.Shape.{Viewed};
 ghost use Rattle.rkyv_table.specs.Reading.{IsWalked};
+ghost use Rattle.rkyv_scan.specs.Groups.{generic_kind};
+ghost use Rattle.rkyv_table.specs.SealedLookup.{IsItemSeal, IsTableSeal, MayAskAt, SealsFirst, SealsFound, place_of_seal};
 ghost use Rattle.rkyv_table.specs.SealedTable.{KeepsTable, KeptByValueWrites, KeptByWrites, SameLookups};
 ghost use Rattle.rkyv_table.specs.Table.{table_shape};
 
+use crate::table::{ArchivedHashTable, TableOf};
 use rkyv_base::element::Element;
+use rkyv_base::seal::{ArchiveSeal, Seal};
+use rkyv_base::view::View;
 use rkyv_base::width::Width;
+
+impl<'a, T: Element, W: Width> ArchivedHashTable<'a, T, W> {
+    /// As `get_with`, and lends the item to be written.
+    #[inline]
+    pub fn get_seal_with<F: Fn(View<'_, T>) -> bool>(
+        this: ArchiveSeal<'a, TableOf<T, W>>,
+        hash: u64,
+        cmp: F,
+    ) -> Option<Seal<'a, T>>
+        requires table { IsTableSeal W.word T.shape this }
+        requires callable { MayAskAt (F.pre cmp) W.word T.shape this }
+        ensures walked { IfSome result (IsItemSeal W.word T.shape this.entry) }
+        ensures answer { SealsFound (F.post cmp) generic_kind W.word T.shape this.entry hash (place_of_seal result) }
+        ensures first { SealsFirst (F.post cmp) W.word T.shape this.entry hash (place_of_seal result) }
+    {
+        match ArchivedHashTable::of(this.as_view()).get_pos_with(hash, cmp) {
+            Some(pos) => Some(this.seal_at(pos)),
+            None => None,
+        }
+    }
+}
 
 /// A write of one item alone that keeps the item keeps the table.
 pub fn writes_keep_the_table<T: Element, W: Width>()
