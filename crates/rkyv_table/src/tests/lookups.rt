@@ -51,7 +51,7 @@ fn found_by<G: GroupKind>(bytes: &[u8], hash: u64, wanted: u8) -> Result<Option<
 fn a_pair_is_found_in_one_stride(rt: HostRuntime) -> Result<(), Fail> {
     let table = ArchivedHashTable::of(access::<TableOf<Entry<u32, u32>>>(&ONE_PAIR)?);
     assert_eq!(rt; (table.len(), table.capacity()), (1, 2));
-    assert!(rt; !table.is_empty());
+    assert!(rt; !table.clone()?.is_empty());
     let mut strides = Strides::new();
     let found = table.get_counted(
         hash_of_u32(1),
@@ -164,23 +164,24 @@ fn the_second_stride_is_read_where_the_first_is_full(rt: HostRuntime) -> Result<
     Ok(())
 }
 
-// The items that a comparison is asked for, which accepts none.
+/// The items that a comparison is asked for, which accepts none, in the table of sixteen items under
+/// one hash.
 #[derive(Drop)]
-struct Asks {
+pub(crate) struct Asks {
     count: Cell<usize>,
     in_order: Cell<bool>,
 }
 
 impl Asks {
-    fn new() -> Asks {
+    pub(crate) fn new() -> Asks {
         Asks {
             count: Cell::new(0),
             in_order: Cell::new(true),
         }
     }
 
-    // Whether the item is accepted. It should be 1 to 16, and then 2 to 16.
-    fn accepts(&self, item: u8) -> bool {
+    /// Whether the item is accepted. It should be 1 to 16, and then 2 to 16.
+    pub(crate) fn accepts(&self, item: u8) -> bool {
         let ask = self.count.get();
         self.count.set(ask.wrapping_add(1));
         let wanted = match ask {
@@ -192,8 +193,8 @@ impl Asks {
         false
     }
 
-    // Whether there were sixteen of them and then fifteen, in order.
-    fn are_all(&self) -> bool {
+    /// Whether there were sixteen of them and then fifteen, in order.
+    pub(crate) fn are_all(&self) -> bool {
         self.count.get() == 31 && self.in_order.get()
     }
 }

@@ -180,3 +180,22 @@ fn a_narrow_archive_is_no_wide_one(rt: HostRuntime) {
         )
     );
 }
+
+#[test]
+fn an_item_that_is_no_value_is_refused(rt: HostRuntime) -> Result<(), Fail> {
+    let mut bytes = archived(rt.alloc(), &[true, false], &[2, 2], (1, 1))?;
+    let table = ArchivedHashTable::of(access::<TableOf<bool>>(bytes.as_slice())?);
+    assert_eq!(rt; table.len(), 2);
+    // an empty bucket may hold anything
+    assert_eq!(rt; bytes.len(), 48);
+    bytes[1] = 2;
+    assert!(rt; access::<TableOf<bool>>(bytes.as_slice()).is_ok());
+    bytes[0] = 2;
+    assert!(rt;
+        matches!(
+            access::<TableOf<bool>>(bytes.as_slice()),
+            Err(VerifyError::InvalidValue { pos: 0 })
+        )
+    );
+    Ok(())
+}
