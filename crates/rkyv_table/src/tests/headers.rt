@@ -40,8 +40,7 @@ fn header_at(alloc: Global, pos: u32) -> Result<([u8; 12], bool), Fail> {
         resolver,
         u64::from(pos),
         &mut header,
-    )
-    .is_ok();
+    ).is_ok();
     Ok((header, fits))
 }
 
@@ -82,8 +81,7 @@ fn wide_header_at(alloc: Global, pos: u64) -> Result<([u8; 24], bool), Fail>
         resolver,
         pos,
         &mut header,
-    )
-    .is_ok();
+    ).is_ok();
     Ok((header, fits))
 }
 

@@ -146,7 +146,11 @@ fn sixteen_buckets_are_one_stride(rt: HostRuntime) -> Result<(), Fail> {
     let starts = [0, 1, 2, 3, 4, 5, 6, 7, 8, 9, 10, 11, 12, 13, 14];
     let bytes = archived(rt.alloc(), &SIXTEEN[..15], &starts, (1, 1))?;
     for start in 0..16 {
-        assert_eq!(rt; counted(bytes.as_slice(), start, 0)?, (None, 1), "from {start}");
+        assert_eq!(rt;
+            counted(bytes.as_slice(), start, 0)?,
+            (None, 1),
+            "from {start}"
+        );
     }
     Ok(())
 }
@@ -214,10 +218,17 @@ fn a_lookup_that_finds_nothing_asks_for_each_item(rt: HostRuntime) -> Result<(),
     let bytes = bytes.as_slice();
     let table = ArchivedHashTable::of(access::<TableOf<u8>>(bytes)?);
     let asks = Asks::new();
-    assert!(rt; table.get_with(16, |item| asks.accepts(item.to_native())).is_none());
+    assert!(rt;
+        table
+            .get_with(16, |item| asks.accepts(item.to_native()))
+            .is_none()
+    );
     assert!(rt; asks.are_all());
     let asks = Asks::new();
-    assert_eq!(rt; table.get_pos_with(16, |item| asks.accepts(item.to_native())), None);
+    assert_eq!(rt;
+        table.get_pos_with(16, |item| asks.accepts(item.to_native())),
+        None
+    );
     assert!(rt; asks.are_all());
     let asks = Asks::new();
     let mut strides = Strides::new();
@@ -286,7 +297,10 @@ fn counted_wide(bytes: &[u8], hash: u64, wanted: u64) -> Result<(bool, u64), Ver
 #[test]
 fn a_table_is_asked_by_another_hasher(rt: HostRuntime) -> Result<(), Fail> {
     let large = 4_294_967_297;
-    let hashes = [hash_of_usize::<FxHasher64>(1), hash_of_usize::<FxHasher64>(large)];
+    let hashes = [
+        hash_of_usize::<FxHasher64>(1),
+        hash_of_usize::<FxHasher64>(large),
+    ];
     let bytes = archived(rt.alloc(), &[1u64, large as u64], &hashes, (7, 8))?;
     let bytes = bytes.as_slice();
     let (one, other) = (

@@ -10,23 +10,19 @@ use std::test::Fail;
 // How many pairs of a table are misplaced, each of which is told by its key.
 fn misplaced(bytes: &[u8]) -> Result<usize, VerifyError> {
     let table = ArchivedHashTable::of(access::<TableOf<Entry<i8, i8>>>(bytes)?);
-    Ok(
-        table.misplaced_by(
-            |pair| hash_of_i8(pair.key().to_native()),
-            |own, other| own.key().to_native() == other.key().to_native(),
-        ),
-    )
+    Ok(table.misplaced_by(
+        |pair| hash_of_i8(pair.key().to_native()),
+        |own, other| own.key().to_native() == other.key().to_native(),
+    ))
 }
 
 // The same of pairs of numbers of 32 bits.
 fn misplaced_wide(bytes: &[u8]) -> Result<usize, VerifyError> {
     let table = ArchivedHashTable::of(access::<TableOf<Entry<u32, u32>>>(bytes)?);
-    Ok(
-        table.misplaced_by(
-            |pair| hash_of_u32(pair.key().to_native()),
-            |own, other| own.key().to_native() == other.key().to_native(),
-        ),
-    )
+    Ok(table.misplaced_by(
+        |pair| hash_of_u32(pair.key().to_native()),
+        |own, other| own.key().to_native() == other.key().to_native(),
+    ))
 }
 
 #[test]

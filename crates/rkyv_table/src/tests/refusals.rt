@@ -96,9 +96,11 @@ fn capacities_are_refused(rt: HostRuntime) -> Result<(), Fail> {
 fn other_numbers_of_items_are_refused(rt: HostRuntime) -> Result<(), Fail> {
     let alloc = rt.alloc();
     let two = "iterator claimed that it contained 3 elements, but yielded 2 items during iteration";
-    let none = "iterator claimed that it contained 0 elements, but yielded 1 items during iteration";
+    let none =
+        "iterator claimed that it contained 0 elements, but yielded 1 items during iteration";
     let one = "iterator claimed that it contained 2 elements, but yielded 1 items during iteration";
-    let more = "iterator claimed that it contained 2 elements, but yielded 3 items during iteration";
+    let more =
+        "iterator claimed that it contained 2 elements, but yielded 3 items during iteration";
     refuses(&rt, alloc, &[7, 8], &[0, 1, 2], 3, (7, 8), two)?;
     refuses(&rt, alloc, &[7], &[], 0, (7, 8), none)?;
     refuses(&rt, alloc, &[7, 8, 9], &[], 0, (7, 8), none)?;
@@ -111,7 +113,14 @@ fn other_numbers_of_items_are_refused(rt: HostRuntime) -> Result<(), Fail> {
     refuses(&rt, alloc, &[7, 8, 9], &[0], 2, (7, 8), more)?;
     refuses_pairs(&rt, alloc, &[(0, 7), (1, 8)], 3, (7, 8), two)?;
     refuses_pairs(&rt, alloc, &[(0, 7)], 0, (7, 8), none)?;
-    refuses_pairs(&rt, alloc, &[(0, 7), (1, 8), (2, 9), (3, 10)], 2, (7, 8), more)
+    refuses_pairs(
+        &rt,
+        alloc,
+        &[(0, 7), (1, 8), (2, 9), (3, 10)],
+        2,
+        (7, 8),
+        more,
+    )
 }
 
 #[test]

@@ -36,7 +36,10 @@ fn a_found_item_is_written_in_place(rt: HostRuntime) -> Result<(), Fail> {
     let want = archived(rt.alloc(), &[10u8, 30], &[2, 2], (1, 1))?;
     assert_eq!(rt; bytes.as_slice(), want.as_slice());
     let table = ArchivedHashTable::of(access::<TableOf<u8>>(bytes.as_slice())?);
-    assert_eq!(rt; table.get_pos_with(2, |item| item.to_native() == 30), Some(2));
+    assert_eq!(rt;
+        table.get_pos_with(2, |item| item.to_native() == 30),
+        Some(2)
+    );
     assert_eq!(rt; table.get_pos_with(2, |item| item.to_native() == 20), None);
     Ok(())
 }

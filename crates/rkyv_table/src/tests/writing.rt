@@ -25,14 +25,13 @@ fn is_by<G: GroupKind, U: Serialize<VecWriter, Narrow>>(
 ) -> Result<bool, Fail> {
     let mut writer = VecWriter::new(alloc);
     let pairs = hashes.iter().copied().zip(items.iter());
-    let resolver =
-        ArchivedHashTable::<U::Archived, Narrow>::serialize_by::<G, VecWriter, U, &U, _>(
-            alloc,
-            pairs,
-            items.len(),
-            load_factor,
-            &mut writer,
-        )?;
+    let resolver = ArchivedHashTable::<U::Archived, Narrow>::serialize_by::<G, VecWriter, U, &U, _>(
+        alloc,
+        pairs,
+        items.len(),
+        load_factor,
+        &mut writer,
+    )?;
     Ok(resolver.pos() == pos && writer.bytes() == bytes)
 }
 
@@ -49,8 +48,7 @@ fn is_written<U: Serialize<VecWriter, Narrow>>(
 ) -> Result<bool, Fail> {
     let (bytes, first_control) = written(alloc, items, hashes, load_factor)?;
     let bytes = bytes.as_slice();
-    let by_bytes =
-        is_by::<bytewise::Group, U>(alloc, items, hashes, load_factor, pos, bytes)?;
+    let by_bytes = is_by::<bytewise::Group, U>(alloc, items, hashes, load_factor, pos, bytes)?;
     let by_words = is_by::<generic::Group, U>(alloc, items, hashes, load_factor, pos, bytes)?;
     let by_lanes = is_by::<lanes::Group, U>(alloc, items, hashes, load_factor, pos, bytes)?;
     Ok(
@@ -66,7 +64,15 @@ fn is_written<U: Serialize<VecWriter, Narrow>>(
 fn one_pair_is_written(rt: HostRuntime) -> Result<(), Fail> {
     let front = [1, 2, 0, 0, 0xff, 0x28, 0xff, 0x28];
     assert!(rt;
-        is_written(rt.alloc(), &[(1i8, 2i8)], &[hash_of_i8(1)], (7, 8), 4, &front, 27)?
+        is_written(
+            rt.alloc(),
+            &[(1i8, 2i8)],
+            &[hash_of_i8(1)],
+            (7, 8),
+            4,
+            &front,
+            27
+        )?
     );
     let bytes = archived(rt.alloc(), &[(1u32, 2u32)], &[hash_of_u32(1)], (7, 8))?;
     assert_eq!(rt; bytes.as_slice(), ONE_PAIR.as_slice());
@@ -87,7 +93,17 @@ fn four_pairs_are_written(rt: HostRuntime) -> Result<(), Fail> {
 fn a_repeated_key_is_written_twice(rt: HostRuntime) -> Result<(), Fail> {
     let front = [0, 0, 1, 9, 1, 2, 0x28, 0x28, 0xff, 0x28, 0x28, 0xff];
     let hashes = [hash_of_i8(1), hash_of_i8(1)];
-    assert!(rt; is_written(rt.alloc(), &[(1i8, 2i8), (1, 9)], &hashes, (7, 8), 6, &front, 25)?);
+    assert!(rt;
+        is_written(
+            rt.alloc(),
+            &[(1i8, 2i8), (1, 9)],
+            &hashes,
+            (7, 8),
+            6,
+            &front,
+            25
+        )?
+    );
     Ok(())
 }
 
@@ -143,7 +159,17 @@ fn capacities_about_one_stride(rt: HostRuntime) -> Result<(), Fail> {
         0, 0, 0, 0, 0, 0, 0, 0, 0, 0, 0, 0, 0, 0, 0, 0xff, // their controls
         0, 0, 0, 0, 0, 0, 0, 0, 0, 0, 0, 0, 0, 0, 0,
     ];
-    assert!(rt; is_written(rt.alloc(), &SIXTEEN[..15], &starts[..15], (1, 1), 16, &front, 0)?);
+    assert!(rt;
+        is_written(
+            rt.alloc(),
+            &SIXTEEN[..15],
+            &starts[..15],
+            (1, 1),
+            16,
+            &front,
+            0
+        )?
+    );
     // seventeen buckets: 47 controls, of which the last 13 are empty
     let front = [
         0, 16, 15, 14, 13, 12, 11, 10, 9, 8, 7, 6, 5, 4, 3, 2, 1, // the buckets
@@ -160,12 +186,18 @@ fn hashes_of_wide_numbers_are_written(rt: HostRuntime) -> Result<(), Fail> {
     let buckets = [
         0, 0, 0, 0, 0, 0, 0, 0, 1, 0, 0, 0, 1, 0, 0, 0, 1, 0, 0, 0, 0, 0, 0, 0,
     ];
-    let whole = [hash_of_usize::<FxHasher64Wide>(1), hash_of_usize::<FxHasher64Wide>(4_294_967_297)];
+    let whole = [
+        hash_of_usize::<FxHasher64Wide>(1),
+        hash_of_usize::<FxHasher64Wide>(4_294_967_297),
+    ];
     let (bytes, pos) = written(rt.alloc(), &items, &whole, (7, 8))?;
     assert_eq!(rt; (pos, bytes.len()), (24, 55));
     assert_eq!(rt; &bytes[..24], buckets.as_slice());
     assert!(rt; is_then_empty(&bytes[24..], &[0x28, 0x3c, 0xff, 0x28, 0x3c, 0xff], 25));
-    let halves = [hash_of_usize::<FxHasher64>(1), hash_of_usize::<FxHasher64>(4_294_967_297)];
+    let halves = [
+        hash_of_usize::<FxHasher64>(1),
+        hash_of_usize::<FxHasher64>(4_294_967_297),
+    ];
     let (bytes, pos) = written(rt.alloc(), &items, &halves, (7, 8))?;
     assert_eq!(rt; (pos, bytes.len()), (24, 55));
     assert_eq!(rt; &bytes[..24], buckets.as_slice());
@@ -178,7 +210,10 @@ fn no_items_write_nothing(rt: HostRuntime) -> Result<(), Fail> {
     let (bytes, pos) = written::<u8>(rt.alloc(), &[], &[], (7, 8))?;
     assert_eq!(rt; (pos, bytes.len()), (0, 0));
     let bytes = archived::<u8>(rt.alloc(), &[], &[], (7, 8))?;
-    assert_eq!(rt; bytes.as_slice(), [1, 0, 0, 0, 0, 0, 0, 0, 0, 0, 0, 0].as_slice());
+    assert_eq!(rt;
+        bytes.as_slice(),
+        [1, 0, 0, 0, 0, 0, 0, 0, 0, 0, 0, 0].as_slice()
+    );
     Ok(())
 }
 
@@ -186,7 +221,13 @@ fn no_items_write_nothing(rt: HostRuntime) -> Result<(), Fail> {
 fn a_table_begins_at_a_multiple_of_the_alignment(rt: HostRuntime) -> Result<(), Fail> {
     let mut writer = VecWriter::new(rt.alloc());
     append(&mut writer, &[9])?;
-    let resolver = ArchivedHashTable::<u16, Narrow>::serialize_from_iter::<VecWriter, u16, u16, _, _>(
+    let resolver = ArchivedHashTable::<u16, Narrow>::serialize_from_iter::<
+        VecWriter,
+        u16,
+        u16,
+        _,
+        _,
+    >(
         rt.alloc(),
         [7u16].into_iter(),
         [0u64].into_iter(),
