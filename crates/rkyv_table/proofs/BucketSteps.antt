@@ -1,12 +1,12 @@
 -- One bucket more written.
-use Rattle.std.proofs.Common.{◌≡◌, ℕ, zero, suc, ◌+◌, ◌-◌, ◌<◌, ◌≤◌, refl, sym, ap, ◌∙◌, subst, arith, List, [], ◌∷◌, ◌++◌, length, get_or, take, drop, Option, Some, None, add-one, append-nil, append_assoc, length-append, inl, inr}
+use Rattle.std.proofs.Common.{◌≡◌, ℕ, ◌+◌, ◌-◌, ◌<◌, ◌≤◌, refl, sym, ap, ◌∙◌, subst, arith, List, [], ◌∷◌, ◌++◌, length, get_or, take, drop, Option, Some, None, add-one, append-nil, append_assoc}
 use Rattle.std.specs.Prelude.{slice_get, IfSome}
 use Rattle.std.proofs.lemmas.List.{take_more, length_push, get_or_default, length-replicate, take_all, drop_all}
 use Rattle.std.proofs.Math.Seq.{drop-cons}
 use Rattle.std.proofs.lemmas.Option.{slice_get-get_or}
 use Rattle.rkyv_base.specs.declared.errors.WriteError.{WriteError}
 use Rattle.rkyv_base.specs.declared.errors.WriteError.TheVariants.{DistanceTooLarge}
-use Rattle.rkyv_base.specs.Writing.{Output, end_of, Appends, Told, Refusal, OnePiece, NoRefusal, zeros}
+use Rattle.rkyv_base.specs.Writing.{Output, end_of, Appends, Told, OnePiece, NoRefusal, zeros}
 use Rattle.rkyv_base.specs.Format.{Format}
 use Rattle.rkyv_base.proofs.GivingUp.{appends_after, end-appends, told_after}
 use Rattle.rkyv_table.specs.Slots.{SlotImages, BucketNext, BucketFar, filled, WroteBuckets, Filled, TooFar}

@@ -1,6 +1,6 @@
 -- What placing and writing answers, as what the whole call answers.
-use Rattle.std.proofs.Common.{arith, inl, inr, refl, sym, ◌∙◌, ap, subst}
-use Rattle.std.specs.Prelude.{◌≡◌, ℕ, ◌^◌, ◌<◌, ◌≤◌, List, [], ◌∷◌, length, Option}
+use Rattle.std.proofs.Common.{arith, inl, inr, refl, sym}
+use Rattle.std.specs.Prelude.{◌≡◌, ℕ, ◌^◌, ◌<◌, List, [], ◌∷◌, length}
 use Rattle.std.specs.Int.{Width}
 use mir.Val.{bits}
 use Rattle.rkyv_base.specs.declared.errors.WriteError.{WriteError}
@@ -8,12 +8,12 @@ use Rattle.rkyv_base.specs.declared.errors.WriteError.TheVariants.{InvalidLoadFa
 use Rattle.rkyv_base.proofs.GivingUp.{told_after}
 use Rattle.rkyv_base.specs.Format.{Format}
 use Rattle.rkyv_base.specs.Shape.{Shape}
-use Rattle.rkyv_base.specs.Writing.{Output, Refusal, Told, end_of}
+use Rattle.rkyv_base.specs.Writing.{Output, end_of}
 use Rattle.rkyv_table.proofs.TableSteps.{none_appended}
 use Rattle.rkyv_table.specs.Numbers.{capacity}
 use Rattle.rkyv_table.specs.Serializing.{HasCapacity, NoFilled, NoTable, NotPlaced, OwnCause, WroteFilled, WroteTable}
 use Rattle.rkyv_table.specs.Slots.{TableNext, TableRefuses}
-use Rattle.rkyv_table.specs.TableFormat.{InBuckets, ItemRefuses, TablePiece, TableResolver, table_format}
+use Rattle.rkyv_table.specs.TableFormat.{InBuckets, ItemRefuses, TablePiece, table_format}
 use Rattle.rkyv_table.specs.Taking.{Placed}
 
 no_pairs : {X : Type 0} (xs : List X) → length xs ≡ 0 → xs ≡ []
@@ -68,7 +68,10 @@ module _ {X R : Type 0} (gave : List (ℕ × X) → Type 0) (len : ℕ) (load_fa
           let inside : InBuckets load_factor pairs slots controls = (omega (arith, n, some), placed) in
           inr (
             has,
-            (pairs, taken.came,
-            told_after limit (TablePiece w s f load_factor pairs (end_of o)) (TableNext s f slots controls (end_of o)) (ItemRefuses w s f load_factor pairs (end_of o)) (TableRefuses s f slots controls (end_of o))
-            o o o' [] e (none_appended o) (λ g piece h. (slots, controls, inside, h)) (λ c h. (slots, controls, inside, h)) told),
+            (
+              pairs,
+              taken.came,
+              told_after limit (TablePiece w s f load_factor pairs (end_of o)) (TableNext s f slots controls (end_of o)) (ItemRefuses w s f load_factor pairs (end_of o)) (TableRefuses s f slots controls (end_of o))
+                  o o o' [] e (none_appended o) (λ g piece h. (slots, controls, inside, h)) (λ c h. (slots, controls, inside, h)) told,
+            ),
           )

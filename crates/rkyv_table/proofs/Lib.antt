@@ -25,3 +25,4 @@ pub mod Given
 pub mod FirstFound
 pub mod RawWalks
 pub mod WalkedHomes
+pub mod TableNear

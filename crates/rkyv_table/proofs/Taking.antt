@@ -1,5 +1,5 @@
 -- One pair more taken, and put into its bucket.
-use Rattle.std.proofs.Common.{◌≡◌, ◌≢◌, ℕ, zero, suc, ◌+◌, ◌^◌, ◌<◌, ◌⊎◌, inl, inr, refl, sym, ap, ◌∙◌, subst, arith, List, [], ◌∷◌, ◌++◌, map, length, get_or, set, replicate, Option, Some, None, true, false, eqb, length-set, not}
+use Rattle.std.proofs.Common.{◌≡◌, ◌≢◌, ℕ, zero, suc, ◌+◌, ◌^◌, ◌<◌, ◌⊎◌, inl, inr, refl, sym, ap, ◌∙◌, subst, arith, List, [], ◌∷◌, ◌++◌, length, get_or, set, replicate, Option, Some, None, true, false, eqb, length-set}
 use Rattle.std.specs.Prelude.{slice_get}
 use Rattle.std.specs.List.{find, list_any}
 use Rattle.std.specs.Iterator.{Yields}
@@ -7,8 +7,8 @@ use Rattle.std.proofs.lemmas.List.{map-append, length_push, get_or_push, get_or_
 use Rattle.std.proofs.lemmas.List.Elements.{All-append, All-cons, All-nil}
 use Rattle.std.proofs.lemmas.List.Folds.{list_any-append}
 use Rattle.std.proofs.lemmas.Option.{slice_get_within, same_Some, none-some}
-use Rattle.std.proofs.lemmas.Bool.{cases_lt, cases_eq, or_parts, not-true, not_from_false, both_ways, eq-eqb, leb-true}
-use Rattle.rkyv_table.specs.Numbers.{tag, control_count}
+use Rattle.std.proofs.lemmas.Bool.{or_parts, not-true, not_from_false, both_ways, eq-eqb, leb-true}
+use Rattle.rkyv_table.specs.Numbers.{tag}
 use Rattle.rkyv_table.specs.Probe.{shown, strides}
 use Rattle.rkyv_table.specs.Controls.{HasRoom, fresh_controls, is_empty_at, with_control}
 use Rattle.rkyv_table.specs.Placing.{is_free, Written}

@@ -1,6 +1,5 @@
 -- What writing a table answers.
 use Rattle.std.specs.Prelude.{◌≡◌, ℕ, ◌<◌, ◌≤◌, ◌⊎◌, ⊤, List, length, Option}
-use Rattle.std.specs.Int.{Width}
 use Rattle.rkyv_base.specs.declared.errors.WriteError.{WriteError}
 use Rattle.rkyv_base.specs.declared.errors.WriteError.TheVariants.{InvalidLoadFactor, IteratorLengthMismatch, CapacityTooLarge, PositionTooLarge, DistanceTooLarge, TextTooLong, Writer, Memory, Refused}
 use Rattle.rkyv_base.specs.Format.{Format, GaveUp, Serialized}
@@ -78,15 +77,3 @@ module _ {X R : Type 0} (gave : List (ℕ × X) → Type 0) where
     abbrev pub NoFilled : {F : Type 0} → (ℕ → Type 0) → ℕ → WriteError F → Type 0
     NoFilled other limit e = (NotPlaced len other e × (o' ≡ o)) ⊎ ((pairs : List (ℕ × X)) × (slots : List (Option X)) × (controls : List ℕ) × Taken gave len cap slots controls pairs
         × Told limit (TableNext s f slots controls (end_of o)) (TableRefuses s f slots controls (end_of o)) o o' e)
-
--- the error says that another number than the claimed one came
-abbrev pub IsMismatch : {F : Type 0} → ℕ → ℕ → WriteError F → Type 0
-IsMismatch expected actual (IteratorLengthMismatch m) = (m.expected ≡ expected) × (m.actual ≡ actual)
-IsMismatch expected actual (InvalidLoadFactor n d) = ⊥
-IsMismatch expected actual (CapacityTooLarge l) = ⊥
-IsMismatch expected actual Memory = ⊥
-IsMismatch expected actual PositionTooLarge = ⊥
-IsMismatch expected actual DistanceTooLarge = ⊥
-IsMismatch expected actual TextTooLong = ⊥
-IsMismatch expected actual (Writer fault) = ⊥
-IsMismatch expected actual (Refused c) = ⊥

@@ -1,5 +1,5 @@
 -- How a list of hashes and items is written as a table, and that it stands as one.
-use Rattle.std.specs.Prelude.{◌≡◌, ℕ, ◌^◌, ◌<◌, ◌⊎◌, ℤ, pos, List, [], length, slice_get, slice_index, Option, Some}
+use Rattle.std.specs.Prelude.{◌≡◌, ℕ, ◌^◌, ◌<◌, ◌⊎◌, pos, List, [], length, slice_get, slice_index, Option, Some}
 use Rattle.std.specs.Int.{Width}
 use mir.Val.{bits}
 use Rattle.rkyv_base.specs.Format.{Format}

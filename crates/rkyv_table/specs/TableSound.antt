@@ -4,28 +4,26 @@ use Rattle.std.proofs.Math.Nat.{le-max_right}
 use Rattle.std.proofs.lemmas.Bool.{ne_eqb}
 use Rattle.std.proofs.lemmas.Int.{ints}
 use Rattle.std.proofs.lemmas.List.{length-map, length-replicate}
-use Rattle.std.specs.Int.{Width, byte_len}
-use Rattle.std.specs.Prelude.{◌≡◌, ℕ, suc, ◌+◌, ◌-◌, ◌*◌, ◌/◌, ◌%◌, ◌^◌, ◌<◌, ◌≤◌, cond, max, ℤ, pos, ◌+ℤ◌, ◌-ℤ◌, List, [], ◌++◌, length, slice_get, slice_index, slice_range, Option, Some}
-use mir.Val.{bits}
+use Rattle.std.specs.Int.{Width}
+use Rattle.std.specs.Prelude.{◌≡◌, ℕ, suc, ◌+◌, ◌*◌, ◌/◌, ◌%◌, ◌<◌, ◌≤◌, cond, max, pos, ◌+ℤ◌, ◌-ℤ◌, List, [], ◌++◌, length, slice_get, slice_index, slice_range, Option, Some}
 use Rattle.rkyv_base.specs.Bytes.{Sits, signed_at, sits_back, sits_front}
 use Rattle.rkyv_base.specs.Entry.{round_up, round_up-multiple}
 use Rattle.rkyv_base.specs.Format.{Format, IsFormat}
-use Rattle.rkyv_base.specs.Parts.{PartIn}
 use Rattle.rkyv_base.specs.Shape.{IsElement, Shape}
-use Rattle.rkyv_base.specs.Text.{IsArchiveWord, by_archive_word}
+use Rattle.rkyv_base.specs.Text.{IsArchiveWord}
 use Rattle.rkyv_base.specs.Writing.{padding, zeros}
 use Rattle.rkyv_table.specs.Buckets.{images_length}
 use Rattle.rkyv_table.specs.Header.{IsHeader, begin_told, cap_at, header_bytes, len_at}
 use Rattle.rkyv_table.specs.HeaderReads.{cap_reads, distance_reads, header_length, len_reads}
-use Rattle.rkyv_table.specs.Numbers.{capacity, control_count}
+use Rattle.rkyv_table.specs.Numbers.{capacity}
 use Rattle.rkyv_table.specs.Placing.{Accepted, Written, walk}
 use Rattle.rkyv_table.specs.Places.{AllHold}
 use Rattle.rkyv_table.specs.SlotSound.{slots_sound}
 use Rattle.rkyv_table.specs.SlotWalk.{filled_count, filled_from, walk_filled}
 use Rattle.rkyv_table.specs.Slots.{TableBytes}
-use Rattle.rkyv_table.specs.Table.{IsPart, ItemsHold, TableAt, TableHolds, bucket_at, controls_at, part_size, table_shape}
+use Rattle.rkyv_table.specs.Table.{IsPart, TableAt, TableHolds, bucket_at, controls_at, part_size, table_shape}
 use Rattle.rkyv_table.specs.TableFormat.{BucketsStand, TableParts, TableResolver, TableStands, resolved_capacity, table_format}
-use Rattle.rkyv_table.specs.Taking.{Placed, hashes_of, items_of}
+use Rattle.rkyv_table.specs.Taking.{Placed, hashes_of}
 
 -- some bucket stays empty
 pub capacity_above : (len : ℕ) (factor : ℕ × ℕ) → 0 < len → len < capacity len factor
@@ -187,8 +185,8 @@ module _ {X R : Type 0} (w : Width) (kind : IsArchiveWord w) (s : Shape) (laws :
       some_sound = (
         B + part_size s.size C,
         subst (λ k. TableAt s c k (cap_at w c p) (len_at w c p) p0 (p0 + length part) (B + part_size s.size C)) (sym begin_is)
-        (subst (λ k. TableAt s c (pos B) k (len_at w c p) p0 (p0 + length part) (B + part_size s.size C)) (sym cap_told)
-        (subst (λ k. TableAt s c (pos B) C k p0 (p0 + length part) (B + part_size s.size C)) (sym len_told) table_at)),
+            (subst (λ k. TableAt s c (pos B) k (len_at w c p) p0 (p0 + length part) (B + part_size s.size C)) (sym cap_told)
+            (subst (λ k. TableAt s c (pos B) C k p0 (p0 + length part) (B + part_size s.size C)) (sym len_told) table_at)),
         record {
           len = len_told;
           cap = cap_told;

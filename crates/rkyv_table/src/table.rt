@@ -17,6 +17,7 @@ pub mod raw_iter;
 mod reading;
 pub mod sealed;
 mod verify;
+pub mod take_two;
 pub mod written;
 
 use rkyv_base::view::View;

@@ -6,7 +6,8 @@ ghost use Rattle.rkyv_table.specs.Controls.{fresh_controls};
 ghost use Rattle.rkyv_table.specs.Counting.{GaveBoth, GaveOther, Uneven};
 ghost use Rattle.rkyv_table.specs.Taking.{Placed};
 
-use crate::table::take::{take_none, take_pairs, take_two};
+use crate::table::take::{take_none, take_pairs};
+use crate::table::take_two::take_two;
 use rkyv_scan::simd::GroupKind;
 
 /// Hands in the items of a table, each with its hash.

@@ -7,7 +7,7 @@ ghost use Rattle.rkyv_table.specs.Capacity.{IsCapacity};
 ghost use Rattle.rkyv_table.specs.Controls.{fresh_controls};
 ghost use Rattle.rkyv_table.specs.Counting.{GaveBoth, GaveOther, Uneven};
 ghost use Rattle.rkyv_table.specs.Numbers.{capacity, control_count};
-ghost use Rattle.rkyv_table.specs.Serializing.{IsMismatch, NoFilled, NoTable, WroteFilled, WroteTable};
+ghost use Rattle.rkyv_table.specs.Serializing.{NoFilled, NoTable, WroteFilled, WroteTable};
 ghost use Rattle.rkyv_table.specs.TableFormat.{table_format};
 ghost use Rattle.std.specs.Iterator.{Drains};
 
@@ -66,15 +66,15 @@ impl<X: Drop, R: Drop> Room<X, R> {
     }
 }
 
-// What a length mismatch tells.
-fn mismatch<F>(expected: usize, actual: usize) -> WriteError<F>
-    ensures { IsMismatch expected actual result }
-{
-    WriteError::IteratorLengthMismatch(IteratorLengthMismatch { expected, actual })
-}
-
 // Takes at least one item, places and writes them, and answers the position of the first control.
-fn fill_and_write<W: Width, G: GroupKind, S: Writer, U: Serialize<S, W>, X: Lend<U> + Drop, H: HandsIn<X>>(
+fn fill_and_write<
+    W: Width,
+    G: GroupKind,
+    S: Writer,
+    U: Serialize<S, W>,
+    X: Lend<U> + Drop,
+    H: HandsIn<X>,
+>(
     alloc: Global,
     given: H,
     len: usize,
@@ -98,7 +98,12 @@ fn fill_and_write<W: Width, G: GroupKind, S: Writer, U: Serialize<S, W>, X: Lend
     let (controls, bucket) = scratch.as_mut_slice().split_at_mut(control_count(cap));
     match given.take_into::<G>(len, cap, controls, slots) {
         Ok(()) => {}
-        Err(actual) => return Err(mismatch(len, actual)),
+        Err(actual) => {
+            return Err(WriteError::IteratorLengthMismatch(IteratorLengthMismatch {
+                expected: len,
+                actual,
+            }));
+        }
     }
     match write_table::<W, S, U, X>(alloc, slots, controls, bucket, resolvers, serializer) {
         Ok(pos) => Ok(pos),
@@ -107,7 +112,14 @@ fn fill_and_write<W: Width, G: GroupKind, S: Writer, U: Serialize<S, W>, X: Lend
 }
 
 // Places and writes at least one item, and answers the position of the first control.
-fn serialize_filled<W: Width, G: GroupKind, S: Writer, U: Serialize<S, W>, X: Lend<U> + Drop, H: HandsIn<X>>(
+fn serialize_filled<
+    W: Width,
+    G: GroupKind,
+    S: Writer,
+    U: Serialize<S, W>,
+    X: Lend<U> + Drop,
+    H: HandsIn<X>,
+>(
     alloc: Global,
     given: H,
     len: usize,
@@ -128,7 +140,14 @@ fn serialize_filled<W: Width, G: GroupKind, S: Writer, U: Serialize<S, W>, X: Le
 }
 
 // Writes a table of what is handed in.
-fn serialize_given<W: Width, G: GroupKind, S: Writer, U: Serialize<S, W>, X: Lend<U> + Drop, H: HandsIn<X>>(
+fn serialize_given<
+    W: Width,
+    G: GroupKind,
+    S: Writer,
+    U: Serialize<S, W>,
+    X: Lend<U> + Drop,
+    H: HandsIn<X>,
+>(
     alloc: Global,
     given: H,
     len: usize,
@@ -158,7 +177,10 @@ fn serialize_given<W: Width, G: GroupKind, S: Writer, U: Serialize<S, W>, X: Len
                 load_factor,
                 width: PhantomData,
             }),
-            Err(actual) => Err(mismatch(len, actual)),
+            Err(actual) => Err(WriteError::IteratorLengthMismatch(IteratorLengthMismatch {
+                expected: len,
+                actual,
+            })),
         };
     }
     match serialize_filled::<W, G, S, U, X, H>(alloc, given, len, cap, serializer) {
@@ -241,6 +263,12 @@ impl<'a, T, W: Width> ArchivedHashTable<'a, T, W> {
             (WroteTable gave len load_factor W.MAX_CAPACITY f o o')
             (NoTable gave len load_factor W.MAX_CAPACITY f o o' (GaveOther I.next_gives len pairs) W.LIMIT) }
     {
-        serialize_given::<W, G, S, U, X, Pairs<I>>(alloc, Pairs { pairs }, len, load_factor, serializer)
+        serialize_given::<W, G, S, U, X, Pairs<I>>(
+            alloc,
+            Pairs { pairs },
+            len,
+            load_factor,
+            serializer,
+        )
     }
 }

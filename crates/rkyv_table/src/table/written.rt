@@ -1,7 +1,7 @@
 //! What was written of a table, wherever it stands.
 
 ghost use Rattle.std.specs.Prelude.{ℕ};
-ghost use Rattle.rkyv_base.specs.Format.{IsFormat};
+ghost use Rattle.rkyv_base.specs.Format.{IsFormat, StandsNear};
 ghost use Rattle.rkyv_base.specs.Pairs.{written_as};
 ghost use Rattle.rkyv_table.specs.Lending.{lent_stands};
 ghost use Rattle.rkyv_table.specs.Table.{table_shape};
@@ -17,4 +17,10 @@ use rkyv_base::width::Width;
 pub fn written_tables_stand<W: Width, U: Archive<W>, X: Lend<U>>()
     ensures { (load_factor : ℕ × ℕ) → let s = U.Archived.shape in
         IsFormat (table_shape W.word s) (TableStands W.word s (lent_stands X.lent U.Archived.stands) load_factor) (table_format W.word s (written_as X.lent U.format) load_factor) }
+{}
+
+/// That the items of a table stand rests on its header, and on the bytes up to its new lower end.
+pub fn tables_stand_nearby<W: Width, U: Archive<W>, X: Lend<U>>()
+    ensures { (load_factor : ℕ × ℕ) → let s = U.Archived.shape in
+        StandsNear (table_shape W.word s) (TableStands W.word s (lent_stands X.lent U.Archived.stands) load_factor) }
 {}

@@ -1,9 +1,6 @@
-use Rattle.std.proofs.Common.{arith, ◌≡◌, ◌<◌, ◌≤◌, ◌+◌, ◌-◌, ◌++◌, ◌∷◌, [], ℕ, List, length, get_or, refl, sym, ap, ◌∙◌, subst, Option, Some, None, rules, IfSome}
-use Rattle.std.proofs.lemmas.List.{get_or_default}
+use Rattle.std.proofs.Common.{arith, ◌≡◌, ◌+◌, ◌-◌}
 use Rattle.rkyv_base.specs.Pairs.{written_as}
-use Rattle.rkyv_base.specs.Writing.{Output, end_of, Appends}
-use Rattle.rkyv_table.specs.Slots.{Filled, TooFar}
-use Rattle.rkyv_table.proofs.BucketSteps.{Down, down_rooms, down_read, down_step, down_room, down_init, down_end, told_bucket, told_far}
+use Rattle.rkyv_table.proofs.BucketSteps.{Down, down_rooms, down_read, down_step, down_init, down_end, told_bucket, told_far}
 use Rattle.rkyv_table.proofs.table.buckets.write_buckets.Goals as goal
 use Rattle.rkyv_table.proofs.table.buckets.write_buckets.Goals.{In-loop-above}
 

@@ -1,7 +1,6 @@
-use Rattle.std.proofs.Common.{arith, ◌≡◌, ◌<◌, ◌≤◌, ◌+◌, ◌++◌, ◌∷◌, [], ℕ, List, length, get_or, take, refl, sym, ap, ◌∙◌, Option, Some, None, rules, vec_capacity}
+use Rattle.std.proofs.Common.{arith, ◌≡◌, ◌<◌, ◌++◌, length, get_or, sym, ◌∙◌, Some, None, vec_capacity}
 use Rattle.std.proofs.lemmas.List.{take_all}
 use Rattle.std.proofs.lemmas.List.{get_or_default}
-use Rattle.rkyv_base.specs.Writing.{Output, end_of, Appends}
 use Rattle.rkyv_base.specs.Pairs.{written_as}
 use Rattle.rkyv_base.proofs.GivingUp.{appends_after}
 use Rattle.rkyv_table.proofs.PartSteps.{step_none, step_some, step_room, step_told}

@@ -1,4 +1,4 @@
-use Rattle.std.proofs.Common.{◌≡◌, ℕ, List, take, vec_capacity, ◌≤◌}
+use Rattle.std.proofs.Common.{ℕ, List, take, vec_capacity, ◌≤◌}
 use Rattle.rkyv_base.specs.Pairs.{written_as}
 use Rattle.rkyv_base.specs.Writing.{end_of, Appends}
 use Rattle.rkyv_table.specs.Slots.{SlotParts, filled}

@@ -1,4 +1,4 @@
-use Rattle.std.proofs.Common.{arith, ◌≡◌, ℕ, ◌<◌, zero, suc, ◌+◌, ◌++◌, ◌∷◌, [], refl, sym, ap, ◌∙◌, None, replicate, length, vec_capacity, add-one, rules, subst}
+use Rattle.std.proofs.Common.{arith, ◌≡◌, ℕ, zero, suc, ◌+◌, ◌++◌, ◌∷◌, [], refl, sym, ap, ◌∙◌, None, replicate, length, add-one}
 use Rattle.std.proofs.lemmas.List.{length-replicate}
 use Rattle.rkyv_table.proofs.table.serialize.empty_slots.Goals as goal
 

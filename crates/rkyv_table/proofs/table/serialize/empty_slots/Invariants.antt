@@ -1,4 +1,4 @@
-use Rattle.std.proofs.Common.{◌≡◌, ℕ, None, replicate, vec_capacity, ◌≤◌}
+use Rattle.std.proofs.Common.{◌≡◌, None, replicate, vec_capacity, ◌≤◌}
 use Rattle.rkyv_table.proofs.table.serialize.empty_slots.Given as goal
 
 abbrev pub invariant-loop : goal.invariant-loop

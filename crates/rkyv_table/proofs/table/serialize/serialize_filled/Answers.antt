@@ -1,4 +1,4 @@
-use Rattle.std.proofs.Common.{arith, ◌<◌, ◌+◌, ◌^◌}
+use Rattle.std.proofs.Common.{arith}
 use Rattle.rkyv_table.proofs.table.serialize.serialize_filled.Goals as goal
 
 pub new-requires-clause-fits : goal.new-requires-clause-fits

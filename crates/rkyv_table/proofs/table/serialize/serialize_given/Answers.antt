@@ -1,4 +1,4 @@
-use Rattle.std.proofs.Common.{arith, sym, ◌≡◌, ◌<◌, ◌≤◌, ◌^◌}
+use Rattle.std.proofs.Common.{arith, ◌<◌, ◌^◌}
 use mir.Val.{bits}
 use Rattle.rkyv_base.specs.Pairs.{written_as}
 use Rattle.rkyv_table.proofs.Given.{gave_up_some, wrote_some}

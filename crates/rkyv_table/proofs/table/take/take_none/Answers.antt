@@ -1,4 +1,4 @@
-use Rattle.std.proofs.Common.{arith, ◌≡◌, ◌+◌, ◌∷◌, [], ℕ, refl, inr}
+use Rattle.std.proofs.Common.{arith, ◌≡◌, ◌+◌, ◌∷◌, [], refl, inr}
 use Rattle.rkyv_table.proofs.table.take.take_none.Goals as goal
 
 pub returns-in-Some : goal.returns-in-Some

@@ -1,4 +1,4 @@
-use Rattle.std.proofs.Common.{arith, ◌≡◌, ◌<◌, ◌^◌, ◌+◌, ◌++◌, ◌∷◌, [], ℕ, List, length, refl, sym, ap, ◌∙◌, inl, inr, rules}
+use Rattle.std.proofs.Common.{arith, ◌≡◌, ◌<◌, ◌^◌, ◌+◌, ◌++◌, ◌∷◌, [], refl, ap, ◌∙◌, inr, rules}
 use Rattle.std.proofs.lemmas.List.{length_push}
 use Rattle.rkyv_table.specs.Controls.{is_empty_at}
 use Rattle.rkyv_table.specs.Probe.{strides}

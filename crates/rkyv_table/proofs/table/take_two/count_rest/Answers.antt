@@ -1,7 +1,7 @@
-use Rattle.std.proofs.Common.{arith, ◌≡◌, ℕ, ◌+◌, ◌++◌, ◌∷◌, [], length, refl, sym, ap, ◌∙◌}
+use Rattle.std.proofs.Common.{arith, ◌++◌, ◌∷◌, []}
 use Rattle.std.proofs.lemmas.List.{length_push}
 use Rattle.rkyv_table.proofs.Taking.{yields_more}
-use Rattle.rkyv_table.proofs.table.take.count_rest.Goals as goal
+use Rattle.rkyv_table.proofs.table.take_two.count_rest.Goals as goal
 
 pub loop-count-preserved : goal.loop-count-preserved
 loop-count-preserved g c =

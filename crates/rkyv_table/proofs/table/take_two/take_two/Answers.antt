@@ -1,5 +1,5 @@
-use Rattle.std.proofs.Common.{arith, ◌≡◌, ◌<◌, ◌≤◌, ◌^◌, ◌+◌, ◌++◌, ◌∷◌, [], ℕ, List, length, map, refl, sym, ap, ◌∙◌, inl, inr, rules, subst, length-append, Option, Some, ◌⊎◌}
-use Rattle.std.specs.Iterator.{Yields, Drains}
+use Rattle.std.proofs.Common.{arith, ◌≡◌, ◌<◌, ◌^◌, ◌+◌, ◌++◌, ◌∷◌, [], ℕ, List, length, refl, ap, ◌∙◌, inl, inr, rules, length-append, Option, Some}
+use Rattle.std.specs.Iterator.{Yields}
 use Rattle.std.proofs.lemmas.List.{length_push, length-map, map-append}
 use Rattle.rkyv_table.specs.Probe.{strides}
 use Rattle.rkyv_table.specs.Controls.{is_empty_at}
@@ -7,7 +7,7 @@ use Rattle.rkyv_table.proofs.Written.{shown_below}
 use Rattle.rkyv_table.specs.Counting.{Counted, CountedOn}
 use Rattle.rkyv_table.specs.Taking.{items_of, hashes_of}
 use Rattle.rkyv_table.proofs.Taking.{yields_more, yields_join, placed_more, placed_none, placed_room}
-use Rattle.rkyv_table.proofs.table.take.take_two.Goals as goal
+use Rattle.rkyv_table.proofs.table.take_two.take_two.Goals as goal
 
 pub loop-count-init : goal.loop-count-init
 loop-count-init g c = record {

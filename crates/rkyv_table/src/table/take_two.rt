@@ -1,0 +1,77 @@
+//! Taking items and their hashes from two iterators, each item into the bucket that is its home.
+
+ghost use Rattle.std.specs.Prelude.{◌≡◌, ℕ, ◌+◌, ◌<◌, ◌≤◌, ◌^◌, List, MatchResult, None, replicate, length};
+ghost use Rattle.rkyv_table.specs.Controls.{fresh_controls};
+ghost use Rattle.rkyv_table.specs.Counting.{CountedOn, GaveBoth, Uneven};
+ghost use Rattle.rkyv_table.specs.Taking.{Placed};
+
+use crate::controls::place::place_one;
+use crate::table::take::{next_item, put};
+use rkyv_scan::simd::GroupKind;
+
+// Counts on from `seen`, up to `len + 1`.
+fn count_rest<I: Iterator>(rest: I, seen: usize, len: usize) -> usize
+where
+    I::Item: Drop,
+    requires can { I.can_next rest }
+    requires below { seen ≤ len }
+    requires fits { len + 1 < 2 ^ 64 }
+    ensures { CountedOn I.next_gives len rest seen result }
+{
+    let mut others = rest;
+    for count in seen..len + 1 {
+        match next_item(&mut others) {
+            Some(_) => {}
+            None => return count,
+        }
+    }
+    len + 1
+}
+
+// Takes `len` items and their hashes, and each item into the first empty bucket that its hash
+// shows. An `Err` has how many items came, or, where they are `len`, how many hashes.
+pub(crate) fn take_two<G: GroupKind, X: Drop, I: Iterator<Item = X>, J: Iterator<Item = u64>>(
+    items: I,
+    hashes: J,
+    len: usize,
+    cap: usize,
+    controls: &mut [u8],
+    slots: &mut [Option<X>],
+) -> Result<(), usize>
+    requires can { I.can_next items × J.can_next hashes }
+    requires room { len < cap }
+    requires fresh { controls.old ≡ fresh_controls cap }
+    requires empty { slots.old ≡ replicate cap None }
+    ensures { MatchResult result
+        (λ _. (xs : List (ℕ × X)) × GaveBoth I.next_gives J.next_gives items hashes xs × (length xs ≡ len) × Placed cap xs slots.new controls.new)
+        (Uneven I.next_gives J.next_gives len items hashes) }
+{
+    let mut rest = items;
+    let mut marks = hashes;
+    for count in 0..len {
+        match next_item(&mut rest) {
+            Some(item) => match next_item(&mut marks) {
+                Some(hash) => {
+                    let bucket = place_one::<G>(controls, cap, hash);
+                    put(slots, bucket, item);
+                }
+                None => {
+                    let came = count_rest(rest, count + 1, len);
+                    if came == len {
+                        return Err(count);
+                    }
+                    return Err(came);
+                }
+            },
+            None => return Err(count),
+        }
+    }
+    match next_item(&mut rest) {
+        Some(_) => return Err(len + 1),
+        None => {}
+    }
+    match next_item(&mut marks) {
+        Some(_) => Err(len + 1),
+        None => Ok(()),
+    }
+}
