@@ -23,6 +23,8 @@ pub mod Misplaced
 pub mod Items
 pub mod Given
 pub mod FirstFound
+pub mod SealedLookup
 pub mod RawWalks
 pub mod WalkedHomes
 pub mod TableNear
+pub mod SealedItems

@@ -30,3 +30,5 @@ pub mod HeaderReads
 pub mod TableSound
 pub mod RawItems
 pub mod WalkLaws
+pub mod SealedItems
+pub mod MisplacedIn

@@ -15,6 +15,7 @@ mod lookup;
 pub mod misplaced;
 pub mod raw_iter;
 mod reading;
+pub mod raw_iter_seal;
 pub mod sealed;
 mod verify;
 pub mod take_two;
