@@ -7,7 +7,12 @@ use Rattle.rkyv_scan.specs.Groups.{is_full}
 use Rattle.rkyv_table.specs.Header.{cap_at, len_at}
 use Rattle.rkyv_table.specs.Numbers.{control_count}
 use Rattle.rkyv_table.specs.RawItems.{place_before}
-use Rattle.rkyv_table.specs.Reading.{IsWalked, controls_place, item_at, table_controls}
+use Rattle.rkyv_table.specs.Reading.{AreItems, IsWalked, controls_place, item_at, table_bytes, table_controls, table_place}
+use Rattle.rkyv_table.specs.SealedLookup.{IsReadAt, IsTableSeal}
+use Rattle.rkyv_table.specs.declared.table.TableOf.{TableOf}
+use Rattle.rkyv_table.specs.declared.table.items.Items.{Items}
+use Rattle.rkyv_base.specs.Seal.{archive_in, pos_in}
+use Rattle.rkyv_base.specs.declared.seal.ArchiveSeal.{ArchiveSeal}
 use Rattle.rkyv_table.specs.Placing.{walk}
 use Rattle.rkyv_table.specs.SealedItems.{IsItemAt, IsSealIter, StaysThere, buckets_left}
 use Rattle.rkyv_table.specs.SealedTable.{KeepsTable}
@@ -132,3 +137,22 @@ module _ {T : Type 0} (w : Width) (s : Shape) (law : IsElement s) (p : ℕ) (r :
 
   pub begun : r.left ≡ len_at w r.archive.now p → (0 < r.cap → r.place ≡ controls_place w r.archive.now p) → IsSealIter w s p r
   begun left place = record { table = view; cap = cap; place = place; left = left ∙ sym (walk_count w s law r.archive.now p view) ∙ ap length (sym all_left) }
+
+-- a cursor with the numbers that were read of a header
+module _ {T W : Type 0} (w : Width) (s : Shape) (law : IsElement s) (a : ArchiveSeal (TableOf T W)) (stands : IsTableSeal w s a) (items : Items T W) (are : AreItems w s items)
+    (read : IsReadAt a items.table) (r : RawIterSeal T) (bytes : r.archive.now ≡ archive_in a) (place : r.place ≡ items.place) (cap : r.cap ≡ items.cap) (left : r.left ≡ items.len) (next : r.next ≡ 0) where
+  as_read : (F : List ℕ → ℕ → ℕ) → F (table_bytes items.table) (table_place items.table) ≡ F r.archive.now (pos_in a)
+  as_read F = ap (λ b. F b (table_place items.table)) (read.0 ∙ sym bytes) ∙ ap (F r.archive.now) read.1
+
+  stands_there : Viewed (table_shape w s) r.archive.now (pos_in a)
+  stands_there = subst (λ b. Viewed (table_shape w s) b (pos_in a)) (sym bytes) stands
+
+  cap_there : r.cap ≡ cap_at w r.archive.now (pos_in a)
+  cap_there = cap ∙ are.cap ∙ as_read (cap_at w)
+
+  pub begun_at : IsSealIter w s (pos_in a) r
+  begun_at = begun w s law (pos_in a) r stands_there cap_there next (left ∙ are.len ∙ as_read (len_at w))
+      (λ h. place ∙ are.place (subst (λ n. 0 < n) cap h) ∙ as_read (controls_place w))
+
+  pub all_left_at : buckets_left w (pos_in a) r ≡ walk (table_controls w (archive_in a) (pos_in a)) (cap_at w (archive_in a) (pos_in a))
+  all_left_at = all_left w s law (pos_in a) r stands_there cap_there next ∙ ap (λ b. walk (table_controls w b (pos_in a)) (cap_at w b (pos_in a))) bytes

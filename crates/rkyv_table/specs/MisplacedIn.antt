@@ -1,12 +1,12 @@
 -- How many items of a table a lookup of their own doesn't answer.
-use Rattle.std.specs.Prelude.{◌≡◌, ℕ, Bool}
+use Rattle.std.specs.Prelude.{◌≡◌, ℕ, Bool, not}
 use Rattle.std.specs.Int.{Width}
 use Rattle.rkyv_base.specs.Shape.{Shape}
 use Rattle.rkyv_base.specs.declared.view.View.{View}
 use Rattle.rkyv_scan.specs.Groups.{Kind}
 use Rattle.rkyv_table.specs.Header.{cap_at, len_at}
-use Rattle.rkyv_table.specs.Misplaced.{is_misplaced, misplaced}
-use Rattle.rkyv_table.specs.Reading.{IsItem, item_at, table_bytes, table_controls, table_place}
+use Rattle.rkyv_table.specs.Misplaced.{is_answer, is_misplaced, misplaced}
+use Rattle.rkyv_table.specs.Reading.{Answers, IsItem, bucket_found, item_at, table_bytes, table_controls, table_place}
 use Rattle.rkyv_table.specs.declared.table.ArchivedHashTable.{ArchivedHashTable}
 
 -- the comparison may be asked of each two items
@@ -32,11 +32,12 @@ table_misplaced kind w s t hash_of same =
     misplaced kind (table_controls w (table_bytes t) (table_place t)) (cap_at w (table_bytes t) (table_place t)) (len_at w (table_bytes t) (table_place t))
     (λ i. hash_of (item_at w s.size (table_bytes t) (table_place t) i)) (λ i j. same (item_at w s.size (table_bytes t) (table_place t) i) (item_at w s.size (table_bytes t) (table_place t) j))
 
--- the answer for one bucket, and the number of the buckets of which it is true
-abbrev pub TellsMisplaced : {T W : Type 0} → (View T → ℕ → Type 0) → (View T → View T → Bool → Type 0) → Kind → Width → Shape → ArchivedHashTable T W → ℕ → Bool → Type 0
-TellsMisplaced hashes compares kind w s t bucket result =
-    (hash_of : ℕ → ℕ) (same : ℕ → ℕ → Bool) → HashesAs hashes w s t hash_of → ComparesAs compares w s t same → result ≡ bucket_misplaced kind w s t hash_of same bucket
+-- a lookup doesn't answer the bucket
+abbrev pub TellsElsewhere : {T W : Type 0} → (View T → Bool → Type 0) → Kind → Width → Shape → ArchivedHashTable T W → ℕ → ℕ → Bool → Type 0
+TellsElsewhere post kind w s t hash bucket result =
+    (accept : ℕ → Bool) → Answers post w s t accept → result ≡ not (is_answer bucket (bucket_found kind w s.size (table_bytes t) (table_place t) hash accept))
 
+-- the number of the misplaced items, where both functions go by the positions of items
 abbrev pub CountsMisplaced : {T W : Type 0} → (View T → ℕ → Type 0) → (View T → View T → Bool → Type 0) → Kind → Width → Shape → ArchivedHashTable T W → ℕ → Type 0
 CountsMisplaced hashes compares kind w s t result =
     (hash_of : ℕ → ℕ) (same : ℕ → ℕ → Bool) → HashesAs hashes w s t hash_of → ComparesAs compares w s t same → result ≡ table_misplaced kind w s t hash_of same

@@ -1,8 +1,8 @@
 //! Counting the items that a lookup of their own doesn't answer.
 ghost use Rattle.rkyv_scan.specs.Groups.{generic_kind};
 ghost use Rattle.rkyv_table.specs.Misplaced.{NoneMisplacedIsComplete, RepeatedAreMisplaced};
-ghost use Rattle.rkyv_table.specs.MisplacedIn.{CountsMisplaced, MayCompare, TellsMisplaced};
-ghost use Rattle.rkyv_table.specs.Reading.{IsItem, IsTable, IsWalked, MayAsk, table_bytes, table_place};
+ghost use Rattle.rkyv_table.specs.MisplacedIn.{CountsMisplaced, MayCompare, TellsElsewhere};
+ghost use Rattle.rkyv_table.specs.Reading.{IsTable, MayAsk};
 
 use crate::controls::find::Strides;
 use crate::table::ArchivedHashTable;
@@ -13,32 +13,14 @@ use rkyv_base::width::Width;
 use rkyv_scan::Group;
 
 impl<'a, T: Element, W: Width> ArchivedHashTable<'a, T, W> {
-    // Whether a lookup of the bucket's own item doesn't answer the bucket.
-    fn is_misplaced<H: Fn(View<'a, T>) -> u64, S: Fn(View<'a, T>, View<'a, T>) -> bool>(
-        self,
-        bucket: usize,
-        hash_of: &H,
-        same: &S,
-    ) -> bool
+    // Whether a lookup doesn't answer the bucket.
+    fn is_elsewhere<F: Fn(View<'a, T>) -> bool>(self, bucket: usize, hash: u64, cmp: F) -> bool
         requires table { IsTable W.word T.shape self }
-        requires walked { IsWalked W.word (table_bytes self) (table_place self) bucket }
-        requires hashable { MayAsk (H.pre hash_of.now) W.word T.shape self }
-        requires comparable { MayCompare (S.pre same.now) W.word T.shape self }
-        ensures { TellsMisplaced (H.post hash_of.now) (S.post same.now) generic_kind W.word T.shape self.entry bucket result }
+        requires callable { MayAsk (F.pre cmp) W.word T.shape self }
+        ensures { TellsElsewhere (F.post cmp) generic_kind W.word T.shape self.entry hash bucket result }
     {
-        let item = Items::of(self).item(bucket);
-        let found = self.find::<Group, _>(
-            hash_of(item),
-            |other|
-                requires own { IsItem W.word T.shape self item }
-                requires other { IsItem W.word T.shape self other }
-                requires comparable { MayCompare (S.pre same.now) W.word T.shape self }
-                ensures { S.post same.now item.entry other.entry result }
-            { same(item, other) },
-            &mut Strides::new(),
-        );
-        match found {
-            Some(found) => found.bucket != bucket,
+        match self.find::<Group, F>(hash, cmp, &mut Strides::new()) {
+            Some(found) => bucket != found.bucket,
             None => true,
         }
     }
@@ -59,9 +41,15 @@ impl<'a, T: Element, W: Width> ArchivedHashTable<'a, T, W> {
         requires comparable { MayCompare (S.pre same) W.word T.shape self }
         ensures { CountsMisplaced (H.post hash_of) (S.post same) generic_kind W.word T.shape self.entry result }
     {
+        let items = Items::of(self);
         let mut count = 0;
-        for bucket in Items::of(self).walk::<Group>() {
-            if self.is_misplaced(bucket, &hash_of, &same) {
+        for bucket in items.walk::<Group>() {
+            let item = items.item(bucket);
+            let accepts = |other|
+                requires { S.pre same item other }
+                ensures { S.post same item.entry other.entry result }
+            { same(item, other) };
+            if self.is_elsewhere(bucket, hash_of(item), accepts) {
                 count += 1;
             }
         }

@@ -1,6 +1,7 @@
 //! Writing the items of a table in place.
 ghost use Rattle.std.specs.Prelude.{IfSome, List, ℕ};
 ghost use Rattle.rkyv_base.specs.Entry.{entry_shape};
+ghost use Rattle.rkyv_base.specs.Seal.{LiesIn};
 ghost use Rattle.rkyv_base.specs.Shape.{Viewed};
 ghost use Rattle.rkyv_table.specs.Reading.{IsWalked};
 ghost use Rattle.rkyv_scan.specs.Groups.{generic_kind};
@@ -24,6 +25,7 @@ impl<'a, T: Element, W: Width> ArchivedHashTable<'a, T, W> {
     ) -> Option<Seal<'a, T>>
         requires table { IsTableSeal W.word T.shape this }
         requires callable { MayAskAt (F.pre cmp) W.word T.shape this }
+        ensures inside { IfSome result (LiesIn T.shape) }
         ensures walked { IfSome result (IsItemSeal W.word T.shape this.entry) }
         ensures answer { SealsFound (F.post cmp) generic_kind W.word T.shape this.entry hash (place_of_seal result) }
         ensures first { SealsFirst (F.post cmp) W.word T.shape this.entry hash (place_of_seal result) }

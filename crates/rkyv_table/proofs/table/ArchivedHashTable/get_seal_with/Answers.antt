@@ -1,4 +1,4 @@
-use Rattle.std.proofs.Common.{refl, ap, ◌∙◌, sym, subst, Some, None}
+use Rattle.std.proofs.Common.{refl, ap, ◌∙◌, ◌+◌, ◌≤◌, length, Some, None}
 use Rattle.rkyv_scan.specs.Groups.{generic_kind}
 use Rattle.rkyv_table.specs.SealedLookup.{IsReadAt}
 use Rattle.rkyv_table.proofs.SealedLookup.{item_seal, place_viewed, seals_first, seals_found, table_stands}
@@ -15,6 +15,13 @@ pub seal_at-requires : goal.seal_at-requires
 seal_at-requires g c =
     let read : IsReadAt c.args.this c.of.result = (ap (λ v. v.archive.now) c.of.ensures ∙ c.as_view.ensures.bytes, ap (λ v. v.pos) c.of.ensures ∙ c.as_view.ensures.pos) in
     place_viewed g.W.Width.word g.T.Element.shape g.met.T.Element.laws c.args.this c.of.result read c.requires.table c.in-Some.pos c.in-Some.ensures.walked
+
+pub returns-in-Some-clause-inside : goal.returns-in-Some-clause-inside
+returns-in-Some-clause-inside g c =
+    let read : IsReadAt c.args.this c.of.result = (ap (λ v. v.archive.now) c.of.ensures ∙ c.as_view.ensures.bytes, ap (λ v. v.pos) c.of.ensures ∙ c.as_view.ensures.pos) in
+    let there = place_viewed g.W.Width.word g.T.Element.shape g.met.T.Element.laws c.args.this c.of.result read c.requires.table c.in-Some.pos c.in-Some.ensures.walked in
+    let inside : c.in-Some.pos + g.T.Element.shape.size ≤ length c.args.this.archive.now = there.inside in
+    rw (c.seal_at.ensures.at.bytes, c.seal_at.ensures.at.place) inside
 
 pub returns-in-Some-clause-walked : goal.returns-in-Some-clause-walked
 returns-in-Some-clause-walked g c =
