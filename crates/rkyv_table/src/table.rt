@@ -2,23 +2,23 @@
 
 pub mod buckets;
 pub mod bytes;
-pub mod hands_in;
-pub mod parts;
-pub mod resolve;
-pub mod serialize;
-pub mod take;
 mod element;
+pub mod hands_in;
 mod header;
 pub(crate) mod items;
 pub mod laws;
 mod lookup;
 pub mod misplaced;
+pub mod parts;
 pub mod raw_iter;
-mod reading;
 pub mod raw_iter_seal;
+mod reading;
+pub mod resolve;
 pub mod sealed;
-mod verify;
+pub mod serialize;
+pub mod take;
 pub mod take_two;
+mod verify;
 pub mod written;
 
 use rkyv_base::view::View;

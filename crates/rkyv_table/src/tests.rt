@@ -6,6 +6,7 @@ mod headers;
 mod lookups;
 mod misplaced;
 mod nested;
+mod reading;
 mod refusals;
 mod sealed;
 mod strangers;

@@ -1,11 +1,12 @@
 //! One byte of an archive changed to each other one.
 
-use crate::controls::find::Strides;
-use crate::table::{ArchivedHashTable, TableOf};
+use crate::table::TableOf;
 use crate::tests::archives::{ONE_PAIR, hash_of_u32};
+use crate::tests::reading::{value_of, walked, walks_pairs};
 use rkyv_base::access::access;
 use rkyv_base::entry::Entry;
 use rkyv_base::errors::VerifyError;
+use rkyv_base::width::Narrow;
 use std::test::Fail;
 
 // How many archives were answered in each way.
@@ -29,22 +30,12 @@ fn add_one(count: &mut u32) {
 // Whether a lookup of each number from 0 to 9 in an accepted archive reads one stride, and its walk
 // gives one item.
 fn is_small(bytes: &[u8]) -> Result<bool, VerifyError> {
-    let table = ArchivedHashTable::of(access::<TableOf<Entry<u32, u32>>>(bytes)?);
-    let mut right = true;
+    let mut right = walked::<Entry<u32, u32>, Narrow>(bytes)? == 1;
     for key in 0..10 {
-        let mut strides = Strides::new();
-        let found = table.get_counted(
-            hash_of_u32(key),
-            |entry| entry.key().to_native() == key,
-            &mut strides,
-        );
-        right = right && strides.count() == 1;
-        if let Some(entry) = found {
-            right = right && entry.key().to_native() == key;
-        }
+        let (_, strides) = value_of::<u32, u32, Narrow>(bytes, hash_of_u32(key), key)?;
+        right = right && strides == 1;
     }
-    let mut rest = table.raw_iter();
-    Ok(right && rest.next_view().is_some() && rest.next_view().is_none())
+    Ok(right)
 }
 
 impl Answers {
@@ -123,14 +114,10 @@ fn one_change_leads_to_a_place_between_items(rt: HostRuntime) {
 fn a_changed_key_is_walked_and_not_found(rt: HostRuntime) -> Result<(), Fail> {
     let mut bytes = ONE_PAIR;
     bytes[0] = 5;
-    let table = ArchivedHashTable::of(access::<TableOf<Entry<u32, u32>>>(&bytes)?);
-    assert_eq!(rt; table.raw_iter().next(), Some(0));
+    assert!(rt; walks_pairs::<u32, u32, Narrow>(&bytes, &[(5, 2)])?);
     for key in [1, 5] {
-        assert!(rt;
-            table
-                .get_with(hash_of_u32(key), |entry| entry.key().to_native() == key)
-                .is_none()
-        );
+        let found = value_of::<u32, u32, Narrow>(&bytes, hash_of_u32(key), key)?;
+        assert_eq!(rt; found, (None, 1));
     }
     Ok(())
 }

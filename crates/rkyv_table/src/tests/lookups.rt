@@ -5,9 +5,12 @@ use crate::table::{ArchivedHashTable, TableOf};
 use crate::tests::archives::{
     FOUR_PAIRS, ONE_PAIR, SIXTEEN, archived, hash_of_i8, hash_of_u32, hash_of_usize,
 };
+use crate::tests::reading::{counts, place_of, value_of};
 use rkyv_base::access::access;
+use rkyv_base::element::Element;
 use rkyv_base::entry::Entry;
 use rkyv_base::errors::VerifyError;
+use rkyv_base::width::Narrow;
 use rkyv_scan::hash::{FxHasher64, FxHasher64Wide};
 use rkyv_scan::simd::{GroupKind, bytewise, generic, lanes};
 use std::cell::Cell;
@@ -50,26 +53,13 @@ fn found_by<G: GroupKind>(bytes: &[u8], hash: u64, wanted: u8) -> Result<Option<
 #[test]
 fn a_pair_is_found_in_one_stride(rt: HostRuntime) -> Result<(), Fail> {
     let table = ArchivedHashTable::of(access::<TableOf<Entry<u32, u32>>>(&ONE_PAIR)?);
-    assert_eq!(rt; (table.len(), table.capacity()), (1, 2));
-    assert!(rt; !table.clone()?.is_empty());
-    let mut strides = Strides::new();
-    let found = table.get_counted(
-        hash_of_u32(1),
-        |entry| entry.key().to_native() == 1,
-        &mut strides,
-    );
-    assert_eq!(rt; strides.count(), 1);
-    match found {
-        Some(entry) => assert_eq!(rt; entry.value().to_native(), 2),
-        None => assert!(rt; false, "the pair is there"),
-    }
-    let found = table.get_counted(
-        hash_of_u32(2),
-        |entry| entry.key().to_native() == 2,
-        &mut strides,
-    );
-    assert!(rt; found.is_none());
-    assert_eq!(rt; strides.count(), 2);
+    let same = table.clone()?;
+    assert!(rt; !same.is_empty());
+    assert_eq!(rt; counts::<Entry<u32, u32>, Narrow>(&ONE_PAIR)?, (1, 2));
+    let found = value_of::<u32, u32, Narrow>(&ONE_PAIR, hash_of_u32(1), 1)?;
+    assert_eq!(rt; found, (Some(2), 1));
+    let found = value_of::<u32, u32, Narrow>(&ONE_PAIR, hash_of_u32(2), 2)?;
+    assert_eq!(rt; found, (None, 1));
     Ok(())
 }
 
@@ -77,24 +67,19 @@ fn a_pair_is_found_in_one_stride(rt: HostRuntime) -> Result<(), Fail> {
 fn a_pair_is_found_in_another_bucket_than_its_start(rt: HostRuntime) -> Result<(), Fail> {
     let hashes = [hash_of_i8(1), hash_of_i8(3), hash_of_i8(5), hash_of_i8(7)];
     let bytes = archived(rt.alloc(), &FOUR_PAIRS, &hashes, (7, 8))?;
-    let table = ArchivedHashTable::of(access::<TableOf<Entry<i8, i8>>>(bytes.as_slice())?);
-    assert_eq!(rt; table.capacity(), 5);
+    let bytes = bytes.as_slice();
+    assert_eq!(rt; counts::<Entry<i8, i8>, Narrow>(bytes)?, (4, 5));
     assert_eq!(rt; hash_of_i8(5) % 5, 4);
     // bucket 0 is the last one before the controls, which begin at 10
-    let found = table.get_pos_with(hash_of_i8(5), |entry| entry.key().to_native() == 5);
-    assert_eq!(rt; found, Some(8));
-    for key in [1, 3, 5, 7] {
-        match table.get_with(hash_of_i8(key), |entry| entry.key().to_native() == key) {
-            Some(entry) => assert_eq!(rt; entry.value().to_native(), key + 1),
-            None => assert!(rt; false, "the key {key} is there"),
-        }
+    let place = place_of::<i8, i8, Narrow>(bytes, hash_of_i8(5), 5)?;
+    assert_eq!(rt; place, Some(8));
+    for (key, value) in [(1, 2), (3, 4), (5, 6), (7, 8)] {
+        let found = value_of::<i8, i8, Narrow>(bytes, hash_of_i8(key), key)?;
+        assert_eq!(rt; found, (Some(value), 1));
     }
     for key in [0, 2, 4, 6, 8] {
-        assert!(rt;
-            table
-                .get_with(hash_of_i8(key), |entry| entry.key().to_native() == key)
-                .is_none()
-        );
+        let found = value_of::<i8, i8, Narrow>(bytes, hash_of_i8(key), key)?;
+        assert_eq!(rt; found, (None, 1));
     }
     Ok(())
 }
@@ -112,23 +97,29 @@ fn the_first_of_two_under_one_hash_is_found(rt: HostRuntime) -> Result<(), Fail>
     Ok(())
 }
 
+// How often a comparison that accepts none is asked.
+fn asks_under<T: Element>(bytes: &[u8], hash: u64) -> Result<usize, VerifyError> {
+    let table = ArchivedHashTable::of(access::<TableOf<T>>(bytes)?);
+    let asks = Cell::new(0usize);
+    let found = table.get_pos_with(hash, |_| {
+        asks.set(asks.get().wrapping_add(1));
+        false
+    });
+    match found {
+        Some(_) => Ok(0),
+        None => Ok(asks.get()),
+    }
+}
+
 #[test]
 fn the_first_of_a_repeated_key_is_found(rt: HostRuntime) -> Result<(), Fail> {
     let hashes = [hash_of_i8(1), hash_of_i8(1)];
     let bytes = archived(rt.alloc(), &[(1i8, 2i8), (1, 9)], &hashes, (7, 8))?;
-    let table = ArchivedHashTable::of(access::<TableOf<Entry<i8, i8>>>(bytes.as_slice())?);
-    match table.get_with(hash_of_i8(1), |entry| entry.key().to_native() == 1) {
-        Some(entry) => assert_eq!(rt; entry.value().to_native(), 2),
-        None => assert!(rt; false, "the key is there"),
-    }
+    let bytes = bytes.as_slice();
+    let found = value_of::<i8, i8, Narrow>(bytes, hash_of_i8(1), 1)?;
+    assert_eq!(rt; found, (Some(2), 1));
     // in a small table each control stands twice, and each item is asked of twice
-    let asks = Cell::new(0usize);
-    let found = table.get_with(hash_of_i8(1), |_| {
-        asks.set(asks.get().wrapping_add(1));
-        false
-    });
-    assert!(rt; found.is_none());
-    assert_eq!(rt; asks.get(), 4);
+    assert_eq!(rt; asks_under::<Entry<i8, i8>>(bytes, hash_of_i8(1))?, 4);
     Ok(())
 }
 

@@ -6,6 +6,7 @@ use rkyv_base::access::access;
 use rkyv_base::element::Element;
 use rkyv_base::entry::Entry;
 use rkyv_base::errors::VerifyError;
+use rkyv_base::scalars::Scalar;
 use rkyv_base::text::Text;
 use std::test::Fail;
 
@@ -71,21 +72,32 @@ fn two_texts_may_not_have_one_part(rt: HostRuntime) -> Result<(), Fail> {
     Ok(())
 }
 
+// The value that a key leads to in the table that another key leads to.
+fn inner_value<K: Scalar + PartialEq, V: Scalar>(
+    bytes: &[u8],
+    hash: u64,
+    key: K,
+) -> Result<Option<V>, VerifyError> {
+    let outer = ArchivedHashTable::of(access::<TableOf<Entry<K, TableOf<Entry<K, V>>>>>(bytes)?);
+    match outer.get_with(hash, |entry| entry.key().to_native() == key) {
+        Some(entry) => {
+            let inner = ArchivedHashTable::of(entry.value());
+            match inner.get_with(hash, |pair| pair.key().to_native() == key) {
+                Some(pair) => Ok(Some(pair.value().to_native())),
+                None => Ok(None),
+            }
+        }
+        None => Ok(None),
+    }
+}
+
 #[test]
 fn a_table_in_a_table_is_read(rt: HostRuntime) -> Result<(), Fail> {
     assert_eq!(rt; <Outer as Element>::size(), 12);
-    assert_eq!(rt; <Outer as Element>::align(), 4);
-    let outer = ArchivedHashTable::of(access::<Outer>(&NESTED)?);
-    match outer.get_with(hash_of_i8(1), |entry| entry.key().to_native() == 1) {
-        Some(entry) => {
-            let inner = ArchivedHashTable::of(entry.value());
-            match inner.get_with(hash_of_i8(1), |pair| pair.key().to_native() == 1) {
-                Some(pair) => assert_eq!(rt; pair.value().to_native(), 2),
-                None => assert!(rt; false, "the inner pair is there"),
-            }
-        }
-        None => assert!(rt; false, "the inner table is there"),
-    }
+    let value = inner_value::<i8, i8>(&NESTED, hash_of_i8(1), 1)?;
+    assert_eq!(rt; value, Some(2));
+    let value = inner_value::<i8, i8>(&NESTED, hash_of_i8(2), 2)?;
+    assert_eq!(rt; value, None);
     Ok(())
 }
 

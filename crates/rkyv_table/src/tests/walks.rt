@@ -3,9 +3,10 @@
 use crate::table::raw_iter::RawIter;
 use crate::table::{ArchivedHashTable, TableOf};
 use crate::tests::archives::{FOUR_PAIRS, SIXTEEN, archived, hash_of_i8};
+use crate::tests::reading::walks_pairs;
 use rkyv_base::access::access;
-use rkyv_base::entry::Entry;
 use rkyv_base::errors::VerifyError;
+use rkyv_base::width::Narrow;
 use std::test::Fail;
 
 // Whether a walk over the numbers of a table gives these, and then nothing, and tells each time how
@@ -43,18 +44,8 @@ fn items_are_walked_by_ascending_bucket(rt: HostRuntime) -> Result<(), Fail> {
 fn pairs_are_walked_by_ascending_bucket(rt: HostRuntime) -> Result<(), Fail> {
     let hashes = [hash_of_i8(1), hash_of_i8(3), hash_of_i8(5), hash_of_i8(7)];
     let bytes = archived(rt.alloc(), &FOUR_PAIRS, &hashes, (7, 8))?;
-    let table = ArchivedHashTable::of(access::<TableOf<Entry<i8, i8>>>(bytes.as_slice())?);
-    let mut rest = table.raw_iter();
-    for (key, value) in [(5, 6), (7, 8), (1, 2), (3, 4)] {
-        match rest.next_view() {
-            Some(entry) => {
-                assert_eq!(rt; entry.key().to_native(), key);
-                assert_eq!(rt; entry.value().to_native(), value);
-            }
-            None => assert!(rt; false, "the pair of {key} is there"),
-        }
-    }
-    assert!(rt; rest.next_view().is_none());
+    let pairs = [(5i8, 6i8), (7, 8), (1, 2), (3, 4)];
+    assert!(rt; walks_pairs::<i8, i8, Narrow>(bytes.as_slice(), &pairs)?);
     Ok(())
 }
 
@@ -62,15 +53,7 @@ fn pairs_are_walked_by_ascending_bucket(rt: HostRuntime) -> Result<(), Fail> {
 fn a_repeated_key_is_walked_twice(rt: HostRuntime) -> Result<(), Fail> {
     let hashes = [hash_of_i8(1), hash_of_i8(1)];
     let bytes = archived(rt.alloc(), &[(1i8, 2i8), (1, 9)], &hashes, (7, 8))?;
-    let table = ArchivedHashTable::of(access::<TableOf<Entry<i8, i8>>>(bytes.as_slice())?);
-    let mut rest = table.raw_iter();
-    for value in [2, 9] {
-        match rest.next_view() {
-            Some(entry) => assert_eq!(rt; entry.value().to_native(), value),
-            None => assert!(rt; false, "the value {value} is there"),
-        }
-    }
-    assert!(rt; rest.next_view().is_none());
+    assert!(rt; walks_pairs::<i8, i8, Narrow>(bytes.as_slice(), &[(1, 2), (1, 9)])?);
     Ok(())
 }
 

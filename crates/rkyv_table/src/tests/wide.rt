@@ -1,8 +1,8 @@
 //! Tables in wide archives.
 
-use crate::controls::find::Strides;
 use crate::table::{ArchivedHashTable, TableOf};
 use crate::tests::archives::hash_of_u32;
+use crate::tests::reading::{counts, place_of, value_of, walks_pairs};
 use rkyv_base::access::access_in;
 use rkyv_base::element::{Element, PartRange};
 use rkyv_base::entry::Entry;
@@ -70,21 +70,14 @@ fn no_wide_items_write_a_header_alone(rt: HostRuntime) -> Result<(), Fail> {
 fn a_wide_pair_is_read(rt: HostRuntime) -> Result<(), Fail> {
     assert_eq!(rt; <TableOf<u8, Wide> as Element>::size(), 24);
     assert_eq!(rt; <TableOf<u8, Wide> as Element>::align(), 8);
-    let view = access_in::<Wide, TableOf<Entry<u32, u32>, Wide>>(&ONE_WIDE_PAIR)?;
-    let table = ArchivedHashTable::of(view);
-    assert_eq!(rt; (table.len(), table.capacity()), (1, 2));
-    let mut strides = Strides::new();
-    match table.get_counted(
-        hash_of_u32(1),
-        |entry| entry.key().to_native() == 1,
-        &mut strides,
-    ) {
-        Some(entry) => assert_eq!(rt; (entry.pos(), entry.value().to_native()), (0, 2)),
-        None => assert!(rt; false, "the pair is there"),
-    }
-    assert_eq!(rt; strides.count(), 1);
-    let found = table.get_pos_with(hash_of_u32(2), |entry| entry.key().to_native() == 2);
-    assert_eq!(rt; found, None);
+    assert_eq!(rt; counts::<Entry<u32, u32>, Wide>(&ONE_WIDE_PAIR)?, (1, 2));
+    let found = value_of::<u32, u32, Wide>(&ONE_WIDE_PAIR, hash_of_u32(1), 1)?;
+    assert_eq!(rt; found, (Some(2), 1));
+    let place = place_of::<u32, u32, Wide>(&ONE_WIDE_PAIR, hash_of_u32(1), 1)?;
+    assert_eq!(rt; place, Some(0));
+    let found = value_of::<u32, u32, Wide>(&ONE_WIDE_PAIR, hash_of_u32(2), 2)?;
+    assert_eq!(rt; found, (None, 1));
+    assert!(rt; walks_pairs::<u32, u32, Wide>(&ONE_WIDE_PAIR, &[(1, 2)])?);
     Ok(())
 }
 
