@@ -23,12 +23,12 @@ pub mod Serializing
 pub mod Buckets
 pub mod RawItems
 pub mod WalkLaws
+pub mod SealedTable
+pub mod SealedLookup
+pub mod Misplaced
 pub mod SlotWalk
 pub mod SlotSound
 pub mod HeaderReads
 pub mod TableSound
-pub mod SealedTable
-pub mod SealedLookup
-pub mod Misplaced
 pub mod SealedItems
 pub mod MisplacedIn

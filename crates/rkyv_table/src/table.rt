@@ -1,24 +1,24 @@
 //! Tables of items.
 
+mod buckets;
+mod bytes;
 mod element;
+mod hands_in;
 mod header;
 pub(crate) mod items;
 pub mod laws;
 mod lookup;
 pub mod misplaced;
+mod parts;
 pub mod raw_iter;
 pub mod raw_iter_seal;
 mod reading;
-pub mod sealed;
-mod verify;
-pub mod buckets;
-pub mod bytes;
-pub mod hands_in;
-pub mod parts;
 pub mod resolve;
-pub mod serialize;
-pub mod take;
-pub mod take_two;
+pub mod sealed;
+mod serialize;
+mod take;
+mod take_two;
+mod verify;
 pub mod written;
 
 use rkyv_base::view::View;

@@ -1,290 +1,68 @@
-//! Tables of strangers, and reading one in place.
-ghost use Rattle.std.specs.Prelude.{IfSome};
-ghost use Rattle.rkyv_base.specs.View.{IsView};
-ghost use Rattle.rkyv_table.specs.Reading.{IsTable};
+//! What tests read of archived tables.
 
-use crate::table::raw_iter::RawIter;
-use crate::{ArchivedHashTable, Strides, TableOf};
-use rkyv_base::access::{access, access_in};
-use rkyv_base::element::{Element, PartRange};
+use crate::controls::find::Strides;
+use crate::table::{ArchivedHashTable, TableOf};
+use rkyv_base::access::access_in;
+use rkyv_base::element::Element;
 use rkyv_base::entry::Entry;
 use rkyv_base::errors::VerifyError;
-use rkyv_base::view::View;
-use rkyv_base::width::{Narrow, Wide, Width};
-use rkyv_scan::simd::{GroupKind, bytewise, generic, lanes};
+use rkyv_base::scalars::Scalar;
+use rkyv_base::width::Width;
 
-// The hash of the key 1, whose tag is 28.
-const ONE: u64 = 0x517c_c1b7_2722_0a95;
-
-type Pair = Entry<u32, u32>;
-
-// The archive of the one pair 1 and 2: buckets from 0 on, controls from 16 on, header at 48.
-fn one_pair() -> [u8; 60] {
-    let mut bytes = [0xff; 60];
-    bytes[..16].copy_from_slice(&[1, 0, 0, 0, 2, 0, 0, 0, 0, 0, 0, 0, 0, 0, 0, 0]);
-    bytes[17] = 0x28;
-    bytes[19] = 0x28;
-    bytes[47] = 0;
-    bytes[48..].copy_from_slice(&[0xe0, 0xff, 0xff, 0xff, 1, 0, 0, 0, 2, 0, 0, 0]);
-    bytes
+/// How many items a table has, and how many buckets.
+pub(crate) fn counts<T: Element, W: Width>(bytes: &[u8]) -> Result<(usize, usize), VerifyError> {
+    let table = ArchivedHashTable::of(access_in::<W, TableOf<T, W>>(bytes)?);
+    Ok((table.len(), table.capacity()))
 }
 
-// The item that is found where the comparison always answers so.
-fn found<'a, G: GroupKind, T: Element, W: Width>(
-    table: ArchivedHashTable<'a, T, W>,
+/// The value of the pair that is found under a hash by its key, and the strides that are read.
+pub(crate) fn value_of<K: Scalar + PartialEq, V: Scalar, W: Width>(
+    bytes: &[u8],
     hash: u64,
-    answer: bool,
-) -> Option<View<'a, T>>
-    requires { IsTable W.word T.shape table }
-    ensures { IfSome result (IsView T.shape) }
-{
-    table.get_by::<G, _>(hash, |_: View<'_, T>| answer)
-}
-
-// The same by the plain call.
-fn found_plainly<'a, T: Element, W: Width>(
-    table: ArchivedHashTable<'a, T, W>,
-    hash: u64,
-    answer: bool,
-) -> Option<View<'a, T>>
-    requires { IsTable W.word T.shape table }
-    ensures { IfSome result (IsView T.shape) }
-{
-    table.get_with(hash, |_: View<'_, T>| answer)
-}
-
-// Where it stands.
-fn found_pos<T: Element, W: Width>(
-    table: ArchivedHashTable<'_, T, W>,
-    hash: u64,
-    answer: bool,
-) -> Option<u64>
-    requires { IsTable W.word T.shape table }
-{
-    table.get_pos_with(hash, |_: View<'_, T>| answer)
-}
-
-// Whether it is found, and how many strides were read.
-fn counted<T: Element, W: Width>(
-    table: ArchivedHashTable<'_, T, W>,
-    hash: u64,
-    answer: bool,
-) -> (bool, u64)
-    requires { IsTable W.word T.shape table }
-{
+    key: K,
+) -> Result<(Option<V>, u64), VerifyError> {
+    let table = ArchivedHashTable::of(access_in::<W, TableOf<Entry<K, V>, W>>(bytes)?);
     let mut strides = Strides::new();
-    let found = table.get_counted(hash, |_: View<'_, T>| answer, &mut strides);
-    (found.is_some(), strides.count())
-}
-
-#[test]
-fn an_empty_header_is_accepted(rt: HostRuntime) {
-    let bytes = [77, 0, 0, 0, 0, 0, 0, 0, 0, 0, 0, 0];
-    match access::<TableOf<Pair>>(&bytes) {
-        Ok(root) => {
-            let table = ArchivedHashTable::of(root);
-            assert!(rt; table.is_empty());
-            assert_eq!(rt; table.len(), 0);
-            assert_eq!(rt; table.capacity(), 0);
-            assert!(rt; table.raw_iter().next().is_none());
-            assert!(rt; found_plainly(table, ONE, true).is_none());
-            assert_eq!(rt; counted(table, ONE, true), (false, 0));
-        }
-        Err(_) => assert!(rt; false),
+    let found = table.get_counted(hash, |pair| pair.key().to_native() == key, &mut strides);
+    match found {
+        Some(pair) => Ok((Some(pair.value().to_native()), strides.count())),
+        None => Ok((None, strides.count())),
     }
-    assert!(rt; RawIter::<Pair>::empty().next_view().is_none());
 }
 
-#[test]
-fn a_table_is_walked(rt: HostRuntime) {
-    let bytes = one_pair();
-    match access::<TableOf<Pair>>(&bytes) {
-        Ok(root) => {
-            let table = ArchivedHashTable::of(root);
-            assert!(rt; !table.is_empty());
-            assert_eq!(rt; table.len(), 1);
-            assert_eq!(rt; table.capacity(), 2);
-            let mut items = table.raw_iter();
-            assert_eq!(rt; items.len(), 1);
-            assert_eq!(rt; items.size_hint(), (1, Some(1)));
-            match items.next_view() {
-                Some(item) => {
-                    assert_eq!(rt; item.pos(), 0);
-                    assert_eq!(rt; item.key().to_native(), 1);
-                    assert_eq!(rt; item.value().to_native(), 2);
-                }
-                None => assert!(rt; false),
+/// Where the pair stands that is found under a hash by its key.
+pub(crate) fn place_of<K: Scalar + PartialEq, V: Scalar, W: Width>(
+    bytes: &[u8],
+    hash: u64,
+    key: K,
+) -> Result<Option<u64>, VerifyError> {
+    let table = ArchivedHashTable::of(access_in::<W, TableOf<Entry<K, V>, W>>(bytes)?);
+    Ok(table.get_pos_with(hash, |pair| pair.key().to_native() == key))
+}
+
+/// Whether a walk gives these pairs, and then nothing.
+pub(crate) fn walks_pairs<K: Scalar + PartialEq, V: Scalar + PartialEq, W: Width>(
+    bytes: &[u8],
+    pairs: &[(K, V)],
+) -> Result<bool, VerifyError> {
+    let table = ArchivedHashTable::of(access_in::<W, TableOf<Entry<K, V>, W>>(bytes)?);
+    let mut rest = table.raw_iter();
+    let mut right = true;
+    for (key, value) in pairs {
+        match rest.next_view() {
+            Some(pair) => {
+                right = right
+                    && pair.key().to_native() == *key
+                    && pair.value().to_native() == *value;
             }
-            assert_eq!(rt; items.len(), 0);
-            assert!(rt; items.next_view().is_none());
-            assert!(rt; items.next().is_none());
-            for pos in table.raw_iter() {
-                assert_eq!(rt; pos, 0);
-            }
+            None => return Ok(false),
         }
-        Err(_) => assert!(rt; false),
     }
+    Ok(right && rest.next_view().is_none())
 }
 
-#[test]
-fn an_item_is_found(rt: HostRuntime) {
-    let bytes = one_pair();
-    match access::<TableOf<Pair>>(&bytes) {
-        Ok(root) => {
-            let table = ArchivedHashTable::of(root);
-            match found_plainly(table, ONE, true) {
-                Some(item) => {
-                    assert_eq!(rt; item.key().to_native(), 1);
-                    assert_eq!(rt; item.value().to_native(), 2);
-                }
-                None => assert!(rt; false),
-            }
-            assert_eq!(rt; found_pos(table, ONE, true), Some(0));
-            assert_eq!(rt; found_pos(table, 0, true), None);
-            assert_eq!(rt; found_pos(table, ONE, false), None);
-            assert_eq!(rt; counted(table, ONE, true), (true, 1));
-            assert!(rt; found::<bytewise::Group, _, _>(table, ONE, true).is_some());
-            assert!(rt; found::<generic::Group, _, _>(table, ONE, true).is_some());
-            assert!(rt; found::<lanes::Group, _, _>(table, ONE, true).is_some());
-        }
-        Err(_) => assert!(rt; false),
-    }
-}
-
-#[test]
-fn a_table_is_verified(rt: HostRuntime) {
-    let bytes = one_pair();
-    let range = PartRange { lo: 0, hi: 48 };
-    assert!(rt;
-        matches!(
-            ArchivedHashTable::<Pair, Narrow>::verify(&bytes, 48, range),
-            Ok(PartRange { lo: 47, hi: 48 })
-        )
-    );
-    let range = PartRange { lo: 1, hi: 48 };
-    assert!(rt;
-        matches!(
-            ArchivedHashTable::<Pair, Narrow>::verify(&bytes, 48, range),
-            Err(VerifyError::OutOfRange { pos: 0, size: 47 })
-        )
-    );
-}
-
-#[test]
-fn a_length_that_is_not_below_the_capacity_is_refused(rt: HostRuntime) {
-    let bytes = [77, 0, 0, 0, 2, 0, 0, 0, 2, 0, 0, 0];
-    assert!(rt;
-        matches!(
-            access::<TableOf<Pair>>(&bytes),
-            Err(VerifyError::InvalidLength { len: 2, cap: 2 })
-        )
-    );
-}
-
-#[test]
-fn another_number_of_items_is_refused(rt: HostRuntime) {
-    let mut bytes = one_pair();
-    bytes[52] = 0;
-    assert!(rt;
-        matches!(
-            access::<TableOf<Pair>>(&bytes),
-            Err(VerifyError::WrongNumberOfElements {
-                expected: 0,
-                actual: 1
-            })
-        )
-    );
-}
-
-#[test]
-fn buckets_that_are_not_aligned_are_refused(rt: HostRuntime) {
-    let mut bytes = one_pair();
-    bytes[48] = 0xe1;
-    assert!(rt;
-        matches!(
-            access::<TableOf<Pair>>(&bytes),
-            Err(VerifyError::Unaligned { pos: 1, align: 4 })
-        )
-    );
-}
-
-#[test]
-fn a_control_that_does_not_repeat_is_refused(rt: HostRuntime) {
-    let mut bytes = one_pair();
-    bytes[20] = 0;
-    assert!(rt;
-        matches!(
-            access::<TableOf<Pair>>(&bytes),
-            Err(VerifyError::UnwrappedControlByte { index: 4 })
-        )
-    );
-    let mut bytes = [0xff; 60];
-    bytes[47] = 0;
-    bytes[32] = 0x80;
-    bytes[48..].copy_from_slice(&[0xe0, 0xff, 0xff, 0xff, 0, 0, 0, 0, 16, 0, 0, 0]);
-    assert!(rt;
-        matches!(
-            access::<TableOf<u8>>(&bytes),
-            Err(VerifyError::UnwrappedControlByte { index: 16 })
-        )
-    );
-}
-
-#[test]
-fn any_empty_control_is_accepted(rt: HostRuntime) {
-    let mut bytes = one_pair();
-    bytes[16] = 0x80;
-    bytes[18] = 0x80;
-    assert!(rt; access::<TableOf<Pair>>(&bytes).is_ok());
-}
-
-#[test]
-fn an_item_is_checked(rt: HostRuntime) {
-    let mut bytes = [0xff; 48];
-    bytes[0] = 2;
-    bytes[1] = 0;
-    bytes[3] = 0x28;
-    bytes[5] = 0x28;
-    bytes[36..].copy_from_slice(&[0xde, 0xff, 0xff, 0xff, 1, 0, 0, 0, 2, 0, 0, 0]);
-    assert!(rt; access::<TableOf<u8>>(&bytes).is_ok());
-    assert!(rt;
-        matches!(
-            access::<TableOf<bool>>(&bytes),
-            Err(VerifyError::InvalidValue { pos: 0 })
-        )
-    );
-}
-
-// The wide archive of that pair: the header at 48 has three words of eight bytes.
-fn wide_pair() -> [u8; 72] {
-    let mut bytes = [0; 72];
-    bytes[0] = 1;
-    bytes[4] = 2;
-    for byte in &mut bytes[16..47] {
-        *byte = 0xff;
-    }
-    bytes[17] = 0x28;
-    bytes[19] = 0x28;
-    for byte in &mut bytes[49..56] {
-        *byte = 0xff;
-    }
-    bytes[48] = 0xe0;
-    bytes[56] = 1;
-    bytes[64] = 2;
-    bytes
-}
-
-#[test]
-fn a_wide_table_is_read(rt: HostRuntime) {
-    let bytes = wide_pair();
-    match access_in::<Wide, TableOf<Pair, Wide>>(&bytes) {
-        Ok(root) => {
-            let table = ArchivedHashTable::of(root);
-            assert_eq!(rt; table.len(), 1);
-            assert_eq!(rt; table.capacity(), 2);
-        }
-        Err(_) => assert!(rt; false),
-    }
-    assert_eq!(rt; <TableOf<Pair, Wide> as Element>::size(), 24);
-    assert_eq!(rt; <TableOf<Pair, Wide> as Element>::align(), 8);
+/// How many items a walk gives.
+pub(crate) fn walked<T: Element, W: Width>(bytes: &[u8]) -> Result<usize, VerifyError> {
+    let table = ArchivedHashTable::of(access_in::<W, TableOf<T, W>>(bytes)?);
+    Ok(table.raw_iter().count())
 }
