@@ -3,7 +3,7 @@
 use crate::table::{ArchivedHashTable, TableOf};
 use rkyv_base::access::{access, access_mut};
 use rkyv_base::entry::Entry;
-use rkyv_base::seal::set_value;
+use rkyv_base::seal::set_at;
 use rkyv_base::view::View;
 
 // The hash of the key 1, whose tag is 28.
@@ -48,10 +48,8 @@ fn the_value_of_a_found_entry_is_set(rt: HostRuntime) {
         Ok(root) => ArchivedHashTable::of(root).get_pos_with(ONE, |_: View<'_, Pair>| true),
         Err(_) => None,
     };
-    match found {
-        Some(pos) => set_value::<u32, u32>(&mut bytes, pos, 16_909_060),
-        None => assert!(rt; false),
-    }
+    assert_eq!(rt; found, Some(0));
+    set_at(&mut bytes, 4, 16_909_060u32);
     let mut wanted = one_pair();
     wanted[4..8].copy_from_slice(&[4, 3, 2, 1]);
     assert_eq!(rt; bytes, wanted);
