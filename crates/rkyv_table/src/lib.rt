@@ -7,4 +7,5 @@ pub mod table;
 mod tests;
 
 pub use controls::find::Strides;
+pub use table::raw_iter::RawIter;
 pub use table::{ArchivedHashTable, TableOf};
