@@ -55,36 +55,31 @@ fn the_value_of_a_found_entry_is_set(rt: HostRuntime) {
     assert_eq!(rt; bytes, wanted);
 }
 
+// Sets the number under a hash that equals `old`, and tells whether there is one.
+fn sets(bytes: &mut [u8], hash: u64, old: u32, new: u32) -> bool {
+    match access_mut::<TableOf<u32>>(bytes) {
+        Ok(whole) => {
+            let is_old = |item: View<'_, u32>| item.to_native() == old;
+            match ArchivedHashTable::get_seal_with(whole, hash, is_old) {
+                Some(mut seal) => {
+                    seal.set(new);
+                    true
+                }
+                None => false,
+            }
+        }
+        Err(_) => false,
+    }
+}
+
 #[test]
 fn a_found_item_is_set(rt: HostRuntime) {
     let mut bytes = three_numbers(7, 8, 9);
-    match access_mut::<TableOf<u32>>(&mut bytes) {
-        Ok(whole) => {
-            let found = ArchivedHashTable::get_seal_with(
-                whole,
-                ONE,
-                |item: View<'_, u32>| item.to_native() == 8,
-            );
-            match found {
-                Some(mut seal) => seal.set(5),
-                None => assert!(rt; false),
-            }
-        }
-        Err(_) => assert!(rt; false),
-    }
+    assert!(rt; sets(&mut bytes, ONE, 8, 5));
     assert_eq!(rt; bytes, three_numbers(7, 5, 9));
-    match access_mut::<TableOf<u32>>(&mut bytes) {
-        Ok(whole) => assert!(rt;
-            ArchivedHashTable::get_seal_with(whole, ONE, |_: View<'_, u32>| false).is_none()
-        ),
-        Err(_) => assert!(rt; false),
-    }
-    match access_mut::<TableOf<u32>>(&mut bytes) {
-        Ok(whole) => assert!(rt;
-            ArchivedHashTable::get_seal_with(whole, 0, |_: View<'_, u32>| true).is_none()
-        ),
-        Err(_) => assert!(rt; false),
-    }
+    assert!(rt; !sets(&mut bytes, ONE, 8, 6));
+    assert!(rt; !sets(&mut bytes, 0, 5, 6));
+    assert_eq!(rt; bytes, three_numbers(7, 5, 9));
 }
 
 #[test]
