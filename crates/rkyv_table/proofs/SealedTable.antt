@@ -1,12 +1,11 @@
 -- A write of one item in place keeps the table.
-use Rattle.std.specs.Prelude.{◌≡◌, ◌≢◌, ℕ, suc, ◌+◌, ◌-◌, ◌*◌, ◌<◌, ◌≤◌, ℤ, pos, ◌+ℤ◌, ◌-ℤ◌, List, [], ◌∷◌, Bool, length, slice_index, slice_range, unsigned_abs}
+use Rattle.std.specs.Prelude.{◌≡◌, ◌≢◌, ℕ, suc, ◌+◌, ◌-◌, ◌*◌, ◌<◌, ◌≤◌, pos, ◌+ℤ◌, ◌-ℤ◌, List, [], ◌∷◌, Bool, length, slice_index, slice_range, unsigned_abs}
 use Rattle.std.specs.Int.{Width, byte_len, cast_signed, from_le_bytes}
-use Rattle.std.proofs.Common.{arith, refl, subst, sym, ◌∙◌, ap, inl, inr, get_or, ltb}
+use Rattle.std.proofs.Common.{arith, subst, sym, ◌∙◌, ap, inl, inr}
 use Rattle.std.proofs.lemmas.Bool.{cases_eq, cases_lt}
 use Rattle.std.proofs.lemmas.Int.{ints}
 use Rattle.std.proofs.Math.Nat.{mul-le-mul_right}
 use Rattle.rkyv_base.specs.Bytes.{Same, number_at, same_part, signed_at}
-use Rattle.rkyv_base.specs.Parts.{PartIn}
 use Rattle.rkyv_base.specs.Entry.{entry_element, entry_shape, parts_inside, size_of_small, whole_size}
 use Rattle.rkyv_base.specs.Sealing.{Keeps, Outside, Sealed, value_place}
 use Rattle.rkyv_base.specs.Shape.{IsElement, Shape, Viewed}
@@ -21,7 +20,7 @@ use Rattle.rkyv_table.specs.Numbers.{control_count}
 use Rattle.rkyv_table.specs.Places.{AllHold}
 use Rattle.rkyv_table.specs.PlaceLaws.{AllBelow, range_below}
 use Rattle.rkyv_table.specs.Placing.{Accepted, Written, walk}
-use Rattle.rkyv_table.specs.Table.{IsPart, TableAt, TableHolds, bucket_at, controls_at, part_size, table_shape}
+use Rattle.rkyv_table.specs.Table.{IsPart, TableAt, bucket_at, controls_at, table_shape}
 use Rattle.rkyv_table.specs.TableLaws.{bucket_inside, of_numbers}
 
 -- two buckets share no byte

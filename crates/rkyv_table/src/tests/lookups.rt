@@ -307,7 +307,11 @@ fn a_table_is_asked_by_another_hasher(rt: HostRuntime) -> Result<(), Fail> {
 // Whether a table of a stranger has this number under this hash.
 fn has_number(bytes: &[u8], hash: u64, wanted: u32) -> Result<bool, VerifyError> {
     let table = ArchivedHashTable::of(access::<TableOf<u32>>(bytes)?);
-    Ok(table.get_with(hash, |item| item.to_native() == wanted).is_some())
+    Ok(
+        table
+            .get_with(hash, |item| item.to_native() == wanted)
+            .is_some(),
+    )
 }
 
 #[test]
