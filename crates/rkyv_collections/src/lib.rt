@@ -1,0 +1,4 @@
+//! Archived hash maps and hash sets.
+#![tactic(auto)]
+
+pub mod map;
