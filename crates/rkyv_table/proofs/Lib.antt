@@ -13,3 +13,4 @@ pub mod WrittenStep
 pub mod Walks
 pub mod WrittenAccepted
 pub mod HomeList
+pub mod Headers

@@ -11,3 +11,6 @@ pub mod Laws
 pub mod Header
 pub mod Places
 pub mod Table
+pub mod PlaceLaws
+pub mod TableLaws
+pub mod Reading

@@ -1,5 +1,12 @@
 //! Tables of items.
 
+mod element;
+mod header;
+pub(crate) mod items;
+mod lookup;
+mod reading;
+mod verify;
+
 use rkyv_base::view::View;
 use rkyv_base::width::Narrow;
 use std::marker::PhantomData;
