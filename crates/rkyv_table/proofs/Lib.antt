@@ -14,3 +14,5 @@ pub mod Walks
 pub mod WrittenAccepted
 pub mod HomeList
 pub mod Headers
+pub mod Items
+pub mod FirstFound

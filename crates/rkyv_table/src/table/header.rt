@@ -1,10 +1,12 @@
 //! The header of a table, as it is read.
-ghost use Rattle.std.specs.Prelude.{length, pos as int, unsigned_abs, ℕ, ◌*◌, ◌+ℤ◌, ◌+◌, ◌-ℤ◌, ◌<◌, ◌^◌, ◌≡◌, ◌≤◌};
+ghost use Rattle.std.specs.Prelude.{length, pos as int, slice_range, unsigned_abs, ℕ, ◌*◌, ◌+ℤ◌, ◌+◌, ◌-ℤ◌, ◌<◌, ◌^◌, ◌≡◌, ◌≤◌};
 ghost use Rattle.std.specs.Int.{byte_len};
 ghost use Rattle.rkyv_base.specs.Bytes.{signed_at};
 ghost use Rattle.rkyv_table.specs.Header.{cap_at, len_at};
+ghost use Rattle.rkyv_table.specs.Numbers.{control_count};
 ghost use Rattle.rkyv_table.specs.Table.{bucket_at, part_size};
 
+use crate::controls::numbers::control_count;
 use rkyv_base::width::Width;
 
 /// What a header tells.
@@ -70,11 +72,20 @@ pub(crate) fn bucket_position(begin: u64, cap: usize, bucket: usize, size: usize
     begin + ((cap - (bucket + 1)) * size) as u64
 }
 
-/// The place at a distance from a position.
+/// Where the first control stands, of a header at `pos` of a table with buckets.
 #[inline]
-pub(crate) fn place_from(pos: u64, distance: i64) -> usize
-    requires { (n : ℕ) × (int n ≡ int pos +ℤ distance) × (n < 2 ^ 64) }
-    ensures { result ≡ unsigned_abs (int pos +ℤ distance) }
+pub(crate) fn controls_place(pos: u64, header: Header) -> usize
+    requires { (place : ℕ) × (int place ≡ int pos +ℤ header.distance) × (place < 2 ^ 64) }
+    ensures { result ≡ unsigned_abs (int pos +ℤ header.distance) }
 {
-    (i128::from(pos) + i128::from(distance)) as usize
+    (i128::from(pos) + i128::from(header.distance)) as usize
+}
+
+/// The controls of `cap` buckets, from `place` on.
+#[inline]
+pub(crate) fn controls_from(bytes: &[u8], place: usize, cap: usize) -> &[u8]
+    requires { place + control_count cap ≤ length bytes.now }
+    ensures { result.now ≡ slice_range bytes.now place (place + control_count cap) }
+{
+    &bytes[place..place + control_count(cap)]
 }

@@ -2,9 +2,8 @@
 ghost use Rattle.std.specs.Prelude.{◌≡◌};
 ghost use Rattle.rkyv_table.specs.Reading.{AreItems, IsItemIn, IsTable, IsWalked, table_bytes, table_place};
 
-use crate::controls::numbers::control_count;
 use crate::table::ArchivedHashTable;
-use crate::table::header::{place_from, read_header};
+use crate::table::header::{controls_from, controls_place, read_header};
 use rkyv_base::element::Element;
 use rkyv_base::view::View;
 use rkyv_base::width::Width;
@@ -49,11 +48,11 @@ impl<'a, T: Element, W: Width> Items<'a, T, W> {
                 cap,
             };
         }
-        let place = place_from(pos, header.distance);
+        let place = controls_place(pos, header);
         Items {
             table,
             place,
-            controls: &archive[place..place + control_count(cap)],
+            controls: controls_from(archive, place, cap),
             len,
             cap,
         }
