@@ -16,3 +16,5 @@ pub mod HomeList
 pub mod Headers
 pub mod Items
 pub mod FirstFound
+pub mod RawWalks
+pub mod WalkedHomes

@@ -14,3 +14,5 @@ pub mod Table
 pub mod PlaceLaws
 pub mod TableLaws
 pub mod Reading
+pub mod RawItems
+pub mod WalkLaws

@@ -3,7 +3,9 @@
 mod element;
 mod header;
 pub(crate) mod items;
+pub mod laws;
 mod lookup;
+pub mod raw_iter;
 mod reading;
 mod verify;
 
