@@ -7,7 +7,7 @@ use Rattle.std.proofs.lemmas.List.Elements.{All-contains_itself, All-map, All-we
 use Rattle.rkyv_base.specs.Shape.{IsElement, Shape, Viewed}
 use Rattle.rkyv_table.specs.Header.{cap_at, len_at}
 use Rattle.rkyv_table.specs.Placing.{walk}
-use Rattle.rkyv_table.specs.RawItems.{StandsBefore, place_before}
+use Rattle.rkyv_table.specs.RawItems.{IsBefore, place_before}
 use Rattle.rkyv_table.specs.Reading.{IsWalked, controls_place, item_at, item_places, table_controls}
 use Rattle.rkyv_table.specs.Table.{table_shape}
 use Rattle.rkyv_table.proofs.Items.{controls_accepted, item_before, item_viewed, no_items}
@@ -31,12 +31,11 @@ module _ (w : Width) (s : Shape) (law : IsElement s) (b : List ℕ) (p : ℕ) wh
       (walk (table_controls w b p) (cap_at w b p)) (All-contains_itself (walk (table_controls w b p) (cap_at w b p)))
 
   -- and stands before the first control
-  stands_before : Viewed (table_shape w s) b p → cap_at w b p < 2 ^ 64 → (i : ℕ) → IsWalked w b p i → StandsBefore s b (controls_place w b p) i
+  stands_before : Viewed (table_shape w s) b p → cap_at w b p < 2 ^ 64 → (i : ℕ) → IsWalked w b p i → IsBefore s.size (controls_place w b p) i
   stands_before v fits i walked =
       record {
         small = omega (arith, walked.0);
         inside = item_before w s law b p v i walked.0;
-        viewed = item_viewed w s law b p v i walked;
       }
 
   pub places_viewed : Viewed (table_shape w s) b p → All (Viewed s b) (item_places w s.size b p)
@@ -45,11 +44,11 @@ module _ (w : Width) (s : Shape) (law : IsElement s) (b : List ℕ) (p : ℕ) wh
       (All-weaker (IsWalked w b p) (λ i. Viewed s b (item_at w s.size b p i)) (λ i h. item_viewed w s law b p v i h) (walk (table_controls w b p) (cap_at w b p)) walked_all)
 
   -- by the place that was read of the header
-  pub read_stand : Viewed (table_shape w s) b p → cap_at w b p < 2 ^ 64 → (place : ℕ) → (0 < cap_at w b p → place ≡ controls_place w b p)
-      → All (StandsBefore s b place) (walk (table_controls w b p) (cap_at w b p))
-  read_stand v fits place is =
-      All-weaker (IsWalked w b p) (StandsBefore s b place)
-      (λ i h. subst (λ z. StandsBefore s b z i) (sym (is (omega (arith, h.0)))) (stands_before v fits i h))
+  pub read_before : Viewed (table_shape w s) b p → cap_at w b p < 2 ^ 64 → (place : ℕ) → (0 < cap_at w b p → place ≡ controls_place w b p)
+      → All (IsBefore s.size place) (walk (table_controls w b p) (cap_at w b p))
+  read_before v fits place is =
+      All-weaker (IsWalked w b p) (IsBefore s.size place)
+      (λ i h. subst (λ z. IsBefore s.size z i) (sym (is (omega (arith, h.0)))) (stands_before v fits i h))
       (walk (table_controls w b p) (cap_at w b p)) walked_all
 
   pub read_places : (place : ℕ) → (0 < cap_at w b p → place ≡ controls_place w b p)

@@ -19,13 +19,16 @@ pub record TakesPlace (before : ItemsLeft) (result : Option ℕ) (after : ItemsL
 abbrev pub place_before : ℕ → ℕ → ℕ → ℕ
 place_before place size i = place - (i + 1) * size
 
--- bucket i stands in the archive before the first control, and a value stands in it
-pub record StandsBefore (s : Shape) (archive : List ℕ) (place i : ℕ) : Type 0 where
+-- bucket i stands before the first control, where items have this size
+pub record IsBefore (size place i : ℕ) : Type 0 where
   pub small : i + 1 < 2 ^ 64
-  pub inside : (i + 1) * s.size ≤ place
-  pub viewed : Viewed s archive (place_before place s.size i)
+  pub inside : (i + 1) * size ≤ place
 
--- what a walk keeps: the number of the buckets that are left, in each of which a value stands
-pub record IsRawIter (s : Shape) (archive : List ℕ) (place count : ℕ) (buckets : List ℕ) : Type 0 where
+-- what a walk keeps: the number of the buckets that are left, each of which stands before the first control
+pub record IsRawIter (size place count : ℕ) (buckets : List ℕ) : Type 0 where
   pub counted : count ≡ length buckets
-  pub stand : All (StandsBefore s archive place) buckets
+  pub before : All (IsBefore size place) buckets
+
+-- at each of the places that are left a value stands
+abbrev pub AllStand : Shape → ItemsLeft → Type 0
+AllStand s left = All (Viewed s left.archive.now) left.places
