@@ -1,6 +1,7 @@
 //! Hash maps.
 
 mod element;
+pub mod iter;
 mod lookup;
 mod reading;
 
