@@ -14,20 +14,29 @@ use Rattle.rkyv_keys.specs.Equality.{Comparison}
 use Rattle.rkyv_keys.specs.Keys.{IsQuery}
 use Rattle.rkyv_keys.specs.OfEntries.{standing_key}
 use Rattle.rkyv_table.specs.Laws.{IsUnderHash}
-use Rattle.rkyv_table.specs.Reading.{Answers, IsItem, WrittenAt, home_places, table_bytes, table_place}
+use Rattle.rkyv_table.specs.Reading.{IsItem, IsWalked, WrittenAt, home_places, item_at}
+use Rattle.rkyv_table.specs.declared.table.ArchivedHashTable.{ArchivedHashTable}
 use Rattle.rkyv_table.proofs.Items.{item_viewed}
-use Rattle.rkyv_collections.specs.Map.{AnswersKeys, AreUnderHash, IsEntryAt, IsFoundAt, IsKeyIn, IsKeyPlace, IsMap, MapWrittenAt, hash_at, map_bytes, map_place}
+use Rattle.rkyv_collections.specs.Map.{AnswersKeys, AreUnderHash, IsEntryAt, IsEntryIn, map_archive, IsFoundAt, IsKeyIn, IsKeyPlace, IsMap, MapWrittenAt, hash_at, map_bytes, map_place}
 use Rattle.rkyv_collections.specs.declared.map.ArchivedHashMap.{ArchivedHashMap}
 use Rattle.rkyv_collections.proofs.Homes.{home_count, home_place, home_walked}
 
 module _ {K V H W : Type 0} (w : Width) (k v : Shape) (m : ArchivedHashMap K V H W) where
-  -- where the key of an item is viewed, it is a key of the map
-  pub key_of_item : (entry : View (Entry K V)) (key : View K) → IsItem w (entry_shape k v) m.table entry → IsAt key (archive_of entry) (place_of entry) → IsView k key
+  -- an item of its table is an entry of the map
+  pub entry_of_item : (t : ArchivedHashTable (Entry K V) W) → IsAt t.view (map_archive m) (map_place m) → (entry : View (Entry K V)) → IsItem w (entry_shape k v) t entry
+      → IsEntryIn w k v m entry
+  entry_of_item t at entry item =
+      let walked : IsWalked w (map_bytes m) (map_place m) item.0 = rw (← at.0, ← at.1) item.1.walked in
+      let place : entry.pos ≡ item_at w (entry_shape k v).size (map_bytes m) (map_place m) item.0 = rw (← at.0, ← at.1) item.1.place in
+      (item.1.archive ∙ at.0, item.1.viewed, (item.0, walked, place))
+
+  -- where the key of an entry is viewed, it is a key of the map
+  pub key_of_entry : (entry : View (Entry K V)) (key : View K) → IsEntryIn w k v m entry → IsAt key (archive_of entry) (place_of entry) → IsView k key
       → IsKeyIn w k v m key
-  key_of_item entry key item at viewed = record {
-    archive = at.0 ∙ item.1.archive;
+  key_of_entry entry key is at viewed = record {
+    archive = at.0 ∙ is.0;
     viewed = viewed;
-    place = (item.0, item.1.walked, at.1 ∙ item.1.place);
+    place = (is.2.0, is.2.1, at.1 ∙ is.2.2);
   }
 
   -- the keys under the asked hash are the items under it

@@ -1,2 +1,3 @@
 pub mod Map
 pub mod Walking
+pub mod Equality

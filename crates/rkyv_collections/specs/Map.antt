@@ -8,10 +8,11 @@ use Rattle.rkyv_scan.specs.Groups.{generic_kind}
 use Rattle.rkyv_scan.specs.Hash.{HasherCall, hash_of_calls}
 use Rattle.rkyv_base.specs.Entry.{entry_shape, value_offset}
 use Rattle.rkyv_base.specs.Shape.{Shape}
-use Rattle.rkyv_base.specs.View.{IsAt, IsView, archive_of, place_of}
+use Rattle.rkyv_base.specs.View.{IsAt, IsView, archive_of, bytes_of, place_of}
+use Rattle.rkyv_base.specs.declared.entry.Entry.{Entry}
 use Rattle.rkyv_base.specs.declared.view.View.{View}
 use Rattle.rkyv_table.specs.Header.{cap_at, len_at}
-use Rattle.rkyv_table.specs.Reading.{IsItemPlace, IsTable, WrittenAt, home_places, item_places, place_found, place_of_found, table_bytes, table_place}
+use Rattle.rkyv_table.specs.Reading.{IsWalked, WrittenAt, home_places, item_at, item_places, place_found, place_of_found}
 use Rattle.rkyv_table.specs.Table.{table_shape}
 use Rattle.rkyv_collections.specs.declared.map.ArchivedHashMap.{ArchivedHashMap}
 
@@ -22,17 +23,17 @@ map_shape w k v = table_shape w (entry_shape k v)
 module _ {K V H W : Type 0} where
   -- the header of a map stands where the map is
   abbrev pub IsMap : Width → Shape → Shape → ArchivedHashMap K V H W → Type 0
-  IsMap w k v m = IsTable w (entry_shape k v) m.table
+  IsMap w k v m = IsView (map_shape w k v) m.view
 
   -- the archive of the map, its bytes, and the position of its header
   abbrev pub map_archive : ArchivedHashMap K V H W → Bor (List ℕ)
-  map_archive m = archive_of m.table.view
+  map_archive m = archive_of m.view
 
   abbrev pub map_bytes : ArchivedHashMap K V H W → List ℕ
-  map_bytes m = table_bytes m.table
+  map_bytes m = bytes_of m.view
 
   abbrev pub map_place : ArchivedHashMap K V H W → ℕ
-  map_place m = table_place m.table
+  map_place m = place_of m.view
 
   -- how many pairs it has, and how many buckets
   abbrev pub map_len : Width → ArchivedHashMap K V H W → ℕ
@@ -47,7 +48,7 @@ module _ {K V H W : Type 0} where
 
   -- a key of the map stands at the position
   abbrev pub IsKeyPlace : Width → Shape → Shape → ArchivedHashMap K V H W → ℕ → Type 0
-  IsKeyPlace w k v m q = IsItemPlace w (entry_shape k v) m.table q
+  IsKeyPlace w k v m q = (i : ℕ) × IsWalked w (map_bytes m) (map_place m) i × (q ≡ item_at w (entry_shape k v).size (map_bytes m) (map_place m) i)
 
   -- the view is that of a key of the map
   pub record IsKeyIn (w : Width) (k v : Shape) (m : ArchivedHashMap K V H W) (key : View K) : Type 0 where
@@ -98,6 +99,10 @@ module _ {K V H W : Type 0} (w : Width) (k v : Shape) (m : ArchivedHashMap K V H
   FindsFirstKey key_hash accept Told =
       (homes : List ℕ) → MapWrittenAt w (entry_shape k v) key_hash (map_bytes m) (map_place m) homes
       → Told (find accept (home_places w (entry_shape k v).size (map_bytes m) (map_place m) homes))
+
+-- the view is that of an entry of the map
+abbrev pub IsEntryIn : {K V H W : Type 0} → Width → Shape → Shape → ArchivedHashMap K V H W → View (Entry K V) → Type 0
+IsEntryIn w k v m entry = (entry.archive ≡ map_archive m) × IsView (entry_shape k v) entry × IsKeyPlace w k v m entry.pos
 
 -- the key that was found stands at the position, or none was found
 abbrev pub IsEntryAt : {E : Type 0} → Option (View E) → Option ℕ → Type 0

@@ -1,14 +1,15 @@
 //! Hash maps.
 
+mod debug;
 mod element;
+mod equality;
 pub mod iter;
 mod lookup;
 mod reading;
 
-use rkyv_base::entry::Entry;
+use rkyv_base::view::View;
 use rkyv_base::width::Narrow;
 use rkyv_scan::hash::FxHasher64;
-use rkyv_table::table::ArchivedHashTable;
 use std::marker::PhantomData;
 
 /// The header of a hash map of K to V under the hasher H, in an archive of the width W.
@@ -22,6 +23,5 @@ pub struct HashMapOf<K, V, H = FxHasher64, W = Narrow> {
 /// A hash map of K to V under the hasher H that is read in place, in an archive of the width W.
 #[derive_where(Clone, Copy)]
 pub struct ArchivedHashMap<'a, K, V, H = FxHasher64, W = Narrow> {
-    table: ArchivedHashTable<'a, Entry<K, V>, W>,
-    hasher: PhantomData<H>,
+    view: View<'a, HashMapOf<K, V, H, W>>,
 }

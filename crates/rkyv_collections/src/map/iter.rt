@@ -160,7 +160,7 @@ impl<'a, K: Element, V: Element, H, W: Width> ArchivedHashMap<'a, K, V, H, W> {
         ensures stand { AllStand (entry_shape K.shape V.shape) result }
     {
         Iter {
-            entries: self.table.raw_iter(),
+            entries: self.table().raw_iter(),
             hasher: PhantomData,
             width: PhantomData,
         }

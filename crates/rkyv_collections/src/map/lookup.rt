@@ -4,13 +4,13 @@ ghost use Rattle.rkyv_base.specs.Entry.{entry_shape};
 ghost use Rattle.rkyv_base.specs.View.{IsAt, IsView, archive_of, place_of};
 ghost use Rattle.rkyv_base.specs.declared.view.View.{View};
 ghost use Rattle.rkyv_scan.specs.Hash.{hash_of_calls};
-ghost use Rattle.rkyv_table.specs.Reading.{IsItem};
 ghost use Rattle.rkyv_collections.specs.Map.{
   AnswersKeys,
   AreUnderHash,
   FindsFirstKey,
   FindsKey,
   IsEntryAt,
+  IsEntryIn,
   IsFoundAt,
   IsKeyIn,
   IsMap,
@@ -44,7 +44,7 @@ impl<'a, K: KeyElement, V: Element, H: KeyHasher, W: Width> ArchivedHashMap<'a, 
         requires map { IsMap W.word K.shape V.shape self }
         requires query { Q.can_read key.now }
         requires callable { MayAskKeys W.word K.shape V.shape self (F.pre cmp key) }
-        ensures walked { IfSome result (IsItem W.word (entry_shape K.shape V.shape) self.entry.table) }
+        ensures walked { IfSome result (IsEntryIn W.word K.shape V.shape self.entry) }
         ensures answer { let hash = hash_of_calls H.initial H.feed H.finish (Q.calls key.now) in
             (accept : ℕ → Bool) → AnswersKeys W.word K.shape V.shape self.entry (F.post cmp key.entry) accept
             → FindsKey W.word K.shape V.shape self.entry hash accept (IsEntryAt result) }
@@ -55,7 +55,7 @@ impl<'a, K: KeyElement, V: Element, H: KeyHasher, W: Width> ArchivedHashMap<'a, 
             → FindsFirstKey W.word K.shape V.shape self.entry key_hash accept (IsEntryAt result) }
     {
         let hash = hash_value::<Q, H>(key);
-        self.table.get_with(
+        self.table().get_with(
             hash,
             |entry|
                 requires entry { IsView (entry_shape K.shape V.shape) entry }
@@ -128,7 +128,7 @@ impl<'a, K: KeyElement, V: Element, H: KeyHasher, W: Width> ArchivedHashMap<'a, 
     fn find_key<Q: Query<K>>(self, key: &Q) -> Option<View<'a, Entry<K, V>>>
         requires map { IsMap W.word K.shape V.shape self }
         requires query { Q.can_read key.now }
-        ensures walked { IfSome result (IsItem W.word (entry_shape K.shape V.shape) self.entry.table) }
+        ensures walked { IfSome result (IsEntryIn W.word K.shape V.shape self.entry) }
         ensures answer { let hash = hash_of_calls H.initial H.feed H.finish (Q.calls key.now) in
             FindsKey W.word K.shape V.shape self.entry hash (Q.fits key.now (map_bytes self.entry)) (IsEntryAt result) }
         ensures first { let key_hash = hash_at H.initial H.feed H.finish K.key_calls in
