@@ -2,3 +2,5 @@
 #![tactic(auto)]
 
 pub mod map;
+#[cfg(test)]
+mod tests;
