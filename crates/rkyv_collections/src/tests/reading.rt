@@ -135,12 +135,12 @@ fn pairs_are_walked_by_ascending_bucket(rt: HostRuntime) -> Result<(), Fail> {
     for key in map.keys() {
         keys.push(key.to_native())?;
     }
-    assert_eq!(rt; keys.as_slice(), [5, 7, 1, 3]);
+    assert_eq!(rt; keys.as_slice(), [5, 7, 1, 3].as_slice());
     let mut values = Vec::new(rt.alloc());
     for value in map.values() {
         values.push(value.to_native())?;
     }
-    assert_eq!(rt; values.as_slice(), [6, 8, 2, 4]);
+    assert_eq!(rt; values.as_slice(), [6, 8, 2, 4].as_slice());
     for (key, value) in map.iter() {
         match map.get(&key.to_native()) {
             Some(found) => assert_eq!(rt; found.pos(), value.pos()),
