@@ -1,6 +1,7 @@
 //! Walking over the pairs of a map.
-ghost use Rattle.std.specs.Prelude.{length, ◌≡◌};
-ghost use Rattle.std.specs.Iterator.{at_most};
+ghost use Rattle.std.specs.Prelude.{IfSome, Some, length, ◌≡◌};
+ghost use Rattle.std.specs.Iterator.{UpTo, at_most};
+ghost use Rattle.std.specs.Iterator.SizeHint.{IsWithinCount};
 ghost use Rattle.rkyv_base.specs.Entry.{entry_shape};
 ghost use Rattle.rkyv_table.specs.RawItems.{AllStand};
 ghost use Rattle.rkyv_collections.specs.Map.{IsMap, key_places, map_archive, map_len};
@@ -49,7 +50,11 @@ impl<'a, K: Element, V: Element, H, W> Iterator for Iter<'a, K, V, H, W> {
     }
 
     #[inline]
-    fn size_hint(&self) -> (usize, Option<usize>) {
+    fn size_hint(&self) -> (usize, Option<usize>)
+        ensures lower { IsWithinCount result.0 (at_most (length self.now.places)) }
+        ensures upper { IfSome result.1 (UpTo (at_most (length self.now.places))) }
+        ensures exact { (result.0 ≡ length self.now.places) × (result.1 ≡ Some (length self.now.places)) }
+    {
         self.entries.size_hint()
     }
 }
@@ -93,7 +98,11 @@ impl<'a, K: Element, V: Element, H, W> Iterator for Keys<'a, K, V, H, W> {
     }
 
     #[inline]
-    fn size_hint(&self) -> (usize, Option<usize>) {
+    fn size_hint(&self) -> (usize, Option<usize>)
+        ensures lower { IsWithinCount result.0 (at_most (length self.now.places)) }
+        ensures upper { IfSome result.1 (UpTo (at_most (length self.now.places))) }
+        ensures exact { (result.0 ≡ length self.now.places) × (result.1 ≡ Some (length self.now.places)) }
+    {
         self.pairs.size_hint()
     }
 }
@@ -108,7 +117,7 @@ impl<'a, K: Element, V: Element, H, W> ExactSizeIterator for Keys<'a, K, V, H, W
 /// The values of a map that are still to come, by ascending bucket.
 #[derive(Drop)]
 pub struct Values<'a, K, V, H = FxHasher64, W = Narrow> {
-    pairs: Iter<'a, K, V, H, W>,
+    rest: Iter<'a, K, V, H, W>,
 }
 
 impl<'a, K, V, H, W> Model for Values<'a, K, V, H, W> {
@@ -116,7 +125,7 @@ impl<'a, K, V, H, W> Model for Values<'a, K, V, H, W> {
 
     ghost Value = { ItemsLeft };
 
-    ghost view = { λ values. values.pairs };
+    ghost view = { λ values. values.rest };
 }
 
 impl<'a, K: Element, V: Element, H, W> Iterator for Values<'a, K, V, H, W> {
@@ -130,22 +139,26 @@ impl<'a, K: Element, V: Element, H, W> Iterator for Values<'a, K, V, H, W> {
 
     #[inline]
     fn next(&mut self) -> Option<View<'a, V>> {
-        match self.pairs.next() {
+        match self.rest.next() {
             Some((_, value)) => Some(value),
             None => None,
         }
     }
 
     #[inline]
-    fn size_hint(&self) -> (usize, Option<usize>) {
-        self.pairs.size_hint()
+    fn size_hint(&self) -> (usize, Option<usize>)
+        ensures lower { IsWithinCount result.0 (at_most (length self.now.places)) }
+        ensures upper { IfSome result.1 (UpTo (at_most (length self.now.places))) }
+        ensures exact { (result.0 ≡ length self.now.places) × (result.1 ≡ Some (length self.now.places)) }
+    {
+        self.rest.size_hint()
     }
 }
 
 impl<'a, K: Element, V: Element, H, W> ExactSizeIterator for Values<'a, K, V, H, W> {
     #[inline]
     fn len(&self) -> usize {
-        self.pairs.len()
+        self.rest.len()
     }
 }
 
@@ -187,6 +200,6 @@ impl<'a, K: Element, V: Element, H, W: Width> ArchivedHashMap<'a, K, V, H, W> {
         ensures count { length result.places ≡ map_len W.word self.entry }
         ensures stand { AllStand (entry_shape K.shape V.shape) result }
     {
-        Values { pairs: self.iter() }
+        Values { rest: self.iter() }
     }
 }

@@ -159,7 +159,7 @@ impl<'a, K: KeyElement, V: Element, H: KeyHasher, W: Width> ArchivedHashMap<'a, 
             FindsFirstKey W.word K.shape V.shape self.entry key_hash (Q.fits key.now (map_bytes self.entry)) (IsPairAt result) }
     {
         match self.find_key(key) {
-            Some(entry) => Some((entry.key(), entry.value())),
+            Some(found) => Some((found.key(), found.value())),
             None => None,
         }
     }
@@ -176,7 +176,7 @@ impl<'a, K: KeyElement, V: Element, H: KeyHasher, W: Width> ArchivedHashMap<'a, 
             FindsFirstKey W.word K.shape V.shape self.entry key_hash (Q.fits key.now (map_bytes self.entry)) (IsValueAt K.shape V.shape result) }
     {
         match self.find_key(key) {
-            Some(entry) => Some(entry.value()),
+            Some(found) => Some(found.value()),
             None => None,
         }
     }
