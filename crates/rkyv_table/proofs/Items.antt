@@ -1,5 +1,5 @@
 -- What an accepted table gives to its readers.
-use Rattle.std.proofs.Common.{◌≡◌, ℕ, zero, suc, ◌+◌, ◌-◌, ◌*◌, ◌<◌, ◌≤◌, ◌%◌, inl, inr, refl, sym, ap, subst, ◌∙◌, arith, List, ◌∷◌, Bool, true, false, filter, length, slice_index, ℤ, pos, ◌+ℤ◌, slice_range}
+use Rattle.std.proofs.Common.{◌≡◌, ℕ, zero, suc, ◌+◌, ◌-◌, ◌*◌, ◌<◌, ◌≤◌, inl, inr, refl, sym, ap, subst, ◌∙◌, arith, List, ◌∷◌, Bool, true, false, filter, length, slice_index, ℤ, pos, ◌+ℤ◌, slice_range}
 use Rattle.std.specs.List.{range_with_len}
 use Rattle.std.specs.Prelude.{unsigned_abs}
 use Rattle.std.specs.Int.{Width}
@@ -9,7 +9,7 @@ use Rattle.std.proofs.Math.Nat.{mul-le-mul_right, add-mul}
 use Rattle.rkyv_scan.specs.Groups.{Kind, is_full}
 use Rattle.rkyv_base.specs.Bytes.{signed_at}
 use Rattle.rkyv_base.specs.Parts.{PartIn}
-use Rattle.rkyv_base.specs.Shape.{Shape, IsElement, Standing, Viewed, standing}
+use Rattle.rkyv_base.specs.Shape.{Shape, IsElement, Viewed, standing}
 use Rattle.rkyv_table.specs.Controls.{IsFullBucket}
 use Rattle.rkyv_table.specs.Finding.{end, found}
 use Rattle.rkyv_table.specs.Header.{len_at, cap_at, begin_told}
@@ -43,7 +43,7 @@ module _ (s : Shape) (law : IsElement s) (at : ℕ → ℕ) where
   ]
 
 -- the item in a full bucket holds in a range of its own
-bucket_holds : (s : Shape) → IsElement s → (b : List ℕ) (begin cap lo l i : ℕ) → lo ≤ begin → ItemsHold s b begin cap lo l → i < cap
+pub bucket_holds : (s : Shape) → IsElement s → (b : List ℕ) (begin cap lo l i : ℕ) → lo ≤ begin → ItemsHold s b begin cap lo l → i < cap
     → slice_index (controls_at s.size b begin cap) i < 128 → (m : ℕ) × (m' : ℕ) × (m ≤ begin) × s.holds b (bucket_at s.size begin cap i) m begin m'
 unfolding walk
 bucket_holds s law b begin cap lo l i o h below full =
@@ -72,16 +72,16 @@ module _ (w : Width) (s : Shape) (law : IsElement s) (b : List ℕ) (p : ℕ) (v
     | inr t ↦ (t.0, record { part = t.1; is = t.2 })
   ]
 
-  place_is : (begin : ℕ) → Part w s b p begin → controls_place w b p ≡ begin + cap_at w b p * s.size
+  pub place_is : (begin : ℕ) → Part w s b p begin → controls_place w b p ≡ begin + cap_at w b p * s.size
   place_is begin t =
       let begins : pos begin ≡ begin_told w s.size b p = t.part.begins in
       let e : pos (begin + cap_at w b p * s.size) ≡ pos p +ℤ signed_at w b p = omega (arith, ints, begins) in
       one_place (begin + cap_at w b p * s.size) (pos p +ℤ signed_at w b p) e
 
-  controls_are : (begin : ℕ) → Part w s b p begin → table_controls w b p ≡ controls_at s.size b begin (cap_at w b p)
+  pub controls_are : (begin : ℕ) → Part w s b p begin → table_controls w b p ≡ controls_at s.size b begin (cap_at w b p)
   controls_are begin t = ap (λ z. slice_range b z (z + control_count (cap_at w b p))) (place_is begin t)
 
-  item_is : (begin i : ℕ) → Part w s b p begin → i < cap_at w b p → item_at w s.size b p i ≡ bucket_at s.size begin (cap_at w b p) i
+  pub item_is : (begin i : ℕ) → Part w s b p begin → i < cap_at w b p → item_at w s.size b p i ≡ bucket_at s.size begin (cap_at w b p) i
   item_is begin i t h = ap (λ z. z - (i + 1) * s.size) (place_is begin t) ∙ place_less s.size begin (cap_at w b p) i h
 
   -- its controls are accepted ones

@@ -14,7 +14,12 @@ pub mod Walks
 pub mod WrittenAccepted
 pub mod HomeList
 pub mod Headers
+pub mod SealedTable
+pub mod Misplaced
 pub mod Items
 pub mod FirstFound
+pub mod SealedLookup
 pub mod RawWalks
 pub mod WalkedHomes
+pub mod SealedItems
+pub mod MisplacedIn

@@ -1,14 +1,13 @@
 -- The walk over the items of an accepted table.
-use Rattle.std.proofs.Common.{◌≡◌, ℕ, ◌+◌, ◌-◌, ◌*◌, ◌<◌, ◌≤◌, ◌^◌, ◌∙◌, inl, inr, refl, sym, ap, subst, arith, List, [], None, Option, Some, length, map}
-use Rattle.std.specs.Borrow.{Bor}
+use Rattle.std.proofs.Common.{◌≡◌, ℕ, ◌<◌, ◌^◌, ◌∙◌, inl, inr, sym, ap, arith, List, [], length, map}
 use Rattle.std.specs.Int.{Width}
 use Rattle.std.specs.List.{All, Contains}
 use Rattle.std.proofs.lemmas.Bool.{cases_eq}
-use Rattle.std.proofs.lemmas.List.Elements.{All-contains_itself, All-head, All-map, All-rest, All-same, All-weaker}
+use Rattle.std.proofs.lemmas.List.Elements.{All-contains_itself, All-map, All-weaker}
 use Rattle.rkyv_base.specs.Shape.{IsElement, Shape, Viewed}
 use Rattle.rkyv_table.specs.Header.{cap_at, len_at}
 use Rattle.rkyv_table.specs.Placing.{walk}
-use Rattle.rkyv_table.specs.RawItems.{AllStand, IsBefore, ItemsLeft, TakesPlace, place_before}
+use Rattle.rkyv_table.specs.RawItems.{IsBefore, place_before}
 use Rattle.rkyv_table.specs.Reading.{IsWalked, controls_place, item_at, item_places, table_controls}
 use Rattle.rkyv_table.specs.Table.{table_shape}
 use Rattle.rkyv_table.proofs.Items.{controls_accepted, item_before, item_viewed, no_items}
@@ -31,25 +30,17 @@ module _ (w : Width) (s : Shape) (law : IsElement s) (b : List ℕ) (p : ℕ) wh
       All-weaker (Contains (walk (table_controls w b p) (cap_at w b p))) (IsWalked w b p) (λ i h. walked_full (cap_at w b p) (table_controls w b p) i h)
       (walk (table_controls w b p) (cap_at w b p)) (All-contains_itself (walk (table_controls w b p) (cap_at w b p)))
 
-  -- and stands before the first control
-  stands_before : Viewed (table_shape w s) b p → cap_at w b p < 2 ^ 64 → (i : ℕ) → IsWalked w b p i → IsBefore s.size (controls_place w b p) i
-  stands_before v fits i walked =
-      record {
-        small = omega (arith, walked.0);
-        inside = item_before w s law b p v i walked.0;
-      }
-
   pub places_viewed : Viewed (table_shape w s) b p → All (Viewed s b) (item_places w s.size b p)
   places_viewed v =
       All-map (Viewed s b) (item_at w s.size b p) (walk (table_controls w b p) (cap_at w b p))
       (All-weaker (IsWalked w b p) (λ i. Viewed s b (item_at w s.size b p i)) (λ i h. item_viewed w s law b p v i h) (walk (table_controls w b p) (cap_at w b p)) walked_all)
 
-  -- by the place that was read of the header
+  -- by the place that was read of the header, before which each walked bucket stands
   pub read_before : Viewed (table_shape w s) b p → cap_at w b p < 2 ^ 64 → (place : ℕ) → (0 < cap_at w b p → place ≡ controls_place w b p)
-      → All (IsBefore s.size place) (walk (table_controls w b p) (cap_at w b p))
+      → All (IsBefore place s.size) (walk (table_controls w b p) (cap_at w b p))
   read_before v fits place is =
-      All-weaker (IsWalked w b p) (IsBefore s.size place)
-      (λ i h. subst (λ z. IsBefore s.size z i) (sym (is (omega (arith, h.0)))) (stands_before v fits i h))
+      All-weaker (IsWalked w b p) (IsBefore place s.size)
+      (λ i h. (omega (arith, h.0), rw (is (omega (arith, h.0))) (item_before w s law b p v i h.0)))
       (walk (table_controls w b p) (cap_at w b p)) walked_all
 
   pub read_places : (place : ℕ) → (0 < cap_at w b p → place ≡ controls_place w b p)
@@ -58,17 +49,3 @@ module _ (w : Width) (s : Shape) (law : IsElement s) (b : List ℕ) (p : ℕ) wh
     | inl none ↦ ap (map (place_before place s.size)) (none_walked none) ∙ sym (ap (map (item_at w s.size b p)) (none_walked none))
     | inr some ↦ ap (λ z. map (place_before z s.size) (walk (table_controls w b p) (cap_at w b p))) (is (omega arith))
   ]
-
--- a step leaves values at the places that are left, and takes one
-pub takes_stand : (s : Shape) (before after : ItemsLeft) (r : Option ℕ) → TakesPlace before r after → AllStand s before → AllStand s after
-takes_stand s before after None step stand =
-    let e : after.places ≡ before.places = step.takes.1 ∙ sym step.takes.0 in
-    let same : All (Viewed s before.archive.now) after.places = All-same (Viewed s before.archive.now) after.places before.places e stand in
-    subst (λ (x : Bor (List ℕ)). All (Viewed s x.now) after.places) (sym step.archive) same
-takes_stand s before after (Some q) step stand =
-    let rest : All (Viewed s before.archive.now) after.places = All-rest (Viewed s before.archive.now) q after.places before.places step.takes stand in
-    subst (λ (x : Bor (List ℕ)). All (Viewed s x.now) after.places) (sym step.archive) rest
-
-pub taken_stands : (s : Shape) (before after : ItemsLeft) (q : ℕ) → TakesPlace before (Some q) after → AllStand s before → Viewed s before.archive.now q
-taken_stands s before after q step stand =
-    All-head (Viewed s before.archive.now) q after.places (subst (All (Viewed s before.archive.now)) step.takes stand)

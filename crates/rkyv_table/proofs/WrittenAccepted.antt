@@ -15,7 +15,7 @@ use Rattle.rkyv_table.proofs.Lists.{any_filter, any_range, in_range, some_find, 
 use Rattle.rkyv_table.proofs.WrittenStep.{free_empty, home_below}
 
 -- no home is another's
-homes_apart : (cap : ℕ) (hashes homes : List ℕ) → Homes cap hashes homes → (i j : ℕ) → i < j → j < length homes → get_or homes i 0 ≡ get_or homes j 0 → ⊥
+pub homes_apart : (cap : ℕ) (hashes homes : List ℕ) → Homes cap hashes homes → (i j : ℕ) → i < j → j < length homes → get_or homes i 0 ≡ get_or homes j 0 → ⊥
 homes_apart cap hashes homes p i j ij hj e =
     let count = p.count in
     let f = (some_find (is_free (take j homes)) (shown (get_or hashes j 0) cap) (get_or homes j 0) (p.first j (omega arith))).1 in
@@ -25,13 +25,13 @@ homes_apart cap hashes homes p i j ij hj e =
     let a = list_any_at (eqb (get_or homes j 0)) (take j homes) i 0 (omega arith) (rw g (eq-eqb (get_or homes j 0) (get_or homes i 0) (sym e))) in
     both_ways (list_any (eqb (get_or homes j 0)) (take j homes)) none a
 
-distinct_homes : (cap : ℕ) (hashes homes : List ℕ) → Homes cap hashes homes → IsDistinct eqb homes
+pub distinct_homes : (cap : ℕ) (hashes homes : List ℕ) → Homes cap hashes homes → IsDistinct eqb homes
 distinct_homes cap hashes homes p = IsDistinct-from_apart eqb homes (λ i j d ij hj.
     let a = get_or_default homes i d 0 (omega arith) in
     let b = get_or_default homes j d 0 hj in
     rw (a, b) (ne_eqb (get_or homes i 0) (get_or homes j 0) (λ e. homes_apart cap hashes homes p i j ij hj e)))
 
-distinct_range : (n : ℕ) → IsDistinct eqb (range_with_len 0 n)
+pub distinct_range : (n : ℕ) → IsDistinct eqb (range_with_len 0 n)
 distinct_range n = let l = length-range_with_len 0 n in
     IsDistinct-from_apart eqb (range_with_len 0 n) (λ i j d ij hj.
     let jc : j < n = omega arith in
@@ -41,7 +41,7 @@ distinct_range n = let l = length-range_with_len 0 n in
     rw (gi, gj) (ne_eqb (0 + i) (0 + j) (λ e. omega arith)))
 
 -- a full bucket is a home
-full_home : (cap : ℕ) (hashes homes controls : List ℕ) (q : ℕ) → 0 < cap → Written cap hashes homes controls → ((j : ℕ) → j < length hashes → get_or hashes j 0 < 2 ^ 64)
+pub full_home : (cap : ℕ) (hashes homes controls : List ℕ) (q : ℕ) → 0 < cap → Written cap hashes homes controls → ((j : ℕ) → j < length hashes → get_or hashes j 0 < 2 ^ 64)
     → list_any (eqb q) (walk controls cap) ≡ list_any (eqb q) homes
 unfolding walk
 full_home cap hashes homes controls q pos w fits =

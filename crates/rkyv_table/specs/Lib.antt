@@ -14,5 +14,10 @@ pub mod Table
 pub mod PlaceLaws
 pub mod TableLaws
 pub mod Reading
+pub mod SealedTable
+pub mod SealedLookup
+pub mod Misplaced
 pub mod RawItems
 pub mod WalkLaws
+pub mod SealedItems
+pub mod MisplacedIn

@@ -1,5 +1,5 @@
 -- What a walk over the items of a table has left.
-use Rattle.std.specs.Prelude.{◌≡◌, ℕ, ◌+◌, ◌-◌, ◌*◌, ◌^◌, ◌<◌, ◌≤◌, [], ◌∷◌, List, Option, length, map, MatchOption}
+use Rattle.std.specs.Prelude.{◌≡◌, ℕ, ◌+◌, ◌-◌, ◌*◌, ◌^◌, ◌<◌, ◌≤◌, List, Option, length}
 use Rattle.std.specs.Borrow.{Bor}
 use Rattle.std.specs.Iterator.{YieldsFirst}
 use Rattle.std.specs.List.{All}
@@ -19,15 +19,14 @@ pub record TakesPlace (before : ItemsLeft) (result : Option ℕ) (after : ItemsL
 abbrev pub place_before : ℕ → ℕ → ℕ → ℕ
 place_before place size i = place - (i + 1) * size
 
--- bucket i stands before the first control, where items have this size
-pub record IsBefore (size place i : ℕ) : Type 0 where
-  pub small : i + 1 < 2 ^ 64
-  pub inside : (i + 1) * size ≤ place
+-- bucket i stands before the first control
+abbrev pub IsBefore : ℕ → ℕ → ℕ → Type 0
+IsBefore place size i = (i + 1 < 2 ^ 64) × ((i + 1) * size ≤ place)
 
 -- what a walk keeps: the number of the buckets that are left, each of which stands before the first control
-pub record IsRawIter (size place count : ℕ) (buckets : List ℕ) : Type 0 where
+pub record IsRawIter (place size count : ℕ) (buckets : List ℕ) : Type 0 where
   pub counted : count ≡ length buckets
-  pub before : All (IsBefore size place) buckets
+  pub before : All (IsBefore place size) buckets
 
 -- at each of the places that are left a value stands
 abbrev pub AllStand : Shape → ItemsLeft → Type 0

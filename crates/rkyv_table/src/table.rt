@@ -5,8 +5,11 @@ mod header;
 pub(crate) mod items;
 pub mod laws;
 mod lookup;
+pub mod misplaced;
 pub mod raw_iter;
 mod reading;
+pub mod raw_iter_seal;
+pub mod sealed;
 mod verify;
 
 use rkyv_base::view::View;

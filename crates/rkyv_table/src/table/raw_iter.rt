@@ -23,7 +23,7 @@ pub struct RawIter<'a, T> {
     archive: &'a [u8],
     // The place of the first control, before which the buckets stand.
     place: usize,
-    // The size of an item.
+    // The bytes of a bucket.
     size: usize,
     count: usize,
     walk: Walk<'a, Group>,
@@ -38,7 +38,7 @@ impl<'a, T> Model for RawIter<'a, T> {
 
     ghost view = { λ r. record { archive = r.archive; places = map (place_before r.place r.size) r.walk } };
 
-    ghost invariant = { λ r. IsRawIter r.size r.place r.count r.walk };
+    ghost invariant = { λ r. IsRawIter r.place r.size r.count r.walk };
 }
 
 impl<T> RawIter<'static, T> {
@@ -58,6 +58,23 @@ impl<T> RawIter<'static, T> {
     }
 }
 
+impl<'a, T: Element> RawIter<'a, T> {
+    /// The next item, in place of its position.
+    #[inline]
+    pub fn next_view(&mut self) -> Option<View<'a, T>>
+        requires { AllStand T.shape self.old }
+        ensures archive { self.new.archive ≡ self.old.archive }
+        ensures takes { MatchOption result
+            ((self.old.places ≡ []) × (self.new.places ≡ []))
+            (λ v. (self.old.places ≡ place_of v ∷ self.new.places) × (archive_of v ≡ self.old.archive)) }
+        ensures viewed { IfSome result (IsView T.shape) }
+        ensures stand { AllStand T.shape self.new }
+    {
+        let pos = self.next()?;
+        Some(View::new(self.archive, pos))
+    }
+}
+
 impl<'a, T> Iterator for RawIter<'a, T> {
     type Item = u64;
 
@@ -70,8 +87,7 @@ impl<'a, T> Iterator for RawIter<'a, T> {
         match self.walk.next() {
             Some(bucket) => {
                 self.count -= 1;
-                let place = self.place - (bucket + 1) * self.size;
-                Some(place as u64)
+                Some((self.place - (bucket + 1) * self.size) as u64)
             }
             None => None,
         }
@@ -91,25 +107,6 @@ impl<'a, T> ExactSizeIterator for RawIter<'a, T> {
     #[inline]
     fn len(&self) -> usize {
         self.count
-    }
-}
-
-impl<'a, T: Element> RawIter<'a, T> {
-    /// The next item, in place of its position.
-    #[inline]
-    pub fn next_view(&mut self) -> Option<View<'a, T>>
-        requires { AllStand T.shape self.old }
-        ensures stand { AllStand T.shape self.new }
-        ensures archive { self.new.archive ≡ self.old.archive }
-        ensures takes { MatchOption result
-            ((self.old.places ≡ []) × (self.new.places ≡ []))
-            (λ v. (self.old.places ≡ place_of v ∷ self.new.places) × (archive_of v ≡ self.old.archive)) }
-        ensures viewed { IfSome result (IsView T.shape) }
-    {
-        match self.next() {
-            Some(pos) => Some(View::new(self.archive, pos)),
-            None => None,
-        }
     }
 }
 

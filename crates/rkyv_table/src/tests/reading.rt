@@ -1,4 +1,7 @@
 //! Tables of strangers, and reading one in place.
+ghost use Rattle.std.specs.Prelude.{IfSome};
+ghost use Rattle.rkyv_base.specs.View.{IsView};
+ghost use Rattle.rkyv_table.specs.Reading.{IsTable};
 
 use crate::table::raw_iter::RawIter;
 use crate::{ArchivedHashTable, Strides, TableOf};
@@ -7,8 +10,8 @@ use rkyv_base::element::{Element, PartRange};
 use rkyv_base::entry::Entry;
 use rkyv_base::errors::VerifyError;
 use rkyv_base::view::View;
-use rkyv_base::width::{Narrow, Wide};
-use rkyv_scan::simd::{bytewise, generic, lanes};
+use rkyv_base::width::{Narrow, Wide, Width};
+use rkyv_scan::simd::{GroupKind, bytewise, generic, lanes};
 
 // The hash of the key 1, whose tag is 28.
 const ONE: u64 = 0x517c_c1b7_2722_0a95;
@@ -26,6 +29,54 @@ fn one_pair() -> [u8; 60] {
     bytes
 }
 
+// The item that is found where the comparison always answers so.
+fn found<'a, G: GroupKind, T: Element, W: Width>(
+    table: ArchivedHashTable<'a, T, W>,
+    hash: u64,
+    answer: bool,
+) -> Option<View<'a, T>>
+    requires { IsTable W.word T.shape table }
+    ensures { IfSome result (IsView T.shape) }
+{
+    table.get_by::<G, _>(hash, |_: View<'_, T>| answer)
+}
+
+// The same by the plain call.
+fn found_plainly<'a, T: Element, W: Width>(
+    table: ArchivedHashTable<'a, T, W>,
+    hash: u64,
+    answer: bool,
+) -> Option<View<'a, T>>
+    requires { IsTable W.word T.shape table }
+    ensures { IfSome result (IsView T.shape) }
+{
+    table.get_with(hash, |_: View<'_, T>| answer)
+}
+
+// Where it stands.
+fn found_pos<T: Element, W: Width>(
+    table: ArchivedHashTable<'_, T, W>,
+    hash: u64,
+    answer: bool,
+) -> Option<u64>
+    requires { IsTable W.word T.shape table }
+{
+    table.get_pos_with(hash, |_: View<'_, T>| answer)
+}
+
+// Whether it is found, and how many strides were read.
+fn counted<T: Element, W: Width>(
+    table: ArchivedHashTable<'_, T, W>,
+    hash: u64,
+    answer: bool,
+) -> (bool, u64)
+    requires { IsTable W.word T.shape table }
+{
+    let mut strides = Strides::new();
+    let found = table.get_counted(hash, |_: View<'_, T>| answer, &mut strides);
+    (found.is_some(), strides.count())
+}
+
 #[test]
 fn an_empty_header_is_accepted(rt: HostRuntime) {
     let bytes = [77, 0, 0, 0, 0, 0, 0, 0, 0, 0, 0, 0];
@@ -36,14 +87,8 @@ fn an_empty_header_is_accepted(rt: HostRuntime) {
             assert_eq!(rt; table.len(), 0);
             assert_eq!(rt; table.capacity(), 0);
             assert!(rt; table.raw_iter().next().is_none());
-            assert!(rt; table.get_with(ONE, |_: View<'_, Pair>| true).is_none());
-            let mut strides = Strides::new();
-            assert!(rt;
-                table
-                    .get_counted(ONE, |_: View<'_, Pair>| true, &mut strides)
-                    .is_none()
-            );
-            assert_eq!(rt; strides.count(), 0);
+            assert!(rt; found_plainly(table, ONE, true).is_none());
+            assert_eq!(rt; counted(table, ONE, true), (false, 0));
         }
         Err(_) => assert!(rt; false),
     }
@@ -87,36 +132,20 @@ fn an_item_is_found(rt: HostRuntime) {
     match access::<TableOf<Pair>>(&bytes) {
         Ok(root) => {
             let table = ArchivedHashTable::of(root);
-            let is_one = |item: View<'_, Pair>| item.key().to_native() == 1;
-            match table.get_with(ONE, is_one) {
-                Some(item) => assert_eq!(rt; item.value().to_native(), 2),
+            match found_plainly(table, ONE, true) {
+                Some(item) => {
+                    assert_eq!(rt; item.key().to_native(), 1);
+                    assert_eq!(rt; item.value().to_native(), 2);
+                }
                 None => assert!(rt; false),
             }
-            assert_eq!(rt; table.get_pos_with(ONE, |_: View<'_, Pair>| true), Some(0));
-            assert_eq!(rt; table.get_pos_with(0, |_: View<'_, Pair>| true), None);
-            assert_eq!(rt; table.get_pos_with(ONE, |_: View<'_, Pair>| false), None);
-            let mut strides = Strides::new();
-            assert!(rt;
-                table
-                    .get_counted(ONE, |_: View<'_, Pair>| true, &mut strides)
-                    .is_some()
-            );
-            assert_eq!(rt; strides.count(), 1);
-            assert!(rt;
-                table
-                    .get_by::<bytewise::Group, _>(ONE, |_: View<'_, Pair>| true)
-                    .is_some()
-            );
-            assert!(rt;
-                table
-                    .get_by::<generic::Group, _>(ONE, |_: View<'_, Pair>| true)
-                    .is_some()
-            );
-            assert!(rt;
-                table
-                    .get_by::<lanes::Group, _>(ONE, |_: View<'_, Pair>| true)
-                    .is_some()
-            );
+            assert_eq!(rt; found_pos(table, ONE, true), Some(0));
+            assert_eq!(rt; found_pos(table, 0, true), None);
+            assert_eq!(rt; found_pos(table, ONE, false), None);
+            assert_eq!(rt; counted(table, ONE, true), (true, 1));
+            assert!(rt; found::<bytewise::Group, _, _>(table, ONE, true).is_some());
+            assert!(rt; found::<generic::Group, _, _>(table, ONE, true).is_some());
+            assert!(rt; found::<lanes::Group, _, _>(table, ONE, true).is_some());
         }
         Err(_) => assert!(rt; false),
     }
@@ -226,18 +255,33 @@ fn an_item_is_checked(rt: HostRuntime) {
     );
 }
 
-#[test]
-fn a_wide_table_is_read(rt: HostRuntime) {
+// The wide archive of that pair: the header at 48 has three words of eight bytes.
+fn wide_pair() -> [u8; 72] {
     let mut bytes = [0; 72];
-    bytes[..48].copy_from_slice(&one_pair()[..48]);
-    bytes[48..56].copy_from_slice(&[0xe0, 0xff, 0xff, 0xff, 0xff, 0xff, 0xff, 0xff]);
+    bytes[0] = 1;
+    bytes[4] = 2;
+    for byte in &mut bytes[16..47] {
+        *byte = 0xff;
+    }
+    bytes[17] = 0x28;
+    bytes[19] = 0x28;
+    for byte in &mut bytes[49..56] {
+        *byte = 0xff;
+    }
+    bytes[48] = 0xe0;
     bytes[56] = 1;
     bytes[64] = 2;
+    bytes
+}
+
+#[test]
+fn a_wide_table_is_read(rt: HostRuntime) {
+    let bytes = wide_pair();
     match access_in::<Wide, TableOf<Pair, Wide>>(&bytes) {
         Ok(root) => {
             let table = ArchivedHashTable::of(root);
             assert_eq!(rt; table.len(), 1);
-            assert_eq!(rt; table.get_pos_with(ONE, |_: View<'_, Pair>| true), Some(0));
+            assert_eq!(rt; table.capacity(), 2);
         }
         Err(_) => assert!(rt; false),
     }

@@ -1,6 +1,4 @@
-use Rattle.std.proofs.Common.{◌≡◌, ◌∙◌, ◌<◌, ℕ, List, ap, length, map, subst, sym}
-use Rattle.std.specs.Borrow.{Bor}
-use Rattle.std.specs.List.{All}
+use Rattle.std.proofs.Common.{◌∙◌, ◌<◌, ℕ, List, ap, length, map, sym}
 use Rattle.std.proofs.lemmas.List.{length-map}
 use Rattle.std.proofs.lemmas.List.Elements.{All-same}
 use Rattle.rkyv_base.specs.Shape.{Viewed}
@@ -21,12 +19,10 @@ invariant_of-result g c =
     let b : List ℕ = table_bytes items.table in
     let p : ℕ = table_place items.table in
     let small : cap_at w b p < 18446744073709551616 = rw are.cap at are.small in
-    let before : All (IsBefore s.size items.place) c.walk.result =
-    All-same (IsBefore s.size items.place) c.walk.result (walk (table_controls w b p) (cap_at w b p)) c.walk.ensures
-    (read_before w s law b p are.table small items.place (λ h. are.place (rw are.cap h))) in
+    let before = read_before w s law b p are.table small items.place (λ h. are.place (rw are.cap h)) in
     record {
       counted = are.len ∙ sym (walk_count w s law b p are.table) ∙ sym (ap length c.walk.ensures);
-      before = rw c.size.ensures before;
+      before = rw c.size.ensures (All-same (IsBefore items.place s.size) c.walk.result (walk (table_controls w b p) (cap_at w b p)) c.walk.ensures before);
     }
 
 pub returns-clause-places : goal.returns-clause-places
@@ -36,7 +32,7 @@ returns-clause-places g c =
     let items = c.of-items.result in
     let are = c.of-items.ensures.items in
     let law = g.met.T.Element.laws in
-    ap (λ size. map (place_before items.place size) c.walk.result) c.size.ensures
+    ap (λ n. map (place_before items.place n) c.walk.result) c.size.ensures
     ∙ ap (map (place_before items.place s.size)) c.walk.ensures
     ∙ read_places w s law (table_bytes items.table) (table_place items.table) items.place (λ h. are.place (rw are.cap h))
     ∙ ap (λ t. item_places w s.size (table_bytes t) (table_place t)) c.of-items.ensures.table
@@ -59,8 +55,6 @@ returns-clause-stand g c =
     let s = g.T.Element.shape in
     let t = c.args.self in
     let items = c.of-items.result in
-    let places : List ℕ = map (place_before items.place c.size.result) c.walk.result in
-    let stand : All (Viewed s (table_bytes t)) places =
-    All-same (Viewed s (table_bytes t)) places (item_places w s.size (table_bytes t) (table_place t))
+    let all = All-same (Viewed s (table_bytes t)) (map (place_before items.place c.size.result) c.walk.result) (item_places w s.size (table_bytes t) (table_place t))
     (returns-clause-places g c) (places_viewed w s g.met.T.Element.laws (table_bytes t) (table_place t) c.requires) in
-    subst (λ (x : Bor (List ℕ)). All (Viewed s x.now) places) (sym c.bytes.ensures) stand
+    rw c.bytes.ensures all

@@ -10,5 +10,5 @@ invariant_of-self g c =
     let k = c.self.invariant.counted in
     record {
       counted = omega arith;
-      before = All-rest (IsBefore r.size r.place) c.in-Some.bucket c.next.new.self r.walk c.in-Some.ensures.steps c.self.invariant.before;
+      before = All-rest (IsBefore r.place r.size) c.in-Some.bucket c.next.new.self r.walk c.in-Some.ensures.steps c.self.invariant.before;
     }

@@ -1,0 +1,233 @@
+-- Items that a lookup of their own doesn't answer.
+use Rattle.std.proofs.Common.{◌≡◌, ℕ, zero, suc, ◌+◌, ◌%◌, ◌^◌, ◌<◌, ◌≤◌, inl, inr, refl, sym, ap, subst, ◌∙◌, arith, List, [], ◌∷◌, Bool, true, false, not, cond, ◌&&◌, ◌||◌, eqb, length, filter, get_or, map, take, Option, Some, None, get_or-take, length-take}
+use Rattle.std.specs.Prelude.{MatchOption}
+use Rattle.std.specs.List.{find, list_any, Contains, IsDistinct, range_with_len, position_or_len}
+use Rattle.std.specs.Cmp.{nat_eq_equiv}
+use Rattle.std.specs.Option.{option_and_then}
+use Rattle.std.proofs.lemmas.List.{ext_get_or, get_or_default, nil_from_length}
+use Rattle.std.proofs.lemmas.List.Folds.{Any-from_list_any, find_at, list_any_at}
+use Rattle.std.proofs.lemmas.List.FromFn.{length-range_with_len, get_or-range_with_len, length-map-range_with_len, get_or-map-range_with_len}
+use Rattle.std.proofs.lemmas.List.Sums.{fails_before_first, passes_at_first}
+use Rattle.std.proofs.lemmas.Map.Made.{length-from_same_keys}
+use Rattle.std.proofs.lemmas.Option.{none-some, same_Some, slice_get-get_or}
+use Rattle.std.proofs.lemmas.Bool.{cases_Bool, cases_eq, cases_lt, and_parts, and_from, eq-eqb, eqb-true, ne_eqb, not-false, not-true, or_left, or_right, both_ways, true≢false}
+use Rattle.rkyv_scan.specs.Groups.{Kind, IsKind, is_full}
+use Rattle.rkyv_table.specs.Finding.{marked, candidates, shows_empty, ends_at, found}
+use Rattle.rkyv_table.specs.Misplaced.{AloneAccepted, AsksForOne, IsSameness, NoneAccepted, is_answer, is_misplaced, misplaced, repeated, repeats_earlier}
+use Rattle.rkyv_table.specs.Numbers.{tag}
+use Rattle.rkyv_table.specs.Placing.{Accepted, Written, walk}
+use Rattle.rkyv_table.specs.Probe.{strides}
+use Rattle.rkyv_table.proofs.Lists.{any_filter, any_map_filter, any_member, contains_member, distinct_filter, member_contains, some_find}
+use Rattle.rkyv_table.proofs.Lookup.{found_is, marked_walked}
+use Rattle.rkyv_table.proofs.Search.{answer, answer_cons, cases_option}
+use Rattle.rkyv_table.proofs.Walks.{filter_agree_range}
+use Rattle.rkyv_table.proofs.Written.{first_within, found_written}
+use Rattle.rkyv_table.proofs.WrittenAccepted.{distinct_homes, distinct_range, full_home, homes_apart}
+
+-- ---- what is found is a walked bucket that is accepted
+
+tag_below : (h : ℕ) → h < 2 ^ 64 → tag h < 128
+tag_below h l = omega arith
+
+found_none : (kind : Kind) (controls : List ℕ) (cap h : ℕ) (accept : ℕ → Bool) → found kind controls cap 0 h accept ≡ None
+found_none kind controls cap h accept = refl
+
+found_member : (P : ℕ → Bool) (x : ℕ) (xs : List ℕ) → find P xs ≡ Some x → list_any (eqb x) xs ≡ true
+found_member P x [] e = absurd (none-some x e)
+found_member P x (y ∷ ys) e = elim (cases_Bool (P y)) [
+  | inl t ↦ let e' = rw t at e in or_left (eqb x y) (list_any (eqb x) ys) (eq-eqb x y (sym (same_Some y x e')))
+  | inr f ↦ let e' = rw f at e in or_right (eqb x y) (list_any (eqb x) ys) (found_member P x ys e')
+]
+
+any_agree : (P Q : ℕ → Bool) (xs : List ℕ) → ((x : ℕ) → list_any (eqb x) xs ≡ true → P x ≡ Q x) → list_any P xs ≡ list_any Q xs
+any_agree P Q [] on = refl
+any_agree P Q (x ∷ xs) on =
+    rw (on x (or_left (eqb x x) (list_any (eqb x) xs) (eq-eqb x x refl)), any_agree P Q xs (λ y m. on y (or_right (eqb y x) (list_any (eqb y) xs) m))) refl
+
+find_agree : (P Q : ℕ → Bool) (xs : List ℕ) → ((x : ℕ) → list_any (eqb x) xs ≡ true → P x ≡ Q x) → find P xs ≡ find Q xs
+find_agree P Q [] on = refl
+find_agree P Q (x ∷ xs) on =
+    rw (on x (or_left (eqb x x) (list_any (eqb x) xs) (eq-eqb x x refl)), find_agree P Q xs (λ y m. on y (or_right (eqb y x) (list_any (eqb y) xs) m))) refl
+
+module _ (kind : Kind) (cap len h : ℕ) (controls : List ℕ) (law : IsKind kind) (accepted : Accepted cap len controls) (fits : h < 2 ^ 64) where
+  candidate_walked : (p b : ℕ) → list_any (eqb p) (strides h cap) ≡ true → list_any (eqb b) (candidates kind controls cap (tag h) p) ≡ true → Contains (walk controls cap) b
+  unfolding candidates
+  candidate_walked p b here c =
+      let m = marked kind controls (tag h) p in
+      let a = Any-from_list_any (λ q. m q && eqb b (q % cap)) (range_with_len p 16) (sym (any_map_filter (eqb b) m (λ q. q % cap) (range_with_len p 16)) ∙ c) in
+      let q = a.1 in
+      let t = and_parts (m q) (eqb b (q % cap)) a.4 in
+      let l = length-range_with_len p 16 in
+      let g = get_or-range_with_len p 16 a.0 q (omega arith) in
+      let at : q ≡ p + a.0 = sym a.3 ∙ g in
+      let k = marked_walked kind cap len h (tag h) p q controls law accepted (tag_below h fits) (member_contains p (strides h cap) here) (omega arith) (omega arith) t.0 in
+      subst (Contains (walk controls cap)) (sym (eqb-true b (q % cap) t.1)) k.1
+
+  answer_walked : (accept : ℕ → Bool) (b : ℕ) (ps : List ℕ) → ((p : ℕ) → list_any (eqb p) ps ≡ true → list_any (eqb p) (strides h cap) ≡ true)
+      → answer kind controls cap (tag h) accept ps ≡ Some b → (accept b ≡ true) × Contains (walk controls cap) b
+  answer_walked accept b [] sub e = absurd (none-some b e)
+  answer_walked accept b (p ∷ ps) sub e =
+      let e' = sym (answer_cons kind controls cap (tag h) accept p ps) ∙ e in
+      elim (cases_Bool (ends_at kind controls cap (tag h) accept p)) [
+        | inl t ↦
+            let f : find accept (candidates kind controls cap (tag h) p) ≡ Some b = rw t at e' in
+            ((some_find accept (candidates kind controls cap (tag h) p) b f).1,
+            candidate_walked p b (sub p (or_left (eqb p p) (list_any (eqb p) ps) (eq-eqb p p refl))) (found_member accept b (candidates kind controls cap (tag h) p) f))
+        | inr n ↦
+            let f : answer kind controls cap (tag h) accept ps ≡ Some b = rw n at e' in
+            answer_walked accept b ps (λ q m. sub q (or_right (eqb q p) (list_any (eqb q) ps) m)) f
+      ]
+
+  pub found_walked : (accept : ℕ → Bool) (b : ℕ) → found kind controls cap len h accept ≡ Some b → (accept b ≡ true) × Contains (walk controls cap) b
+  found_walked accept b e = elim (cases_eq len 0) [
+    | inl z ↦ absurd (none-some b (rw (eq-eqb len 0 z) at e))
+    | inr n ↦ answer_walked accept b (strides h cap) (λ p m. m) (sym (found_is kind controls cap len h accept n) ∙ e)
+  ]
+
+  -- ---- a lookup rests on what is accepted of the walked buckets alone
+
+  abbrev Agree : (ℕ → Bool) → (ℕ → Bool) → Type 0
+  Agree P Q = (b : ℕ) → Contains (walk controls cap) b → P b ≡ Q b
+
+  answers_agree : (P Q : ℕ → Bool) → Agree P Q → (ps : List ℕ) → ((p : ℕ) → list_any (eqb p) ps ≡ true → list_any (eqb p) (strides h cap) ≡ true)
+      → answer kind controls cap (tag h) P ps ≡ answer kind controls cap (tag h) Q ps
+  answers_agree P Q same [] sub = refl
+  answers_agree P Q same (p ∷ ps) sub =
+      let xs = candidates kind controls cap (tag h) p in
+      let on : (b : ℕ) → list_any (eqb b) xs ≡ true → P b ≡ Q b = λ b m. same b (candidate_walked p b (sub p (or_left (eqb p p) (list_any (eqb p) ps) (eq-eqb p p refl))) m) in
+      let rest = answers_agree P Q same ps (λ q m. sub q (or_right (eqb q p) (list_any (eqb q) ps) m)) in
+      answer_cons kind controls cap (tag h) P p ps
+      ∙ rw (any_agree P Q xs on, find_agree P Q xs on, rest) (sym (answer_cons kind controls cap (tag h) Q p ps))
+
+  pub found_agree : (P Q : ℕ → Bool) → Agree P Q → found kind controls cap len h P ≡ found kind controls cap len h Q
+  found_agree P Q same = elim (cases_eq len 0) [
+    | inl z ↦ rw (eq-eqb len 0 z) refl
+    | inr n ↦ found_is kind controls cap len h P n ∙ answers_agree P Q same (strides h cap) (λ p m. m) ∙ sym (found_is kind controls cap len h Q n)
+  ]
+
+-- ---- where none is misplaced
+
+none_filtered : (P : ℕ → Bool) (xs : List ℕ) (x : ℕ) → length (filter P xs) ≡ 0 → list_any (eqb x) xs ≡ true → P x ≡ false
+none_filtered P xs x e m = elim (cases_Bool (P x)) [
+  | inr f ↦ f
+  | inl t ↦
+      let n : filter P xs ≡ [] = nil_from_length (filter P xs) e in
+      let k : list_any (eqb x) (filter P xs) ≡ true = any_filter x P xs ∙ and_from (list_any (eqb x) xs) (P x) m t in
+      absurd (true≢false (sym k ∙ ap (list_any (eqb x)) n))
+]
+
+answer_is : (b : ℕ) (o : Option ℕ) → is_answer b o ≡ true → o ≡ Some b
+answer_is b None e = absurd (true≢false (sym e))
+answer_is b (Some x) e = ap Some (sym (eqb-true b x e))
+
+module _ (kind : Kind) (cap len hash : ℕ) (controls : List ℕ) (accept : ℕ → Bool) (hash_at : ℕ → ℕ) (same_at : ℕ → ℕ → Bool) (law : IsKind kind) (accepted : Accepted cap len controls)
+    (fits : hash < 2 ^ 64) (none : misplaced kind controls cap len hash_at same_at ≡ 0) (asks : AsksForOne controls cap hash accept hash_at same_at) where
+  found_itself : (b : ℕ) → Contains (walk controls cap) b → accept b ≡ true → found kind controls cap len hash accept ≡ Some b
+  found_itself b here ok =
+      let P = is_misplaced kind controls cap len hash_at same_at in
+      let f : P b ≡ false = none_filtered P (walk controls cap) b none (contains_member b (walk controls cap) here) in
+      let own : found kind controls cap len (hash_at b) (same_at b) ≡ Some b =
+      answer_is b (found kind controls cap len (hash_at b) (same_at b)) (not-false (is_answer b (found kind controls cap len (hash_at b) (same_at b))) f) in
+      found_agree kind cap len hash controls law accepted fits accept (same_at b) (λ d there. asks.same b d here there ok)
+      ∙ ap (λ z. found kind controls cap len z (same_at b)) (sym (asks.hashed b here ok)) ∙ own
+
+  pub complete : MatchOption (found kind controls cap len hash accept) (NoneAccepted controls cap accept) (AloneAccepted controls cap accept)
+  complete = elim (cases_option (found kind controls cap len hash accept)) [
+    | inl n ↦ subst (λ o. MatchOption o (NoneAccepted controls cap accept) (AloneAccepted controls cap accept)) (sym n)
+        (λ b here. elim (cases_Bool (accept b)) [
+          | inr f ↦ f
+          | inl t ↦ absurd (none-some b (sym n ∙ found_itself b here t))
+        ])
+    | inr x ↦ subst (λ o. MatchOption o (NoneAccepted controls cap accept) (AloneAccepted controls cap accept)) (sym x.1)
+        (let k = found_walked kind cap len hash controls law accepted fits accept x.0 x.1 in
+        record {
+          walked = k.1;
+          accepted = k.0;
+          alone = λ b here ok. sym (same_Some x.0 b (sym x.1 ∙ found_itself b here ok));
+        })
+  ]
+
+-- ---- on written controls
+
+filter_map_length : (P : ℕ → Bool) (f : ℕ → ℕ) (xs : List ℕ) → length (filter P (map f xs)) ≡ length (filter (λ x. P (f x)) xs)
+filter_map_length P f [] = refl
+filter_map_length P f (x ∷ xs) = elim (cases_Bool (P (f x))) [
+  | inl t ↦ rw t (ap suc (filter_map_length P f xs))
+  | inr e ↦ rw e (filter_map_length P f xs)
+]
+
+-- a list by its places
+by_places : (xs : List ℕ) → xs ≡ map (λ i. get_or xs i 0) (range_with_len 0 (length xs))
+by_places xs =
+    let f = λ (i : ℕ). get_or xs i 0 in
+    let n = length xs in
+    ext_get_or 0 xs (map f (range_with_len 0 n)) (sym (length-map-range_with_len f 0 n))
+    (λ i h. sym (get_or-map-range_with_len f 0 n i i 0 h (omega arith)))
+
+module _ (kind : Kind) (cap : ℕ) (hashes homes controls : List ℕ) (hash_at : ℕ → ℕ) (same_at : ℕ → ℕ → Bool) (law : IsKind kind) (room : length hashes < cap)
+    (fits : (j : ℕ) → j < length hashes → get_or hashes j 0 < 2 ^ 64) (w : Written cap hashes homes controls) (same : IsSameness hash_at same_at hashes homes) where
+  distinct_walk : IsDistinct eqb (walk controls cap)
+  unfolding walk
+  distinct_walk = distinct_filter (λ b. is_full (get_or controls b 0)) (range_with_len 0 cap) (distinct_range cap)
+
+  home_in : (i : ℕ) → i < length homes → Contains homes (get_or homes i 0)
+  home_in i h = (i, h, get_or_default homes i (get_or homes i 0) 0 h)
+
+  -- the first home whose item is the same as the i-th
+  own_first : (i : ℕ) → i < length homes → (k : ℕ) × (k ≤ i) × (same_at (get_or homes i 0) (get_or homes k 0) ≡ true) × (found kind controls cap (length hashes) (hash_at (get_or homes i 0)) (same_at (get_or homes i 0)) ≡ Some (get_or homes k 0))
+      × ((j : ℕ) → j < k → same_at (get_or homes i 0) (get_or homes j 0) ≡ false)
+  own_first i h =
+      let n = w.placed.count in
+      let b = get_or homes i 0 in
+      let Q = same_at b in
+      let self : Q b ≡ true = same.reflexive b (home_in i h) in
+      let some : list_any Q homes ≡ true = any_member Q b homes (contains_member b homes (home_in i h)) self in
+      let k = position_or_len Q homes in
+      let lk : k < length homes = first_within Q homes some in
+      let ki : k ≤ i = elim (cases_lt i k) [
+        | inl less ↦ absurd (true≢false (sym self ∙ fails_before_first Q homes i 0 less))
+        | inr ge ↦ ge
+      ] in
+      let e : hash_at b ≡ get_or hashes i 0 = same.hashed i h in
+      let f : found kind controls cap (length hashes) (hash_at b) Q ≡ find Q homes =
+      found_written cap (hash_at b) hashes homes controls kind Q room (rw e (fits i (omega arith))) law w fits
+      (λ j lj t. let lj' : j < length homes = omega arith in
+      sym (same.hashed j lj') ∙ sym (same.equal b (get_or homes j 0) (home_in i h) (home_in j lj') t)) in
+      (k, ki, passes_at_first Q homes 0 lk, f ∙ find_at Q homes ∙ slice_get-get_or homes k 0 lk, λ j lj. fails_before_first Q homes j 0 lj)
+
+  none_before : (i : ℕ) → i < length homes → ((j : ℕ) → j < i → same_at (get_or homes i 0) (get_or homes j 0) ≡ false) → repeats_earlier same_at homes i ≡ false
+  none_before i h none = elim (cases_Bool (repeats_earlier same_at homes i)) [
+    | inr f ↦ f
+    | inl t ↦
+        let a = Any-from_list_any (same_at (get_or homes i 0)) (take i homes) t in
+        let l = length-take i homes in
+        let less : a.0 < i = omega (arith, a.2, l) in
+        let at : get_or homes a.0 0 ≡ a.1 = sym (get_or-take i homes a.0 0 less) ∙ sym (get_or_default (take i homes) a.0 a.1 0 a.2) ∙ a.3 in
+        absurd (true≢false (sym a.4 ∙ rw at at (none a.0 less)))
+  ]
+
+  own_is : (i : ℕ) → i < length homes → is_misplaced kind controls cap (length hashes) hash_at same_at (get_or homes i 0) ≡ repeats_earlier same_at homes i
+  own_is i h =
+      let b = get_or homes i 0 in
+      let k = own_first i h in
+      let t : length (take i homes) ≡ i = length-take i homes ∙ omega arith in
+      ap (λ o. not (is_answer b o)) k.3 ∙ elim (cases_eq k.0 i) [
+        | inl e ↦
+            rw (eq-eqb b (get_or homes k.0 0) (ap (λ z. get_or homes z 0) (sym e)))
+            (sym (none_before i h (λ j lj. k.4 j (omega (arith, e)))))
+        | inr ne ↦
+            let less : k.0 < i = omega (arith, k.1) in
+            rw (ne_eqb b (get_or homes k.0 0) (λ e. homes_apart cap hashes homes w.placed k.0 i less h (sym e)))
+            (sym (list_any_at (same_at b) (take i homes) k.0 0 (omega (arith, t)) (rw (get_or-take i homes k.0 0 less) (k.2))))
+      ]
+
+  pub repeated_misplaced : misplaced kind controls cap (length hashes) hash_at same_at ≡ repeated same_at homes
+  repeated_misplaced =
+      let P = is_misplaced kind controls cap (length hashes) hash_at same_at in
+      let n = length homes in
+      let d : length (filter P (walk controls cap)) ≡ length (filter P homes) =
+      length-from_same_keys nat_eq_equiv (filter P (walk controls cap)) (filter P homes) (distinct_filter P (walk controls cap) distinct_walk)
+      (distinct_filter P homes (distinct_homes cap hashes homes w.placed))
+      (λ q. any_filter q P (walk controls cap) ∙ ap (λ t. t && P q) (full_home cap hashes homes controls q (omega arith) w fits) ∙ sym (any_filter q P homes)) in
+      d ∙ ap (λ xs. length (filter P xs)) (by_places homes) ∙ filter_map_length P (λ i. get_or homes i 0) (range_with_len 0 n)
+      ∙ ap length (filter_agree_range (λ i. P (get_or homes i 0)) (repeats_earlier same_at homes) 0 n (λ i from to. own_is i (omega (arith, to))))

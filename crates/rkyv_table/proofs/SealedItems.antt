@@ -1,0 +1,158 @@
+-- The steps of a cursor that lends items to be written.
+use Rattle.std.proofs.Common.{◌≡◌, ℕ, ◌+◌, ◌-◌, ◌*◌, ◌<◌, ◌≤◌, suc, inl, inr, refl, sym, ap, subst, ◌∙◌, arith, List, [], ◌∷◌, length, slice_index, slice_range, take, drop, get_or-take}
+use Rattle.std.specs.Int.{Width}
+use Rattle.std.proofs.lemmas.Bool.{cases_eq, le-ltb, lt-ltb}
+use Rattle.rkyv_base.specs.Shape.{IsElement, Shape, Viewed}
+use Rattle.rkyv_scan.specs.Groups.{is_full}
+use Rattle.rkyv_table.specs.Header.{cap_at, len_at}
+use Rattle.rkyv_table.specs.Numbers.{control_count}
+use Rattle.rkyv_table.specs.RawItems.{place_before}
+use Rattle.rkyv_table.specs.Reading.{AreItems, IsWalked, controls_place, item_at, table_bytes, table_controls, table_place}
+use Rattle.rkyv_table.specs.SealedLookup.{IsReadAt, IsTableSeal}
+use Rattle.rkyv_table.specs.declared.table.TableOf.{TableOf}
+use Rattle.rkyv_table.specs.declared.table.items.Items.{Items}
+use Rattle.rkyv_base.specs.Seal.{archive_in, pos_in}
+use Rattle.rkyv_base.specs.declared.seal.ArchiveSeal.{ArchiveSeal}
+use Rattle.rkyv_table.specs.Placing.{walk}
+use Rattle.rkyv_table.specs.SealedItems.{IsItemAt, IsSealIter, StaysThere, buckets_left}
+use Rattle.rkyv_table.specs.SealedTable.{KeepsTable}
+use Rattle.rkyv_table.specs.Table.{table_shape}
+use Rattle.rkyv_base.specs.Sealing.{Keeps, Sealed}
+use Rattle.rkyv_base.proofs.Sealing.{viewed_kept}
+use Rattle.rkyv_table.specs.Walking.{full_from}
+use Rattle.rkyv_table.specs.declared.table.raw_iter_seal.RawIterSeal.{RawIterSeal}
+use Rattle.rkyv_table.proofs.Items.{controls_inside, item_before, item_viewed}
+use Rattle.rkyv_table.proofs.RawWalks.{walk_count}
+use Rattle.rkyv_table.proofs.SealedTable.{cap_kept, place_kept, table_kept}
+use Rattle.rkyv_table.proofs.Walks.{filter_agree_range, whole_walk}
+
+pub full_taken : (controls : List ℕ) (cap b : ℕ) → b < cap → slice_index controls b < 128 → full_from controls cap b ≡ b ∷ full_from controls cap (b + 1)
+unfolding full_from
+full_taken controls cap b h full =
+    let e : cap - b ≡ suc (cap - (b + 1)) = omega arith in
+    let t = lt-ltb (slice_index controls b) 128 full in
+    rw (e, t) refl
+
+pub full_skipped : (controls : List ℕ) (cap b : ℕ) → b < cap → 128 ≤ slice_index controls b → full_from controls cap b ≡ full_from controls cap (b + 1)
+unfolding full_from
+full_skipped controls cap b h empty =
+    let e : cap - b ≡ suc (cap - (b + 1)) = omega arith in
+    let t = le-ltb (slice_index controls b) 128 empty in
+    rw (e, t) refl
+
+pub full_end : (controls : List ℕ) (cap b : ℕ) → cap ≤ b → full_from controls cap b ≡ []
+unfolding full_from
+full_end controls cap b h = let e : cap - b ≡ 0 = omega arith in rw e refl
+
+-- the controls of the buckets alone are the front of all controls
+front_same : (xs : List ℕ) (n m i : ℕ) → i < n → i < m → slice_index (take n xs) i ≡ slice_index (take m xs) i
+front_same xs n m i h k = get_or-take n xs i 0 h ∙ sym (get_or-take m xs i 0 k)
+
+module _ {T : Type 0} (w : Width) (s : Shape) (law : IsElement s) (p : ℕ) (r : RawIterSeal T) (is : IsSealIter w s p r) where
+  abbrev bytes : List ℕ
+  bytes = r.archive.now
+
+  abbrev controls : List ℕ
+  controls = slice_range bytes r.place (r.place + r.cap)
+
+  some_buckets : 0 < r.left → 0 < r.cap
+  some_buckets h = elim (cases_eq r.cap 0) [
+    | inl z ↦ let e = is.left ∙ ap length (full_end (table_controls w bytes p) r.cap r.next (omega arith)) in absurd (omega arith)
+    | inr n ↦ omega arith
+  ]
+
+  cap_some : 0 < r.cap → 0 < cap_at w bytes p
+  cap_some h = subst (λ n. 0 < n) is.cap h
+
+  pub part_there : 0 < r.left → r.place + r.cap ≤ length bytes
+  part_there h =
+      let some = some_buckets h in
+      let e = is.place some in
+      let f = is.cap in
+      let k = (controls_inside w s law bytes p is.table (cap_some some)).0 in
+      omega arith
+
+  control_same : 0 < r.left → (i : ℕ) → i < r.cap → slice_index controls i ≡ slice_index (table_controls w bytes p) i
+  control_same h i l =
+      let f = is.cap in
+      let e = is.place (some_buckets h) in
+      let m : i < (controls_place w bytes p + control_count (cap_at w bytes p)) - controls_place w bytes p = omega arith in
+      ap (λ n. slice_index (slice_range bytes n (n + r.cap)) i) e
+      ∙ front_same (drop (controls_place w bytes p) bytes) ((controls_place w bytes p + r.cap) - controls_place w bytes p) ((controls_place w bytes p + control_count (cap_at w bytes p)) - controls_place w bytes p) i (omega arith) m
+
+  pub full_same : 0 < r.left → (x : ℕ) → full_from controls r.cap x ≡ full_from (table_controls w bytes p) r.cap x
+  unfolding full_from
+  full_same h x =
+      filter_agree_range (λ q. is_full (slice_index controls q)) (λ q. is_full (slice_index (table_controls w bytes p) q)) x (r.cap - x)
+      (λ j from to. ap is_full (control_same h j (omega arith)))
+
+  pub bucket_before : 0 < r.left → (i : ℕ) → i < r.cap → (i + 1) * s.size ≤ r.place
+  bucket_before h i l =
+      let e = is.place (some_buckets h) in
+      let k = item_before w s law bytes p is.table i (subst (λ n. i < n) is.cap l) in
+      omega arith
+
+  pub first_item : 0 < r.left → (i q : ℕ) → i < r.cap → slice_index controls i < 128 → q ≡ place_before r.place s.size i → IsItemAt w s bytes p i q
+  first_item h i q l full at =
+      let e = is.place (some_buckets h) in
+      let walked : IsWalked w bytes p i = (subst (λ n. i < n) is.cap l, subst (λ n. n < 128) (control_same h i l) full) in
+      let place : q ≡ item_at w s.size bytes p i = at ∙ ap (λ n. n - (i + 1) * s.size) e in
+      record {
+        walked = walked;
+        place = place;
+        viewed = subst (Viewed s bytes) (sym place) (item_viewed w s law bytes p is.table i walked);
+        kept = λ c sealed keeps. table_kept w s law bytes p i is.table walked c sealed keeps;
+      }
+
+-- a cursor over a table that was kept
+module _ {T : Type 0} (w : Width) (s : Shape) (p i q : ℕ) (before after : RawIterSeal T) (is : IsSealIter w s p before) (item : IsItemAt w s before.archive.now p i q)
+    (there : StaysThere before after) (sealed : Sealed before.archive.now q s.size after.archive.now) (keeps : Keeps s before.archive.now after.archive.now q) where
+  cursor_table : KeepsTable w s before.archive.now after.archive.now p i
+  cursor_table =
+      item.kept after.archive.now (subst (λ x. Sealed before.archive.now x s.size after.archive.now) item.place sealed) (subst (Keeps s before.archive.now after.archive.now) item.place keeps)
+
+  cursor_buckets : buckets_left w p after ≡ buckets_left w p before
+  cursor_buckets = ap (λ xs. full_from xs after.cap after.next) cursor_table.controls
+      ∙ ap (λ n. full_from (table_controls w before.archive.now p) n after.next) there.cap ∙ ap (λ n. full_from (table_controls w before.archive.now p) before.cap n) there.next
+
+  pub cursor_kept : KeepsTable w s before.archive.now after.archive.now p i × IsSealIter w s p after × (buckets_left w p after ≡ buckets_left w p before)
+  cursor_kept =
+      let header = cursor_table.header in (
+        cursor_table,
+        record {
+          table = viewed_kept (table_shape w s) before.archive.now after.archive.now p sealed.same_length cursor_table.holds is.table;
+          cap = there.cap ∙ is.cap ∙ sym (cap_kept w before.archive.now after.archive.now p header);
+          place = λ h. there.place ∙ is.place (subst (λ n. 0 < n) there.cap h) ∙ sym (place_kept w before.archive.now after.archive.now p header);
+          left = there.left ∙ is.left ∙ ap length (sym cursor_buckets);
+        },
+        cursor_buckets,
+      )
+
+-- a cursor that begins has every walked bucket left
+module _ {T : Type 0} (w : Width) (s : Shape) (law : IsElement s) (p : ℕ) (r : RawIterSeal T) (view : Viewed (table_shape w s) r.archive.now p)
+    (cap : r.cap ≡ cap_at w r.archive.now p) (next : r.next ≡ 0) where
+  pub all_left : buckets_left w p r ≡ walk (table_controls w r.archive.now p) (cap_at w r.archive.now p)
+  all_left = ap (λ n. full_from (table_controls w r.archive.now p) n r.next) cap
+      ∙ ap (λ n. full_from (table_controls w r.archive.now p) (cap_at w r.archive.now p) n) next ∙ whole_walk (table_controls w r.archive.now p) (cap_at w r.archive.now p)
+
+  pub begun : r.left ≡ len_at w r.archive.now p → (0 < r.cap → r.place ≡ controls_place w r.archive.now p) → IsSealIter w s p r
+  begun left place = record { table = view; cap = cap; place = place; left = left ∙ sym (walk_count w s law r.archive.now p view) ∙ ap length (sym all_left) }
+
+-- a cursor with the numbers that were read of a header
+module _ {T W : Type 0} (w : Width) (s : Shape) (law : IsElement s) (a : ArchiveSeal (TableOf T W)) (stands : IsTableSeal w s a) (items : Items T W) (are : AreItems w s items)
+    (read : IsReadAt a items.table) (r : RawIterSeal T) (bytes : r.archive.now ≡ archive_in a) (place : r.place ≡ items.place) (cap : r.cap ≡ items.cap) (left : r.left ≡ items.len) (next : r.next ≡ 0) where
+  as_read : (F : List ℕ → ℕ → ℕ) → F (table_bytes items.table) (table_place items.table) ≡ F r.archive.now (pos_in a)
+  as_read F = ap (λ b. F b (table_place items.table)) (read.0 ∙ sym bytes) ∙ ap (F r.archive.now) read.1
+
+  stands_there : Viewed (table_shape w s) r.archive.now (pos_in a)
+  stands_there = subst (λ b. Viewed (table_shape w s) b (pos_in a)) (sym bytes) stands
+
+  cap_there : r.cap ≡ cap_at w r.archive.now (pos_in a)
+  cap_there = cap ∙ are.cap ∙ as_read (cap_at w)
+
+  pub begun_at : IsSealIter w s (pos_in a) r
+  begun_at = begun w s law (pos_in a) r stands_there cap_there next (left ∙ are.len ∙ as_read (len_at w))
+      (λ h. place ∙ are.place (subst (λ n. 0 < n) cap h) ∙ as_read (controls_place w))
+
+  pub all_left_at : buckets_left w (pos_in a) r ≡ walk (table_controls w (archive_in a) (pos_in a)) (cap_at w (archive_in a) (pos_in a))
+  all_left_at = all_left w s law (pos_in a) r stands_there cap_there next ∙ ap (λ b. walk (table_controls w b (pos_in a)) (cap_at w b (pos_in a))) bytes

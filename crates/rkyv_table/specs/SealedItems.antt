@@ -1,0 +1,95 @@
+-- What a cursor over the items of a table has left, which lends each to be written.
+use Rattle.std.specs.Prelude.{◌≡◌, ℕ, ◌+◌, ◌<◌, ◌≤◌, [], ◌∷◌, List, Option, length, MatchOption}
+use Rattle.std.specs.Int.{Width}
+use Rattle.rkyv_base.specs.Seal.{place_in}
+use Rattle.rkyv_base.specs.Shape.{Shape, Viewed}
+use Rattle.rkyv_base.specs.declared.seal.Seal.{Seal}
+use Rattle.rkyv_table.specs.Header.{cap_at}
+use Rattle.rkyv_table.specs.Reading.{IsWalked, controls_place, item_at, table_controls}
+use Rattle.rkyv_base.specs.declared.seal.ArchiveSeal.{ArchiveSeal}
+use Rattle.rkyv_table.specs.SealedTable.{KeepsTable, KeptByWrites}
+use Rattle.rkyv_table.specs.declared.table.TableOf.{TableOf}
+use Rattle.rkyv_table.specs.Table.{table_shape}
+use Rattle.rkyv_table.specs.Walking.{full_from}
+use Rattle.rkyv_table.specs.declared.table.raw_iter_seal.Place.{Place}
+use Rattle.rkyv_table.specs.declared.table.raw_iter_seal.RawIterSeal.{RawIterSeal}
+
+-- the archive of a cursor, and how many items it has left
+abbrev pub cursor_bytes : {T : Type 0} → RawIterSeal T → List ℕ
+cursor_bytes r = r.archive.now
+
+abbrev pub items_left : {T : Type 0} → RawIterSeal T → ℕ
+items_left r = r.left
+
+-- the buckets that a cursor over the table at p has left, ascending
+abbrev pub buckets_left : {T : Type 0} → Width → ℕ → RawIterSeal T → List ℕ
+buckets_left w p r = full_from (table_controls w r.archive.now p) r.cap r.next
+
+-- a table of such items stands at p in the archive of the cursor, whose numbers are those of the table
+pub record IsSealIter {T : Type 0} (w : Width) (s : Shape) (p : ℕ) (r : RawIterSeal T) : Type 0 where
+  pub table : Viewed (table_shape w s) r.archive.now p
+  pub cap : r.cap ≡ cap_at w r.archive.now p
+  pub place : 0 < r.cap → r.place ≡ controls_place w r.archive.now p
+  pub left : r.left ≡ length (buckets_left w p r)
+
+-- the cursor lends the same bytes of the same reference
+pub record SameArchive {T : Type 0} (before after : RawIterSeal T) : Type 0 where
+  pub reference : after.archive.ghost_name ≡ before.archive.ghost_name
+  pub bytes : after.archive.now ≡ before.archive.now
+
+-- q is where the item in bucket i of the table at p stands, and each write of the item alone that keeps it keeps the table
+pub record IsItemAt (w : Width) (s : Shape) (b : List ℕ) (p i q : ℕ) : Type 0 where
+  pub walked : IsWalked w b p i
+  pub place : q ≡ item_at w s.size b p i
+  pub viewed : Viewed s b q
+  pub kept : KeptByWrites w s b p i
+
+-- the first of the buckets that are left, and the others after it
+pub record TakesBucket {T : Type 0} (w : Width) (s : Shape) (p : ℕ) (before after : RawIterSeal T) (q : ℕ) : Type 0 where
+  pub bucket : ℕ
+  pub first : buckets_left w p before ≡ bucket ∷ buckets_left w p after
+  pub item : IsItemAt w s before.archive.now p bucket q
+  pub iter : IsSealIter w s p after
+
+-- a step over the positions of a table's items: none is left and the cursor is as before, or the first is taken
+abbrev pub TakesPosition : {T : Type 0} → Shape → RawIterSeal T → Option ℕ → RawIterSeal T → Type 0
+TakesPosition s before result after =
+    (w : Width) (p : ℕ) → IsSealIter w s p before
+    → MatchOption result ((buckets_left w p before ≡ []) × (buckets_left w p after ≡ []) × IsSealIter w s p after) (TakesBucket w s p before after)
+
+-- the number of items left goes down by one with each that is given, and once none is left none is given
+abbrev pub CountsDown : {T : Type 0} → RawIterSeal T → Option ℕ → RawIterSeal T → Type 0
+CountsDown before result after = MatchOption result (after.left ≡ before.left) (λ _. before.left ≡ after.left + 1)
+
+-- the seal is at the first item that a cursor over a table has left; none is given where none is left
+abbrev pub LendsFirst : {T : Type 0} → Shape → RawIterSeal T → Option (Seal T) → Type 0
+LendsFirst s before result =
+    (w : Width) (p : ℕ) → IsSealIter w s p before
+    → MatchOption result (buckets_left w p before ≡ [])
+    (λ x. (i : ℕ) × (rest : List ℕ) × (buckets_left w p before ≡ i ∷ rest) × IsItemAt w s before.archive.now p i (place_in x))
+
+-- the first item that a cursor over a table has left, by its bucket and its place
+abbrev pub FindsFirstLeft : {T : Type 0} → Shape → RawIterSeal T → Option Place → Type 0
+FindsFirstLeft s r result =
+    (w : Width) (p : ℕ) → IsSealIter w s p r
+    → MatchOption result (buckets_left w p r ≡ [])
+    (λ f. (buckets_left w p r ≡ f.bucket ∷ full_from (table_controls w r.archive.now p) r.cap (f.bucket + 1)) × IsItemAt w s r.archive.now p f.bucket f.at)
+
+-- the cursor lends what the seal lent
+pub record LendsArchive {T W : Type 0} (a : ArchiveSeal (TableOf T W)) (r : RawIterSeal T) : Type 0 where
+  pub reference : r.archive.ghost_name ≡ a.archive.ghost_name
+  pub bytes : r.archive.now ≡ a.archive.now
+
+-- the cursor is where it was, over the same reference, whatever its bytes are by now
+pub record StaysThere {T : Type 0} (before after : RawIterSeal T) : Type 0 where
+  pub reference : after.archive.ghost_name ≡ before.archive.ghost_name
+  pub place : after.place ≡ before.place
+  pub cap : after.cap ≡ before.cap
+  pub next : after.next ≡ before.next
+  pub left : after.left ≡ before.left
+
+-- a cursor over a table of which the item at q was written is one over the table, which is kept, with the same buckets left
+abbrev pub KeepsCursor : {T : Type 0} → Shape → RawIterSeal T → ℕ → RawIterSeal T → Type 0
+KeepsCursor s before q after =
+    (w : Width) (p i : ℕ) → IsSealIter w s p before → IsItemAt w s before.archive.now p i q
+    → KeepsTable w s before.archive.now after.archive.now p i × IsSealIter w s p after × (buckets_left w p after ≡ buckets_left w p before)

@@ -1,0 +1,93 @@
+//! Counting the items that a lookup of their own doesn't answer.
+ghost use Rattle.std.specs.Prelude.{not, ◌≡◌};
+ghost use Rattle.rkyv_scan.specs.Groups.{generic_kind};
+ghost use Rattle.rkyv_table.specs.Misplaced.{is_answer, NoneMisplacedIsComplete, RepeatedAreMisplaced};
+ghost use Rattle.rkyv_table.specs.MisplacedIn.{AnswersOf, CountsMisplaced, FindsOwn, MayCompare};
+ghost use Rattle.rkyv_table.specs.Reading.{AreItems, IsTable, IsWalked, MayAsk, table_bytes, table_place};
+
+use crate::controls::find::{Strides, find};
+use crate::table::ArchivedHashTable;
+use crate::table::items::Items;
+use rkyv_base::element::Element;
+use rkyv_base::view::View;
+use rkyv_base::width::Width;
+use rkyv_scan::Group;
+
+// Whether a lookup didn't answer the bucket.
+#[inline]
+fn is_elsewhere(bucket: usize, found: Option<usize>) -> bool
+    ensures { result ≡ not (is_answer bucket found) }
+{
+    match found {
+        Some(found) => bucket != found,
+        None => true,
+    }
+}
+
+impl<'a, T: Element, W: Width> ArchivedHashTable<'a, T, W> {
+    // The bucket that a lookup of a bucket's own item answers.
+    #[inline]
+    fn own_lookup<S: Fn(View<'a, T>, View<'a, T>) -> bool>(
+        items: Items<'a, T, W>,
+        bucket: usize,
+        hash: u64,
+        same: &S,
+    ) -> Option<usize>
+        requires items { AreItems W.word T.shape items }
+        requires walked { IsWalked W.word (table_bytes items.table) (table_place items.table) bucket }
+        requires comparable { MayCompare (S.pre same.now) W.word T.shape items.table }
+        ensures { FindsOwn (S.post same.now) generic_kind W.word T.shape items.entry.table hash bucket result }
+    {
+        find::<Group, _>(
+            items.controls,
+            items.cap,
+            items.len,
+            hash,
+            |other|
+                requires items { AreItems W.word T.shape items }
+                requires walked { IsWalked W.word (table_bytes items.table) (table_place items.table) bucket }
+                requires other { IsWalked W.word (table_bytes items.table) (table_place items.table) other }
+                requires comparable { MayCompare (S.pre same.now) W.word T.shape items.table }
+                ensures { AnswersOf (S.post same.entry.now) W.word T.shape items.entry.table bucket other result }
+            { same(items.item(bucket), items.item(other)) },
+            &mut Strides::new(),
+        )
+    }
+
+    /// How many items a lookup of their own doesn't answer: under the hash that `hash_of` gives of
+    /// the item, accepting those that are the `same` as it, which is asked with the item first.
+    ///
+    /// An item is told from another by its bucket. Where both functions go by what stands at a
+    /// position, a table that was written has as many as there are items that are the same as one
+    /// handed in earlier.
+    pub fn misplaced_by<H: Fn(View<'a, T>) -> u64, S: Fn(View<'a, T>, View<'a, T>) -> bool>(
+        self,
+        hash_of: H,
+        same: S,
+    ) -> usize
+        requires table { IsTable W.word T.shape self }
+        requires hashable { MayAsk (H.pre hash_of) W.word T.shape self }
+        requires comparable { MayCompare (S.pre same) W.word T.shape self }
+        ensures { CountsMisplaced (H.post hash_of) (S.post same) generic_kind W.word T.shape self.entry result }
+    {
+        let items = Items::of(self);
+        let mut count = 0;
+        for bucket in items.walk::<Group>() {
+            let hash = hash_of(items.item(bucket));
+            if is_elsewhere(bucket, Self::own_lookup(items, bucket, hash, &same)) {
+                count += 1;
+            }
+        }
+        count
+    }
+}
+
+/// On written controls the misplaced items are those that are the same as an earlier one.
+pub fn repeated_are_misplaced()
+    ensures { RepeatedAreMisplaced }
+{}
+
+/// Where no item is misplaced, a lookup finds the one walked item that it accepts.
+pub fn none_misplaced_is_complete()
+    ensures { NoneMisplacedIsComplete }
+{}

@@ -1,0 +1,191 @@
+//! Walking over the items of a table to write them.
+ghost use Rattle.std.specs.Prelude.{IfSome, MatchOption, [], length, slice_index, slice_range, ◌*◌, ◌+◌, ◌-◌, ◌<◌, ◌∷◌, ◌≡◌, ◌≤◌};
+ghost use Rattle.std.specs.Int.{byte_len};
+ghost use Rattle.rkyv_base.specs.Scalar.{scalar_shape};
+ghost use Rattle.rkyv_base.specs.Seal.{LiesIn, archive_in, bytes_in, pos_in};
+ghost use Rattle.rkyv_base.specs.Sealing.{with_value};
+ghost use Rattle.rkyv_table.specs.Header.{cap_at, len_at};
+ghost use Rattle.rkyv_table.specs.Placing.{walk};
+ghost use Rattle.rkyv_table.specs.Reading.{table_controls};
+ghost use Rattle.rkyv_table.specs.SealedItems.{CountsDown, FindsFirstLeft, IsSealIter, KeepsCursor, LendsArchive, LendsFirst, SameArchive, StaysThere, TakesPosition, buckets_left, cursor_bytes, items_left};
+ghost use Rattle.rkyv_table.specs.RawItems.{place_before};
+ghost use Rattle.rkyv_table.specs.SealedLookup.{IsTableSeal};
+ghost use Rattle.rkyv_table.specs.Walking.{full_from};
+
+use crate::table::items::Items;
+use crate::table::{ArchivedHashTable, TableOf};
+use rkyv_base::element::Element;
+use rkyv_base::scalars::Scalar;
+use rkyv_base::seal::{ArchiveSeal, Seal, set_at};
+use rkyv_base::width::Width;
+use std::marker::PhantomData;
+
+/// The first of the first `cap` buckets from `from` on whose control is full.
+#[inline]
+fn next_full(controls: &[u8], cap: usize, from: usize) -> Option<usize>
+    requires { cap ≤ length controls.now }
+    ensures { MatchOption result (full_from controls.now cap from ≡ [])
+        (λ b. (b < cap) × (slice_index controls.now b < 128) × (full_from controls.now cap from ≡ b ∷ full_from controls.now cap (b + 1))) }
+{
+    for bucket in from..cap {
+        if controls[bucket] < 0x80 {
+            return Some(bucket);
+        }
+    }
+    None
+}
+
+/// The `count` bytes from `place` on, where they are there.
+#[inline]
+fn part(bytes: &[u8], place: usize, count: usize) -> Option<&[u8]>
+    ensures { MatchOption result (length bytes.now < place + count)
+        (λ part. (place + count ≤ length bytes.now) × (part.now ≡ slice_range bytes.now place (place + count))) }
+{
+    if bytes.len() < place || bytes.len() - place < count {
+        return None;
+    }
+    Some(&bytes[place..place + count])
+}
+
+/// Where a bucket stands before the first control, where there is room for it.
+#[inline]
+fn place_before(place: usize, bucket: usize, size: usize) -> Option<usize>
+    requires { size ≤ 1073741824 }
+    ensures { MatchOption result (place < (bucket + 1) * size)
+        (λ q. ((bucket + 1) * size ≤ place) × (q ≡ place_before place size bucket)) }
+{
+    let behind = (bucket as u128 + 1) * size as u128;
+    if behind > place as u128 {
+        return None;
+    }
+    Some(place - behind as usize)
+}
+
+/// A bucket, and where its item stands.
+#[derive(Clone, Copy)]
+struct Place {
+    bucket: usize,
+    at: usize,
+}
+
+/// The items of a table, by ascending bucket, each of which is lent to be written.
+///
+/// It gives as many as `len` tells.
+#[derive(Drop)]
+pub struct RawIterSeal<'a, T> {
+    archive: &'a mut [u8],
+    // The place of the first control, before which the buckets stand.
+    place: usize,
+    cap: usize,
+    // The bucket that is looked at next.
+    next: usize,
+    left: usize,
+    kind: PhantomData<T>,
+}
+
+impl<'a, T: Element> RawIterSeal<'a, T> {
+    /// How many items are left.
+    #[inline]
+    pub fn len(&self) -> usize
+        ensures { result ≡ items_left self.now }
+    {
+        self.left
+    }
+
+    // The first that is left.
+    #[inline]
+    fn first(&self) -> Option<Place>
+        ensures some { IfSome result (λ _. 0 < items_left self.now) }
+        ensures below { IfSome result (λ f. f.bucket < self.now.cap) }
+        ensures inside { IfSome result (λ f. f.at + T.shape.size ≤ length (cursor_bytes self.now)) }
+        ensures first { FindsFirstLeft T.shape self.now result }
+    {
+        if self.left == 0 {
+            return None;
+        }
+        let bucket = match part(&*self.archive, self.place, self.cap) {
+            Some(controls) => match next_full(controls, self.cap, self.next) {
+                Some(bucket) => bucket,
+                None => return None,
+            },
+            None => return None,
+        };
+        match place_before(self.place, bucket, T::size()) {
+            Some(at) => Some(Place { bucket, at }),
+            None => None,
+        }
+    }
+
+    /// Where the next item stands.
+    #[inline]
+    pub fn next_pos(&mut self) -> Option<u64>
+        ensures archive { SameArchive self.old self.new }
+        ensures counts { CountsDown self.old result self.new }
+        ensures inside { IfSome result (λ q. q + T.shape.size ≤ length (cursor_bytes self.old)) }
+        ensures takes { TakesPosition T.shape self.old result self.new }
+    {
+        match self.first() {
+            Some(first) => {
+                self.next = first.bucket + 1;
+                self.left -= 1;
+                Some(first.at as u64)
+            }
+            None => None,
+        }
+    }
+
+    /// The next item, to be written.
+    #[inline]
+    pub fn next_seal(&mut self) -> Option<Seal<'_, T>>
+        ensures inside { IfSome result (LiesIn T.shape) }
+        ensures bytes { IfSome result (λ s. bytes_in s ≡ cursor_bytes self.old) }
+        ensures first { LendsFirst T.shape self.old result }
+    {
+        match self.next_pos() {
+            Some(pos) => {
+                let bytes = &mut *self.archive;
+                Some(Seal::over(bytes, pos as usize))
+            }
+            None => None,
+        }
+    }
+}
+
+impl<'a, N: Scalar> RawIterSeal<'a, N> {
+    /// Writes the value at a position.
+    #[inline]
+    pub fn set_at(&mut self, pos: u64, value: N)
+        requires { pos + byte_len N.encoding.word ≤ length (cursor_bytes self.old) }
+        ensures stays { StaysThere self.old self.new }
+        ensures written { cursor_bytes self.new ≡ with_value N.encoding (cursor_bytes self.old) pos value }
+        ensures kept { KeepsCursor (scalar_shape N.encoding) self.old pos self.new }
+    {
+        let bytes = &mut *self.archive;
+        set_at(bytes, pos as usize, value);
+    }
+}
+
+impl<'a, T: Element, W: Width> ArchivedHashTable<'a, T, W> {
+    /// Its items, by ascending bucket, to be written.
+    #[inline]
+    pub fn raw_iter_seal(this: ArchiveSeal<'a, TableOf<T, W>>) -> RawIterSeal<'a, T>
+        requires table { IsTableSeal W.word T.shape this }
+        ensures archive { LendsArchive this.entry result }
+        ensures iter { IsSealIter W.word T.shape (pos_in this.entry) result }
+        ensures buckets { buckets_left W.word (pos_in this.entry) result
+            ≡ walk (table_controls W.word (archive_in this.entry) (pos_in this.entry)) (cap_at W.word (archive_in this.entry) (pos_in this.entry)) }
+        ensures count { items_left result ≡ len_at W.word (archive_in this.entry) (pos_in this.entry) }
+    {
+        let items = Items::of(ArchivedHashTable::of(this.as_view()));
+        let (place, cap, left) = (items.place, items.cap, items.len);
+        let (archive, _) = this.into_parts();
+        RawIterSeal {
+            archive,
+            place,
+            cap,
+            next: 0,
+            left,
+            kind: PhantomData,
+        }
+    }
+}
