@@ -5,6 +5,7 @@ mod element;
 mod equality;
 pub mod iter;
 mod lookup;
+mod misplaced;
 mod reading;
 
 use rkyv_base::view::View;

@@ -1,9 +1,9 @@
 //! A map, and how many pairs it has.
 ghost use Rattle.std.specs.Prelude.{IsTrue, ◌↔◌, ◌≡◌};
 ghost use Rattle.rkyv_base.specs.Entry.{entry_shape};
-ghost use Rattle.rkyv_base.specs.View.{IsAt};
+ghost use Rattle.rkyv_base.specs.View.{IsAt, IsView};
 ghost use Rattle.rkyv_table.specs.Reading.{IsTable};
-ghost use Rattle.rkyv_collections.specs.Map.{IsMap, map_archive, map_cap, map_len, map_place};
+ghost use Rattle.rkyv_collections.specs.Map.{IsMap, map_archive, map_cap, map_len, map_place, map_shape};
 
 use crate::map::{ArchivedHashMap, HashMapOf};
 use rkyv_base::element::Element;
@@ -16,7 +16,9 @@ impl<'a, K: Element, V: Element, H, W: Width> ArchivedHashMap<'a, K, V, H, W> {
     /// The map whose header is viewed.
     #[inline]
     pub fn of(view: View<'a, HashMapOf<K, V, H, W>>) -> ArchivedHashMap<'a, K, V, H, W>
-        ensures { result.view ≡ view.entry }
+        requires { IsView (map_shape W.word K.shape V.shape) view }
+        ensures view { result.view ≡ view.entry }
+        ensures map { IsMap W.word K.shape V.shape result }
     {
         ArchivedHashMap { view }
     }
