@@ -70,9 +70,10 @@ module _ (kind : Kind) (cap len h : ℕ) (controls : List ℕ) (law : IsKind kin
       let e' = sym (answer_cons kind controls cap (tag h) accept p ps) ∙ e in
       elim (cases_Bool (ends_at kind controls cap (tag h) accept p)) [
         | inl t ↦
-            let f : find accept (candidates kind controls cap (tag h) p) ≡ Some b = rw t at e' in
-            ((some_find accept (candidates kind controls cap (tag h) p) b f).1,
-            candidate_walked p b (sub p (or_left (eqb p p) (list_any (eqb p) ps) (eq-eqb p p refl))) (found_member accept b (candidates kind controls cap (tag h) p) f))
+            let f : find accept (candidates kind controls cap (tag h) p) ≡ Some b = rw t at e' in (
+              (some_find accept (candidates kind controls cap (tag h) p) b f).1,
+              candidate_walked p b (sub p (or_left (eqb p p) (list_any (eqb p) ps) (eq-eqb p p refl))) (found_member accept b (candidates kind controls cap (tag h) p) f),
+            )
         | inr n ↦
             let f : answer kind controls cap (tag h) accept ps ≡ Some b = rw n at e' in
             answer_walked accept b ps (λ q m. sub q (or_right (eqb q p) (list_any (eqb q) ps) m)) f

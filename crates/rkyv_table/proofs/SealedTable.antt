@@ -125,9 +125,13 @@ module _ (w : Width) (s : Shape) (law : IsElement s) (b : List ℕ) (p i : ℕ) 
   at_kept lo hi l (inl h) = inl h
   at_kept lo hi l (inr (n, part, is, e)) =
       let same : whole.0 ≡ n = let x = whole.1.part.begins in let y = part.begins in omega (arith, ints, x, y) in
-      inr (n, part,
-      part_kept s law b c n (cap_at w b p) i walked.0 (subst (λ m. Sealed b (bucket_at s.size m (cap_at w b p) i) s.size c) same sealed_at)
-      (subst (λ m. Keeps s b c (bucket_at s.size m (cap_at w b p) i)) same keeps_at) (len_at w b p) lo part.above is, e)
+      inr (
+        n,
+        part,
+        part_kept s law b c n (cap_at w b p) i walked.0 (subst (λ m. Sealed b (bucket_at s.size m (cap_at w b p) i) s.size c) same sealed_at)
+            (subst (λ m. Keeps s b c (bucket_at s.size m (cap_at w b p) i)) same keeps_at) (len_at w b p) lo part.above is,
+        e,
+      )
 
   other_same : (j : ℕ) → IsWalked w b p j → j ≢ i → SameValue s b c (item_at w s.size b p j)
   other_same j there ne =
@@ -175,8 +179,10 @@ module _ (w : Width) (s : Shape) (b c : List ℕ) (p i : ℕ) (kept : KeepsTable
     fit = x.fit;
     placed = elim x.placed [
       | inl e ↦ inl e
-      | inr u ↦ inr (subst (λ n. length hashes < n) (sym (cap_kept w b c p kept.header)) u.0,
-        subst (λ n. Written n hashes homes (table_controls w c p)) (sym (cap_kept w b c p kept.header)) (subst (Written (cap_at w b p) hashes homes) (sym kept.controls) u.1))
+      | inr u ↦ inr (
+        subst (λ n. length hashes < n) (sym (cap_kept w b c p kept.header)) u.0,
+        subst (λ n. Written n hashes homes (table_controls w c p)) (sym (cap_kept w b c p kept.header)) (subst (Written (cap_at w b p) hashes homes) (sym kept.controls) u.1),
+      )
     ];
   }
 
@@ -192,8 +198,8 @@ module _ (w : Width) (k v : Shape) (kl : IsElement k) (vl : IsElement v) (b : Li
       let small = size_of_small (whole_size k v) there.stands.1.0 in
       let inside = parts_inside k v in (
         table_kept w s law b p i view walked c
-        (sealed_wider b c (value_place k v q) v.size q s.size (omega arith) (omega (arith, small, inside.1)) sealed)
-        (entry_kept k v kl vl b c q sealed keeps),
+            (sealed_wider b c (value_place k v q) v.size q s.size (omega arith) (omega (arith, small, inside.1)) sealed)
+            (entry_kept k v kl vl b c q sealed keeps),
         record {
           fixed = same_outside b (value_place k v q) v.size c sealed q (q + k.size) (omega arith) (inl (omega (arith, inside.0)));
           parts = λ l h.

@@ -7,4 +7,6 @@ pub mod table;
 mod tests;
 
 pub use controls::find::Strides;
+pub use table::raw_iter::RawIter;
+pub use table::raw_iter_seal::RawIterSeal;
 pub use table::{ArchivedHashTable, TableOf};

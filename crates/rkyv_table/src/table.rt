@@ -7,8 +7,8 @@ pub mod laws;
 mod lookup;
 pub mod misplaced;
 pub mod raw_iter;
-mod reading;
 pub mod raw_iter_seal;
+mod reading;
 pub mod sealed;
 mod verify;
 

@@ -4,6 +4,7 @@ ghost use Rattle.rkyv_table.specs.Controls.{IsFullBucket};
 ghost use Rattle.rkyv_table.specs.Placing.{Accepted};
 
 mod reading;
+mod sealing;
 
 use crate::controls::find::{Strides, find};
 use crate::controls::numbers::{

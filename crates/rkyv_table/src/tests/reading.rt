@@ -3,8 +3,7 @@ ghost use Rattle.std.specs.Prelude.{IfSome};
 ghost use Rattle.rkyv_base.specs.View.{IsView};
 ghost use Rattle.rkyv_table.specs.Reading.{IsTable};
 
-use crate::table::raw_iter::RawIter;
-use crate::{ArchivedHashTable, Strides, TableOf};
+use crate::{ArchivedHashTable, RawIter, Strides, TableOf};
 use rkyv_base::access::{access, access_in};
 use rkyv_base::element::{Element, PartRange};
 use rkyv_base::entry::Entry;
