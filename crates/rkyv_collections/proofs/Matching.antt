@@ -36,7 +36,8 @@ module _ (rows columns : ℕ) (same : ℕ → ℕ → Bool) (matching : IsMatchi
       let n = length-range_with_len 0 columns in
       let below : position_or_len (same i) xs < columns = omega arith in
       let at = get_or-range_with_len 0 columns (position_or_len (same i) xs) 0 below in
-      (below, ap (same i) (sym at) ∙ passes_at_first (same i) xs 0 inside)
+      let first : 0 + position_or_len (same i) xs ≡ position_or_len (same i) xs = omega arith in
+      (below, ap (same i) (sym (at ∙ first)) ∙ passes_at_first (same i) xs 0 inside)
 
   columns_differ : (i j : ℕ) → i < rows → j < rows → column i ≡ column j → i ≡ j
   columns_differ i j hi hj e =
@@ -58,7 +59,8 @@ module _ (rows columns : ℕ) (same : ℕ → ℕ → Bool) (matching : IsMatchi
         let n = length-range_with_len 0 rows in
         let below : position_or_len row xs < rows = omega arith in
         let at = get_or-range_with_len 0 rows (position_or_len row xs) 0 below in
-        (position_or_len row xs, below, ap row (sym at) ∙ passes_at_first row xs 0 inside)
+        let first : 0 + position_or_len row xs ≡ position_or_len row xs = omega arith in
+        (position_or_len row xs, below, ap row (sym (at ∙ first)) ∙ passes_at_first row xs 0 inside)
     | inr none ↦
         let more : ℕ → ℕ = λ i. cond (ltb i rows) (column i) j in
         let early : (i : ℕ) → i < rows → more i ≡ column i = λ i l. rw (lt-ltb i rows l) refl in
