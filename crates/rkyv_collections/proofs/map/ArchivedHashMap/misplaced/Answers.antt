@@ -1,0 +1,32 @@
+use Rattle.std.proofs.Common.{ap, ◌∙◌, ◌≡◌, Bool, ℕ, List}
+use Rattle.std.specs.Borrow.{Bor}
+use Rattle.rkyv_scan.specs.Groups.{generic_kind}
+use Rattle.rkyv_base.specs.Entry.{entry_shape}
+use Rattle.rkyv_base.specs.View.{bytes_of}
+use Rattle.rkyv_base.specs.declared.entry.Entry.{Entry}
+use Rattle.rkyv_base.specs.declared.view.View.{View}
+use Rattle.rkyv_table.specs.Header.{cap_at, len_at}
+use Rattle.rkyv_table.specs.Misplaced.{misplaced}
+use Rattle.rkyv_table.specs.Reading.{IsItem, item_at, table_controls, table_place}
+use Rattle.rkyv_collections.specs.Map.{hash_at, map_bytes}
+use Rattle.rkyv_collections.proofs.map.ArchivedHashMap.misplaced.Goals as goal
+
+pub returns : goal.returns
+returns g c =
+    let w = g.W.Width.word in
+    let s = entry_shape g.K.Element.shape g.V.Element.shape in
+    let t = c.table.result in
+    let b : List ℕ = map_bytes c.args.self in
+    let key_hash = hash_at g.H.KeyHasher.initial g.H.KeyHasher.feed g.H.KeyHasher.finish g.K.KeyElement.key_calls in
+    let same_key = g.K.ElementEq.same in
+    let hash_of : ℕ → ℕ = key_hash b in
+    let same : ℕ → ℕ → Bool = λ p q. same_key b p b q in
+    let of : List ℕ → ℕ → ℕ = λ a p.
+    misplaced generic_kind (table_controls w a p) (cap_at w a p) (len_at w a p) (λ i. hash_of (item_at w s.size a p i)) (λ i j. same (item_at w s.size a p i) (item_at w s.size a p j)) in
+    let here : (x : View (Entry g.row.K.Denot g.row.V.Denot)) → IsItem w s t x → bytes_of x ≡ b =
+    λ x item. ap (λ (a : Bor (List ℕ)). a.now) (item.1.archive ∙ c.table.ensures.at.0) in
+    c.misplaced_by.ensures hash_of same
+    (λ x h item e. e.1 ∙ ap (λ a. key_hash a x.pos) (here x item))
+    (λ x y r own other e. e.2 ∙ ap (λ a. same_key a x.pos (bytes_of y) y.pos) (here x own) ∙ ap (λ a. same_key b x.pos a y.pos) (here y other))
+    ∙ ap (λ (a : Bor (List ℕ)). of a.now (table_place t)) c.table.ensures.at.0
+    ∙ ap (of b) c.table.ensures.at.1

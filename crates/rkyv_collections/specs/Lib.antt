@@ -1,0 +1,4 @@
+pub mod Map
+pub mod Walking
+pub mod Equality
+pub mod Misplaced

@@ -1,0 +1,71 @@
+//! Equality of maps.
+ghost use Rattle.std.specs.Prelude.{◌≡◌};
+ghost use Rattle.rkyv_base.specs.View.{IsAt, IsView, archive_of, bytes_of, place_of};
+ghost use Rattle.rkyv_collections.specs.Equality.{map_equal, pair_matches};
+ghost use Rattle.rkyv_collections.specs.Map.{IsMap, hash_at, map_bytes, map_place, map_shape};
+ghost use Rattle.rkyv_base.specs.Entry.{value_offset};
+ghost use Rattle.std.specs.Prelude.{◌+◌};
+ghost use Rattle.rkyv_keys.specs.Places.{at_views};
+
+use crate::map::{ArchivedHashMap, HashMapOf};
+use rkyv_base::element::Element;
+use rkyv_base::view::View;
+use rkyv_base::width::Width;
+use rkyv_keys::equality::ElementEq;
+use rkyv_keys::keys::KeyElement;
+use rkyv_scan::hash::KeyHasher;
+
+impl<'a, K: KeyElement, V: ElementEq, H: KeyHasher, W: Width> ArchivedHashMap<'a, K, V, H, W> {
+    /// Whether the key is found, with a value that is the same.
+    #[inline]
+    fn matches(self, key: View<'_, K>, value: View<'_, V>) -> bool
+        requires map { IsMap W.word K.shape V.shape self }
+        requires key { IsView K.shape key }
+        requires value { IsView V.shape value }
+        requires pair { IsAt value (archive_of key) (place_of key + value_offset K.shape V.shape) }
+        ensures { let key_hash = hash_at H.initial H.feed H.finish K.key_calls in
+            result ≡ pair_matches W.word K.shape V.shape key_hash K.same V.same (bytes_of key.entry) (place_of key.entry) (map_bytes self.entry) (map_place self.entry) }
+    {
+        match self.get(&key) {
+            Some(found) => V::same(value, found),
+            None => false,
+        }
+    }
+
+    /// Whether both maps have equally many pairs, and the key of each pair of this one is found in
+    /// the other with the same value.
+    ///
+    /// In maps of which one was written with a key twice, or comes from strangers, this may tell
+    /// a map apart from itself.
+    #[inline]
+    pub fn eq_map(self, other: ArchivedHashMap<'_, K, V, H, W>) -> bool
+        requires own { IsMap W.word K.shape V.shape self }
+        requires other { IsMap W.word K.shape V.shape other }
+        ensures { let key_hash = hash_at H.initial H.feed H.finish K.key_calls in
+            result ≡ map_equal W.word K.shape V.shape key_hash K.same V.same (map_bytes self.entry) (map_place self.entry) (map_bytes other.entry) (map_place other.entry) }
+    {
+        if self.len() != other.len() {
+            return false;
+        }
+        for (key, value) in self.iter() {
+            if !other.matches(key, value) {
+                return false;
+            }
+        }
+        true
+    }
+}
+
+impl<K: KeyElement, V: ElementEq, H: KeyHasher, W: Width> ElementEq for HashMapOf<K, V, H, W> {
+    ghost same = { map_equal W.word K.shape V.shape (hash_at H.initial H.feed H.finish K.key_calls) K.same V.same };
+
+    #[inline]
+    fn same(a: View<'_, HashMapOf<K, V, H, W>>, b: View<'_, HashMapOf<K, V, H, W>>) -> bool
+        requires a { IsView (map_shape W.word K.shape V.shape) a }
+        requires b { IsView (map_shape W.word K.shape V.shape) b }
+        ensures { let key_hash = hash_at H.initial H.feed H.finish K.key_calls in
+            result ≡ at_views (map_equal W.word K.shape V.shape key_hash K.same V.same) a.entry b.entry }
+    {
+        ArchivedHashMap::of(a).eq_map(ArchivedHashMap::of(b))
+    }
+}

@@ -1,0 +1,205 @@
+//! Walking over the pairs of a map.
+ghost use Rattle.std.specs.Prelude.{IfSome, Some, length, ◌≡◌};
+ghost use Rattle.std.specs.Iterator.{UpTo, at_most};
+ghost use Rattle.std.specs.Iterator.SizeHint.{IsWithinCount};
+ghost use Rattle.rkyv_base.specs.Entry.{entry_shape};
+ghost use Rattle.rkyv_table.specs.RawItems.{AllStand};
+ghost use Rattle.rkyv_collections.specs.Map.{IsMap, key_places, map_archive, map_len};
+ghost use Rattle.rkyv_collections.specs.Walking.{TakesKey, TakesPair, TakesValue};
+
+use crate::map::ArchivedHashMap;
+use rkyv_base::element::Element;
+use rkyv_base::entry::Entry;
+use rkyv_base::view::View;
+use rkyv_base::width::{Narrow, Width};
+use rkyv_scan::hash::FxHasher64;
+use rkyv_table::table::raw_iter::RawIter;
+use std::marker::{Model, PhantomData};
+
+/// The pairs of a map that are still to come, by ascending bucket.
+#[derive(Drop)]
+pub struct Iter<'a, K, V, H = FxHasher64, W = Narrow> {
+    entries: RawIter<'a, Entry<K, V>>,
+    hasher: PhantomData<H>,
+    width: PhantomData<W>,
+}
+
+impl<'a, K, V, H, W> Model for Iter<'a, K, V, H, W> {
+    ghost use Rattle.rkyv_table.specs.RawItems.{ItemsLeft};
+
+    ghost Value = { ItemsLeft };
+
+    ghost view = { λ i. i.entries };
+}
+
+impl<'a, K: Element, V: Element, H, W> Iterator for Iter<'a, K, V, H, W> {
+    type Item = (View<'a, K>, View<'a, V>);
+
+    ghost can_next = { AllStand (entry_shape K.shape V.shape) };
+
+    ghost next_gives = { TakesPair K.shape V.shape };
+
+    ghost remaining = { λ left. at_most (length left.places) };
+
+    #[inline]
+    fn next(&mut self) -> Option<(View<'a, K>, View<'a, V>)> {
+        match self.entries.next_view() {
+            Some(entry) => Some((entry.key(), entry.value())),
+            None => None,
+        }
+    }
+
+    #[inline]
+    fn size_hint(&self) -> (usize, Option<usize>)
+        ensures lower { IsWithinCount result.0 (at_most (length self.now.places)) }
+        ensures upper { IfSome result.1 (UpTo (at_most (length self.now.places))) }
+        ensures exact { (result.0 ≡ length self.now.places) × (result.1 ≡ Some (length self.now.places)) }
+    {
+        self.entries.size_hint()
+    }
+}
+
+impl<'a, K: Element, V: Element, H, W> ExactSizeIterator for Iter<'a, K, V, H, W> {
+    #[inline]
+    fn len(&self) -> usize {
+        self.entries.len()
+    }
+}
+
+/// The keys of a map that are still to come, by ascending bucket.
+#[derive(Drop)]
+pub struct Keys<'a, K, V, H = FxHasher64, W = Narrow> {
+    pairs: Iter<'a, K, V, H, W>,
+}
+
+impl<'a, K, V, H, W> Model for Keys<'a, K, V, H, W> {
+    ghost use Rattle.rkyv_table.specs.RawItems.{ItemsLeft};
+
+    ghost Value = { ItemsLeft };
+
+    ghost view = { λ keys. keys.pairs };
+}
+
+impl<'a, K: Element, V: Element, H, W> Iterator for Keys<'a, K, V, H, W> {
+    type Item = View<'a, K>;
+
+    ghost can_next = { AllStand (entry_shape K.shape V.shape) };
+
+    ghost next_gives = { TakesKey K.shape };
+
+    ghost remaining = { λ left. at_most (length left.places) };
+
+    #[inline]
+    fn next(&mut self) -> Option<View<'a, K>> {
+        match self.pairs.next() {
+            Some((key, _)) => Some(key),
+            None => None,
+        }
+    }
+
+    #[inline]
+    fn size_hint(&self) -> (usize, Option<usize>)
+        ensures lower { IsWithinCount result.0 (at_most (length self.now.places)) }
+        ensures upper { IfSome result.1 (UpTo (at_most (length self.now.places))) }
+        ensures exact { (result.0 ≡ length self.now.places) × (result.1 ≡ Some (length self.now.places)) }
+    {
+        self.pairs.size_hint()
+    }
+}
+
+impl<'a, K: Element, V: Element, H, W> ExactSizeIterator for Keys<'a, K, V, H, W> {
+    #[inline]
+    fn len(&self) -> usize {
+        self.pairs.len()
+    }
+}
+
+/// The values of a map that are still to come, by ascending bucket.
+#[derive(Drop)]
+pub struct Values<'a, K, V, H = FxHasher64, W = Narrow> {
+    rest: Iter<'a, K, V, H, W>,
+}
+
+impl<'a, K, V, H, W> Model for Values<'a, K, V, H, W> {
+    ghost use Rattle.rkyv_table.specs.RawItems.{ItemsLeft};
+
+    ghost Value = { ItemsLeft };
+
+    ghost view = { λ values. values.rest };
+}
+
+impl<'a, K: Element, V: Element, H, W> Iterator for Values<'a, K, V, H, W> {
+    type Item = View<'a, V>;
+
+    ghost can_next = { AllStand (entry_shape K.shape V.shape) };
+
+    ghost next_gives = { TakesValue K.shape V.shape };
+
+    ghost remaining = { λ left. at_most (length left.places) };
+
+    #[inline]
+    fn next(&mut self) -> Option<View<'a, V>> {
+        match self.rest.next() {
+            Some((_, value)) => Some(value),
+            None => None,
+        }
+    }
+
+    #[inline]
+    fn size_hint(&self) -> (usize, Option<usize>)
+        ensures lower { IsWithinCount result.0 (at_most (length self.now.places)) }
+        ensures upper { IfSome result.1 (UpTo (at_most (length self.now.places))) }
+        ensures exact { (result.0 ≡ length self.now.places) × (result.1 ≡ Some (length self.now.places)) }
+    {
+        self.rest.size_hint()
+    }
+}
+
+impl<'a, K: Element, V: Element, H, W> ExactSizeIterator for Values<'a, K, V, H, W> {
+    #[inline]
+    fn len(&self) -> usize {
+        self.rest.len()
+    }
+}
+
+impl<'a, K: Element, V: Element, H, W: Width> ArchivedHashMap<'a, K, V, H, W> {
+    /// Its pairs, by ascending bucket.
+    #[inline]
+    pub fn iter(self) -> Iter<'a, K, V, H, W>
+        requires { IsMap W.word K.shape V.shape self }
+        ensures archive { result.archive ≡ map_archive self.entry }
+        ensures places { result.places ≡ key_places W.word K.shape V.shape self.entry }
+        ensures count { length result.places ≡ map_len W.word self.entry }
+        ensures stand { AllStand (entry_shape K.shape V.shape) result }
+    {
+        Iter {
+            entries: self.table().raw_iter(),
+            hasher: PhantomData,
+            width: PhantomData,
+        }
+    }
+
+    /// Its keys, by ascending bucket.
+    #[inline]
+    pub fn keys(self) -> Keys<'a, K, V, H, W>
+        requires { IsMap W.word K.shape V.shape self }
+        ensures archive { result.archive ≡ map_archive self.entry }
+        ensures places { result.places ≡ key_places W.word K.shape V.shape self.entry }
+        ensures count { length result.places ≡ map_len W.word self.entry }
+        ensures stand { AllStand (entry_shape K.shape V.shape) result }
+    {
+        Keys { pairs: self.iter() }
+    }
+
+    /// Its values, by ascending bucket.
+    #[inline]
+    pub fn values(self) -> Values<'a, K, V, H, W>
+        requires { IsMap W.word K.shape V.shape self }
+        ensures archive { result.archive ≡ map_archive self.entry }
+        ensures places { result.places ≡ key_places W.word K.shape V.shape self.entry }
+        ensures count { length result.places ≡ map_len W.word self.entry }
+        ensures stand { AllStand (entry_shape K.shape V.shape) result }
+    {
+        Values { rest: self.iter() }
+    }
+}

@@ -1,0 +1,2 @@
+//! Worked examples, and one call of each public function.
+mod reading;
