@@ -11,3 +11,8 @@ pub mod Laws
 pub mod Header
 pub mod Places
 pub mod Table
+pub mod Slots
+pub mod Taking
+pub mod Counting
+pub mod TableFormat
+pub mod Serializing

@@ -1,5 +1,13 @@
 //! Tables of items.
 
+pub mod buckets;
+pub mod bytes;
+pub mod hands_in;
+pub mod parts;
+pub mod resolve;
+pub mod serialize;
+pub mod take;
+
 use rkyv_base::view::View;
 use rkyv_base::width::Narrow;
 use std::marker::PhantomData;

@@ -1,0 +1,96 @@
+-- The bytes of a table whose items stand in slots, one for each bucket.
+use Rattle.std.specs.Prelude.{◌≡◌, ℕ, suc, ◌+◌, ◌-◌, ◌*◌, ◌⊎◌, List, [], ◌∷◌, ◌++◌, length, take, drop, Option, Some, None, slice_get}
+use Rattle.rkyv_base.specs.Entry.{round_up}
+use Rattle.rkyv_base.specs.Format.{Format}
+use Rattle.rkyv_base.specs.Shape.{Shape}
+use Rattle.rkyv_base.specs.Writing.{Appended, Output, Refusal, distance, end_of, padding, zeros}
+
+-- how many slots have an item
+abbrev pub filled : {X : Type 0} → List (Option X) → ℕ
+filled [] = 0
+filled (None ∷ ss) = filled ss
+filled (Some x ∷ ss) = suc (filled ss)
+
+module _ {X R : Type 0} (f : Format X R) where
+  -- the items' parts, by ascending bucket, and what resolves each item
+  abbrev pub SlotParts : List (Option X) → ℕ → List ℕ → List R → Type 0
+  SlotParts [] p part rs = (part ≡ []) × (rs ≡ [])
+  SlotParts (None ∷ ss) p part rs = SlotParts ss p part rs
+  SlotParts (Some x ∷ ss) p part rs = (a : List ℕ) × (r : R) × (b : List ℕ) × (qs : List R)
+      × f.parts x p a r × SlotParts ss (p + length a) b qs × (part ≡ a ++ b) × (rs ≡ r ∷ qs)
+
+  module _ (slots : List (Option X)) (p : ℕ) where
+    -- the piece that serializing the items appends after front
+    abbrev pub PartsNext : List ℕ → List ℕ → Type 0
+    PartsNext front piece = (i : ℕ) × (x : X) × (a : List ℕ) × (rs : List R) × (rest : List ℕ)
+        × (slice_get slots i ≡ Some (Some x)) × SlotParts (take i slots) p a rs × f.next x (p + length a) rest piece × (front ≡ a ++ rest)
+
+    -- what an item refuses there
+    abbrev pub PartsRefuse : Refusal → Type 0
+    PartsRefuse c = (i : ℕ) × (x : X) × (a : List ℕ) × (rs : List R)
+        × (slice_get slots i ≡ Some (Some x)) × SlotParts (take i slots) p a rs × f.refuses x (p + length a) c
+
+module _ {X R : Type 0} (size : ℕ) (f : Format X R) where
+  -- the buckets before position z, from the highest to the first
+  abbrev pub SlotImages : List (Option X) → List R → ℕ → List ℕ → Type 0
+  SlotImages [] rs z out = (rs ≡ []) × (out ≡ [])
+  SlotImages (None ∷ ss) rs z out = (rest : List ℕ) × SlotImages ss rs (z - size) rest × (out ≡ rest ++ zeros size)
+  SlotImages (Some x ∷ ss) rs z out = (r : R) × (qs : List R) × (rest : List ℕ) × (one : List ℕ)
+      × (rs ≡ r ∷ qs) × f.image x r (z - size) one × SlotImages ss qs (z - size) rest × (out ≡ rest ++ one)
+
+  -- one bucket at position p: zeros, or the item by the last resolver
+  abbrev pub Filled : Option X → List R → List R → ℕ → List ℕ → Type 0
+  Filled None left more p out = (left ≡ more) × (out ≡ zeros size)
+  Filled (Some x) left more p out = (r : R) × (left ≡ more ++ r ∷ []) × f.image x r p out
+
+  -- the distance of the item by the last resolver is too large
+  abbrev pub TooFar : Option X → List R → ℕ → Type 0
+  TooFar None left p = ⊥
+  TooFar (Some x) left p = (r : R) × (more : List R) × (left ≡ more ++ r ∷ []) × f.far x r p
+
+  module _ (slots : List (Option X)) (rs : List R) (p : ℕ) where
+    -- the buckets above i stand, from p on, and left resolves the items of the others
+    abbrev pub Above : ℕ → List R → List ℕ → Type 0
+    Above i left front = (done : List R) × (rs ≡ left ++ done) × SlotImages (drop (i + 1) slots) done (p + length front) front
+
+    -- the piece that writing the buckets appends after front
+    abbrev pub BucketNext : List ℕ → List ℕ → Type 0
+    BucketNext front piece = (i : ℕ) × (left : List R) × Above i left front
+        × (s : Option X) × (more : List R) × (slice_get slots i ≡ Some s) × Filled s left more (p + length front) piece
+
+    -- a distance of an item is too large
+    abbrev pub BucketFar : Refusal → Type 0
+    BucketFar c = (c ≡ distance) × (i : ℕ) × (left : List R) × (front : List ℕ) × Above i left front
+        × (s : Option X) × (slice_get slots i ≡ Some s) × TooFar s left (p + length front)
+
+  -- the buckets were appended within the limit
+  abbrev pub WroteBuckets : ℕ → List (Option X) → List R → Output → Output → Type 0
+  WroteBuckets limit slots rs o o' = (out : List ℕ) × Appended limit out o o' × SlotImages slots rs (end_of o') out
+
+module _ {X R : Type 0} (s : Shape) (f : Format X R) (slots : List (Option X)) (controls : List ℕ) (p : ℕ) where
+  -- The bytes of a table that is written from position p on: the items' parts, zeros, the buckets, the controls; z is the
+  -- position of its first control.
+  pub record TableBytes (z : ℕ) (bytes : List ℕ) : Type 0 where
+    pub part : List ℕ
+    pub resolvers : List R
+    pub buckets : List ℕ
+    pub made : SlotParts f slots p part resolvers
+    pub shown : SlotImages s.size f slots resolvers z buckets
+    pub at : z ≡ round_up (p + length part) s.align + length slots * s.size
+    pub is : bytes ≡ part ++ (zeros (padding s.align (p + length part)) ++ (buckets ++ controls))
+
+  -- what stands before the buckets
+  abbrev pub BeforeBuckets : List ℕ → List R → List ℕ → Type 0
+  BeforeBuckets a rs front = SlotParts f slots p a rs × (front ≡ a ++ zeros (padding s.align (p + length a)))
+
+  -- the piece that writing the table appends after front: of a part, the zeros, a bucket, or the controls
+  abbrev pub TableNext : List ℕ → List ℕ → Type 0
+  TableNext front piece = PartsNext f slots p front piece
+      ⊎ ((rs : List R) × SlotParts f slots p front rs × (piece ≡ zeros (padding s.align (p + length front))))
+      ⊎ ((a : List ℕ) × (rs : List R) × (b : List ℕ) × (g : List ℕ) × BeforeBuckets a rs b × BucketNext s.size f slots rs (p + length b) g piece × (front ≡ b ++ g))
+      ⊎ ((a : List ℕ) × (rs : List R) × (b : List ℕ) × (g : List ℕ) × BeforeBuckets a rs b × SlotImages s.size f slots rs (p + length front) g × (front ≡ b ++ g) × (piece ≡ controls))
+
+  -- what an item refuses, or that its distance is too large
+  abbrev pub TableRefuses : Refusal → Type 0
+  TableRefuses c = PartsRefuse f slots p c
+      ⊎ ((a : List ℕ) × (rs : List R) × (b : List ℕ) × BeforeBuckets a rs b × BucketFar s.size f slots rs (p + length b) c)

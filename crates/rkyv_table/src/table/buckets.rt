@@ -1,0 +1,70 @@
+//! Writing the buckets of a table, from the highest to the first.
+
+ghost use Rattle.std.specs.Prelude.{◌≡◌, ◌+◌, ◌<◌, ◌≤◌, ◌^◌, IfSome, MatchResult, length};
+ghost use Rattle.rkyv_base.specs.Pairs.{written_as};
+ghost use Rattle.rkyv_base.specs.Writing.{Told, end_of};
+ghost use Rattle.rkyv_table.specs.Slots.{BucketFar, BucketNext, Filled, TooFar, WroteBuckets, filled};
+
+use rkyv_base::archive::Archive;
+use rkyv_base::errors::{DistanceTooLarge, WriteError};
+use rkyv_base::lend::Lend;
+use rkyv_base::width::Width;
+use rkyv_base::writer::{Writer, append_in};
+
+// Fills one bucket: with zeros, or with the item, by the last resolver.
+fn fill_bucket<W: Width, U: Archive<W>, X: Lend<U>>(
+    slot: &Option<X>,
+    rest: &mut Vec<U::Resolver>,
+    pos: u64,
+    bucket: &mut [u8],
+) -> Result<(), DistanceTooLarge>
+    requires some { IfSome slot.now (λ _. 0 < length rest.old.items) }
+    requires room { length bucket.old ≡ U.Archived.shape.size }
+    requires fits { pos + U.Archived.shape.size < 2 ^ 64 }
+    ensures kept { length bucket.new ≡ U.Archived.shape.size }
+    ensures answer { let f = written_as X.lent U.format in MatchResult result
+        (λ _. Filled U.Archived.shape.size f slot.now rest.old.items rest.new.items pos bucket.new)
+        (λ _. TooFar U.Archived.shape.size f slot.now rest.old.items pos) }
+{
+    match slot {
+        Some(item) => {
+            let resolver = rest.pop().unwrap();
+            item.lend().resolve(resolver, pos, bucket)
+        }
+        None => {
+            bucket.fill(0);
+            Ok(())
+        }
+    }
+}
+
+// Writes the buckets from the highest to the first, each in one piece, an empty one as zeros.
+pub(crate) fn write_buckets<W: Width, S: Writer, U: Archive<W>, X: Lend<U>>(
+    slots: &[Option<X>],
+    resolvers: Vec<U::Resolver>,
+    bucket: &mut [u8],
+    serializer: &mut S,
+) -> Result<(), WriteError<S::Fault>>
+    requires count { length resolvers.items ≡ filled slots.now }
+    requires room { length bucket.old ≡ U.Archived.shape.size }
+    requires within { end_of (S.output serializer.old) ≤ W.LIMIT }
+    ensures kept { length bucket.new ≡ U.Archived.shape.size }
+    ensures answer { let f = written_as X.lent U.format in let size = U.Archived.shape.size in let o = S.output serializer.old in let o' = S.output serializer.new in MatchResult result
+        (λ _. WroteBuckets size f W.LIMIT slots.now resolvers.items o o')
+        (Told W.LIMIT (BucketNext size f slots.now resolvers.items (end_of o)) (BucketFar size f slots.now resolvers.items (end_of o)) o o') }
+{
+    let mut rest = resolvers;
+    let mut above = slots.len();
+    while above > 0 {
+        above -= 1;
+        match fill_bucket::<W, U, X>(&slots[above], &mut rest, serializer.pos(), bucket) {
+            Ok(()) => {}
+            Err(_) => return Err(WriteError::DistanceTooLarge),
+        }
+        match append_in::<W, S>(serializer, bucket) {
+            Ok(()) => {}
+            Err(e) => return Err(e),
+        }
+    }
+    Ok(())
+}

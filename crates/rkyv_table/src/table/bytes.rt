@@ -1,0 +1,52 @@
+//! Writing the bytes of a table whose items are placed.
+
+ghost use Rattle.std.specs.Prelude.{◌≡◌, ◌≤◌, [], MatchResult, length, vec_capacity, List, ℕ};
+ghost use Rattle.rkyv_base.specs.Pairs.{written_as};
+ghost use Rattle.rkyv_base.specs.Writing.{Appends, Told, end_of};
+ghost use Rattle.rkyv_table.specs.Slots.{TableBytes, TableNext, TableRefuses, filled};
+
+use crate::table::buckets::write_buckets;
+use crate::table::parts::serialize_slots;
+use rkyv_base::archive::Serialize;
+use rkyv_base::errors::WriteError;
+use rkyv_base::lend::Lend;
+use rkyv_base::width::Width;
+use rkyv_base::writer::{Writer, align_for_in, append_in};
+use std::alloc::Global;
+
+// Writes the items' parts, the buckets and the controls, and answers the position of the first
+// control.
+pub(crate) fn write_table<W: Width, S: Writer, U: Serialize<S, W>, X: Lend<U>>(
+    alloc: Global,
+    slots: &[Option<X>],
+    controls: &[u8],
+    bucket: &mut [u8],
+    resolvers: Vec<U::Resolver>,
+    serializer: &mut S,
+) -> Result<u64, WriteError<S::Fault>>
+    requires empty { resolvers.items ≡ [] }
+    requires places { filled slots.now ≤ vec_capacity resolvers }
+    requires room { length bucket.old ≡ U.Archived.shape.size }
+    ensures { let s = U.Archived.shape in let f = written_as X.lent U.format in let o = S.output serializer.old in let o' = S.output serializer.new in MatchResult result
+        (λ z. (bytes : List ℕ) × Appends o o' bytes × TableBytes s f slots.now controls.now (end_of o) z bytes)
+        (Told W.LIMIT (TableNext s f slots.now controls.now (end_of o)) (TableRefuses s f slots.now controls.now (end_of o)) o o') }
+{
+    let mut kept = resolvers;
+    match serialize_slots::<W, S, U, X>(alloc, slots, &mut kept, serializer) {
+        Ok(()) => {}
+        Err(e) => return Err(e),
+    }
+    match align_for_in::<W, U::Archived, S>(serializer) {
+        Ok(_) => {}
+        Err(e) => return Err(e),
+    }
+    match write_buckets::<W, S, U, X>(slots, kept, bucket, serializer) {
+        Ok(()) => {}
+        Err(e) => return Err(e),
+    }
+    let pos = serializer.pos();
+    match append_in::<W, S>(serializer, controls) {
+        Ok(()) => Ok(pos),
+        Err(e) => Err(e),
+    }
+}

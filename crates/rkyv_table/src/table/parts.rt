@@ -1,0 +1,37 @@
+//! Serializing the items of a table, by ascending bucket.
+
+ghost use Rattle.std.specs.Prelude.{◌≡◌, ◌≤◌, [], MatchResult, vec_capacity, List, ℕ};
+ghost use Rattle.rkyv_base.specs.Pairs.{written_as};
+ghost use Rattle.rkyv_base.specs.Writing.{Appends, Told, end_of};
+ghost use Rattle.rkyv_table.specs.Slots.{PartsNext, PartsRefuse, SlotParts, filled};
+
+use rkyv_base::archive::Serialize;
+use rkyv_base::errors::WriteError;
+use rkyv_base::lend::Lend;
+use rkyv_base::width::Width;
+use rkyv_base::writer::Writer;
+use std::alloc::Global;
+
+// Serializes the items by ascending bucket, and keeps what resolves each.
+pub(crate) fn serialize_slots<W: Width, S: Writer, U: Serialize<S, W>, X: Lend<U>>(
+    alloc: Global,
+    slots: &[Option<X>],
+    resolvers: &mut Vec<U::Resolver>,
+    serializer: &mut S,
+) -> Result<(), WriteError<S::Fault>>
+    requires empty { resolvers.old.items ≡ [] }
+    requires room { filled slots.now ≤ vec_capacity resolvers.old }
+    ensures { let f = written_as X.lent U.format in let o = S.output serializer.old in let o' = S.output serializer.new in MatchResult result
+        (λ _. (part : List ℕ) × Appends o o' part × SlotParts f slots.now (end_of o) part resolvers.new.items)
+        (Told W.LIMIT (PartsNext f slots.now (end_of o)) (PartsRefuse f slots.now (end_of o)) o o') }
+{
+    for slot in slots {
+        if let Some(item) = slot {
+            match item.lend().serialize(alloc, serializer) {
+                Ok(resolver) => resolvers.push_reserved(resolver),
+                Err(e) => return Err(e),
+            }
+        }
+    }
+    Ok(())
+}

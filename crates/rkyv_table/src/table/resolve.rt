@@ -1,0 +1,119 @@
+//! What resolves a written table, and its header.
+
+ghost use Rattle.std.specs.Prelude.{◌≡◌, ◌+◌, ◌<◌, ◌≤◌, ◌^◌, FitsSigned, MatchResult, length};
+ghost use mir.Val.{bits};
+ghost use Rattle.rkyv_table.specs.Header.{HeaderFar, IsHeader, header_bytes};
+ghost use Rattle.rkyv_table.specs.Numbers.{IsLoadFactor, capacity};
+ghost use Rattle.rkyv_table.specs.TableFormat.{TableResolver, resolved_capacity};
+
+use crate::controls::numbers::capacity;
+use crate::table::ArchivedHashTable;
+use rkyv_base::errors::DistanceTooLarge;
+use rkyv_base::width::{Narrow, Width};
+use std::marker::{Model, PhantomData};
+
+/// What resolves a written table: where it stands, its length and its load factor.
+#[derive(Drop)]
+pub struct HashTableResolver<W: Width = Narrow> {
+    pub(crate) pos: u64,
+    pub(crate) len: usize,
+    pub(crate) load_factor: (usize, usize),
+    pub(crate) width: PhantomData<W>,
+}
+
+impl<W: Width> Model for HashTableResolver<W> {
+    ghost Value = { TableResolver };
+
+    ghost view = { λ r. record { pos = r.pos; len = r.len; load_factor = r.load_factor } };
+
+    ghost invariant = { λ r. IsLoadFactor r.load_factor × (capacity r.len r.load_factor ≤ W.MAX_CAPACITY) };
+}
+
+impl<W: Width> HashTableResolver<W> {
+    /// The position of the table's first control byte, 0 of an empty table.
+    #[inline]
+    pub fn pos(&self) -> u64
+        ensures { result ≡ self.now.pos }
+    {
+        self.pos
+    }
+
+    /// How many items were written.
+    #[inline]
+    pub fn len(&self) -> usize
+        ensures { result ≡ self.now.len }
+    {
+        self.len
+    }
+
+    /// The load factor under which they were written.
+    #[inline]
+    pub fn load_factor(&self) -> (usize, usize)
+        ensures { result ≡ self.now.load_factor }
+    {
+        self.load_factor
+    }
+}
+
+// Writes the three words of a header.
+#[inline]
+fn write_header<W: Width>(out: &mut [u8], distance: i64, len: u64, cap: u64)
+    requires room { length out.old ≡ W.TABLE_SIZE }
+    requires distance_fits { FitsSigned W.word distance }
+    requires len_fits { len < 2 ^ bits W.word }
+    requires cap_fits { cap < 2 ^ bits W.word }
+    ensures { out.new ≡ header_bytes W.word distance len cap }
+{
+    let (first, others) = out.split_at_mut(W::ALIGN);
+    let (second, third) = others.split_at_mut(W::ALIGN);
+    W::write_distance(first, distance);
+    W::write_count(second, len);
+    W::write_count(third, cap);
+}
+
+// The capacity of a written table.
+#[inline]
+fn resolved_capacity<W: Width>(resolver: &HashTableResolver<W>) -> usize
+    ensures value { result ≡ resolved_capacity resolver.now }
+    ensures fits { result < 2 ^ bits W.word }
+{
+    match capacity(resolver.len, resolver.load_factor, W::MAX_CAPACITY) {
+        Ok(cap) => cap,
+        Err(_) => unreachable!(),
+    }
+}
+
+impl<'a, T, W: Width> ArchivedHashTable<'a, T, W> {
+    /// Writes the header of a written table, which is to stand at `pos`, over the whole of `out`:
+    /// the distance to the first control, the length, and the capacity.
+    ///
+    /// # Errors
+    /// Where the table isn't empty, and the distance doesn't fit the width; `out` is unchanged.
+    pub fn resolve_from_len(
+        len: usize,
+        load_factor: (usize, usize),
+        resolver: HashTableResolver<W>,
+        pos: u64,
+        out: &mut [u8],
+    ) -> Result<(), DistanceTooLarge>
+        requires same { (len ≡ resolver.len) × (load_factor ≡ resolver.load_factor) }
+        requires room { length out.old ≡ W.TABLE_SIZE }
+        requires fits { pos + W.TABLE_SIZE < 2 ^ 64 }
+        ensures { MatchResult result
+            (λ _. IsHeader W.word len (capacity len load_factor) resolver.pos pos out.new)
+            (λ _. HeaderFar W.word len resolver.pos pos × (out.new ≡ out.old)) }
+    {
+        if len == 0 {
+            write_header::<W>(out, 1, 0, 0);
+            return Ok(());
+        }
+        let cap = resolved_capacity(&resolver) as u64;
+        match W::distance(resolver.pos(), pos) {
+            Some(distance) => {
+                write_header::<W>(out, distance, len as u64, cap);
+                Ok(())
+            }
+            None => Err(DistanceTooLarge),
+        }
+    }
+}

@@ -1,0 +1,246 @@
+//! Writing tables from iterators of items and hashes.
+
+ghost use Rattle.std.specs.Prelude.{◌≡◌, ◌+◌, ◌^◌, ◌⊎◌, ◌<◌, ◌≤◌, [], IfOk, MatchResult, None, length, replicate, vec_capacity, List, ℕ};
+ghost use Rattle.rkyv_base.specs.Pairs.{written_as};
+ghost use Rattle.rkyv_base.specs.Writing.{Appends, Told, end_of};
+ghost use Rattle.rkyv_table.specs.Capacity.{IsCapacity};
+ghost use Rattle.rkyv_table.specs.Controls.{fresh_controls};
+ghost use Rattle.rkyv_table.specs.Counting.{GaveBoth, GaveOther, Uneven};
+ghost use Rattle.rkyv_table.specs.Numbers.{capacity, control_count};
+ghost use Rattle.rkyv_table.specs.Serializing.{IsMismatch, NoFilled, NoTable, WroteFilled, WroteTable};
+ghost use Rattle.rkyv_table.specs.TableFormat.{table_format};
+ghost use Rattle.std.specs.Iterator.{Drains};
+
+use crate::controls::numbers::{CapacityError, capacity, control_count};
+use crate::table::ArchivedHashTable;
+use crate::table::bytes::write_table;
+use crate::table::hands_in::{HandsIn, ItemsAndHashes, Pairs};
+use crate::table::resolve::HashTableResolver;
+use rkyv_base::archive::Serialize;
+use rkyv_base::element::Element;
+use rkyv_base::errors::{IteratorLengthMismatch, WriteError};
+use rkyv_base::lend::Lend;
+use rkyv_base::width::Width;
+use rkyv_base::writer::Writer;
+use rkyv_scan::simd::GroupKind;
+use rkyv_scan::simd::generic::Group;
+use std::alloc::{AllocError, Global};
+use std::marker::PhantomData;
+
+// As many empty slots.
+fn empty_slots<X: Drop>(alloc: Global, cap: usize) -> Result<Vec<Option<X>>, AllocError>
+    ensures { IfOk result (λ slots. slots.items ≡ replicate cap None) }
+{
+    let mut slots = Vec::with_capacity(alloc, cap)?;
+    for _ in 0..cap {
+        slots.push_reserved(None);
+    }
+    Ok(slots)
+}
+
+// The memory that writing a table takes: a slot for each bucket, the controls with a bucket behind
+// them, and a place for each resolver.
+#[derive(Drop)]
+struct Room<X, R> {
+    slots: Vec<Option<X>>,
+    scratch: Vec<u8>,
+    resolvers: Vec<R>,
+}
+
+impl<X: Drop, R: Drop> Room<X, R> {
+    fn new(alloc: Global, len: usize, cap: usize, size: usize) -> Result<Room<X, R>, AllocError>
+        requires fits { cap + 15 < 2 ^ 63 }
+        requires small { size ≤ 1073741824 }
+        ensures slots { IfOk result (λ r. r.slots.items ≡ replicate cap None) }
+        ensures scratch { IfOk result (λ r. r.scratch.items ≡ replicate (control_count cap + size) 255) }
+        ensures resolvers { IfOk result (λ r. (r.resolvers.items ≡ []) × (len ≤ vec_capacity r.resolvers)) }
+    {
+        let slots = empty_slots(alloc, cap)?;
+        let scratch = vec![in alloc; 0xffu8; control_count(cap) + size]?;
+        let resolvers = Vec::with_capacity(alloc, len)?;
+        Ok(Room {
+            slots,
+            scratch,
+            resolvers,
+        })
+    }
+}
+
+// What a length mismatch tells.
+fn mismatch<F>(expected: usize, actual: usize) -> WriteError<F>
+    ensures { IsMismatch expected actual result }
+{
+    WriteError::IteratorLengthMismatch(IteratorLengthMismatch { expected, actual })
+}
+
+// Takes at least one item, places and writes them, and answers the position of the first control.
+fn fill_and_write<W: Width, G: GroupKind, S: Writer, U: Serialize<S, W>, X: Lend<U> + Drop, H: HandsIn<X>>(
+    alloc: Global,
+    given: H,
+    len: usize,
+    cap: usize,
+    room: Room<X, U::Resolver>,
+    serializer: &mut S,
+) -> Result<u64, WriteError<S::Fault>>
+    requires can { H.can given }
+    requires below { len < cap }
+    requires slots { room.slots.items ≡ replicate cap None }
+    requires scratch { room.scratch.items ≡ replicate (control_count cap + U.Archived.shape.size) 255 }
+    requires resolvers { (room.resolvers.items ≡ []) × (len ≤ vec_capacity room.resolvers) }
+    ensures { let s = U.Archived.shape in let f = written_as X.lent U.format in let o = S.output serializer.old in let o' = S.output serializer.new in MatchResult result
+        (WroteFilled (H.gave given) len cap s f o o')
+        (NoFilled (H.gave given) len cap s f o o' (H.gave_other len given) W.LIMIT) }
+{
+    let mut slots = room.slots;
+    let mut scratch = room.scratch;
+    let resolvers = room.resolvers;
+    let slots = slots.as_mut_slice();
+    let (controls, bucket) = scratch.as_mut_slice().split_at_mut(control_count(cap));
+    match given.take_into::<G>(len, cap, controls, slots) {
+        Ok(()) => {}
+        Err(actual) => return Err(mismatch(len, actual)),
+    }
+    match write_table::<W, S, U, X>(alloc, slots, controls, bucket, resolvers, serializer) {
+        Ok(pos) => Ok(pos),
+        Err(e) => Err(e),
+    }
+}
+
+// Places and writes at least one item, and answers the position of the first control.
+fn serialize_filled<W: Width, G: GroupKind, S: Writer, U: Serialize<S, W>, X: Lend<U> + Drop, H: HandsIn<X>>(
+    alloc: Global,
+    given: H,
+    len: usize,
+    cap: usize,
+    serializer: &mut S,
+) -> Result<u64, WriteError<S::Fault>>
+    requires can { H.can given }
+    requires below { len < cap }
+    requires fits { cap ≤ W.MAX_CAPACITY }
+    ensures { let s = U.Archived.shape in let f = written_as X.lent U.format in let o = S.output serializer.old in let o' = S.output serializer.new in MatchResult result
+        (WroteFilled (H.gave given) len cap s f o o')
+        (NoFilled (H.gave given) len cap s f o o' (H.gave_other len given) W.LIMIT) }
+{
+    match Room::new(alloc, len, cap, <U::Archived as Element>::size()) {
+        Ok(room) => fill_and_write::<W, G, S, U, X, H>(alloc, given, len, cap, room, serializer),
+        Err(_) => Err(WriteError::Memory),
+    }
+}
+
+// Writes a table of what is handed in.
+fn serialize_given<W: Width, G: GroupKind, S: Writer, U: Serialize<S, W>, X: Lend<U> + Drop, H: HandsIn<X>>(
+    alloc: Global,
+    given: H,
+    len: usize,
+    load_factor: (usize, usize),
+    serializer: &mut S,
+) -> Result<HashTableResolver<W>, WriteError<S::Fault>>
+    requires { H.can given }
+    ensures { let f = table_format W.word U.Archived.shape (written_as X.lent U.format) load_factor in let o = S.output serializer.old in let o' = S.output serializer.new in MatchResult result
+        (WroteTable (H.gave given) len load_factor W.MAX_CAPACITY f o o')
+        (NoTable (H.gave given) len load_factor W.MAX_CAPACITY f o o' (H.gave_other len given) W.LIMIT) }
+{
+    let cap = match capacity(len, load_factor, W::MAX_CAPACITY) {
+        Ok(cap) => cap,
+        Err(CapacityError::InvalidLoadFactor) => {
+            return Err(WriteError::InvalidLoadFactor {
+                numerator: load_factor.0,
+                denominator: load_factor.1,
+            });
+        }
+        Err(CapacityError::CapacityTooLarge) => return Err(WriteError::CapacityTooLarge { len }),
+    };
+    if len == 0 {
+        return match given.take_none() {
+            Ok(()) => Ok(HashTableResolver {
+                pos: 0,
+                len,
+                load_factor,
+                width: PhantomData,
+            }),
+            Err(actual) => Err(mismatch(len, actual)),
+        };
+    }
+    match serialize_filled::<W, G, S, U, X, H>(alloc, given, len, cap, serializer) {
+        Ok(pos) => Ok(HashTableResolver {
+            pos,
+            len,
+            load_factor,
+            width: PhantomData,
+        }),
+        Err(e) => Err(e),
+    }
+}
+
+impl<'a, T, W: Width> ArchivedHashTable<'a, T, W> {
+    /// Writes a table of `len` items, of which each has the next of the hashes, and answers what
+    /// resolves it.
+    ///
+    /// Each item goes into the first bucket that its hash shows and no earlier item has. First come
+    /// the items' own parts, by ascending bucket; then zeros up to the items' alignment; then the
+    /// buckets from the highest to the first, an empty one as zeros; then the control bytes. Of no
+    /// items nothing is written, and the position answered is 0. Neither iterator is asked more
+    /// than `len + 1` times, nor after it gave `None`.
+    ///
+    /// # Errors
+    /// The first that stands of: `InvalidLoadFactor`; `CapacityTooLarge`, where more buckets are
+    /// needed than the width can count; `Memory`, before any item is taken; and
+    /// `IteratorLengthMismatch`, with the number of items, or else that of hashes, counted up to
+    /// `len + 1`. Nothing is written then. Else the cause is that of the first item or piece that
+    /// fails. What the writer held before is kept.
+    pub fn serialize_from_iter<
+        S: Writer,
+        U: Serialize<S, W, Archived = T>,
+        X: Lend<U> + Drop,
+        I: Iterator<Item = X>,
+        J: Iterator<Item = u64>,
+    >(
+        alloc: Global,
+        items: I,
+        hashes: J,
+        len: usize,
+        load_factor: (usize, usize),
+        serializer: &mut S,
+    ) -> Result<HashTableResolver<W>, WriteError<S::Fault>>
+        requires { I.can_next items × J.can_next hashes }
+        ensures { let f = table_format W.word T.shape (written_as X.lent U.format) load_factor in let gave = GaveBoth I.next_gives J.next_gives items hashes in
+            let o = S.output serializer.old in let o' = S.output serializer.new in MatchResult result
+            (WroteTable gave len load_factor W.MAX_CAPACITY f o o')
+            (NoTable gave len load_factor W.MAX_CAPACITY f o o' (Uneven I.next_gives J.next_gives len items hashes) W.LIMIT) }
+    {
+        let given = ItemsAndHashes { items, hashes };
+        serialize_given::<W, Group, S, U, X, ItemsAndHashes<I, J>>(
+            alloc,
+            given,
+            len,
+            load_factor,
+            serializer,
+        )
+    }
+
+    /// Writes a table of `len` pairs of hash and item, as `serialize_from_iter` does.
+    ///
+    /// # Errors
+    /// Those of `serialize_from_iter`; the actual number is that of pairs.
+    pub fn serialize_by<
+        G: GroupKind,
+        S: Writer,
+        U: Serialize<S, W, Archived = T>,
+        X: Lend<U> + Drop,
+        I: Iterator<Item = (u64, X)>,
+    >(
+        alloc: Global,
+        pairs: I,
+        len: usize,
+        load_factor: (usize, usize),
+        serializer: &mut S,
+    ) -> Result<HashTableResolver<W>, WriteError<S::Fault>>
+        requires { I.can_next pairs }
+        ensures { let f = table_format W.word T.shape (written_as X.lent U.format) load_factor in let gave = Drains I.next_gives pairs in
+            let o = S.output serializer.old in let o' = S.output serializer.new in MatchResult result
+            (WroteTable gave len load_factor W.MAX_CAPACITY f o o')
+            (NoTable gave len load_factor W.MAX_CAPACITY f o o' (GaveOther I.next_gives len pairs) W.LIMIT) }
+    {
+        serialize_given::<W, G, S, U, X, Pairs<I>>(alloc, Pairs { pairs }, len, load_factor, serializer)
+    }
+}
