@@ -13,3 +13,8 @@ pub mod WrittenStep
 pub mod Walks
 pub mod WrittenAccepted
 pub mod HomeList
+pub mod Taking
+pub mod PartSteps
+pub mod BucketSteps
+pub mod TableSteps
+pub mod Given

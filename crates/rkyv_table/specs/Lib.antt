@@ -16,3 +16,4 @@ pub mod Taking
 pub mod Counting
 pub mod TableFormat
 pub mod Serializing
+pub mod Buckets

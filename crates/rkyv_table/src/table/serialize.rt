@@ -49,7 +49,7 @@ struct Room<X, R> {
 
 impl<X: Drop, R: Drop> Room<X, R> {
     fn new(alloc: Global, len: usize, cap: usize, size: usize) -> Result<Room<X, R>, AllocError>
-        requires fits { cap + 15 < 2 ^ 63 }
+        requires fits { cap < 2 ^ 63 }
         requires small { size ≤ 1073741824 }
         ensures slots { IfOk result (λ r. r.slots.items ≡ replicate cap None) }
         ensures scratch { IfOk result (λ r. r.scratch.items ≡ replicate (control_count cap + size) 255) }

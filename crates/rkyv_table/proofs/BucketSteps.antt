@@ -1,0 +1,146 @@
+-- One bucket more written.
+use Rattle.std.proofs.Common.{◌≡◌, ℕ, zero, suc, ◌+◌, ◌-◌, ◌<◌, ◌≤◌, refl, sym, ap, ◌∙◌, subst, arith, List, [], ◌∷◌, ◌++◌, length, get_or, take, drop, Option, Some, None, add-one, append-nil, append_assoc, length-append, inl, inr}
+use Rattle.std.specs.Prelude.{slice_get, IfSome}
+use Rattle.std.proofs.lemmas.List.{take_more, length_push, get_or_default, length-replicate, take_all, drop_all}
+use Rattle.std.proofs.Math.Seq.{drop-cons}
+use Rattle.std.proofs.lemmas.Option.{slice_get-get_or}
+use Rattle.rkyv_base.specs.declared.errors.WriteError.{WriteError}
+use Rattle.rkyv_base.specs.declared.errors.WriteError.TheVariants.{DistanceTooLarge}
+use Rattle.rkyv_base.specs.Writing.{Output, end_of, Appends, Told, Refusal, OnePiece, NoRefusal, zeros}
+use Rattle.rkyv_base.specs.Format.{Format}
+use Rattle.rkyv_base.proofs.GivingUp.{appends_after, end-appends, told_after}
+use Rattle.rkyv_table.specs.Slots.{SlotImages, BucketNext, BucketFar, filled, WroteBuckets, Filled, TooFar}
+use Rattle.rkyv_table.proofs.PartSteps.{filled-append}
+
+drop_at : {A : Type 0} (xs : List A) (i : ℕ) (d : A) → i < length xs → drop i xs ≡ get_or xs i d ∷ drop (i + 1) xs
+drop_at xs i d h = drop-cons xs i d h ∙ ap (λ n. get_or xs i d ∷ drop n xs) (sym (add-one i))
+
+none_left : {A : Type 0} (xs : List A) → length xs ≡ 0 → xs ≡ []
+none_left [] h = refl
+none_left (x ∷ xs) h = absurd (omega arith)
+
+module _ {X R : Type 0} (size limit : ℕ) (f : Format X R) (slots : List (Option X)) (rs : List R) (o : Output) where
+  -- the buckets from i on stand, and left resolves the items of the others
+  pub record Down (i : ℕ) (left : List R) (o1 : Output) : Type 0 where
+    pub out : List ℕ
+    pub done : List R
+    pub inside : i ≤ length slots
+    pub appended : Appends o o1 out
+    pub shown : SlotImages size f (drop i slots) done (end_of o1) out
+    pub all : rs ≡ left ++ done
+    pub count : length left ≡ filled (take i slots)
+    pub within : end_of o1 ≤ limit
+
+  module _ (i : ℕ) (left : List R) (o1 o2 : Output) (d : Down (i + 1) left o1) where
+    here : end_of o1 ≡ end_of o + length d.out
+    here = end-appends o o1 d.out d.appended
+
+    read_at : (s : Option X) → get_or slots i None ≡ s → slice_get slots i ≡ Some s
+    read_at s e = slice_get-get_or slots i None (omega (arith, d.inside)) ∙ ap Some e
+
+    shown_here : SlotImages size f (drop (i + 1) slots) d.done (end_of o + length d.out) d.out
+    shown_here = subst (λ n. SlotImages size f (drop (i + 1) slots) d.done n d.out) here d.shown
+
+    pub down_none : get_or slots i None ≡ None → Appends o1 o2 (zeros size) → end_of o2 ≤ limit → Down i left o2
+    down_none e a lim =
+        let q : i < length slots = omega (arith, d.inside) in
+        let n : end_of o2 - size ≡ end_of o1 = omega (arith, end-appends o1 o2 (zeros size) a, length-replicate {A = ℕ} size 0) in
+        record {
+          out = d.out ++ zeros size;
+          done = d.done;
+          inside = omega arith;
+          appended = appends_after o o1 o2 d.out (zeros size) d.appended a;
+          shown = rw (drop_at slots i None q, e) (d.out, subst (λ k. SlotImages size f (drop (i + 1) slots) d.done k d.out) (sym n) d.shown, refl);
+          all = d.all;
+          count = (let t : filled (take (i + 1) slots) ≡ filled (take i slots) + 0 = rw (take_more slots i None q, e) (filled-append (take i slots) (None ∷ [])) in let c = d.count in omega arith);
+          within = lim;
+        }
+
+    -- there is a resolver for it
+    pub down_room : (x : X) → get_or slots i None ≡ Some x → 0 < length left
+    down_room x e =
+        let q : i < length slots = omega (arith, d.inside) in
+        let t : filled (take (i + 1) slots) ≡ filled (take i slots) + 1 = rw (take_more slots i None q, e) (filled-append (take i slots) (Some x ∷ [])) in
+        let c = d.count in
+        omega arith
+
+    pub down_rooms : (s : Option X) → get_or slots i None ≡ s → IfSome s (λ _. 0 < length left)
+    down_rooms None e = tt
+    down_rooms (Some x) e = down_room x e
+
+    pub down_read : (s : Option X) → s ≡ get_or slots i s → get_or slots i None ≡ s
+    down_read s e = get_or_default slots i None s (omega (arith, d.inside)) ∙ sym e
+
+    pub down_some : (x : X) (r : R) (more : List R) (one : List ℕ) → get_or slots i None ≡ Some x → left ≡ more ++ r ∷ [] → f.image x r (end_of o1) one → length one ≡ size
+        → Appends o1 o2 one → end_of o2 ≤ limit → Down i more o2
+    down_some x r more one e l im len a lim =
+        let q : i < length slots = omega (arith, d.inside) in
+        let n : end_of o2 - size ≡ end_of o1 = omega (arith, end-appends o1 o2 one a, len) in
+        record {
+          out = d.out ++ one;
+          done = r ∷ d.done;
+          inside = omega arith;
+          appended = appends_after o o1 o2 d.out one d.appended a;
+          shown = rw (drop_at slots i None q, e) (
+            r,
+            d.done,
+            d.out,
+            one,
+            refl,
+            subst (λ k. f.image x r k one) (sym n) im,
+            subst (λ k. SlotImages size f (drop (i + 1) slots) d.done k d.out) (sym n) d.shown,
+            refl,
+          );
+          all = d.all ∙ ap (λ (y : List R). y ++ d.done) l ∙ append_assoc more (r ∷ []) d.done;
+          count = (
+              let t : filled (take (i + 1) slots) ≡ filled (take i slots) + 1 = rw (take_more slots i None q, e) (filled-append (take i slots) (Some x ∷ [])) in
+              let c = d.count in
+              let k = ap length l ∙ length_push more r in
+              omega arith
+              );
+          within = lim;
+        }
+
+    pub down_step : (s : Option X) (more : List R) (one : List ℕ) → get_or slots i None ≡ s → Filled size f s left more (end_of o1) one → length one ≡ size
+        → Appends o1 o2 one → end_of o2 ≤ limit → Down i more o2
+    down_step None more one e h len a lim = subst (λ l. Down i l o2) h.0 (down_none e (subst (Appends o1 o2) h.1 a) lim)
+    down_step (Some x) more one e h len a lim = down_some x h.0 more one e h.1 h.2 len a lim
+
+    module _ {F : Type 0} (s : Option X) (e : get_or slots i None ≡ s) where
+      abbrev BucketsTold : Output → WriteError F → Type 0
+      BucketsTold o' err = Told limit (BucketNext size f slots rs (end_of o)) (BucketFar size f slots rs (end_of o)) o o' err
+
+      pub told_bucket : (more : List R) (one : List ℕ) (err : WriteError F) → Filled size f s left more (end_of o1) one
+          → Told limit (OnePiece one) NoRefusal o1 o2 err → BucketsTold o2 err
+      told_bucket more one err im t =
+          told_after limit (BucketNext size f slots rs (end_of o)) (OnePiece one) (BucketFar size f slots rs (end_of o)) NoRefusal
+          o o1 o2 d.out err d.appended
+          (λ g piece h.
+          let k : d.out ++ g ≡ d.out = ap (λ (y : List ℕ). d.out ++ y) h.0 ∙ append-nil d.out in
+          rw (k, h.1) (i, left, (d.done, d.all, shown_here), s, more, read_at s e, subst (λ n. Filled size f s left more n one) here im))
+          (λ c h. absurd h)
+          t
+
+      pub told_far : TooFar size f s left (end_of o1) → BucketsTold o1 DistanceTooLarge
+      told_far h = record {
+        front = d.out;
+        kept = d.appended;
+        cause = (refl, i, left, d.out, (d.done, d.all, shown_here), s, read_at s e, subst (λ n. TooFar size f s left n) here h);
+      }
+
+  pub down_init : length rs ≡ filled slots → end_of o ≤ limit → Down (length slots) rs o
+  down_init c lim = record {
+    out = [];
+    done = [];
+    inside = omega arith;
+    appended = record { start = refl; bytes = sym (append-nil o.bytes); failures = omega arith };
+    shown = rw (drop_all (length slots) slots (omega arith)) (refl, refl);
+    all = sym (append-nil rs);
+    count = rw (take_all (length slots) slots (omega arith)) c;
+    within = lim;
+  }
+
+  pub down_end : (left : List R) (o1 : Output) → Down 0 left o1 → WroteBuckets size f limit slots rs o o1
+  down_end left o1 d =
+      let e : left ≡ [] = none_left left d.count in
+      (d.out, (d.appended, d.within), subst (λ z. SlotImages size f slots z (end_of o1) d.out) (sym (d.all ∙ ap (λ (z : List R). z ++ d.done) e)) d.shown)

@@ -1,0 +1,86 @@
+-- One slot more whose item is serialized.
+use Rattle.std.proofs.Common.{◌≡◌, ℕ, suc, ◌+◌, ◌<◌, ◌≤◌, refl, sym, ap, ◌∙◌, subst, arith, List, [], ◌∷◌, ◌++◌, length, get_or, take, drop, Option, Some, None, append-nil, append_assoc, length-append, add-one}
+use Rattle.std.specs.Prelude.{slice_get}
+use Rattle.std.proofs.lemmas.List.{take_more, length_push, take-append-drop}
+use Rattle.std.proofs.lemmas.Option.{slice_get-get_or}
+use Rattle.rkyv_base.specs.declared.errors.WriteError.{WriteError}
+use Rattle.rkyv_base.specs.Writing.{Output, end_of, Appends, Told, Refusal}
+use Rattle.rkyv_base.specs.Format.{Format}
+use Rattle.rkyv_base.proofs.GivingUp.{end-appends, told_after}
+use Rattle.rkyv_table.specs.Slots.{SlotParts, PartsNext, PartsRefuse, filled}
+
+zero_plus : (n : ℕ) → 0 + n ≡ n
+zero_plus n = omega arith
+
+suc_plus : (m n : ℕ) → suc m + n ≡ suc (m + n)
+suc_plus m n = omega arith
+
+pub filled-append : {A : Type 0} (xs ys : List (Option A)) → filled (xs ++ ys) ≡ filled xs + filled ys
+filled-append [] ys = sym (zero_plus (filled ys))
+filled-append (None ∷ xs) ys = filled-append xs ys
+filled-append (Some x ∷ xs) ys = ap suc (filled-append xs ys) ∙ sym (suc_plus (filled xs) (filled ys))
+
+pub filled_front : {A : Type 0} (xs : List (Option A)) (i : ℕ) → filled (take i xs) ≤ filled xs
+filled_front xs i =
+    let e = filled-append (take i xs) (drop i xs) in
+    let t = ap filled (take-append-drop i xs) in
+    omega arith
+
+module _ {X R : Type 0} (f : Format X R) where
+  pub parts_none : (ss : List (Option X)) (p : ℕ) (part : List ℕ) (rs : List R) → SlotParts f ss p part rs → SlotParts f (ss ++ None ∷ []) p part rs
+  parts_none [] p part rs h = h
+  parts_none (None ∷ ss) p part rs h = parts_none ss p part rs h
+  parts_none (Some x ∷ ss) p part rs h = (h.0, h.1, h.2, h.3, h.4, parts_none ss (p + length h.0) h.2 h.3 h.5, h.6, h.7)
+
+  pub parts_some : (ss : List (Option X)) (p : ℕ) (part : List ℕ) (rs : List R) (x : X) (a : List ℕ) (r : R)
+      → SlotParts f ss p part rs → f.parts x (p + length part) a r → SlotParts f (ss ++ Some x ∷ []) p (part ++ a) (rs ++ r ∷ [])
+  parts_some [] p part rs x a r h g =
+      let z : p + length part ≡ p = ap (λ (l : List ℕ). p + length l) h.0 ∙ omega arith in
+      (a, r, [], [], subst (λ n. f.parts x n a r) z g, (refl, refl), ap (λ l. l ++ a) h.0 ∙ sym (append-nil a), ap (λ l. l ++ r ∷ []) h.1)
+  parts_some (None ∷ ss) p part rs x a r h g = parts_some ss p part rs x a r h g
+  parts_some (Some y ∷ ss) p part rs x a r h g =
+      let n : p + length part ≡ p + length h.0 + length h.2 = ap (λ (l : List ℕ). p + length l) h.6 ∙ omega (arith, length-append h.0 h.2) in (
+        h.0,
+        h.1,
+        h.2 ++ a,
+        h.3 ++ r ∷ [],
+        h.4,
+        parts_some ss (p + length h.0) h.2 h.3 x a r h.5 (subst (λ k. f.parts x k a r) n g),
+        ap (λ l. l ++ a) h.6 ∙ append_assoc h.0 h.2 a,
+        ap (λ l. l ++ r ∷ []) h.7,
+      )
+
+  pub parts_filled : (ss : List (Option X)) (p : ℕ) (part : List ℕ) (rs : List R) → SlotParts f ss p part rs → length rs ≡ filled ss
+  parts_filled [] p part rs h = ap length h.1
+  parts_filled (None ∷ ss) p part rs h = parts_filled ss p part rs h
+  parts_filled (Some x ∷ ss) p part rs h = ap length h.7 ∙ ap suc (parts_filled ss (p + length h.0) h.2 h.3 h.5)
+
+  module _ (slots : List (Option X)) (i : ℕ) (inside : i < length slots) (o o1 : Output) (part : List ℕ) (rs : List R) (a1 : Appends o o1 part)
+      (h : SlotParts f (take i slots) (end_of o) part rs) where
+    -- the items before i + 1, where slot i is empty
+    pub step_none : get_or slots i None ≡ None → SlotParts f (take (i + 1) slots) (end_of o) part rs
+    step_none e = rw (take_more slots i None inside, e) (parts_none (take i slots) (end_of o) part rs h)
+
+    module _ (x : X) (e : get_or slots i None ≡ Some x) where
+      pub step_some : (a : List ℕ) (r : R) → f.parts x (end_of o1) a r → SlotParts f (take (i + 1) slots) (end_of o) (part ++ a) (rs ++ r ∷ [])
+      step_some a r g = rw (take_more slots i None inside, e) (parts_some (take i slots) (end_of o) part rs x a r h (subst (λ n. f.parts x n a r) (end-appends o o1 part a1) g))
+
+      -- there is a resolver's place left
+      pub step_room : (n : ℕ) → filled slots ≤ n → length rs < n
+      step_room n most =
+          let k = parts_filled (take i slots) (end_of o) part rs h in
+          let t : filled (take (i + 1) slots) ≡ filled (take i slots) + 1 = rw (take_more slots i None inside, e) (filled-append (take i slots) (Some x ∷ [])) in
+          let up = filled_front slots (i + 1) in
+          omega arith
+
+      pub step_told : {F : Type 0} (limit : ℕ) (o2 : Output) (err : WriteError F)
+          → Told limit (f.next x (end_of o1)) (f.refuses x (end_of o1)) o1 o2 err
+          → Told limit (PartsNext f slots (end_of o)) (PartsRefuse f slots (end_of o)) o o2 err
+      step_told limit o2 err t =
+          let at : end_of o1 ≡ end_of o + length part = end-appends o o1 part a1 in
+          let s : slice_get slots i ≡ Some (Some x) = slice_get-get_or slots i None inside ∙ ap Some e in
+          told_after limit (PartsNext f slots (end_of o)) (f.next x (end_of o1)) (PartsRefuse f slots (end_of o)) (f.refuses x (end_of o1))
+          o o1 o2 part err a1
+          (λ g piece n. (i, x, part, rs, g, s, h, subst (λ k. f.next x k g piece) at n, refl))
+          (λ c n. (i, x, part, rs, s, h, subst (λ k. f.refuses x k c) at n))
+          t

@@ -1,0 +1,13 @@
+use Rattle.std.proofs.Common.{◌≡◌, ℕ, List, length}
+use Rattle.rkyv_base.specs.Pairs.{written_as}
+use Rattle.rkyv_table.proofs.BucketSteps.{Down}
+use Rattle.rkyv_table.proofs.table.buckets.write_buckets.Given as goal
+
+abbrev pub invariant-loop-above : goal.invariant-loop-above
+invariant-loop-above g l = record {
+  down : Down g.U.Archived.Element.shape.size g.W.Width.LIMIT (written_as g.X.Lend.lent g.U.Archive.format) l.slots l.initial.rest.items (g.S.Writer.output l.initial.serializer) l.above l.rest.items (g.S.Writer.output l.serializer);
+  room : length l.bucket ≡ g.U.Archived.Element.shape.size;
+}
+
+abbrev pub decreases-loop-above : goal.decreases-loop-above
+decreases-loop-above g l = l.above

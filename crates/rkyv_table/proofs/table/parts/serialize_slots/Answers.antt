@@ -1,0 +1,57 @@
+use Rattle.std.proofs.Common.{arith, ◌≡◌, ◌<◌, ◌≤◌, ◌+◌, ◌++◌, ◌∷◌, [], ℕ, List, length, get_or, take, refl, sym, ap, ◌∙◌, Option, Some, None, rules, vec_capacity}
+use Rattle.std.proofs.lemmas.List.{take_all}
+use Rattle.std.proofs.lemmas.List.{get_or_default}
+use Rattle.rkyv_base.specs.Writing.{Output, end_of, Appends}
+use Rattle.rkyv_base.specs.Pairs.{written_as}
+use Rattle.rkyv_base.proofs.GivingUp.{appends_after}
+use Rattle.rkyv_table.proofs.PartSteps.{step_none, step_some, step_room, step_told}
+use Rattle.rkyv_table.proofs.table.parts.serialize_slots.Goals as goal
+use Rattle.rkyv_table.proofs.table.parts.serialize_slots.Goals.{in-Some+in-Ok, in_default}
+
+pub push_reserved-requires : goal.push_reserved-requires
+push_reserved-requires g c =
+    let m = c.loop-slot.invariant.made in
+    let e : get_or c.args.slots.now c.loop-slot.slot-index None ≡ Some c.in-Some.item = get_or_default c.args.slots.now c.loop-slot.slot-index None c.slot-item.result c.loop-slot-test.true ∙ sym c.slot-item.is ∙ c.in-Some.is in
+    let k : length c.loop-slot.resolvers.items < vec_capacity c.loop-slot.resolvers = step_room (written_as g.X.Lend.lent g.U.Archive.format) c.args.slots.now c.loop-slot.slot-index c.loop-slot-test.true (g.S.Writer.output c.args.serializer.now) (g.S.Writer.output c.loop-slot.serializer) m.0 c.loop-slot.resolvers.items m.1 m.2 c.in-Some.item e (vec_capacity c.loop-slot.resolvers) c.loop-slot.invariant.room in
+    let len = c.loop-slot.resolvers.ok.0 in
+    omega (arith, k, len)
+
+pub returns-in-Err : goal.returns-in-Err
+returns-in-Err g c =
+    let m = c.loop-slot.invariant.made in
+    let e : get_or c.args.slots.now c.loop-slot.slot-index None ≡ Some c.in-Some.item = get_or_default c.args.slots.now c.loop-slot.slot-index None c.slot-item.result c.loop-slot-test.true ∙ sym c.slot-item.is ∙ c.in-Some.is in
+    step_told (written_as g.X.Lend.lent g.U.Archive.format) c.args.slots.now c.loop-slot.slot-index c.loop-slot-test.true (g.S.Writer.output c.args.serializer.now) (g.S.Writer.output c.loop-slot.serializer) m.0 c.loop-slot.resolvers.items m.1 m.2 c.in-Some.item e
+    g.W.Width.LIMIT (g.S.Writer.output c.serialize.new.serializer) c.in-Err.e (rw c.lend.ensures at c.in-Err.ensures)
+
+pub loop-slot-preserved : goal.loop-slot-preserved
+loop-slot-preserved g c =
+    let m = c.loop-slot.invariant.made in
+    elim c.match-slot.branch [
+      | in-Some+in-Ok w ↦
+          let e : get_or c.args.slots.now c.loop-slot.slot-index None ≡ Some w.in-Some.item = get_or_default c.args.slots.now c.loop-slot.slot-index None c.slot-item.result c.loop-slot-test.true ∙ sym c.slot-item.is ∙ w.in-Some.is in
+          let s = rw w.lend.ensures at w.in-Ok.ensures in
+          rw (w.serializer-is, w.resolvers-is) (record {
+            made = (
+              m.0 ++ s.0,
+              appends_after (g.S.Writer.output c.args.serializer.now) (g.S.Writer.output c.loop-slot.serializer) (g.S.Writer.output w.serialize.new.serializer) m.0 s.0 m.1 s.1,
+              rw w.push_reserved.ensures.items (step_some (written_as g.X.Lend.lent g.U.Archive.format) c.args.slots.now c.loop-slot.slot-index c.loop-slot-test.true (g.S.Writer.output c.args.serializer.now) (g.S.Writer.output c.loop-slot.serializer) m.0 c.loop-slot.resolvers.items m.1 m.2 w.in-Some.item e s.0 w.in-Ok.resolver s.2),
+            );
+            room = rw w.push_reserved.ensures.capacity c.loop-slot.invariant.room;
+          })
+      | in_default w ↦
+          let e : get_or c.args.slots.now c.loop-slot.slot-index None ≡ None = get_or_default c.args.slots.now c.loop-slot.slot-index None c.slot-item.result c.loop-slot-test.true ∙ sym c.slot-item.is ∙ w.in_default.is in
+          rw (w.serializer-is, w.resolvers-is) (record {
+            made = (
+              m.0,
+              m.1,
+              step_none (written_as g.X.Lend.lent g.U.Archive.format) c.args.slots.now c.loop-slot.slot-index c.loop-slot-test.true (g.S.Writer.output c.args.serializer.now) (g.S.Writer.output c.loop-slot.serializer) m.0 c.loop-slot.resolvers.items m.1 m.2 e,
+            );
+            room = c.loop-slot.invariant.room;
+          })
+    ]
+
+pub returns : goal.returns
+returns g c =
+    let m = c.loop-slot.invariant.made in
+    let all = take_all c.loop-slot.slot-index c.args.slots.now (omega (arith, c.loop-slot-test.false)) in
+    (m.0, m.1, rw all at m.2)

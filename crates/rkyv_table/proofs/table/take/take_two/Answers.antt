@@ -1,0 +1,116 @@
+use Rattle.std.proofs.Common.{arith, ◌≡◌, ◌<◌, ◌≤◌, ◌^◌, ◌+◌, ◌++◌, ◌∷◌, [], ℕ, List, length, map, refl, sym, ap, ◌∙◌, inl, inr, rules, subst, length-append, Option, Some, ◌⊎◌}
+use Rattle.std.specs.Iterator.{Yields, Drains}
+use Rattle.std.proofs.lemmas.List.{length_push, length-map, map-append}
+use Rattle.rkyv_table.specs.Probe.{strides}
+use Rattle.rkyv_table.specs.Controls.{is_empty_at}
+use Rattle.rkyv_table.proofs.Written.{shown_below}
+use Rattle.rkyv_table.specs.Counting.{Counted, CountedOn}
+use Rattle.rkyv_table.specs.Taking.{items_of, hashes_of}
+use Rattle.rkyv_table.proofs.Taking.{yields_more, yields_join, placed_more, placed_none, placed_room}
+use Rattle.rkyv_table.proofs.table.take.take_two.Goals as goal
+
+pub loop-count-init : goal.loop-count-init
+loop-count-init g c = record {
+  can = c.requires.can;
+  taken = ([], refl, refl, refl, rw (c.requires.fresh, c.requires.empty) (placed_none c.args.cap (let r = c.requires.room in omega arith)));
+}
+
+pub place_one-bucket-requires-clause-repeats : goal.place_one-bucket-requires-clause-repeats
+place_one-bucket-requires-clause-repeats g c = c.loop-count.invariant.taken.4.written.repeats
+
+pub place_one-bucket-requires-clause-room : goal.place_one-bucket-requires-clause-room
+place_one-bucket-requires-clause-room g c =
+    let i = c.loop-count.invariant.taken in
+    let r = c.requires.room in
+    let n = i.3 in
+    let t = c.loop-count-test.true in
+    placed_room c.args.cap i.0 c.loop-count.slots c.loop-count.controls i.4 (omega (arith, i.3))
+
+pub put-requires : goal.put-requires
+put-requires g c =
+    let i = c.loop-count.invariant.taken in
+    let r = c.requires.room in
+    let hb : c.place_one-bucket.result < c.args.cap = shown_below (is_empty_at c.loop-count.controls) c.args.cap c.place_one-bucket.result (strides c.in-Some-next_item.hash c.args.cap) (omega arith) c.place_one-bucket.ensures.first in
+    let n = i.4.slotted.count in
+    omega arith
+
+pub loop-count-preserved : goal.loop-count-preserved
+loop-count-preserved g c =
+    let i = c.loop-count.invariant.taken in
+    let r = c.requires.room in
+    let h : ℕ = c.in-Some-next_item.hash in
+    let hash_fits : c.in-Some-next_item.hash < 2 ^ 64 = search rules in
+    let m = placed_more c.args.cap i.0 c.loop-count.slots c.loop-count.controls c.in-Some-next_item.hash c.place_one-bucket.result c.in-Some.item (omega arith) i.4 hash_fits c.place_one-bucket.ensures.first in
+    let mi = map-append (λ (y : ℕ × g.row.X.Denot). y.1) i.0 ((c.in-Some-next_item.hash, c.in-Some.item) ∷ []) in
+    let mh = map-append (λ (y : ℕ × g.row.X.Denot). y.0) i.0 ((c.in-Some-next_item.hash, c.in-Some.item) ∷ []) in
+    record {
+      can = (c.in-Some.ensures.keeps, c.in-Some-next_item.ensures.keeps);
+      taken = (
+        i.0 ++ (c.in-Some-next_item.hash, c.in-Some.item) ∷ [],
+        rw mi (yields_more g.I.Iterator.next_gives _ _ _ (items_of i.0) _ i.1 c.in-Some.ensures.steps),
+        rw mh (yields_more g.J.Iterator.next_gives _ _ _ (hashes_of i.0) _ i.2 c.in-Some-next_item.ensures.steps),
+        length_push i.0 _ ∙ ap (λ n. n + 1) i.3,
+        rw (c.put.ensures, c.place_one-bucket.ensures.after) m,
+      );
+    }
+
+-- what is counted on after some items
+counted_after : {S A : Type 0} (steps : S → Option A → S → Type 0) (len n : ℕ) (s t u : S) (xs : List A) (x : A) → Yields steps s xs t → steps t (Some x) u
+    → CountedOn steps len u (length xs + 1) n → Counted steps len s n
+counted_after steps len n s t u xs x y e (ys, m, inl d) = (
+  (xs ++ x ∷ []) ++ ys,
+  (let a = length-append (xs ++ x ∷ []) ys in let b = length_push xs x in omega arith),
+  inl (d.0, (d.1.0, (d.1.1.0, yields_join steps s u d.1.1.0 (xs ++ x ∷ []) ys (yields_more steps s t u xs x y e) d.1.1.1, d.1.1.2))),
+)
+counted_after steps len n s t u xs x y e (ys, m, inr d) = (
+  (xs ++ x ∷ []) ++ ys,
+  (let a = length-append (xs ++ x ∷ []) ys in let b = length_push xs x in omega arith),
+  inr (d.0, (d.1.0, yields_join steps s u d.1.0 (xs ++ x ∷ []) ys (yields_more steps s t u xs x y e) d.1.1)),
+)
+
+items_count : {A : Type 0} (xs : List (ℕ × A)) → length (items_of xs) ≡ length xs
+items_count {A = A} xs = length-map xs (λ (y : ℕ × A). y.1)
+
+hashes_count : {A : Type 0} (xs : List (ℕ × A)) → length (hashes_of xs) ≡ length xs
+hashes_count {A = A} xs = length-map xs (λ (y : ℕ × A). y.0)
+
+pub returns-in-None : goal.returns-in-None
+returns-in-None g c =
+    let i = c.loop-count.invariant.taken in
+    let n = items_count i.0 in
+    inl ((items_of i.0, omega (arith, n, i.3), inl (omega (arith, c.loop-count-test.true), (_, (_, i.1, c.in-None.ensures.steps)))), λ z. omega (arith, z, c.loop-count-test.true))
+
+pub returns-then-came-len : goal.returns-then-came-len
+returns-then-came-len g c =
+    let i = c.loop-count.invariant.taken in
+    let n1 : c.loop-count.count + 1 ≡ length (items_of i.0) + 1 = (let n = items_count i.0 in omega (arith, i.3)) in
+    let n0 = hashes_count i.0 in
+    let k = counted_after g.I.Iterator.next_gives c.args.len c.count_rest-came.result _ _ _ (items_of i.0) c.in-Some.item i.1 c.in-Some.ensures.steps (rw n1 at c.count_rest-came.ensures) in
+    inr (rw c.if-came-len.true at k, ((hashes_of i.0, omega (arith, n0, i.3), inl (omega (arith, c.loop-count-test.true), (_, (_, i.2, c.in-None-next_item.ensures.steps)))), λ z. omega (arith, z, c.loop-count-test.true)))
+
+pub returns-in-None-next_item : goal.returns-in-None-next_item
+returns-in-None-next_item g c =
+    let i = c.loop-count.invariant.taken in
+    let n1 : c.loop-count.count + 1 ≡ length (items_of i.0) + 1 = (let n = items_count i.0 in omega (arith, i.3)) in
+    let k = counted_after g.I.Iterator.next_gives c.args.len c.count_rest-came.result _ _ _ (items_of i.0) c.in-Some.item i.1 c.in-Some.ensures.steps (rw n1 at c.count_rest-came.ensures) in
+    inl (k, c.if-came-len.false)
+
+pub returns-in-Some-next_item-2 : goal.returns-in-Some-next_item-2
+returns-in-Some-next_item-2 g c =
+    let i = c.loop-count.invariant.taken in
+    let e : c.loop-count.count ≡ c.args.len = omega (arith, c.loop-count.auto.count-end, c.loop-count-test.false) in
+    let n = items_count i.0 in
+    let m = length_push (items_of i.0) c.in-Some-next_item-2.field-0 in
+    inl ((items_of i.0 ++ c.in-Some-next_item-2.field-0 ∷ [], omega (arith, m, n, i.3, e), inr (refl, (_, yields_more g.I.Iterator.next_gives _ _ _ (items_of i.0) _ i.1 c.in-Some-next_item-2.ensures.steps))), λ z. omega (arith, z))
+
+pub returns-in-Some-next_item-3 : goal.returns-in-Some-next_item-3
+returns-in-Some-next_item-3 g c =
+    let i = c.loop-count.invariant.taken in
+    let e : c.loop-count.count ≡ c.args.len = omega (arith, c.loop-count.auto.count-end, c.loop-count-test.false) in
+    let n1 = items_count i.0 in
+    let n0 = hashes_count i.0 in
+    let m = length_push (hashes_of i.0) c.in-Some-next_item-3.field-0 in
+    inr (
+      (items_of i.0, omega (arith, n1, i.3, e), inl (omega arith, (_, (_, i.1, c.in-None-next_item-2.ensures.steps)))),
+      ((hashes_of i.0 ++ c.in-Some-next_item-3.field-0 ∷ [], omega (arith, m, n0, i.3, e), inr (refl, (_, yields_more g.J.Iterator.next_gives _ _ _ (hashes_of i.0) _ i.2 c.in-Some-next_item-3.ensures.steps))), λ z. omega (arith, z)),
+    )
