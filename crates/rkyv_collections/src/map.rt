@@ -1,5 +1,9 @@
 //! Hash maps.
 
+mod element;
+mod lookup;
+mod reading;
+
 use rkyv_base::entry::Entry;
 use rkyv_base::width::Narrow;
 use rkyv_scan::hash::FxHasher64;

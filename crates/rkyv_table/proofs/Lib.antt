@@ -18,3 +18,6 @@ pub mod PartSteps
 pub mod BucketSteps
 pub mod TableSteps
 pub mod Given
+pub mod Headers
+pub mod Items
+pub mod FirstFound

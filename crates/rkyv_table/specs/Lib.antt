@@ -17,3 +17,6 @@ pub mod Counting
 pub mod TableFormat
 pub mod Serializing
 pub mod Buckets
+pub mod PlaceLaws
+pub mod TableLaws
+pub mod Reading

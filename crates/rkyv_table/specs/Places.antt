@@ -8,6 +8,10 @@ abbrev pub AllHold : Shape → (ℕ → ℕ) → List ℕ → ℕ → List ℕ �
 AllHold s at b hi [] lo l = l ≡ lo
 AllHold s at b hi (i ∷ is) lo l = (m : ℕ) × s.holds b (at i) lo hi m × AllHold s at b hi is m l
 
+-- they hold, and leave some lower end
+abbrev pub SomeHold : Shape → (ℕ → ℕ) → List ℕ → ℕ → List ℕ → ℕ → Type 0
+SomeHold s at b hi is lo = (l : ℕ) × AllHold s at b hi is lo l
+
 -- the first of them that doesn't hold fails by e
 abbrev pub FirstFails : Shape → (ℕ → ℕ) → List ℕ → ℕ → List ℕ → ℕ → VerifyError → Type 0
 FirstFails s at b hi [] lo e = ⊥

@@ -5,3 +5,6 @@ pub mod controls;
 pub mod table;
 #[cfg(test)]
 mod tests;
+
+pub use controls::find::Strides;
+pub use table::{ArchivedHashTable, TableOf};

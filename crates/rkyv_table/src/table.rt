@@ -7,6 +7,12 @@ pub mod parts;
 pub mod resolve;
 pub mod serialize;
 pub mod take;
+mod element;
+mod header;
+pub(crate) mod items;
+mod lookup;
+mod reading;
+mod verify;
 
 use rkyv_base::view::View;
 use rkyv_base::width::Narrow;

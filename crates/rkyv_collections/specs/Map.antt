@@ -1,0 +1,115 @@
+-- What a hash map is in an archive, and what a lookup in it answers.
+use Rattle.std.specs.Prelude.{◌≡◌, ℕ, ◌+◌, ◌↔◌, List, Bool, true, Option, IsSome, IsTrue, map}
+use Rattle.std.specs.Borrow.{Bor}
+use Rattle.std.specs.Int.{Width}
+use Rattle.std.specs.List.{find}
+use Rattle.std.specs.Option.{option_map}
+use Rattle.rkyv_scan.specs.Groups.{generic_kind}
+use Rattle.rkyv_scan.specs.Hash.{HasherCall, hash_of_calls}
+use Rattle.rkyv_base.specs.Entry.{entry_shape, value_offset}
+use Rattle.rkyv_base.specs.Shape.{Shape}
+use Rattle.rkyv_base.specs.View.{IsAt, IsView, archive_of, place_of}
+use Rattle.rkyv_base.specs.declared.view.View.{View}
+use Rattle.rkyv_table.specs.Header.{cap_at, len_at}
+use Rattle.rkyv_table.specs.Reading.{IsItemPlace, IsTable, WrittenAt, home_places, item_places, place_found, place_of_found, table_bytes, table_place}
+use Rattle.rkyv_table.specs.Table.{table_shape}
+use Rattle.rkyv_collections.specs.declared.map.ArchivedHashMap.{ArchivedHashMap}
+
+-- the header of a map: that of a table of its entries
+abbrev pub map_shape : Width → Shape → Shape → Shape
+map_shape w k v = table_shape w (entry_shape k v)
+
+module _ {K V H W : Type 0} where
+  -- the header of a map stands where the map is
+  abbrev pub IsMap : Width → Shape → Shape → ArchivedHashMap K V H W → Type 0
+  IsMap w k v m = IsTable w (entry_shape k v) m.table
+
+  -- the archive of the map, its bytes, and the position of its header
+  abbrev pub map_archive : ArchivedHashMap K V H W → Bor (List ℕ)
+  map_archive m = archive_of m.table.view
+
+  abbrev pub map_bytes : ArchivedHashMap K V H W → List ℕ
+  map_bytes m = table_bytes m.table
+
+  abbrev pub map_place : ArchivedHashMap K V H W → ℕ
+  map_place m = table_place m.table
+
+  -- how many pairs it has, and how many buckets
+  abbrev pub map_len : Width → ArchivedHashMap K V H W → ℕ
+  map_len w m = len_at w (map_bytes m) (map_place m)
+
+  abbrev pub map_cap : Width → ArchivedHashMap K V H W → ℕ
+  map_cap w m = cap_at w (map_bytes m) (map_place m)
+
+  -- where its keys stand, by ascending bucket
+  abbrev pub key_places : Width → Shape → Shape → ArchivedHashMap K V H W → List ℕ
+  key_places w k v m = item_places w (entry_shape k v).size (map_bytes m) (map_place m)
+
+  -- a key of the map stands at the position
+  abbrev pub IsKeyPlace : Width → Shape → Shape → ArchivedHashMap K V H W → ℕ → Type 0
+  IsKeyPlace w k v m q = IsItemPlace w (entry_shape k v) m.table q
+
+  -- the view is that of a key of the map
+  pub record IsKeyIn (w : Width) (k v : Shape) (m : ArchivedHashMap K V H W) (key : View K) : Type 0 where
+    pub archive : key.archive ≡ map_archive m
+    pub viewed : IsView k key
+    pub place : IsKeyPlace w k v m key.pos
+
+  -- the view is that of the value behind a key of the map
+  pub record IsValueIn (w : Width) (k v : Shape) (m : ArchivedHashMap K V H W) (value : View V) : Type 0 where
+    pub viewed : IsView v value
+    pub key : ℕ
+    pub walked : IsKeyPlace w k v m key
+    pub at : IsAt value (map_archive m) (key + value_offset k v)
+
+  -- the views are those of a key of the map and of the value behind it
+  pub record IsPairIn (w : Width) (k v : Shape) (m : ArchivedHashMap K V H W) (pair : View K × View V) : Type 0 where
+    pub key : IsKeyIn w k v m pair.0
+    pub viewed : IsView v pair.1
+    pub at : IsAt pair.1 (map_archive m) (place_of pair.0 + value_offset k v)
+
+-- the hash of the key that stands at q
+abbrev pub hash_at : {State : Type 0} → State → (State → HasherCall → State) → (State → ℕ) → (List ℕ → ℕ → List HasherCall) → List ℕ → ℕ → ℕ
+hash_at initial feed finish calls b q = hash_of_calls initial feed finish (calls b q)
+
+-- the table at p was written of entries under the hashes of their keys, handed in in this order, with their homes
+abbrev pub MapWrittenAt : Width → Shape → (List ℕ → ℕ → ℕ) → List ℕ → ℕ → List ℕ → Type 0
+MapWrittenAt w s hash b p homes = WrittenAt w b p (map (hash b) (home_places w s.size b p homes)) homes
+
+module _ {K V H W : Type 0} (w : Width) (k v : Shape) (m : ArchivedHashMap K V H W) where
+  -- the comparison may be asked of each key
+  abbrev pub MayAskKeys : (View K → Type 0) → Type 0
+  MayAskKeys pre = (key : View K) → IsKeyIn w k v m key → pre key
+
+  -- of each key the comparison answers what accept tells of its position
+  abbrev pub AnswersKeys : (View K → Bool → Type 0) → (ℕ → Bool) → Type 0
+  AnswersKeys post accept = (key : View K) (r : Bool) → IsKeyIn w k v m key → post key r → r ≡ accept key.pos
+
+  -- only keys under the hash are accepted
+  abbrev pub AreUnderHash : ℕ → (List ℕ → ℕ → ℕ) → (ℕ → Bool) → Type 0
+  AreUnderHash hash key_hash accept = (q : ℕ) → IsKeyPlace w k v m q → accept q ≡ true → key_hash (map_bytes m) q ≡ hash
+
+  -- what is told is told of the position of the key that a lookup under the hash finds, on any accepted map
+  abbrev pub FindsKey : ℕ → (ℕ → Bool) → (Option ℕ → Type 0) → Type 0
+  FindsKey hash accept Told = Told (place_found generic_kind w (entry_shape k v).size (map_bytes m) (map_place m) hash accept)
+
+  -- and on a written one: of the position of the first accepted key in the order handed in
+  abbrev pub FindsFirstKey : (List ℕ → ℕ → ℕ) → (ℕ → Bool) → (Option ℕ → Type 0) → Type 0
+  FindsFirstKey key_hash accept Told =
+      (homes : List ℕ) → MapWrittenAt w (entry_shape k v) key_hash (map_bytes m) (map_place m) homes
+      → Told (find accept (home_places w (entry_shape k v).size (map_bytes m) (map_place m) homes))
+
+-- the key that was found stands at the position, or none was found
+abbrev pub IsEntryAt : {E : Type 0} → Option (View E) → Option ℕ → Type 0
+IsEntryAt result place = place_of_found result ≡ place
+
+abbrev pub IsPairAt : {K V : Type 0} → Option (View K × View V) → Option ℕ → Type 0
+IsPairAt {K} {V} result place = option_map (λ (pair : View K × View V). place_of pair.0) result ≡ place
+
+-- the value that was found stands behind the key at the position, or none was found
+abbrev pub IsValueAt : {V : Type 0} → Shape → Shape → Option (View V) → Option ℕ → Type 0
+IsValueAt k v result place = place_of_found result ≡ option_map (λ q. q + value_offset k v) place
+
+-- the answer is true exactly where a key was found
+abbrev pub IsFoundAt : Bool → Option ℕ → Type 0
+IsFoundAt result place = IsTrue result ↔ IsSome place

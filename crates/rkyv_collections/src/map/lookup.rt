@@ -1,0 +1,212 @@
+//! Finding a pair by its key.
+ghost use Rattle.std.specs.Prelude.{Bool, IfSome, IsSome, ℕ, ◌≡◌};
+ghost use Rattle.rkyv_base.specs.Entry.{entry_shape};
+ghost use Rattle.rkyv_base.specs.View.{IsAt, IsView, archive_of, place_of};
+ghost use Rattle.rkyv_base.specs.declared.view.View.{View};
+ghost use Rattle.rkyv_scan.specs.Hash.{hash_of_calls};
+ghost use Rattle.rkyv_table.specs.Reading.{IsItem};
+ghost use Rattle.rkyv_collections.specs.Map.{
+  AnswersKeys,
+  AreUnderHash,
+  FindsFirstKey,
+  FindsKey,
+  IsEntryAt,
+  IsFoundAt,
+  IsKeyIn,
+  IsMap,
+  IsPairAt,
+  IsPairIn,
+  IsValueAt,
+  IsValueIn,
+  MayAskKeys,
+  hash_at,
+  map_bytes,
+};
+
+use crate::map::ArchivedHashMap;
+use rkyv_base::element::Element;
+use rkyv_base::entry::Entry;
+use rkyv_base::view::View;
+use rkyv_base::width::Width;
+use rkyv_keys::hash::{KeyHash, hash_value};
+use rkyv_keys::keys::{KeyElement, Query};
+use rkyv_scan::hash::KeyHasher;
+
+// Every lookup is one call of `find`.
+impl<'a, K: KeyElement, V: Element, H: KeyHasher, W: Width> ArchivedHashMap<'a, K, V, H, W> {
+    /// Finds the entry of a key under the hash of `key` that the comparison accepts.
+    #[inline]
+    fn find<Q: KeyHash, F: Fn(&Q, View<'a, K>) -> bool>(
+        self,
+        key: &Q,
+        cmp: F,
+    ) -> Option<View<'a, Entry<K, V>>>
+        requires map { IsMap W.word K.shape V.shape self }
+        requires query { Q.can_read key.now }
+        requires callable { MayAskKeys W.word K.shape V.shape self (F.pre cmp key) }
+        ensures walked { IfSome result (IsItem W.word (entry_shape K.shape V.shape) self.entry.table) }
+        ensures answer { let hash = hash_of_calls H.initial H.feed H.finish (Q.calls key.now) in
+            (accept : ℕ → Bool) → AnswersKeys W.word K.shape V.shape self.entry (F.post cmp key.entry) accept
+            → FindsKey W.word K.shape V.shape self.entry hash accept (IsEntryAt result) }
+        ensures first { let hash = hash_of_calls H.initial H.feed H.finish (Q.calls key.now) in
+            let key_hash = hash_at H.initial H.feed H.finish K.key_calls in
+            (accept : ℕ → Bool) → AnswersKeys W.word K.shape V.shape self.entry (F.post cmp key.entry) accept
+            → AreUnderHash W.word K.shape V.shape self.entry hash key_hash accept
+            → FindsFirstKey W.word K.shape V.shape self.entry key_hash accept (IsEntryAt result) }
+    {
+        let hash = hash_value::<Q, H>(key);
+        self.table.get_with(
+            hash,
+            |entry|
+                requires entry { IsItem W.word (entry_shape K.shape V.shape) self.table entry }
+                requires callable { MayAskKeys W.word K.shape V.shape self (F.pre cmp key) }
+                ensures { (k : View K) × IsKeyIn W.word K.shape V.shape self.entry k × (k.pos ≡ place_of entry.entry) × F.post cmp key.entry k result }
+            { cmp(key, entry.key()) },
+        )
+    }
+
+    /// The first pair under the hash of `key` whose key the comparison accepts, in the order in
+    /// which the pairs were handed in, where the map was written and no key under another hash is
+    /// accepted.
+    ///
+    /// On any accepted map the answer is `None` or one of its pairs, whatever the comparison
+    /// answers; which one, the table decides. The comparison is asked for keys of the map alone,
+    /// and may be asked twice of one.
+    #[inline]
+    pub fn get_key_value_with<Q: KeyHash, F: Fn(&Q, View<'a, K>) -> bool>(
+        self,
+        key: &Q,
+        cmp: F,
+    ) -> Option<(View<'a, K>, View<'a, V>)>
+        requires map { IsMap W.word K.shape V.shape self }
+        requires query { Q.can_read key.now }
+        requires callable { MayAskKeys W.word K.shape V.shape self (F.pre cmp key) }
+        ensures walked { IfSome result (IsPairIn W.word K.shape V.shape self.entry) }
+        ensures answer { let hash = hash_of_calls H.initial H.feed H.finish (Q.calls key.now) in
+            (accept : ℕ → Bool) → AnswersKeys W.word K.shape V.shape self.entry (F.post cmp key.entry) accept
+            → FindsKey W.word K.shape V.shape self.entry hash accept (IsPairAt result) }
+        ensures first { let hash = hash_of_calls H.initial H.feed H.finish (Q.calls key.now) in
+            let key_hash = hash_at H.initial H.feed H.finish K.key_calls in
+            (accept : ℕ → Bool) → AnswersKeys W.word K.shape V.shape self.entry (F.post cmp key.entry) accept
+            → AreUnderHash W.word K.shape V.shape self.entry hash key_hash accept
+            → FindsFirstKey W.word K.shape V.shape self.entry key_hash accept (IsPairAt result) }
+    {
+        match self.find(key, cmp) {
+            Some(entry) => Some((entry.key(), entry.value())),
+            None => None,
+        }
+    }
+
+    /// The value of the pair that `get_key_value_with` answers.
+    #[inline]
+    pub fn get_with<Q: KeyHash, F: Fn(&Q, View<'a, K>) -> bool>(
+        self,
+        key: &Q,
+        cmp: F,
+    ) -> Option<View<'a, V>>
+        requires map { IsMap W.word K.shape V.shape self }
+        requires query { Q.can_read key.now }
+        requires callable { MayAskKeys W.word K.shape V.shape self (F.pre cmp key) }
+        ensures walked { IfSome result (IsValueIn W.word K.shape V.shape self.entry) }
+        ensures answer { let hash = hash_of_calls H.initial H.feed H.finish (Q.calls key.now) in
+            (accept : ℕ → Bool) → AnswersKeys W.word K.shape V.shape self.entry (F.post cmp key.entry) accept
+            → FindsKey W.word K.shape V.shape self.entry hash accept (IsValueAt K.shape V.shape result) }
+        ensures first { let hash = hash_of_calls H.initial H.feed H.finish (Q.calls key.now) in
+            let key_hash = hash_at H.initial H.feed H.finish K.key_calls in
+            (accept : ℕ → Bool) → AnswersKeys W.word K.shape V.shape self.entry (F.post cmp key.entry) accept
+            → AreUnderHash W.word K.shape V.shape self.entry hash key_hash accept
+            → FindsFirstKey W.word K.shape V.shape self.entry key_hash accept (IsValueAt K.shape V.shape result) }
+    {
+        match self.find(key, cmp) {
+            Some(entry) => Some(entry.value()),
+            None => None,
+        }
+    }
+
+    /// Finds the entry of the key that is asked for.
+    #[inline]
+    fn find_key<Q: Query<K>>(self, key: &Q) -> Option<View<'a, Entry<K, V>>>
+        requires map { IsMap W.word K.shape V.shape self }
+        requires query { Q.can_read key.now }
+        ensures walked { IfSome result (IsItem W.word (entry_shape K.shape V.shape) self.entry.table) }
+        ensures answer { let hash = hash_of_calls H.initial H.feed H.finish (Q.calls key.now) in
+            FindsKey W.word K.shape V.shape self.entry hash (Q.fits key.now (map_bytes self.entry)) (IsEntryAt result) }
+        ensures first { let key_hash = hash_at H.initial H.feed H.finish K.key_calls in
+            FindsFirstKey W.word K.shape V.shape self.entry key_hash (Q.fits key.now (map_bytes self.entry)) (IsEntryAt result) }
+    {
+        self.find(
+            key,
+            |key, stored|
+                requires query { Q.can_read key.now }
+                requires key { IsView K.shape stored }
+                ensures { result ≡ Q.fits key.entry.now stored.entry.archive.now stored.entry.pos }
+            { key.same(stored) },
+        )
+    }
+
+    /// The pair whose key is the one that is asked for: in a map that was written the first such
+    /// one, in the order in which the pairs were handed in.
+    ///
+    /// In a map of strangers a key may stand where its hash doesn't lead; then it isn't found.
+    #[inline]
+    pub fn get_key_value<Q: Query<K>>(self, key: &Q) -> Option<(View<'a, K>, View<'a, V>)>
+        requires map { IsMap W.word K.shape V.shape self }
+        requires query { Q.can_read key.now }
+        ensures walked { IfSome result (IsPairIn W.word K.shape V.shape self.entry) }
+        ensures answer { let hash = hash_of_calls H.initial H.feed H.finish (Q.calls key.now) in
+            FindsKey W.word K.shape V.shape self.entry hash (Q.fits key.now (map_bytes self.entry)) (IsPairAt result) }
+        ensures first { let key_hash = hash_at H.initial H.feed H.finish K.key_calls in
+            FindsFirstKey W.word K.shape V.shape self.entry key_hash (Q.fits key.now (map_bytes self.entry)) (IsPairAt result) }
+    {
+        match self.find_key(key) {
+            Some(entry) => Some((entry.key(), entry.value())),
+            None => None,
+        }
+    }
+
+    /// The value of the key that is asked for, by `get_key_value`.
+    #[inline]
+    pub fn get<Q: Query<K>>(self, key: &Q) -> Option<View<'a, V>>
+        requires map { IsMap W.word K.shape V.shape self }
+        requires query { Q.can_read key.now }
+        ensures walked { IfSome result (IsValueIn W.word K.shape V.shape self.entry) }
+        ensures answer { let hash = hash_of_calls H.initial H.feed H.finish (Q.calls key.now) in
+            FindsKey W.word K.shape V.shape self.entry hash (Q.fits key.now (map_bytes self.entry)) (IsValueAt K.shape V.shape result) }
+        ensures first { let key_hash = hash_at H.initial H.feed H.finish K.key_calls in
+            FindsFirstKey W.word K.shape V.shape self.entry key_hash (Q.fits key.now (map_bytes self.entry)) (IsValueAt K.shape V.shape result) }
+    {
+        match self.find_key(key) {
+            Some(entry) => Some(entry.value()),
+            None => None,
+        }
+    }
+
+    /// Whether the key that is asked for is found.
+    #[inline]
+    pub fn contains_key<Q: Query<K>>(self, key: &Q) -> bool
+        requires map { IsMap W.word K.shape V.shape self }
+        requires query { Q.can_read key.now }
+        ensures answer { let hash = hash_of_calls H.initial H.feed H.finish (Q.calls key.now) in
+            FindsKey W.word K.shape V.shape self.entry hash (Q.fits key.now (map_bytes self.entry)) (IsFoundAt result) }
+        ensures first { let key_hash = hash_at H.initial H.feed H.finish K.key_calls in
+            FindsFirstKey W.word K.shape V.shape self.entry key_hash (Q.fits key.now (map_bytes self.entry)) (IsFoundAt result) }
+    {
+        self.find_key(key).is_some()
+    }
+
+    /// The value of the key that is asked for, which must be found, as `contains_key` tells.
+    #[inline]
+    pub fn index<Q: Query<K>>(self, key: &Q) -> View<'a, V>
+        requires map { IsMap W.word K.shape V.shape self }
+        requires query { Q.can_read key.now }
+        requires found { let hash = hash_of_calls H.initial H.feed H.finish (Q.calls key.now) in
+            FindsKey W.word K.shape V.shape self hash (Q.fits key.now (map_bytes self)) IsSome }
+        ensures walked { IsValueIn W.word K.shape V.shape self.entry result }
+        ensures answer { let hash = hash_of_calls H.initial H.feed H.finish (Q.calls key.now) in
+            FindsKey W.word K.shape V.shape self.entry hash (Q.fits key.now (map_bytes self.entry)) (IsValueAt K.shape V.shape (Some result)) }
+        ensures first { let key_hash = hash_at H.initial H.feed H.finish K.key_calls in
+            FindsFirstKey W.word K.shape V.shape self.entry key_hash (Q.fits key.now (map_bytes self.entry)) (IsValueAt K.shape V.shape (Some result)) }
+    {
+        self.find_key(key).unwrap().value()
+    }
+}

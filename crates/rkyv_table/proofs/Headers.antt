@@ -1,0 +1,16 @@
+-- What the numbers of a header tell.
+use Rattle.std.proofs.Common.{◌≡◌, ◌∙◌, ℕ, ◌*◌, ap, List, ℤ, pos, ◌+ℤ◌, ◌-ℤ◌, FitsSigned, to_z, of_z}
+use Rattle.std.specs.Int.{Width, w64, w128}
+use Rattle.std.proofs.lemmas.Int.{to_z-of_z}
+use Rattle.rkyv_base.specs.Bytes.{signed_at}
+use Rattle.rkyv_table.specs.Header.{begin_told, cap_at}
+
+-- the begin that was computed of them
+pub begin_is : (w : Width) (size : ℕ) (b : List ℕ) (p : ℕ) (distance told : ℤ) (cap n : ℕ) → FitsSigned w128 told
+    → distance ≡ signed_at w b p → cap ≡ cap_at w b p → n ≡ size
+    → told ≡ (pos p +ℤ distance) -ℤ pos (cap * n) → to_z w128 (of_z w128 told) ≡ begin_told w size b p
+begin_is w size b p distance told cap n fits e f k h =
+    to_z-of_z w128 told fits ∙ h
+    ∙ ap (λ z. (pos p +ℤ z) -ℤ pos (cap * n)) e
+    ∙ ap (λ m. (pos p +ℤ signed_at w b p) -ℤ pos (m * n)) f
+    ∙ ap (λ m. (pos p +ℤ signed_at w b p) -ℤ pos (cap_at w b p * m)) k

@@ -1,0 +1,65 @@
+use Rattle.std.proofs.Common.{refl, ap, subst, sym, ◌∙◌, ◌+◌, ℕ}
+use Rattle.rkyv_table.specs.Reading.{Answers, AreItems, IsItem, bucket_found, item_at, lookup_end, table_bytes, table_place}
+use Rattle.rkyv_table.proofs.Items.{read_accepted, read_end, read_found, read_walked}
+use Rattle.rkyv_table.proofs.table.ArchivedHashTable.find.Goals as goal
+
+pub find-bucket-requires : goal.find-bucket-requires
+find-bucket-requires g c κs =
+    let w = g.W.Width.word in
+    let s = g.T.Element.shape in
+    let items = c.of-items.result in
+    let are = c.of-items.ensures.items in
+    let law = g.met.T.Element.laws in
+    record {
+      accepted = read_accepted w s law items are;
+      room = c.requires.room;
+      callable = λ b full. ((refl, tt), (are, (read_walked w s law items are b full, λ v h. c.requires.callable v (subst (λ t. IsItem w s t v) c.of-items.ensures.table h))));
+    }
+
+pub returns-in-Some-clause-answer : goal.returns-in-Some-clause-answer
+returns-in-Some-clause-answer g c = λ accept alone.
+    let w = g.W.Width.word in
+    let s = g.T.Element.shape in
+    let items = c.of-items.result in
+    let are = c.of-items.ensures.items in
+    let same = c.of-items.ensures.table in
+    let at : ℕ → ℕ = item_at w s.size (table_bytes items.table) (table_place items.table) in
+    let h = c.in-Some.ensures.answer (λ i. accept (at i)) (λ b r full e. alone e.0 r (subst (λ t. IsItem w s t e.0) same (b, e.1)) e.2 ∙ ap accept e.1.place) in
+    let f = read_found w s g.met.T.Element.laws items are g.G.GroupKind.kind c.args.hash (λ i. accept (at i)) in
+    h ∙ f ∙ ap (λ t. bucket_found g.G.GroupKind.kind w s.size (table_bytes t) (table_place t) c.args.hash accept) same
+
+pub returns-in-Some-clause-counted : goal.returns-in-Some-clause-counted
+returns-in-Some-clause-counted g c = λ accept alone.
+    let w = g.W.Width.word in
+    let s = g.T.Element.shape in
+    let items = c.of-items.result in
+    let are = c.of-items.ensures.items in
+    let same = c.of-items.ensures.table in
+    let at : ℕ → ℕ = item_at w s.size (table_bytes items.table) (table_place items.table) in
+    let h = c.in-Some.ensures.counted (λ i. accept (at i)) (λ b r full e. alone e.0 r (subst (λ t. IsItem w s t e.0) same (b, e.1)) e.2 ∙ ap accept e.1.place) in
+    let f = read_end w s g.met.T.Element.laws items are g.G.GroupKind.kind c.args.hash (λ i. accept (at i)) in
+    h ∙ ap (λ n. c.args.strides.now + n) (f ∙ ap (λ t. lookup_end g.G.GroupKind.kind w s.size (table_bytes t) (table_place t) c.args.hash accept) same)
+
+pub returns-clause-answer : goal.returns-clause-answer
+returns-clause-answer g c = λ accept alone.
+    let w = g.W.Width.word in
+    let s = g.T.Element.shape in
+    let items = c.of-items.result in
+    let are = c.of-items.ensures.items in
+    let same = c.of-items.ensures.table in
+    let at : ℕ → ℕ = item_at w s.size (table_bytes items.table) (table_place items.table) in
+    let h = c.in-None.ensures.answer (λ i. accept (at i)) (λ b r full e. alone e.0 r (subst (λ t. IsItem w s t e.0) same (b, e.1)) e.2 ∙ ap accept e.1.place) in
+    let f = read_found w s g.met.T.Element.laws items are g.G.GroupKind.kind c.args.hash (λ i. accept (at i)) in
+    h ∙ f ∙ ap (λ t. bucket_found g.G.GroupKind.kind w s.size (table_bytes t) (table_place t) c.args.hash accept) same
+
+pub returns-clause-counted : goal.returns-clause-counted
+returns-clause-counted g c = λ accept alone.
+    let w = g.W.Width.word in
+    let s = g.T.Element.shape in
+    let items = c.of-items.result in
+    let are = c.of-items.ensures.items in
+    let same = c.of-items.ensures.table in
+    let at : ℕ → ℕ = item_at w s.size (table_bytes items.table) (table_place items.table) in
+    let h = c.in-None.ensures.counted (λ i. accept (at i)) (λ b r full e. alone e.0 r (subst (λ t. IsItem w s t e.0) same (b, e.1)) e.2 ∙ ap accept e.1.place) in
+    let f = read_end w s g.met.T.Element.laws items are g.G.GroupKind.kind c.args.hash (λ i. accept (at i)) in
+    h ∙ ap (λ n. c.args.strides.now + n) (f ∙ ap (λ t. lookup_end g.G.GroupKind.kind w s.size (table_bytes t) (table_place t) c.args.hash accept) same)

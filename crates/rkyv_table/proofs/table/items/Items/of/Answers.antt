@@ -1,0 +1,47 @@
+use Rattle.std.proofs.Common.{◌≡◌, ◌∙◌, ◌<◌, ◌+◌, ◌≤◌, ap, arith, refl, sym, pos, ◌+ℤ◌, length, slice_range, List}
+use Rattle.rkyv_base.specs.Bytes.{signed_at}
+use Rattle.rkyv_table.specs.Header.{cap_at}
+use Rattle.rkyv_table.specs.Numbers.{control_count}
+use Rattle.rkyv_table.specs.Reading.{controls_place}
+use Rattle.rkyv_table.proofs.Items.{controls_inside}
+use Rattle.rkyv_table.proofs.table.items.Items.of.Goals as goal
+
+pub controls_place-place-requires : goal.controls_place-place-requires
+controls_place-place-requires g c =
+    let w = g.W.Width.word in
+    let b = c.args.table.view.archive.now in
+    let p = c.args.table.view.pos in
+    let h = rw (c.bytes-archive.ensures, c.pos-pos.ensures) at c.read_header-header.ensures in
+    let z = c.if-cap-eq0.false in
+    let e = h.cap in
+    let some : 0 < cap_at w b p = omega arith in
+    let u = controls_inside w g.T.Element.shape g.met.T.Element.laws b p c.requires some in
+    (controls_place w b p, rw (c.pos-pos.ensures, h.distance) u.1, omega (arith, u.0))
+
+pub controls_from-requires : goal.controls_from-requires
+controls_from-requires g c =
+    let w = g.W.Width.word in
+    let b = c.args.table.view.archive.now in
+    let p = c.args.table.view.pos in
+    let h = rw (c.bytes-archive.ensures, c.pos-pos.ensures) at c.read_header-header.ensures in
+    let z = c.if-cap-eq0.false in
+    let e = h.cap in
+    let some : 0 < cap_at w b p = omega arith in
+    let u = controls_inside w g.T.Element.shape g.met.T.Element.laws b p c.requires some in
+    let at : c.controls_place-place.result ≡ controls_place w b p = rw (c.pos-pos.ensures, h.distance) at c.controls_place-place.ensures in
+    rw (at, e, c.bytes-archive.ensures) u.0
+
+pub returns-clause-items : goal.returns-clause-items
+returns-clause-items g c =
+    let w = g.W.Width.word in
+    let b = c.args.table.view.archive.now in
+    let p = c.args.table.view.pos in
+    let h = rw (c.bytes-archive.ensures, c.pos-pos.ensures) at c.read_header-header.ensures in
+    let at : c.controls_place-place.result ≡ controls_place w b p = rw (c.pos-pos.ensures, h.distance) at c.controls_place-place.ensures in
+    record {
+      table = c.requires;
+      len = h.len;
+      cap = h.cap;
+      place = λ _. at;
+      controls = λ _. rw (at, h.cap, c.bytes-archive.ensures) at c.controls_from.ensures;
+    }

@@ -1,0 +1,29 @@
+use Rattle.std.proofs.Common.{rules, inl, inr, FitsSigned}
+use Rattle.std.specs.Int.{w128}
+use Rattle.rkyv_table.specs.TableLaws.{fails_of_numbers}
+use Rattle.rkyv_table.proofs.Headers.{begin_is}
+use Rattle.rkyv_table.proofs.table.verify.verify_by.Goals as goal
+
+pub returns-in-Err : goal.returns-in-Err
+returns-in-Err g c =
+    let w = g.W.Width.word in
+    let s = g.T.Element.shape in
+    let b = c.args.bytes.now in
+    let h = c.read_header-header.ensures in
+    let fits : FitsSigned w128 c.begin_told-told.result = search rules in
+    let told = begin_is w s.size b c.args.pos c.read_header-header.result.distance c.begin_told-told.result c.read_header-header.result.cap c.size-size.result fits
+    h.distance h.cap c.size-size.ensures c.begin_told-told.ensures in
+    let f = rw (c.part_size.ensures, c.size-size.ensures, c.align-align.ensures) at c.in-Err.ensures in
+    fails_of_numbers s b told h.cap h.len (inr (inl (c.if-len-cap.false, f)))
+
+pub returns-in-Err-check_part : goal.returns-in-Err-check_part
+returns-in-Err-check_part g c =
+    let w = g.W.Width.word in
+    let s = g.T.Element.shape in
+    let b = c.args.bytes.now in
+    let h = c.read_header-header.ensures in
+    let fits : FitsSigned w128 c.begin_told-told.result = search rules in
+    let told = begin_is w s.size b c.args.pos c.read_header-header.result.distance c.begin_told-told.result c.read_header-header.result.cap c.size-size.result fits
+    h.distance h.cap c.size-size.ensures c.begin_told-told.ensures in
+    let part = rw (c.part_size.ensures, c.size-size.ensures, c.align-align.ensures) at c.in-Ok.ensures in
+    fails_of_numbers s b told h.cap h.len (inr (inr (c.if-len-cap.false, c.in-Ok.begin, part, c.in-Err-check_part.ensures.fails)))

@@ -1,0 +1,91 @@
+//! The header of a table, as it is read.
+ghost use Rattle.std.specs.Prelude.{length, pos as int, slice_range, unsigned_abs, ℕ, ◌*◌, ◌+ℤ◌, ◌+◌, ◌-ℤ◌, ◌<◌, ◌^◌, ◌≡◌, ◌≤◌};
+ghost use Rattle.std.specs.Int.{byte_len};
+ghost use Rattle.rkyv_base.specs.Bytes.{signed_at};
+ghost use Rattle.rkyv_table.specs.Header.{cap_at, len_at};
+ghost use Rattle.rkyv_table.specs.Numbers.{control_count};
+ghost use Rattle.rkyv_table.specs.Table.{bucket_at, part_size};
+
+use crate::controls::numbers::control_count;
+use rkyv_base::width::Width;
+
+/// What a header tells.
+#[derive(Clone, Copy)]
+pub(crate) struct Header {
+    /// From the header's own position to the first control.
+    pub(crate) distance: i64,
+    pub(crate) len: u64,
+    pub(crate) cap: u64,
+}
+
+/// Reads the header at `pos`.
+#[inline]
+pub(crate) fn read_header<W: Width>(bytes: &[u8], pos: u64) -> Header
+    requires { pos + 3 * byte_len W.word ≤ length bytes.now }
+    ensures distance { result.distance ≡ signed_at W.word bytes.now pos }
+    ensures len { result.len ≡ len_at W.word bytes.now pos }
+    ensures cap { result.cap ≡ cap_at W.word bytes.now pos }
+{
+    let place = pos as usize;
+    Header {
+        distance: W::read_distance(bytes, place),
+        len: W::read_count(bytes, place + W::ALIGN),
+        cap: W::read_count(bytes, place + 2 * W::ALIGN),
+    }
+}
+
+/// The bytes of all buckets.
+#[inline]
+fn buckets_size(cap: u64, size: usize) -> u128
+    requires { size ≤ 1073741824 }
+    ensures value { result ≡ cap * size }
+    ensures bound { result < 2 ^ 95 }
+{
+    u128::from(cap) * size as u128
+}
+
+/// The bytes of all buckets and controls.
+#[inline]
+pub(crate) fn part_size(cap: u64, size: usize) -> u128
+    requires { size ≤ 1073741824 }
+    ensures { result ≡ part_size size cap }
+{
+    buckets_size(cap, size) + (u128::from(cap) + 15) / 16 * 16 + 15
+}
+
+/// Where a header at `pos` tells that its buckets begin.
+#[inline]
+pub(crate) fn begin_told(pos: u64, header: Header, size: usize) -> i128
+    requires { size ≤ 1073741824 }
+    ensures { result ≡ (int pos +ℤ header.distance) -ℤ int (header.cap * size) }
+{
+    i128::from(pos) + i128::from(header.distance) - buckets_size(header.cap, size) as i128
+}
+
+/// The position of a bucket of a table whose buckets begin at `begin`.
+#[inline]
+pub(crate) fn bucket_position(begin: u64, cap: usize, bucket: usize, size: usize) -> u64
+    requires inside { bucket < cap }
+    requires fits { begin + cap * size < 2 ^ 64 }
+    ensures { result ≡ bucket_at size begin cap bucket }
+{
+    begin + ((cap - (bucket + 1)) * size) as u64
+}
+
+/// Where the first control stands, of a header at `pos` of a table with buckets.
+#[inline]
+pub(crate) fn controls_place(pos: u64, header: Header) -> usize
+    requires { (place : ℕ) × (int place ≡ int pos +ℤ header.distance) × (place < 2 ^ 64) }
+    ensures { result ≡ unsigned_abs (int pos +ℤ header.distance) }
+{
+    (i128::from(pos) + i128::from(header.distance)) as usize
+}
+
+/// The controls of `cap` buckets, from `place` on.
+#[inline]
+pub(crate) fn controls_from(bytes: &[u8], place: usize, cap: usize) -> &[u8]
+    requires { place + control_count cap ≤ length bytes.now }
+    ensures { result.now ≡ slice_range bytes.now place (place + control_count cap) }
+{
+    &bytes[place..place + control_count(cap)]
+}

@@ -1,0 +1,71 @@
+//! The items of a table whose header was read, and finding one of them.
+ghost use Rattle.std.specs.Prelude.{◌≡◌};
+ghost use Rattle.rkyv_table.specs.Reading.{AreItems, IsItemIn, IsTable, IsWalked, table_bytes, table_place};
+
+use crate::table::ArchivedHashTable;
+use crate::table::header::{controls_from, controls_place, read_header};
+use rkyv_base::element::Element;
+use rkyv_base::view::View;
+use rkyv_base::width::Width;
+
+/// A table and what its header tells.
+#[derive_where(Clone, Copy)]
+pub(crate) struct Items<'a, T, W> {
+    pub(crate) table: ArchivedHashTable<'a, T, W>,
+    /// Where the first control stands; of no meaning where there are no buckets.
+    pub(crate) place: usize,
+    /// All controls; none where there are no buckets.
+    pub(crate) controls: &'a [u8],
+    pub(crate) len: usize,
+    pub(crate) cap: usize,
+}
+
+/// An item that was found, and its bucket.
+#[derive_where(Clone, Copy)]
+pub(crate) struct FoundItem<'a, T> {
+    pub(crate) bucket: usize,
+    pub(crate) item: View<'a, T>,
+}
+
+impl<'a, T: Element, W: Width> Items<'a, T, W> {
+    /// Those of a table, whose header is read once.
+    #[inline]
+    pub(crate) fn of(table: ArchivedHashTable<'a, T, W>) -> Items<'a, T, W>
+        requires { IsTable W.word T.shape table }
+        ensures items { AreItems W.word T.shape result }
+        ensures table { result.table ≡ table.entry }
+    {
+        let archive = table.view.bytes();
+        let pos = table.view.pos();
+        let header = read_header::<W>(archive, pos);
+        let (len, cap) = (header.len as usize, header.cap as usize);
+        if cap == 0 {
+            return Items {
+                table,
+                place: 0,
+                controls: &[],
+                len,
+                cap,
+            };
+        }
+        let place = controls_place(pos, header);
+        Items {
+            table,
+            place,
+            controls: controls_from(archive, place, cap),
+            len,
+            cap,
+        }
+    }
+
+    /// The item in a full bucket.
+    #[inline]
+    pub(crate) fn item(self, bucket: usize) -> View<'a, T>
+        requires items { AreItems W.word T.shape self }
+        requires walked { IsWalked W.word (table_bytes self.table) (table_place self.table) bucket }
+        ensures { IsItemIn W.word T.shape self.entry.table bucket result }
+    {
+        let place = self.place - (bucket + 1) * T::size();
+        View::new(self.table.view.bytes(), place as u64)
+    }
+}

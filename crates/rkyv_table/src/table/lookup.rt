@@ -1,0 +1,134 @@
+//! Finding an item.
+ghost use Rattle.std.specs.Prelude.{IfSome, ◌≡◌, ◌≤◌, ◌^◌};
+ghost use Rattle.rkyv_scan.specs.Groups.{generic_kind};
+ghost use Rattle.rkyv_table.specs.Reading.{AreItems, CountsEnd, CountsWithin, FindsBucket, FindsFirst, FindsFound, IsItem, IsItemIn, IsItemPlace, IsTable, IsWalked, MayAsk, bucket_of_found, place_of_found, table_bytes, table_place};
+ghost use Rattle.rkyv_base.specs.View.{IsView};
+
+use crate::controls::find::{Strides, find};
+use crate::table::ArchivedHashTable;
+use crate::table::items::{FoundItem, Items};
+use rkyv_base::element::Element;
+use rkyv_base::view::View;
+use rkyv_base::width::Width;
+use rkyv_scan::Group;
+use rkyv_scan::simd::GroupKind;
+
+// Every lookup is one call of `find`.
+impl<'a, T: Element, W: Width> ArchivedHashTable<'a, T, W> {
+    /// Finds an item under `hash` that the comparison accepts, by groups of the kind G, and counts
+    /// the strides of controls that are read.
+    #[inline]
+    pub(crate) fn find<G: GroupKind, F: Fn(View<'a, T>) -> bool>(
+        self,
+        hash: u64,
+        cmp: F,
+        strides: &mut Strides,
+    ) -> Option<FoundItem<'a, T>>
+        requires table { IsTable W.word T.shape self }
+        requires room { strides.old ≤ 2 ^ 63 }
+        requires callable { MayAsk (F.pre cmp) W.word T.shape self }
+        ensures walked { IfSome result (λ found. IsItemIn W.word T.shape self.entry found.bucket found.item) }
+        ensures answer { FindsBucket (F.post cmp) G.kind W.word T.shape self.entry hash (bucket_of_found result) }
+        ensures bounded { CountsWithin W.word self.entry strides.old strides.new }
+        ensures counted { CountsEnd (F.post cmp) G.kind W.word T.shape self.entry hash strides.old strides.new }
+    {
+        let items = Items::of(self);
+        let bucket = find::<G, _>(
+            items.controls,
+            items.cap,
+            items.len,
+            hash,
+            |bucket|
+                requires items { AreItems W.word T.shape items }
+                requires walked { IsWalked W.word (table_bytes items.table) (table_place items.table) bucket }
+                requires callable { MayAsk (F.pre cmp) W.word T.shape items.table }
+                ensures { (v : View T) × IsItemIn W.word T.shape items.entry.table bucket v × F.post cmp v result }
+            { cmp(items.item(bucket)) },
+            strides,
+        );
+        match bucket {
+            Some(bucket) => Some(FoundItem {
+                bucket,
+                item: items.item(bucket),
+            }),
+            None => None,
+        }
+    }
+
+    /// The first item under `hash` that the comparison accepts, in the order in which the items
+    /// were handed in, where the table was written and no item under another hash is accepted.
+    ///
+    /// On any accepted table the answer is `None` or one of its items, whatever the comparison
+    /// answers; which one, the controls decide. The comparison is asked for items of the table
+    /// alone, and may be asked twice of one.
+    #[inline]
+    pub fn get_with<F: Fn(View<'a, T>) -> bool>(self, hash: u64, cmp: F) -> Option<View<'a, T>>
+        requires table { IsTable W.word T.shape self }
+        requires callable { MayAsk (F.pre cmp) W.word T.shape self }
+        ensures walked { IfSome result (IsItem W.word T.shape self.entry) }
+        ensures answer { FindsFound (F.post cmp) generic_kind W.word T.shape self.entry hash (place_of_found result) }
+        ensures first { FindsFirst (F.post cmp) W.word T.shape self.entry hash (place_of_found result) }
+    {
+        self.get_by::<Group, F>(hash, cmp)
+    }
+
+    /// As `get_with`, by groups of the kind G.
+    #[inline]
+    pub fn get_by<G: GroupKind, F: Fn(View<'a, T>) -> bool>(
+        self,
+        hash: u64,
+        cmp: F,
+    ) -> Option<View<'a, T>>
+        requires table { IsTable W.word T.shape self }
+        requires callable { MayAsk (F.pre cmp) W.word T.shape self }
+        ensures walked { IfSome result (IsItem W.word T.shape self.entry) }
+        ensures answer { FindsFound (F.post cmp) G.kind W.word T.shape self.entry hash (place_of_found result) }
+        ensures first { FindsFirst (F.post cmp) W.word T.shape self.entry hash (place_of_found result) }
+    {
+        match self.find::<G, F>(hash, cmp, &mut Strides::new()) {
+            Some(found) => Some(found.item),
+            None => None,
+        }
+    }
+
+    /// As `get_with`, but answers where the item stands.
+    #[inline]
+    pub fn get_pos_with<F: Fn(View<'a, T>) -> bool>(self, hash: u64, cmp: F) -> Option<u64>
+        requires table { IsTable W.word T.shape self }
+        requires callable { MayAsk (F.pre cmp) W.word T.shape self }
+        ensures walked { IfSome result (IsItemPlace W.word T.shape self.entry) }
+        ensures answer { FindsFound (F.post cmp) generic_kind W.word T.shape self.entry hash result }
+        ensures first { FindsFirst (F.post cmp) W.word T.shape self.entry hash result }
+    {
+        match self.get_with(hash, cmp) {
+            Some(item) => Some(item.pos()),
+            None => None,
+        }
+    }
+
+    /// As `get_with`, and counts the strides of sixteen controls that are read: none in an empty
+    /// table, else one at least, and at most one for each sixteen buckets, rounded up.
+    ///
+    /// The count may be at most 9,223,372,036,854,775,808.
+    #[inline]
+    pub fn get_counted<F: Fn(View<'a, T>) -> bool>(
+        self,
+        hash: u64,
+        cmp: F,
+        strides: &mut Strides,
+    ) -> Option<View<'a, T>>
+        requires table { IsTable W.word T.shape self }
+        requires room { strides.old ≤ 2 ^ 63 }
+        requires callable { MayAsk (F.pre cmp) W.word T.shape self }
+        ensures walked { IfSome result (IsItem W.word T.shape self.entry) }
+        ensures answer { FindsFound (F.post cmp) generic_kind W.word T.shape self.entry hash (place_of_found result) }
+        ensures first { FindsFirst (F.post cmp) W.word T.shape self.entry hash (place_of_found result) }
+        ensures bounded { CountsWithin W.word self.entry strides.old strides.new }
+        ensures counted { CountsEnd (F.post cmp) generic_kind W.word T.shape self.entry hash strides.old strides.new }
+    {
+        match self.find::<Group, F>(hash, cmp, strides) {
+            Some(found) => Some(found.item),
+            None => None,
+        }
+    }
+}

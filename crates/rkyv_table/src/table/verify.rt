@@ -1,0 +1,119 @@
+//! Checking a table of a stranger.
+ghost use Rattle.std.specs.Prelude.{IfErr, IfOk, MatchResult, length, ◌%◌, ◌*◌, ◌+◌, ◌<◌, ◌≡◌, ◌≤◌};
+ghost use Rattle.std.specs.Int.{byte_len};
+ghost use Rattle.rkyv_base.specs.Checking.{Fails, Passes};
+ghost use Rattle.rkyv_table.specs.Numbers.{control_count};
+ghost use Rattle.rkyv_table.specs.Places.{FirstFails, SomeHold};
+ghost use Rattle.rkyv_table.specs.Placing.{walk};
+ghost use Rattle.rkyv_table.specs.Table.{FailsInside, IsPart, bucket_at, part_size, table_shape};
+
+use crate::controls::numbers::control_count;
+use crate::controls::repeats::check_repeats;
+use crate::controls::walk::Walk;
+use crate::table::header::{begin_told, bucket_position, part_size, read_header};
+use rkyv_base::element::{Element, PartRange};
+use rkyv_base::errors::VerifyError;
+use rkyv_base::part::part_in;
+use rkyv_base::width::Width;
+use rkyv_scan::simd::GroupKind;
+
+/// Checks the item in each full bucket, by ascending bucket, and counts them.
+fn check_items<G: GroupKind, T: Element>(
+    bytes: &[u8],
+    controls: &[u8],
+    begin: u64,
+    cap: usize,
+    lo: u64,
+) -> Result<usize, VerifyError>
+    requires some { 0 < cap }
+    requires count { length controls.now ≡ control_count cap }
+    requires inside { begin + cap * T.shape.size ≤ length bytes.now }
+    requires aligned { begin % T.shape.align ≡ 0 }
+    requires ordered { lo ≤ begin }
+    ensures hold { IfOk result (λ _. SomeHold T.shape (bucket_at T.shape.size begin cap) bytes.now begin (walk controls.now cap) lo) }
+    ensures count { IfOk result (λ n. n ≡ length (walk controls.now cap)) }
+    ensures fails { IfErr result (FirstFails T.shape (bucket_at T.shape.size begin cap) bytes.now begin (walk controls.now cap) lo) }
+{
+    let mut low = lo;
+    let mut count = 0;
+    for bucket in Walk::<G>::new(controls, cap) {
+        let place = bucket_position(begin, cap, bucket, T::size());
+        match T::check(bytes, place, PartRange { lo: low, hi: begin }) {
+            Ok(rest) => low = rest.lo,
+            Err(e) => return Err(e),
+        }
+        count += 1;
+    }
+    Ok(count)
+}
+
+/// Checks buckets and controls that stand in the archive, and answers where they end.
+fn check_part<G: GroupKind, T: Element>(
+    bytes: &[u8],
+    begin: u64,
+    cap: usize,
+    len: usize,
+    lo: u64,
+) -> Result<u64, VerifyError>
+    requires room { len < cap }
+    requires inside { begin + part_size T.shape.size cap ≤ length bytes.now }
+    requires aligned { begin % T.shape.align ≡ 0 }
+    requires ordered { lo ≤ begin }
+    ensures is { IfOk result (λ _. IsPart T.shape bytes.now cap len lo begin) }
+    ensures ends { IfOk result (λ end. end ≡ begin + part_size T.shape.size cap) }
+    ensures fails { IfErr result (FailsInside T.shape bytes.now cap len lo begin) }
+{
+    let place = begin as usize + cap * T::size();
+    let end = place + control_count(cap);
+    let controls = &bytes[place..end];
+    let actual = match check_items::<G, T>(bytes, controls, begin, cap, lo) {
+        Ok(actual) => actual,
+        Err(e) => return Err(e),
+    };
+    if actual != len {
+        return Err(VerifyError::WrongNumberOfElements {
+            expected: len,
+            actual,
+        });
+    }
+    match check_repeats(controls, cap) {
+        Ok(()) => Ok(end as u64),
+        Err(index) => Err(VerifyError::UnwrappedControlByte { index }),
+    }
+}
+
+/// Checks the table whose header stands at `pos`, by groups of the kind G.
+pub(crate) fn verify_by<G: GroupKind, W: Width, T: Element>(
+    bytes: &[u8],
+    pos: u64,
+    range: PartRange,
+) -> Result<PartRange, VerifyError>
+    requires inside { pos + 3 * byte_len W.word ≤ length bytes.now }
+    requires ordered { (range.lo ≤ range.hi) × (range.hi ≤ pos) }
+    ensures { MatchResult result
+        (Passes (table_shape W.word T.shape) bytes.now pos range)
+        (Fails (table_shape W.word T.shape) bytes.now pos range) }
+{
+    let header = read_header::<W>(bytes, pos);
+    if header.len == 0 && header.cap == 0 {
+        return Ok(range);
+    }
+    let (len, cap) = (header.len as usize, header.cap as usize);
+    if len >= cap {
+        return Err(VerifyError::InvalidLength { len, cap });
+    }
+    let size = T::size();
+    let told = begin_told(pos, header, size);
+    let align = T::align() as u64;
+    let begin = match part_in(told, part_size(header.cap, size), align, range) {
+        Ok(begin) => begin,
+        Err(e) => return Err(e),
+    };
+    match check_part::<G, T>(bytes, begin, cap, len, range.lo) {
+        Ok(end) => Ok(PartRange {
+            lo: end,
+            hi: range.hi,
+        }),
+        Err(e) => Err(e),
+    }
+}
