@@ -1,0 +1,2 @@
+pub mod SeenItems
+pub mod HashedPairs

@@ -1,1 +1,3 @@
 pub mod Map
+pub mod MapFormat
+pub mod Handing

@@ -1,8 +1,10 @@
 //! Hash maps.
 
 mod element;
+mod hashing;
 mod lookup;
 mod reading;
+pub mod writing;
 
 use rkyv_base::entry::Entry;
 use rkyv_base::width::Narrow;

@@ -1,0 +1,116 @@
+-- What is written of pairs under the hashes of their keys is the map of the pairs.
+use Rattle.std.proofs.Common.{◌≡◌, ℕ, ◌+◌, ◌≢◌, refl, ap, sym, subst, ◌∙◌, inl, inr, List, [], ◌∷◌, map, length, Option, Some, None}
+use Rattle.std.specs.Int.{Width}
+use Rattle.std.specs.Iterator.{Drains, Yields}
+use Rattle.std.proofs.lemmas.List.{length-map}
+use Rattle.rkyv_base.specs.Adapter.{pair_of}
+use Rattle.rkyv_base.specs.Entry.{entry_shape}
+use Rattle.rkyv_base.specs.Format.{Format, GaveUp, Serialized}
+use Rattle.rkyv_base.specs.Pairs.{pair_format, written_as}
+use Rattle.rkyv_base.specs.Shape.{Shape}
+use Rattle.rkyv_base.specs.Writing.{Output}
+use Rattle.rkyv_base.specs.declared.adapter.EntryAdapter.{EntryAdapter}
+use Rattle.rkyv_base.specs.declared.errors.WriteError.{WriteError}
+use Rattle.rkyv_base.specs.declared.errors.WriteError.TheVariants.{InvalidLoadFactor, IteratorLengthMismatch, CapacityTooLarge, PositionTooLarge, DistanceTooLarge, TextTooLong, Writer, Memory, Refused}
+use Rattle.rkyv_table.specs.Counting.{GaveOther}
+use Rattle.rkyv_table.specs.Serializing.{NoTable, OwnCause, WroteTable}
+use Rattle.rkyv_table.specs.TableFormat.{TableResolver, table_format}
+use Rattle.rkyv_collections.specs.Handing.{HashedStep, NoItems, WroteItems, lent_pairs}
+use Rattle.rkyv_collections.specs.MapFormat.{keyed, map_format}
+use Rattle.rkyv_collections.proofs.SeenItems.{seen_gave_up, seen_pairs, seen_serialized}
+
+-- a cause of the call's own, where other counts come
+own_counted : {F : Type 0} (len : ℕ) (factor : ℕ × ℕ) (max : ℕ) (other other' : ℕ → Type 0) → ((n : ℕ) → other n → other' n)
+    → (e : WriteError F) → OwnCause len factor max other e → OwnCause len factor max other' e
+own_counted len factor max other other' f (InvalidLoadFactor n d) h = h
+own_counted len factor max other other' f (CapacityTooLarge l) h = h
+own_counted len factor max other other' f Memory h = h
+own_counted len factor max other other' f (IteratorLengthMismatch m) h = (h.0, h.1, f m.actual h.2)
+own_counted len factor max other other' f PositionTooLarge h = h
+own_counted len factor max other other' f DistanceTooLarge h = h
+own_counted len factor max other other' f TextTooLong h = h
+own_counted len factor max other other' f (Writer fault) h = h
+own_counted len factor max other other' f (Refused c) h = h
+
+module _ {T S BK BV A B : Type 0} (inner : T → S) (steps : S → Option (BK × BV) → S → Type 0) (hash : BK → ℕ) where
+  -- a state has the state of the pairs' iterator, and steps as that does
+  abbrev pub Steps : T → Option (ℕ × EntryAdapter BK BV A B) → T → Type 0
+  Steps s r t = HashedStep steps hash (inner s) r (inner t)
+
+  abbrev pub items_in : List (ℕ × EntryAdapter BK BV A B) → List (BK × BV)
+  items_in xs = map (λ x. (x.1.key, x.1.value)) xs
+
+  -- each is under the hash of its key
+  abbrev pub AreHashed : List (ℕ × EntryAdapter BK BV A B) → Type 0
+  AreHashed [] = Unit {0}
+  AreHashed (x ∷ xs) = (x.0 ≡ hash x.1.key) × AreHashed xs
+
+  given : (xs : List (ℕ × EntryAdapter BK BV A B)) (s t : T) → Yields Steps s xs t → Yields steps (inner s) (items_in xs) (inner t) × AreHashed xs
+  given [] s t e = (ap inner e, tt)
+  given (x ∷ xs) s t h = let r = given xs h.0 t h.2 in ((inner h.0, h.1.1, r.0), (h.1.0, r.1))
+
+  drained : (xs : List (ℕ × EntryAdapter BK BV A B)) (s : T) → Drains Steps s xs → Drains steps (inner s) (items_in xs) × AreHashed xs
+  drained xs s d = let r = given xs s d.1.0 d.1.1 in ((inner d.0, (inner d.1.0, r.0, d.1.2)), r.1)
+
+  gave_other : (len : ℕ) (s : T) (n : ℕ) → GaveOther Steps len s n → GaveOther steps len (inner s) n
+  gave_other len s n h =
+      let xs = h.0.0 in (
+        (
+          items_in xs,
+          h.0.1 ∙ ap (λ k. 0 + k) (sym (length-map xs (λ (x : ℕ × EntryAdapter BK BV A B). (x.1.key, x.1.value)))),
+          elim h.0.2 [
+            | inl d ↦ inl (d.0, (drained xs s d.1).0)
+            | inr d ↦ inr (d.0, (inner d.1.0, (given xs s d.1.0 d.1.1).0))
+          ],
+        ),
+        h.1,
+      )
+
+module _ {T S BK BV A B R Q : Type 0} (inner : T → S) (steps : S → Option (BK × BV) → S → Type 0) (key : BK → A) (value : BV → B) (hash : A → ℕ) where
+  abbrev Under : List (ℕ × EntryAdapter BK BV A B) → Type 0
+  Under xs = AreHashed inner steps (λ k. hash (key k)) xs
+
+  seen_keyed : (xs : List (ℕ × EntryAdapter BK BV A B)) → Under xs
+      → seen_pairs (pair_of key value) xs ≡ keyed hash (lent_pairs key value (items_in inner steps (λ k. hash (key k)) xs))
+  seen_keyed [] h = refl
+  seen_keyed (x ∷ xs) h =
+      ap (λ n. (n, (key x.1.key, value x.1.value)) ∷ seen_pairs (pair_of key value) xs) h.0
+      ∙ ap (λ (t : List (ℕ × (A × B))). (hash (key x.1.key), (key x.1.key, value x.1.value)) ∷ t) (seen_keyed xs h.1)
+
+  module _ (len : ℕ) (factor : ℕ × ℕ) (max : ℕ) (w : Width) (k v : Shape) (kf : Format A R) (vf : Format B Q) (o o' : Output) (s : T) where
+    abbrev TableOf : Format (List (ℕ × EntryAdapter BK BV A B)) TableResolver
+    TableOf = table_format w (entry_shape k v) (written_as (pair_of key value) (pair_format k v kf vf)) factor
+
+    abbrev MapOf : Format (List (BK × BV)) TableResolver
+    MapOf = written_as (lent_pairs key value) (map_format w k v kf vf hash factor)
+
+    count : (xs : List (ℕ × EntryAdapter BK BV A B)) → length xs ≡ len → length (items_in inner steps (λ q. hash (key q)) xs) ≡ len
+    count xs n = length-map xs (λ (x : ℕ × EntryAdapter BK BV A B). (x.1.key, x.1.value)) ∙ n
+
+    pub wrote_map : (r : TableResolver) → WroteTable (Drains (Steps inner steps (λ q. hash (key q))) s) len factor max TableOf o o' r
+        → WroteItems (Drains steps (inner s)) len factor max MapOf o o' r
+    wrote_map r h =
+        let xs = h.1.0 in
+        let d = drained inner steps (λ q. hash (key q)) xs s h.1.1.0 in (
+          h.0,
+          items_in inner steps (λ q. hash (key q)) xs,
+          (d.0, count xs h.1.1.1),
+          subst (λ ps. Serialized (table_format w (entry_shape k v) (pair_format k v kf vf) factor) ps o o' r) (seen_keyed xs d.1)
+          (seen_serialized (pair_of key value) (pair_format k v kf vf) w (entry_shape k v) factor xs o o' r h.1.2),
+        )
+
+    pub no_map : {F : Type 0} (limit : ℕ) (e : WriteError F)
+        → NoTable (Drains (Steps inner steps (λ q. hash (key q))) s) len factor max TableOf o o' (GaveOther (Steps inner steps (λ q. hash (key q))) len s) limit e
+        → NoItems (Drains steps (inner s)) len factor max MapOf o o' (GaveOther steps len (inner s)) limit e
+    no_map limit e (inl h) =
+        inl (own_counted len factor max (GaveOther (Steps inner steps (λ q. hash (key q))) len s) (GaveOther steps len (inner s)) (gave_other inner steps (λ q. hash (key q)) len s) e h.0, h.1)
+    no_map limit e (inr h) =
+        let xs = h.1.0 in
+        let d = drained inner steps (λ q. hash (key q)) xs s h.1.1.0 in
+        inr (
+          h.0,
+          items_in inner steps (λ q. hash (key q)) xs,
+          (d.0, count xs h.1.1.1),
+          subst (λ ps. GaveUp limit (table_format w (entry_shape k v) (pair_format k v kf vf) factor) ps o o' e) (seen_keyed xs d.1)
+          (seen_gave_up (pair_of key value) (pair_format k v kf vf) w (entry_shape k v) factor xs o o' limit e h.1.2),
+        )
