@@ -20,3 +20,8 @@ pub mod Buckets
 pub mod PlaceLaws
 pub mod TableLaws
 pub mod Reading
+pub mod Lending
+pub mod SlotWalk
+pub mod SlotSound
+pub mod HeaderReads
+pub mod TableSound

@@ -7,6 +7,7 @@ pub mod parts;
 pub mod resolve;
 pub mod serialize;
 pub mod take;
+pub mod written;
 mod element;
 mod header;
 pub(crate) mod items;
