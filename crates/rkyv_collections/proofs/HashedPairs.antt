@@ -1,5 +1,5 @@
 -- What is written of pairs under the hashes of their keys is the map of the pairs.
-use Rattle.std.proofs.Common.{◌≡◌, ℕ, ◌+◌, ◌≢◌, refl, ap, sym, subst, ◌∙◌, inl, inr, List, [], ◌∷◌, map, length, Option, Some, None}
+use Rattle.std.proofs.Common.{◌≡◌, ℕ, ◌+◌, ◌≢◌, refl, ap, sym, subst, ◌∙◌, inl, inr, List, [], ◌∷◌, map, length, Option, Some, None, Result, Ok, Err, MatchResult}
 use Rattle.std.specs.Int.{Width}
 use Rattle.std.specs.Iterator.{Drains, Yields}
 use Rattle.std.proofs.lemmas.List.{length-map}
@@ -66,7 +66,7 @@ module _ {T S BK BV A B : Type 0} (inner : T → S) (steps : S → Option (BK ×
         h.1,
       )
 
-module _ {T S BK BV A B R Q : Type 0} (inner : T → S) (steps : S → Option (BK × BV) → S → Type 0) (key : BK → A) (value : BV → B) (hash : A → ℕ) where
+module _ {T S BK BV A B : Type 0} (inner : T → S) (steps : S → Option (BK × BV) → S → Type 0) (key : BK → A) (value : BV → B) (hash : A → ℕ) where
   abbrev Under : List (ℕ × EntryAdapter BK BV A B) → Type 0
   Under xs = AreHashed inner steps (λ k. hash (key k)) xs
 
@@ -77,7 +77,7 @@ module _ {T S BK BV A B R Q : Type 0} (inner : T → S) (steps : S → Option (B
       ap (λ n. (n, (key x.1.key, value x.1.value)) ∷ seen_pairs (pair_of key value) xs) h.0
       ∙ ap (λ (t : List (ℕ × (A × B))). (hash (key x.1.key), (key x.1.key, value x.1.value)) ∷ t) (seen_keyed xs h.1)
 
-  module _ (len : ℕ) (factor : ℕ × ℕ) (max : ℕ) (w : Width) (k v : Shape) (kf : Format A R) (vf : Format B Q) (o o' : Output) (s : T) where
+  module _ {R Q : Type 0} (len : ℕ) (factor : ℕ × ℕ) (max : ℕ) (w : Width) (k v : Shape) (kf : Format A R) (vf : Format B Q) (o o' : Output) (s : T) where
     abbrev TableOf : Format (List (ℕ × EntryAdapter BK BV A B)) TableResolver
     TableOf = table_format w (entry_shape k v) (written_as (pair_of key value) (pair_format k v kf vf)) factor
 
@@ -87,8 +87,10 @@ module _ {T S BK BV A B R Q : Type 0} (inner : T → S) (steps : S → Option (B
     count : (xs : List (ℕ × EntryAdapter BK BV A B)) → length xs ≡ len → length (items_in inner steps (λ q. hash (key q)) xs) ≡ len
     count xs n = length-map xs (λ (x : ℕ × EntryAdapter BK BV A B). (x.1.key, x.1.value)) ∙ n
 
-    pub wrote_map : (r : TableResolver) → WroteTable (Drains (Steps inner steps (λ q. hash (key q))) s) len factor max TableOf o o' r
-        → WroteItems (Drains steps (inner s)) len factor max MapOf o o' r
+    abbrev Given : T → Option (ℕ × EntryAdapter BK BV A B) → T → Type 0
+    Given = Steps inner steps (λ q. hash (key q))
+
+    wrote_map : (r : TableResolver) → WroteTable (Drains Given s) len factor max TableOf o o' r → WroteItems (Drains steps (inner s)) len factor max MapOf o o' r
     wrote_map r h =
         let xs = h.1.0 in
         let d = drained inner steps (λ q. hash (key q)) xs s h.1.1.0 in (
@@ -99,18 +101,25 @@ module _ {T S BK BV A B R Q : Type 0} (inner : T → S) (steps : S → Option (B
           (seen_serialized (pair_of key value) (pair_format k v kf vf) w (entry_shape k v) factor xs o o' r h.1.2),
         )
 
-    pub no_map : {F : Type 0} (limit : ℕ) (e : WriteError F)
-        → NoTable (Drains (Steps inner steps (λ q. hash (key q))) s) len factor max TableOf o o' (GaveOther (Steps inner steps (λ q. hash (key q))) len s) limit e
-        → NoItems (Drains steps (inner s)) len factor max MapOf o o' (GaveOther steps len (inner s)) limit e
-    no_map limit e (inl h) =
-        inl (own_counted len factor max (GaveOther (Steps inner steps (λ q. hash (key q))) len s) (GaveOther steps len (inner s)) (gave_other inner steps (λ q. hash (key q)) len s) e h.0, h.1)
-    no_map limit e (inr h) =
-        let xs = h.1.0 in
-        let d = drained inner steps (λ q. hash (key q)) xs s h.1.1.0 in
-        inr (
-          h.0,
-          items_in inner steps (λ q. hash (key q)) xs,
-          (d.0, count xs h.1.1.1),
-          subst (λ ps. GaveUp limit (table_format w (entry_shape k v) (pair_format k v kf vf) factor) ps o o' e) (seen_keyed xs d.1)
-          (seen_gave_up (pair_of key value) (pair_format k v kf vf) w (entry_shape k v) factor xs o o' limit e h.1.2),
-        )
+    module _ {F : Type 0} (limit : ℕ) where
+      no_map : (e : WriteError F) → NoTable (Drains Given s) len factor max TableOf o o' (GaveOther Given len s) limit e
+          → NoItems (Drains steps (inner s)) len factor max MapOf o o' (GaveOther steps len (inner s)) limit e
+      no_map e (inl h) =
+          inl (own_counted len factor max (GaveOther Given len s) (GaveOther steps len (inner s)) (gave_other inner steps (λ q. hash (key q)) len s) e h.0, h.1)
+      no_map e (inr h) =
+          let xs = h.1.0 in
+          let d = drained inner steps (λ q. hash (key q)) xs s h.1.1.0 in
+          inr (
+            h.0,
+            items_in inner steps (λ q. hash (key q)) xs,
+            (d.0, count xs h.1.1.1),
+            subst (λ ps. GaveUp limit (table_format w (entry_shape k v) (pair_format k v kf vf) factor) ps o o' e) (seen_keyed xs d.1)
+            (seen_gave_up (pair_of key value) (pair_format k v kf vf) w (entry_shape k v) factor xs o o' limit e h.1.2),
+          )
+
+      -- what writing the table of the hashed pairs answers, as what writing the map does
+      pub answers_map : (result : Result TableResolver (WriteError F))
+          → MatchResult result (WroteTable (Drains Given s) len factor max TableOf o o') (NoTable (Drains Given s) len factor max TableOf o o' (GaveOther Given len s) limit)
+          → MatchResult result (WroteItems (Drains steps (inner s)) len factor max MapOf o o') (NoItems (Drains steps (inner s)) len factor max MapOf o o' (GaveOther steps len (inner s)) limit)
+      answers_map (Ok r) h = wrote_map r h
+      answers_map (Err e) h = no_map e h
