@@ -1,3 +1,5 @@
 pub mod Map
 pub mod MapFormat
 pub mod Handing
+pub mod ItemPlaces
+pub mod MapLaws

@@ -5,6 +5,7 @@ mod hashing;
 mod lookup;
 mod reading;
 pub mod writing;
+pub mod written;
 
 use rkyv_base::entry::Entry;
 use rkyv_base::width::Narrow;
