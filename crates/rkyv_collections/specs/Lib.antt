@@ -3,3 +3,4 @@ pub mod MapFormat
 pub mod Handing
 pub mod ItemPlaces
 pub mod MapLaws
+pub mod MapSound
