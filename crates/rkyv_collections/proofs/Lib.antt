@@ -1,2 +1,4 @@
 pub mod SeenItems
 pub mod HashedPairs
+pub mod Homes
+pub mod Lookups

@@ -21,3 +21,5 @@ pub mod Given
 pub mod Headers
 pub mod Items
 pub mod FirstFound
+pub mod RawWalks
+pub mod WalkedHomes

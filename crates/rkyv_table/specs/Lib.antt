@@ -25,3 +25,5 @@ pub mod SlotWalk
 pub mod SlotSound
 pub mod HeaderReads
 pub mod TableSound
+pub mod RawItems
+pub mod WalkLaws

@@ -1,5 +1,5 @@
 -- What an accepted table shows: where its controls and items stand, and what a lookup in it answers.
-use Rattle.std.specs.Prelude.{◌≡◌, ℕ, ◌+◌, ◌-◌, ◌*◌, ◌/◌, ◌<◌, ◌⊎◌, List, [], Bool, Option, pos, ◌+ℤ◌, unsigned_abs, slice_range, length, map}
+use Rattle.std.specs.Prelude.{◌≡◌, ℕ, ◌+◌, ◌-◌, ◌*◌, ◌/◌, ◌<◌, ◌^◌, ◌⊎◌, List, [], Bool, Option, pos, ◌+ℤ◌, unsigned_abs, slice_range, length, map}
 use Rattle.std.specs.Int.{Width}
 use Rattle.std.specs.List.{find}
 use Rattle.std.specs.Option.{option_map}
@@ -124,6 +124,7 @@ pub record AreItems {T W : Type 0} (w : Width) (s : Shape) (items : Items T W) :
   pub table : IsTable w s items.table
   pub len : items.len ≡ len_at w (table_bytes items.table) (table_place items.table)
   pub cap : items.cap ≡ cap_at w (table_bytes items.table) (table_place items.table)
+  pub small : items.cap < 2 ^ 64
   pub place : 0 < items.cap → items.place ≡ controls_place w (table_bytes items.table) (table_place items.table)
   pub controls : 0 < items.cap → items.controls.now ≡ table_controls w (table_bytes items.table) (table_place items.table)
 

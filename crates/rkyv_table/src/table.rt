@@ -11,7 +11,9 @@ pub mod written;
 mod element;
 mod header;
 pub(crate) mod items;
+pub mod laws;
 mod lookup;
+pub mod raw_iter;
 mod reading;
 mod verify;
 

@@ -3,6 +3,8 @@ ghost use Rattle.std.specs.Prelude.{IfSome, length, ◌<◌, ◌^◌};
 ghost use Rattle.rkyv_table.specs.Controls.{IsFullBucket};
 ghost use Rattle.rkyv_table.specs.Placing.{Accepted};
 
+mod reading;
+
 use crate::controls::find::{Strides, find};
 use crate::controls::numbers::{
     CapacityError, capacity, control_count, modulus, probe_capacity, tag,

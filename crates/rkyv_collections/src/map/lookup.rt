@@ -58,9 +58,9 @@ impl<'a, K: KeyElement, V: Element, H: KeyHasher, W: Width> ArchivedHashMap<'a, 
         self.table.get_with(
             hash,
             |entry|
-                requires entry { IsItem W.word (entry_shape K.shape V.shape) self.table entry }
-                requires callable { MayAskKeys W.word K.shape V.shape self (F.pre cmp key) }
-                ensures { (k : View K) × IsKeyIn W.word K.shape V.shape self.entry k × (k.pos ≡ place_of entry.entry) × F.post cmp key.entry k result }
+                requires entry { IsView (entry_shape K.shape V.shape) entry }
+                requires callable { (k : View K) → IsAt k (archive_of entry) (place_of entry) → IsView K.shape k → F.pre cmp key k }
+                ensures { (k : View K) × IsAt k (archive_of entry.entry) (place_of entry.entry) × IsView K.shape k × F.post cmp key.entry k result }
             { cmp(key, entry.key()) },
         )
     }

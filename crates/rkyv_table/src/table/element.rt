@@ -2,12 +2,10 @@
 ghost use Rattle.rkyv_table.specs.Table.{table_shape};
 ghost use Rattle.rkyv_table.specs.TableLaws.{table_element};
 
-use crate::table::TableOf;
-use crate::table::verify::verify_by;
+use crate::table::{ArchivedHashTable, TableOf};
 use rkyv_base::element::{Element, PartRange};
 use rkyv_base::errors::VerifyError;
 use rkyv_base::width::Width;
-use rkyv_scan::Group;
 
 impl<T: Element, W: Width> Element for TableOf<T, W> {
     ghost shape = { table_shape W.word T.shape };
@@ -24,7 +22,7 @@ impl<T: Element, W: Width> Element for TableOf<T, W> {
 
     #[inline]
     fn check(bytes: &[u8], pos: u64, range: PartRange) -> Result<PartRange, VerifyError> {
-        verify_by::<Group, W, T>(bytes, pos, range)
+        ArchivedHashTable::<T, W>::verify(bytes, pos, range)
     }
 
     ghost laws = { table_element W.word W.layout.kind T.shape T.laws };

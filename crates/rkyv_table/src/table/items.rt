@@ -1,12 +1,16 @@
 //! The items of a table whose header was read, and finding one of them.
 ghost use Rattle.std.specs.Prelude.{◌≡◌};
-ghost use Rattle.rkyv_table.specs.Reading.{AreItems, IsItemIn, IsTable, IsWalked, table_bytes, table_place};
+ghost use Rattle.rkyv_table.specs.Header.{cap_at};
+ghost use Rattle.rkyv_table.specs.Placing.{walk};
+ghost use Rattle.rkyv_table.specs.Reading.{AreItems, IsItemIn, IsTable, IsWalked, table_bytes, table_controls, table_place};
 
+use crate::controls::walk::Walk;
 use crate::table::ArchivedHashTable;
 use crate::table::header::{controls_from, controls_place, read_header};
 use rkyv_base::element::Element;
 use rkyv_base::view::View;
 use rkyv_base::width::Width;
+use rkyv_scan::simd::GroupKind;
 
 /// A table and what its header tells.
 #[derive_where(Clone, Copy)]
@@ -67,5 +71,19 @@ impl<'a, T: Element, W: Width> Items<'a, T, W> {
     {
         let place = self.place - (bucket + 1) * T::size();
         View::new(self.table.view.bytes(), place as u64)
+    }
+
+    /// The full buckets, ascending.
+    #[inline]
+    pub(crate) fn walk<G: GroupKind>(self) -> Walk<'a, G>
+        requires { AreItems W.word T.shape self }
+        ensures { result ≡ walk
+            (table_controls W.word (table_bytes self.entry.table) (table_place self.entry.table))
+            (cap_at W.word (table_bytes self.entry.table) (table_place self.entry.table)) }
+    {
+        if self.cap == 0 {
+            return Walk::empty();
+        }
+        Walk::new(self.controls, self.cap)
     }
 }

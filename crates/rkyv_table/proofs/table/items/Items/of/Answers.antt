@@ -1,4 +1,4 @@
-use Rattle.std.proofs.Common.{◌≡◌, ◌∙◌, ◌<◌, ◌+◌, ◌≤◌, ap, arith, refl, sym, pos, ◌+ℤ◌, length, slice_range, List}
+use Rattle.std.proofs.Common.{◌≡◌, ◌∙◌, ◌<◌, ◌+◌, ◌≤◌, ap, arith, refl, sym, pos, ◌+ℤ◌, length, slice_range, List, ℕ, Bor}
 use Rattle.rkyv_base.specs.Bytes.{signed_at}
 use Rattle.rkyv_table.specs.Header.{cap_at}
 use Rattle.rkyv_table.specs.Numbers.{control_count}
@@ -37,11 +37,17 @@ returns-clause-items g c =
     let b = c.args.table.view.archive.now in
     let p = c.args.table.view.pos in
     let h = rw (c.bytes-archive.ensures, c.pos-pos.ensures) at c.read_header-header.ensures in
+    let z = c.if-cap-eq0.false in
+    let e = h.cap in
+    let some : 0 < cap_at w b p = omega arith in
+    let u = controls_inside w g.T.Element.shape g.met.T.Element.laws b p c.requires some in
+    let n = ap length (ap (λ (a : Bor (List ℕ)). a.now) c.bytes-archive.ensures) in
     let at : c.controls_place-place.result ≡ controls_place w b p = rw (c.pos-pos.ensures, h.distance) at c.controls_place-place.ensures in
     record {
       table = c.requires;
       len = h.len;
       cap = h.cap;
+      small = omega (arith, u.0);
       place = λ _. at;
       controls = λ _. rw (at, h.cap, c.bytes-archive.ensures) at c.controls_from.ensures;
     }

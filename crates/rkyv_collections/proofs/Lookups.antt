@@ -1,0 +1,63 @@
+-- From what a table finds to what a map does.
+use Rattle.std.proofs.Common.{◌≡◌, ◌↔◌, ℕ, ◌+◌, ◌∙◌, None, Some, ◌<◌, ap, sym, arith, Bool, true, length, map, subst, List, Option, slice_index}
+use Rattle.std.specs.Int.{Width}
+use Rattle.std.specs.Option.{is_some}
+use Rattle.std.proofs.lemmas.List.{get_or-map, length-map}
+use Rattle.rkyv_scan.specs.Groups.{generic_kind}
+use Rattle.rkyv_scan.specs.Hash.{HasherCall, hash_of_calls}
+use Rattle.rkyv_base.specs.Entry.{entry_element, entry_shape}
+use Rattle.rkyv_base.specs.Shape.{Shape, IsElement, Standing}
+use Rattle.rkyv_base.specs.View.{IsAt, IsView, archive_of, place_of}
+use Rattle.rkyv_base.specs.declared.view.View.{View}
+use Rattle.rkyv_base.specs.declared.entry.Entry.{Entry}
+use Rattle.rkyv_keys.specs.Equality.{Comparison}
+use Rattle.rkyv_keys.specs.Keys.{IsQuery}
+use Rattle.rkyv_keys.specs.OfEntries.{standing_key}
+use Rattle.rkyv_table.specs.Laws.{IsUnderHash}
+use Rattle.rkyv_table.specs.Reading.{Answers, IsItem, WrittenAt, home_places, table_bytes, table_place}
+use Rattle.rkyv_table.proofs.Items.{item_viewed}
+use Rattle.rkyv_collections.specs.Map.{AnswersKeys, AreUnderHash, IsEntryAt, IsFoundAt, IsKeyIn, IsKeyPlace, IsMap, MapWrittenAt, hash_at, map_bytes, map_place}
+use Rattle.rkyv_collections.specs.declared.map.ArchivedHashMap.{ArchivedHashMap}
+use Rattle.rkyv_collections.proofs.Homes.{home_count, home_place, home_walked}
+
+module _ {K V H W : Type 0} (w : Width) (k v : Shape) (m : ArchivedHashMap K V H W) where
+  -- where the key of an item is viewed, it is a key of the map
+  pub key_of_item : (entry : View (Entry K V)) (key : View K) → IsItem w (entry_shape k v) m.table entry → IsAt key (archive_of entry) (place_of entry) → IsView k key
+      → IsKeyIn w k v m key
+  key_of_item entry key item at viewed = record {
+    archive = at.0 ∙ item.1.archive;
+    viewed = viewed;
+    place = (item.0, item.1.walked, at.1 ∙ item.1.place);
+  }
+
+  -- the keys under the asked hash are the items under it
+  pub under_hash : (hash : ℕ) (key_hash : List ℕ → ℕ → ℕ) (accept : ℕ → Bool) (homes : List ℕ)
+      → AreUnderHash w k v m hash key_hash accept → MapWrittenAt w (entry_shape k v) key_hash (map_bytes m) (map_place m) homes
+      → IsUnderHash hash (map (key_hash (map_bytes m)) (home_places w (entry_shape k v).size (map_bytes m) (map_place m) homes))
+        (home_places w (entry_shape k v).size (map_bytes m) (map_place m) homes) accept
+  under_hash hash key_hash accept homes under written i h accepted =
+      let b = map_bytes m in
+      let p = map_place m in
+      let places = home_places w (entry_shape k v).size b p homes in
+      let hashes = map (key_hash b) places in
+      let walked = home_walked w b p hashes homes written i h in
+      let at : slice_index places i ≡ _ = home_place w b p hashes homes written (entry_shape k v).size i h in
+      let here = under (slice_index places i) (slice_index homes i, walked, at) accepted in
+      let n : length hashes ≡ length places = length-map places (key_hash b) in
+      get_or-map (key_hash b) places i 0 0 (omega arith) ∙ here
+
+  -- a query accepts keys under its own hash alone
+  pub query_under_hash : {Q State : Type 0} (kl : IsElement k) (vl : IsElement v) (initial : State) (feed : State → HasherCall → State) (finish : State → ℕ)
+      (same : Comparison) (key_calls : List ℕ → ℕ → List HasherCall) (can_read : Q → Type 0) (calls : Q → List HasherCall) (fits : Q → List ℕ → ℕ → Bool)
+      → IsQuery k same key_calls can_read calls fits → IsMap w k v m → (q : Q) → can_read q
+      → AreUnderHash w k v m (hash_of_calls initial feed finish (calls q)) (hash_at initial feed finish key_calls) (fits q (map_bytes m))
+  query_under_hash kl vl initial feed finish same key_calls can_read calls fits query is q can place key accepted =
+      let b = map_bytes m in
+      let item = item_viewed w (entry_shape k v) (entry_element k v kl vl) b (map_place m) is key.0 key.1 in
+      let stands : Standing k b place = standing_key kl vl b place (subst (Standing (entry_shape k v) b) (sym key.2) item.stands) in
+      ap (hash_of_calls initial feed finish) (sym (query.alike q b place can stands accepted))
+
+-- whether an entry was found is whether it was found somewhere
+pub some_at : {E : Type 0} (found : Option (View E)) (place : Option ℕ) (answer : Bool) → answer ≡ is_some found → IsEntryAt found place → IsFoundAt answer place
+some_at None place answer e at = rw (e, ← at) (λ t. t, λ t. t)
+some_at (Some entry) place answer e at = rw (e, ← at) (λ t. t, λ t. t)

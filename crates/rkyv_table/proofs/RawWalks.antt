@@ -1,0 +1,59 @@
+-- The walk over the items of an accepted table.
+use Rattle.std.proofs.Common.{◌≡◌, ℕ, ◌+◌, ◌-◌, ◌*◌, ◌<◌, ◌≤◌, ◌^◌, ◌∙◌, inl, inr, refl, sym, ap, subst, arith, List, [], length, map}
+use Rattle.std.specs.Int.{Width}
+use Rattle.std.specs.List.{All, Contains}
+use Rattle.std.proofs.lemmas.Bool.{cases_eq}
+use Rattle.std.proofs.lemmas.List.Elements.{All-contains_itself, All-map, All-weaker}
+use Rattle.rkyv_base.specs.Shape.{IsElement, Shape, Viewed}
+use Rattle.rkyv_table.specs.Header.{cap_at, len_at}
+use Rattle.rkyv_table.specs.Placing.{walk}
+use Rattle.rkyv_table.specs.RawItems.{IsBefore, place_before}
+use Rattle.rkyv_table.specs.Reading.{IsWalked, controls_place, item_at, item_places, table_controls}
+use Rattle.rkyv_table.specs.Table.{table_shape}
+use Rattle.rkyv_table.proofs.Items.{controls_accepted, item_before, item_viewed, no_items}
+use Rattle.rkyv_table.proofs.Walks.{walk_none, walked_full}
+
+module _ (w : Width) (s : Shape) (law : IsElement s) (b : List ℕ) (p : ℕ) where
+  none_walked : cap_at w b p ≡ 0 → walk (table_controls w b p) (cap_at w b p) ≡ []
+  none_walked none = ap (walk (table_controls w b p)) none ∙ walk_none (table_controls w b p)
+
+  -- a table has as many items as are walked
+  pub walk_count : Viewed (table_shape w s) b p → length (walk (table_controls w b p) (cap_at w b p)) ≡ len_at w b p
+  walk_count v = elim (cases_eq (cap_at w b p) 0) [
+    | inl none ↦ ap length (none_walked none) ∙ sym (no_items w s law b p v none)
+    | inr some ↦ (controls_accepted w s law b p v (omega arith)).full
+  ]
+
+  -- each walked bucket has an item
+  pub walked_all : All (IsWalked w b p) (walk (table_controls w b p) (cap_at w b p))
+  walked_all =
+      All-weaker (Contains (walk (table_controls w b p) (cap_at w b p))) (IsWalked w b p) (λ i h. walked_full (cap_at w b p) (table_controls w b p) i h)
+      (walk (table_controls w b p) (cap_at w b p)) (All-contains_itself (walk (table_controls w b p) (cap_at w b p)))
+
+  -- and stands before the first control
+  stands_before : Viewed (table_shape w s) b p → cap_at w b p < 2 ^ 64 → (i : ℕ) → IsWalked w b p i → IsBefore s.size (controls_place w b p) i
+  stands_before v fits i walked =
+      record {
+        small = omega (arith, walked.0);
+        inside = item_before w s law b p v i walked.0;
+      }
+
+  pub places_viewed : Viewed (table_shape w s) b p → All (Viewed s b) (item_places w s.size b p)
+  places_viewed v =
+      All-map (Viewed s b) (item_at w s.size b p) (walk (table_controls w b p) (cap_at w b p))
+      (All-weaker (IsWalked w b p) (λ i. Viewed s b (item_at w s.size b p i)) (λ i h. item_viewed w s law b p v i h) (walk (table_controls w b p) (cap_at w b p)) walked_all)
+
+  -- by the place that was read of the header
+  pub read_before : Viewed (table_shape w s) b p → cap_at w b p < 2 ^ 64 → (place : ℕ) → (0 < cap_at w b p → place ≡ controls_place w b p)
+      → All (IsBefore s.size place) (walk (table_controls w b p) (cap_at w b p))
+  read_before v fits place is =
+      All-weaker (IsWalked w b p) (IsBefore s.size place)
+      (λ i h. subst (λ z. IsBefore s.size z i) (sym (is (omega (arith, h.0)))) (stands_before v fits i h))
+      (walk (table_controls w b p) (cap_at w b p)) walked_all
+
+  pub read_places : (place : ℕ) → (0 < cap_at w b p → place ≡ controls_place w b p)
+      → map (place_before place s.size) (walk (table_controls w b p) (cap_at w b p)) ≡ item_places w s.size b p
+  read_places place is = elim (cases_eq (cap_at w b p) 0) [
+    | inl none ↦ ap (map (place_before place s.size)) (none_walked none) ∙ sym (ap (map (item_at w s.size b p)) (none_walked none))
+    | inr some ↦ ap (λ z. map (place_before z s.size) (walk (table_controls w b p) (cap_at w b p))) (is (omega arith))
+  ]

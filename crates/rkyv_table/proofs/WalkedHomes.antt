@@ -1,0 +1,70 @@
+-- A walk over written controls visits the homes.
+use Rattle.std.proofs.Common.{◌≡◌, ℕ, zero, suc, ◌+◌, ◌<◌, ◌≤◌, ◌^◌, ◌∙◌, ◌↔◌, inl, inr, refl, sym, ap, subst, arith, eqb, Bool, true, false, not, List, length, take, filter, slice_index, get_or}
+use Rattle.std.specs.List.{AllPairs, Contains, IsDistinct, list_any, range_with_len}
+use Rattle.std.proofs.lemmas.Bool.{cases_Bool, ne_eqb, not-false, true≢false}
+use Rattle.std.proofs.lemmas.List.{get_or-take, get_or_default, length-take}
+use Rattle.std.proofs.lemmas.List.FromFn.{get_or-range_with_len, length-range_with_len}
+use Rattle.std.proofs.lemmas.List.Kept.{AllPairs-filter}
+use Rattle.std.proofs.lemmas.Map.Keys.{IsDistinct-from_apart}
+use Rattle.rkyv_scan.specs.Groups.{is_full}
+use Rattle.rkyv_table.specs.Controls.{IsFullBucket}
+use Rattle.rkyv_table.specs.Laws.{AreHashes}
+use Rattle.rkyv_table.specs.Numbers.{tag}
+use Rattle.rkyv_table.specs.Placing.{Written, is_free, walk}
+use Rattle.rkyv_table.specs.Probe.{shown}
+use Rattle.rkyv_table.specs.WalkLaws.{VisitsHomes}
+use Rattle.rkyv_table.proofs.Lists.{contains_member, member_contains, some_find}
+use Rattle.rkyv_table.proofs.Walks.{full_walked, walked_full}
+use Rattle.rkyv_table.proofs.WrittenAccepted.{accepted_written}
+use Rattle.rkyv_table.proofs.WrittenStep.{home_below}
+
+range_ascends : (n : ℕ) → AllPairs (λ a b. a < b) (range_with_len 0 n)
+range_ascends n i j d ij h =
+    let l = length-range_with_len 0 n in
+    let ei = get_or-range_with_len 0 n i d (omega arith) in
+    let ej = get_or-range_with_len 0 n j d (omega arith) in
+    omega arith
+
+walk_ascends : (controls : List ℕ) (cap : ℕ) → AllPairs (λ a b. a < b) (walk controls cap)
+unfolding walk
+walk_ascends controls cap = AllPairs-filter (λ a b. a < b) (λ b. is_full (slice_index controls b)) (range_with_len 0 cap) (range_ascends cap)
+
+module _ (cap : ℕ) (hashes homes controls : List ℕ) (room : length hashes < cap) (fit : AreHashes hashes) (w : Written cap hashes homes controls) where
+  walked_home : (bucket : ℕ) → Contains (walk controls cap) bucket → Contains homes bucket
+  walked_home bucket c =
+      let f = walked_full cap controls bucket c in
+      elim (cases_Bool (is_free homes bucket)) [
+        | inl free ↦ let e = w.others bucket f.0 free in absurd (omega (arith, f.1))
+        | inr taken ↦ member_contains bucket homes (not-false (list_any (eqb bucket) homes) taken)
+      ]
+
+  home_walked : (bucket : ℕ) → Contains homes bucket → Contains (walk controls cap) bucket
+  home_walked bucket c =
+      let count = w.placed.count in
+      let l : c.0 < length hashes = omega (arith, c.1) in
+      let at : slice_index homes c.0 ≡ bucket = get_or_default homes c.0 0 bucket c.1 ∙ c.2 in
+      let e = w.tags c.0 l in
+      let h = fit c.0 0 l in
+      let full : slice_index controls (slice_index homes c.0) < 128 = omega arith in
+      full_walked cap controls bucket (subst (IsFullBucket cap controls) at (home_below cap hashes homes controls c.0 (omega arith) w l, full))
+
+  -- a home is none of the earlier ones
+  homes_differ : (i j : ℕ) → i < j → j < length homes → slice_index homes i ≡ slice_index homes j → ⊥
+  homes_differ i j ij h e =
+      let count = w.placed.count in
+      let free = (some_find (is_free (take j homes)) (shown (slice_index hashes j) cap) (slice_index homes j) (w.placed.first j (omega arith))).1 in
+      let l = length-take j homes in
+      let x = slice_index homes j in
+      let there : get_or (take j homes) i x ≡ x = get_or-take j homes i x ij ∙ get_or_default homes i x 0 (omega arith) ∙ e in
+      let any = contains_member x (take j homes) (i, omega arith, there) in
+      true≢false (sym free ∙ ap not any)
+
+  pub walked_homes : VisitsHomes cap homes controls
+  walked_homes = record {
+    members = λ bucket. (walked_home bucket, home_walked bucket);
+    ascending = walk_ascends controls cap;
+    once = IsDistinct-from_apart eqb homes (λ i j d ij h.
+        ne_eqb (get_or homes i d) (get_or homes j d) (λ e.
+        homes_differ i j ij h (get_or_default homes i 0 d (omega arith) ∙ e ∙ get_or_default homes j d 0 h)));
+    count = (accepted_written cap hashes homes controls room w (λ j l. fit j 0 l)).full ∙ sym w.placed.count;
+  }
