@@ -11,26 +11,13 @@ use Rattle.rkyv_base.specs.Shape.{Shape}
 use Rattle.rkyv_base.specs.Writing.{Output}
 use Rattle.rkyv_base.specs.declared.adapter.EntryAdapter.{EntryAdapter}
 use Rattle.rkyv_base.specs.declared.errors.WriteError.{WriteError}
-use Rattle.rkyv_base.specs.declared.errors.WriteError.TheVariants.{InvalidLoadFactor, IteratorLengthMismatch, CapacityTooLarge, PositionTooLarge, DistanceTooLarge, TextTooLong, Writer, Memory, Refused}
 use Rattle.rkyv_table.specs.Counting.{GaveOther}
-use Rattle.rkyv_table.specs.Serializing.{NoTable, OwnCause, WroteTable}
+use Rattle.rkyv_table.specs.Serializing.{NoTable, WroteTable}
 use Rattle.rkyv_table.specs.TableFormat.{TableResolver, table_format}
 use Rattle.rkyv_collections.specs.Handing.{HashedStep, NoItems, WroteItems, lent_pairs}
 use Rattle.rkyv_collections.specs.MapFormat.{keyed, map_format}
+use Rattle.rkyv_collections.proofs.Through.{drains_through, other_through, own_counted}
 use Rattle.rkyv_collections.proofs.SeenItems.{seen_gave_up, seen_pairs, seen_serialized}
-
--- a cause of the call's own, where other counts come
-own_counted : {F : Type 0} (len : ℕ) (factor : ℕ × ℕ) (max : ℕ) (other other' : ℕ → Type 0) → ((n : ℕ) → other n → other' n)
-    → (e : WriteError F) → OwnCause len factor max other e → OwnCause len factor max other' e
-own_counted len factor max other other' f (InvalidLoadFactor n d) h = h
-own_counted len factor max other other' f (CapacityTooLarge l) h = h
-own_counted len factor max other other' f Memory h = h
-own_counted len factor max other other' f (IteratorLengthMismatch m) h = (h.0, h.1, f m.actual h.2)
-own_counted len factor max other other' f PositionTooLarge h = h
-own_counted len factor max other other' f DistanceTooLarge h = h
-own_counted len factor max other other' f TextTooLong h = h
-own_counted len factor max other other' f (Writer fault) h = h
-own_counted len factor max other other' f (Refused c) h = h
 
 module _ {T S BK BV A B : Type 0} (inner : T → S) (steps : S → Option (BK × BV) → S → Type 0) (hash : BK → ℕ) where
   -- a state has the state of the pairs' iterator, and steps as that does
@@ -45,26 +32,15 @@ module _ {T S BK BV A B : Type 0} (inner : T → S) (steps : S → Option (BK ×
   AreHashed [] = Unit {0}
   AreHashed (x ∷ xs) = (x.0 ≡ hash x.1.key) × AreHashed xs
 
-  given : (xs : List (ℕ × EntryAdapter BK BV A B)) (s t : T) → Yields Steps s xs t → Yields steps (inner s) (items_in xs) (inner t) × AreHashed xs
-  given [] s t e = (ap inner e, tt)
-  given (x ∷ xs) s t h = let r = given xs h.0 t h.2 in ((inner h.0, h.1.1, r.0), (h.1.0, r.1))
+  hashed : (xs : List (ℕ × EntryAdapter BK BV A B)) (s t : T) → Yields Steps s xs t → AreHashed xs
+  hashed [] s t e = tt
+  hashed (x ∷ xs) s t h = (h.1.0, hashed xs h.0 t h.2)
 
   drained : (xs : List (ℕ × EntryAdapter BK BV A B)) (s : T) → Drains Steps s xs → Drains steps (inner s) (items_in xs) × AreHashed xs
-  drained xs s d = let r = given xs s d.1.0 d.1.1 in ((inner d.0, (inner d.1.0, r.0, d.1.2)), r.1)
+  drained xs s d = (drains_through inner Steps steps (λ x. (x.1.key, x.1.value)) (λ s' t' h. h) (λ s' t' x h. h.1) xs s d, hashed xs s d.1.0 d.1.1)
 
   gave_other : (len : ℕ) (s : T) (n : ℕ) → GaveOther Steps len s n → GaveOther steps len (inner s) n
-  gave_other len s n h =
-      let xs = h.0.0 in (
-        (
-          items_in xs,
-          h.0.1 ∙ ap (λ k. 0 + k) (sym (length-map xs (λ (x : ℕ × EntryAdapter BK BV A B). (x.1.key, x.1.value)))),
-          elim h.0.2 [
-            | inl d ↦ inl (d.0, (drained xs s d.1).0)
-            | inr d ↦ inr (d.0, (inner d.1.0, (given xs s d.1.0 d.1.1).0))
-          ],
-        ),
-        h.1,
-      )
+  gave_other len s n h = other_through inner Steps steps (λ x. (x.1.key, x.1.value)) (λ s' t' h'. h') (λ s' t' x h'. h'.1) len s n h
 
 module _ {T S BK BV A B : Type 0} (inner : T → S) (steps : S → Option (BK × BV) → S → Type 0) (key : BK → A) (value : BV → B) (hash : A → ℕ) where
   abbrev Under : List (ℕ × EntryAdapter BK BV A B) → Type 0

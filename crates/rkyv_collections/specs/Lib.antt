@@ -4,3 +4,5 @@ pub mod Handing
 pub mod ItemPlaces
 pub mod MapLaws
 pub mod MapSound
+pub mod SetFormat
+pub mod Set

@@ -1,0 +1,40 @@
+-- What is written of keys, each with the unit value, is the set of the keys.
+use Rattle.std.proofs.Common.{◌≡◌, ℕ, refl, ap, List, [], ◌∷◌, map, Option, Result, MatchResult}
+use Rattle.std.specs.Int.{Width}
+use Rattle.std.specs.Iterator.{Drains}
+use Rattle.rkyv_base.specs.Empty.{unit_format, unit_shape}
+use Rattle.rkyv_base.specs.Format.{Format}
+use Rattle.rkyv_base.specs.Pairs.{written_as}
+use Rattle.rkyv_base.specs.Shape.{Shape}
+use Rattle.rkyv_base.specs.Writing.{Output}
+use Rattle.rkyv_base.specs.declared.errors.WriteError.{WriteError}
+use Rattle.rkyv_table.specs.Counting.{GaveOther}
+use Rattle.rkyv_table.specs.TableFormat.{TableResolver}
+use Rattle.rkyv_collections.specs.Handing.{NoItems, WroteItems, lent_pairs}
+use Rattle.rkyv_collections.specs.MapFormat.{map_format}
+use Rattle.rkyv_collections.specs.SetFormat.{UnitStep, lent_keys, set_format, with_units}
+use Rattle.rkyv_collections.proofs.Through.{answers_through, drains_through, other_through}
+
+module _ {F T S BK A R : Type 0} (inner : T → S) (steps : S → Option BK → S → Type 0) (key : BK → A) (hash : A → ℕ) (len : ℕ) (factor : ℕ × ℕ) (max : ℕ) (w : Width) (k : Shape)
+    (f : Format A R) (o o' : Output) (s : T) (limit : ℕ) where
+  abbrev Given : T → Option (BK × Unit {0}) → T → Type 0
+  Given s r t = UnitStep steps (inner s) r (inner t)
+
+  abbrev AsPairs : Format (List (BK × Unit {0})) TableResolver
+  AsPairs = written_as (lent_pairs key (λ u. u)) (map_format w k unit_shape f unit_format hash factor)
+
+  abbrev AsKeys : Format (List BK) TableResolver
+  AsKeys = written_as (lent_keys key) (set_format w k f hash factor)
+
+  same_keys : (xs : List (BK × Unit {0})) → lent_pairs key (λ u. u) xs ≡ with_units (lent_keys key (map (λ x. x.0) xs))
+  same_keys [] = refl
+  same_keys (x ∷ xs) = ap (λ (t : List (A × Unit {0})). (key x.0, tt) ∷ t) (same_keys xs)
+
+  pub answers_set : (result : Result TableResolver (WriteError F))
+      → MatchResult result (WroteItems (Drains Given s) len factor max AsPairs o o') (NoItems (Drains Given s) len factor max AsPairs o o' (GaveOther Given len s) limit)
+      → MatchResult result (WroteItems (Drains steps (inner s)) len factor max AsKeys o o') (NoItems (Drains steps (inner s)) len factor max AsKeys o o' (GaveOther steps len (inner s)) limit)
+  answers_set =
+      answers_through (λ x. x.0) (Drains Given s) (Drains steps (inner s)) (GaveOther Given len s) (GaveOther steps len (inner s))
+      (λ xs d. drains_through inner Given steps (λ x. x.0) (λ s' t' h. h) (λ s' t' x h. h) xs s d)
+      (λ n h. other_through inner Given steps (λ x. x.0) (λ s' t' h'. h') (λ s' t' x h'. h') len s n h)
+      (lent_pairs key (λ u. u)) (λ keys. with_units (lent_keys key keys)) same_keys (map_format w k unit_shape f unit_format hash factor) len factor max limit o o'
