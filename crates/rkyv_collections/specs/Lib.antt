@@ -6,3 +6,4 @@ pub mod MapLaws
 pub mod MapSound
 pub mod SetFormat
 pub mod Set
+pub mod SetSound

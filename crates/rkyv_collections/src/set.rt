@@ -2,6 +2,7 @@
 
 mod reading;
 pub mod writing;
+pub mod written;
 
 use crate::map::ArchivedHashMap;
 use rkyv_base::width::Narrow;
