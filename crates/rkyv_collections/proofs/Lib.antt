@@ -2,5 +2,6 @@ pub mod SeenItems
 pub mod Through
 pub mod HashedPairs
 pub mod SetItems
+pub mod Listing
 pub mod Homes
 pub mod Lookups

@@ -7,3 +7,4 @@ pub mod MapSound
 pub mod SetFormat
 pub mod Set
 pub mod SetSound
+pub mod Listed

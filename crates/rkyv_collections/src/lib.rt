@@ -3,3 +3,5 @@
 
 pub mod map;
 pub mod set;
+#[cfg(test)]
+mod tests;

@@ -1,0 +1,3 @@
+//! Worked examples, and one call of each public function.
+mod lists;
+mod writing;
