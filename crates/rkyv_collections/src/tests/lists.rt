@@ -106,3 +106,27 @@ where
         written_as-format (λ x. x.0.items) shape stands (listed W.MAX_CAPACITY (7, 8) format) (listed_format W.MAX_CAPACITY (7, 8) shape stands format
         (map_sound H.initial H.feed H.finish W.word A.Archived.laws B.Archived.laws (7, 8) W.layout.kind A.query A.native A.Eq.laws.refl A.reads A.laws B.laws)) };
 }
+
+impl<S: Writer, W: Width, H: KeyHasher, A: Serialize<S, W>, B: Serialize<S, W>> Serialize<S, W>
+    for Pairs<A, B, H>
+where
+    A::Archived: KeyElement,
+    A: Readable<A::Archived>,
+{
+    fn serialize(
+        &self,
+        alloc: Global,
+        serializer: &mut S,
+    ) -> Result<HashMapResolver<W>, WriteError<S::Fault>> {
+        let halves = Halves {
+            pairs: self.0.iter(),
+        };
+        ArchivedHashMap::<A::Archived, B::Archived, H, W>::serialize_from_iter::<S, A, B, &A, &B, Halves<'_, A, B>>(
+            alloc,
+            halves,
+            self.0.len(),
+            (7, 8),
+            serializer,
+        )
+    }
+}
