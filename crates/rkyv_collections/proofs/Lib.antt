@@ -3,5 +3,6 @@ pub mod Through
 pub mod HashedPairs
 pub mod SetItems
 pub mod Listing
+pub mod FirstPairs
 pub mod Homes
 pub mod Lookups

@@ -39,12 +39,12 @@ module _ {S A B : Type 0} (view : A → B) (rest : S → List B) where
       ]
 
 -- the items that come are those of the list, and as many as claimed
-module _ {F X V : Type 0} (gave : List X → Type 0) (other : ℕ → Type 0) (seen : List X → List V) (values : List V) (all : (items : List X) → gave items → seen items ≡ values)
+module _ {X V : Type 0} (gave : List X → Type 0) (other : ℕ → Type 0) (seen : List X → List V) (values : List V) (all : (items : List X) → gave items → seen items ≡ values)
     (none : (n : ℕ) → other n → ⊥) (len : ℕ) (count : len ≡ length values) (factor : ℕ × ℕ) (max limit : ℕ) (f : Format (List V) TableResolver) (o o' : Output) where
   abbrev Whole : Format (List V) TableResolver
   Whole = listed max factor f
 
-  own_stands : (e : WriteError F) → OwnCause len factor max other e → CauseStands limit (Whole.next values (end_of o)) (Whole.refuses values (end_of o)) o o' [] e
+  own_stands : {F : Type 0} (e : WriteError F) → OwnCause len factor max other e → CauseStands limit (Whole.next values (end_of o)) (Whole.refuses values (end_of o)) o o' [] e
   own_stands (InvalidLoadFactor n d) h = inl (inl (cc, h.1))
   own_stands (CapacityTooLarge l) h = inl (inr (inl (cc, h.1, subst (λ n. max < capacity n factor) count h.2)))
   own_stands Memory h = inl (inr (inr (refl, omega (arith, h.1, count))))
@@ -55,7 +55,7 @@ module _ {F X V : Type 0} (gave : List X → Type 0) (other : ℕ → Type 0) (s
   own_stands (Writer fault) h = absurd h
   own_stands (Refused c) h = absurd h
 
-  pub answers_listed : (result : Result TableResolver (WriteError F))
+  pub answers_listed : {F : Type 0} (result : Result TableResolver (WriteError F))
       → MatchResult result (WroteItems gave len factor max (written_as seen f) o o') (NoItems gave len factor max (written_as seen f) o o' other limit)
       → MatchResult result (Serialized Whole values o o') (GaveUp limit Whole values o o')
   answers_listed (Ok r) h = subst (λ (vs : List V). Serialized f vs o o' r) (all h.1 h.2.0) h.3

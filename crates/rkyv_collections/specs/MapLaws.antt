@@ -56,13 +56,13 @@ module _ (k v : Shape) (kl : IsElement k) (vl : IsElement v) (w : Width) where
   place_is b p homes i h = get_or-map (item_at w S.size b p) homes i 0 0 h
 
   -- the key of an entry that holds
-  key_standing : (b : List ℕ) (q lo hi l : ℕ) → HoldsWithin S b q lo hi l → hi ≤ q → Standing k b q
+  pub key_standing : (b : List ℕ) (q lo hi l : ℕ) → HoldsWithin S b q lo hi l → hi ≤ q → Standing k b q
   key_standing b q lo hi l h o =
       let e = h.holds in
       standing k kl b q h.lower hi e.1 h.below o e.2
 
   module _ (b : List ℕ) (p lo hi l : ℕ) (h : TableHolds w S b p lo hi l) (hashes homes : List ℕ) (written : WrittenAt w b p hashes homes) where
-    home_count : length homes ≡ length hashes
+    pub home_count : length homes ≡ length hashes
     home_count = elim written.placed [
       | inl e ↦ ap length e.1 ∙ sym (ap length e.0)
       | inr e ↦ e.1.placed.count
@@ -79,7 +79,7 @@ module _ (k v : Shape) (kl : IsElement k) (vl : IsElement v) (w : Width) where
     ]
 
     -- the entry of each item handed in
-    entry_there : (i : ℕ) → i < length homes → (t : HoldsAt w S b p lo hi l) × HoldsWithin S b (place b p homes i) lo t.begin t.begin
+    pub entry_there : (i : ℕ) → i < length homes → (t : HoldsAt w S b p lo hi l) × HoldsWithin S b (place b p homes i) lo t.begin t.begin
         × (t.begin ≤ place b p homes i) × (place b p homes i + S.size ≤ l)
     entry_there i below =
         let walked = home_walked i below in

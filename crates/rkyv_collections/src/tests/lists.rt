@@ -104,7 +104,7 @@ where
         let format = map_format W.word A.Archived.shape B.Archived.shape A.format B.format (hash_of H.initial H.feed H.finish A.calls) (7, 8) in
         let shape = map_shape W.word A.Archived.shape B.Archived.shape in
         written_as-format (λ x. x.0.items) shape stands (listed W.MAX_CAPACITY (7, 8) format) (listed_format W.MAX_CAPACITY (7, 8) shape stands format
-        (map_sound H.initial H.feed H.finish W.word A.Archived.laws B.Archived.laws (7, 8) W.layout.kind A.query A.native A.Eq.laws.refl A.reads A.laws B.laws)) };
+        (map_sound H.initial H.feed H.finish W.word A.Archived.laws B.Archived.laws (7, 8) W.layout.kind A.query A.native A.Eq.laws.refl A.reads A.Archive.laws B.laws)) };
 }
 
 impl<S: Writer, W: Width, H: KeyHasher, A: Serialize<S, W>, B: Serialize<S, W>> Serialize<S, W>

@@ -12,7 +12,7 @@ use Rattle.rkyv_collections.proofs.tests.lists.PairsSerialize.serialize.Goals as
 pub returns : goal.returns
 returns g c =
     let values = c.args.self.now.0.items in
-    let halves = record { pairs = c.iter.result } in
+    let halves : Halves g.row.A.Denot g.row.B.Denot = record { pairs = c.iter.result } in
     let view = λ (halves : Bor g.row.A.Denot × Bor g.row.B.Denot). (halves.0.now, halves.1.now) in
     let rest = λ (s : Halves g.row.A.Denot g.row.B.Denot). iter_rest s.pairs in
     let steps = YieldsFirstBy view rest in
