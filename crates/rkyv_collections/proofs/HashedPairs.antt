@@ -74,7 +74,7 @@ module _ {T S BK BV A B : Type 0} (inner : T → S) (steps : S → Option (BK ×
           items_in inner steps (λ q. hash (key q)) xs,
           (d.0, count xs h.1.1.1),
           subst (λ ps. Serialized (table_format w (entry_shape k v) (pair_format k v kf vf) factor) ps o o' r) (seen_keyed xs d.1)
-          (seen_serialized (pair_of key value) (pair_format k v kf vf) w (entry_shape k v) factor xs o o' r h.1.2),
+              (seen_serialized (pair_of key value) (pair_format k v kf vf) w (entry_shape k v) factor xs o o' r h.1.2),
         )
 
     module _ {F : Type 0} (limit : ℕ) where
@@ -90,7 +90,7 @@ module _ {T S BK BV A B : Type 0} (inner : T → S) (steps : S → Option (BK ×
             items_in inner steps (λ q. hash (key q)) xs,
             (d.0, count xs h.1.1.1),
             subst (λ ps. GaveUp limit (table_format w (entry_shape k v) (pair_format k v kf vf) factor) ps o o' e) (seen_keyed xs d.1)
-            (seen_gave_up (pair_of key value) (pair_format k v kf vf) w (entry_shape k v) factor xs o o' limit e h.1.2),
+                (seen_gave_up (pair_of key value) (pair_format k v kf vf) w (entry_shape k v) factor xs o o' limit e h.1.2),
           )
 
       -- what writing the table of the hashed pairs answers, as what writing the map does

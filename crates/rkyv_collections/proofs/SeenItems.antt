@@ -118,7 +118,7 @@ module _ {X Y R : Type 0} (seen : X → Y) (f : Format Y R) where
         h.0,
         h.1,
         subst (λ (t : List (Option Y)). SlotImages size f t h.0 (p + length front) front) (sym (drop-map (option_map seen) (i + 1) slots))
-        (seen_images (drop (i + 1) slots) h.0 (p + length front) front h.2),
+            (seen_images (drop (i + 1) slots) h.0 (p + length front) front h.2),
       )
 
       bucket_next : (front piece : List ℕ) → BucketNext size (written_as seen f) slots rs p front piece → BucketNext size f (seen_slots seen slots) rs p front piece

@@ -145,9 +145,9 @@ module _ (k v : Shape) (kl : IsElement k) (vl : IsElement v) (w : Width) where
           let nc : length hc ≡ length st.homes = length-map st.homes (item_at w S.size c p) in
           ext_get_or 0 hashes again (length-map hb (hash b) ∙ nb ∙ sym nc ∙ sym (length-map hc (hash c)))
           (λ i below.
-              let n : i < length st.homes = omega (arith, below, length-map hb (hash b), nb) in
-              get_or-map (hash b) hb i 0 0 (omega (arith, n, nb)) ∙ same_hash i n ∙ ap (λ (xs : List ℕ). hash c (slice_index xs i)) same_places
-              ∙ sym (get_or-map (hash c) hc i 0 0 (omega (arith, n, nc))))
+          let n : i < length st.homes = omega (arith, below, length-map hb (hash b), nb) in
+          get_or-map (hash b) hb i 0 0 (omega (arith, n, nb)) ∙ same_hash i n ∙ ap (λ (xs : List ℕ). hash c (slice_index xs i)) same_places
+          ∙ sym (get_or-map (hash c) hc i 0 0 (omega (arith, n, nc))))
 
       same_controls : 0 < cap_at w b p → table_controls w b p ≡ table_controls w c p
       same_controls some =
@@ -167,10 +167,10 @@ module _ (k v : Shape) (kl : IsElement k) (vl : IsElement v) (w : Width) where
         placed = elim st.written.placed [
           | inl e ↦ inl e
           | inr e ↦ inr (
-              subst (λ n. length hashes < n) same_cap e.0,
-              subst (λ n. Written n hashes st.homes (table_controls w c p)) same_cap
-              (subst (λ (xs : List ℕ). Written (cap_at w b p) hashes st.homes xs) (same_controls (omega (arith, e.0))) e.1),
-            )
+            subst (λ n. length hashes < n) same_cap e.0,
+            subst (λ n. Written n hashes st.homes (table_controls w c p)) same_cap
+                (subst (λ (xs : List ℕ). Written (cap_at w b p) hashes st.homes xs) (same_controls (omega (arith, e.0))) e.1),
+          )
         ];
       }
 
@@ -267,8 +267,8 @@ module _ (k v : Shape) (kl : IsElement k) (vl : IsElement v) (w : Width) where
             let n : length places ≡ length homes = length-map homes (item_at w S.size c p) in
             ext_get_or 0 under (map (hash c) places) (under_count ∙ sym homes_count ∙ sym n ∙ sym (length-map places (hash c)))
             (λ i below.
-                let inside : i < length pairs = omega (arith, below, under_count) in
-                hash_there i inside ∙ sym (get_or-map (hash c) places i 0 0 (omega (arith, inside, n, homes_count))))
+            let inside : i < length pairs = omega (arith, below, under_count) in
+            hash_there i inside ∙ sym (get_or-map (hash c) places i 0 0 (omega (arith, inside, n, homes_count))))
 
         some_stand : MapStands w k v key value hash factor c p pairs
         some_stand = record {

@@ -29,14 +29,8 @@ impl<I, A, B, H> Hashed<I, A, B, H> {
     }
 }
 
-impl<
-    A: KeyHash,
-    B,
-    H: KeyHasher,
-    BK: Lend<A>,
-    BV: Lend<B>,
-    I: Iterator<Item = (BK, BV)>,
-> Iterator for Hashed<I, A, B, H> {
+impl<A: KeyHash, B, H: KeyHasher, BK: Lend<A>, BV: Lend<B>, I: Iterator<Item = (BK, BV)>> Iterator
+    for Hashed<I, A, B, H> {
     type Item = (u64, EntryAdapter<BK, BV, A, B>);
 
     ghost can_next = { λ s. I.can_next s.pairs × ((key : A) → A.can_read key) };

@@ -64,14 +64,9 @@ impl<'a, A, B> Iterator for Halves<'a, A, B> {
     }
 }
 
-impl<
-    W: Width,
-    H: KeyHasher,
-    A,
-    B,
-    K: KeyElement + StandsFor<A>,
-    V: StandsFor<B>,
-> StandsFor<Pairs<A, B, H>> for HashMapOf<K, V, H, W> {
+impl<W: Width, H: KeyHasher, A, B, K: KeyElement + StandsFor<A>, V: StandsFor<B>> StandsFor<
+    Pairs<A, B, H>,
+> for HashMapOf<K, V, H, W> {
     ghost stands = { λ b p x. MapStands W.word K.shape V.shape K.stands V.stands (hash_at H.initial H.feed H.finish K.key_calls) (7, 8) b p x.0.items };
 
     ghost near = { λ x. map_near H.initial H.feed H.finish W.word K.laws V.laws (7, 8) K.key K.near V.near x.0.items };
@@ -97,7 +92,13 @@ where
     ) -> Result<(), DistanceTooLarge> {
         let len = resolver.len();
         let load_factor = resolver.load_factor();
-        ArchivedHashMap::<A::Archived, B::Archived, H, W>::resolve_from_len(len, load_factor, resolver, pos, out)
+        ArchivedHashMap::<A::Archived, B::Archived, H, W>::resolve_from_len(
+            len,
+            load_factor,
+            resolver,
+            pos,
+            out,
+        )
     }
 
     ghost laws = { let stands = MapStands W.word A.Archived.shape B.Archived.shape A.Archived.stands B.Archived.stands (hash_at H.initial H.feed H.finish A.Archived.key_calls) (7, 8) in
@@ -121,12 +122,13 @@ where
         let halves = Halves {
             pairs: self.0.iter(),
         };
-        ArchivedHashMap::<A::Archived, B::Archived, H, W>::serialize_from_iter::<S, A, B, &A, &B, Halves<'_, A, B>>(
-            alloc,
-            halves,
-            self.0.len(),
-            (7, 8),
-            serializer,
-        )
+        ArchivedHashMap::<A::Archived, B::Archived, H, W>::serialize_from_iter::<
+            S,
+            A,
+            B,
+            &A,
+            &B,
+            Halves<'_, A, B>,
+        >(alloc, halves, self.0.len(), (7, 8), serializer)
     }
 }

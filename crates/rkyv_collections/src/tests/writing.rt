@@ -45,10 +45,7 @@ fn with_empty(alloc: Global, front: &[u8], empty: usize) -> Result<Vec<u8>, Allo
     Ok(bytes)
 }
 
-fn list_of(
-    alloc: Global,
-    pairs: &[(i8, i8)],
-) -> Result<Pairs<i8, i8, FxHasher64>, AllocError> {
+fn list_of(alloc: Global, pairs: &[(i8, i8)]) -> Result<Pairs<i8, i8, FxHasher64>, AllocError> {
     let mut list = Vec::new(alloc);
     for pair in pairs {
         list.push(*pair)?;
@@ -114,7 +111,10 @@ fn another_number_of_pairs(rt: HostRuntime) -> Result<(), Fail> {
 fn the_empty_map(rt: HostRuntime) -> Result<(), Fail> {
     let alloc = rt.alloc();
     let bytes = to_bytes(alloc, &list_of(alloc, &[])?)?;
-    assert_eq!(rt; bytes.as_slice(), [1, 0, 0, 0, 0, 0, 0, 0, 0, 0, 0, 0].as_slice());
+    assert_eq!(rt;
+        bytes.as_slice(),
+        [1, 0, 0, 0, 0, 0, 0, 0, 0, 0, 0, 0].as_slice()
+    );
     let root = access::<HashMapOf<i8, i8, FxHasher64, Narrow>>(bytes.as_slice())?;
     let map = ArchivedHashMap::of(root);
     assert!(rt; map.is_empty());
@@ -140,21 +140,41 @@ fn a_list_is_looked_up(rt: HostRuntime) -> Result<(), Fail> {
 fn a_map_of_maps(rt: HostRuntime) -> Result<(), Fail> {
     let alloc = rt.alloc();
     let inner = list_of(alloc, &[(1, 2)])?;
-    let list: Pairs<i8, Pairs<i8, i8, FxHasher64>, FxHasher64> = Pairs(vec![in alloc; (1, inner)]?, PhantomData);
+    let list: Pairs<i8, Pairs<i8, i8, FxHasher64>, FxHasher64> = Pairs(
+        vec![in alloc; (1, inner)]?,
+        PhantomData,
+    );
     let bytes = to_bytes(alloc, &list)?;
     let b = bytes.as_slice();
     assert_eq!(rt; b.len(), 112);
     assert_eq!(rt; &b[..8], [1, 2, 0, 0, 0xff, 0x28, 0xff, 0x28].as_slice());
-    assert_eq!(rt; &b[35..52], [0, 1, 0, 0, 0, 0xdc, 0xff, 0xff, 0xff, 1, 0, 0, 0, 2, 0, 0, 0].as_slice());
-    assert_eq!(rt; &b[52..72], [0, 0, 0, 0, 0, 0, 0, 0, 0, 0, 0, 0, 0, 0, 0, 0, 0xff, 0x28, 0xff, 0x28].as_slice());
-    assert_eq!(rt; &b[99..], [0, 0xe0, 0xff, 0xff, 0xff, 1, 0, 0, 0, 2, 0, 0, 0].as_slice());
+    assert_eq!(rt;
+        &b[35..52],
+        [
+            0, 1, 0, 0, 0, 0xdc, 0xff, 0xff, 0xff, 1, 0, 0, 0, 2, 0, 0, 0
+        ]
+        .as_slice()
+    );
+    assert_eq!(rt;
+        &b[52..72],
+        [
+            0, 0, 0, 0, 0, 0, 0, 0, 0, 0, 0, 0, 0, 0, 0, 0, 0xff, 0x28, 0xff, 0x28
+        ]
+        .as_slice()
+    );
+    assert_eq!(rt;
+        &b[99..],
+        [0, 0xe0, 0xff, 0xff, 0xff, 1, 0, 0, 0, 2, 0, 0, 0].as_slice()
+    );
     assert!(rt; b[8..35].iter().all(|byte| *byte == 0xff));
     assert!(rt; b[72..99].iter().all(|byte| *byte == 0xff));
     type Inner = HashMapOf<i8, i8, FxHasher64, Narrow>;
     let root = access::<HashMapOf<i8, Inner, FxHasher64, Narrow>>(b)?;
     match ArchivedHashMap::of(root).get(&1i8) {
         Some(value) => {
-            assert!(rt; matches!(ArchivedHashMap::of(value).get(&1i8), Some(v) if v.to_native() == 2));
+            assert!(rt;
+                matches!(ArchivedHashMap::of(value).get(&1i8), Some(v) if v.to_native() == 2)
+            );
         }
         None => assert!(rt; false),
     }
@@ -170,7 +190,13 @@ fn a_set_of_one_unit(rt: HostRuntime) -> Result<(), Fail> {
         (),
         (),
         _,
-    >(alloc, vec![in alloc; ()]?.into_iter(), 1, (7, 8), &mut writer)?;
+    >(
+        alloc,
+        vec![in alloc; ()]?.into_iter(),
+        1,
+        (7, 8),
+        &mut writer,
+    )?;
     assert_eq!(rt; resolver.pos(), 0);
     let expected = with_empty(alloc, &[0, 0xff, 0], 28)?;
     assert_eq!(rt; writer.bytes(), expected.as_slice());
@@ -182,20 +208,25 @@ fn a_set_of_three(rt: HostRuntime) -> Result<(), Fail> {
     let alloc = rt.alloc();
     let mut writer = VecWriter::new(alloc);
     let items = vec![in alloc; 1u8, 2, 3]?;
-    let resolver = ArchivedHashSet::<u8, FxHasher64, Narrow>::serialize_from_iter::<VecWriter, u8, u8, _>(
-        alloc,
-        items.into_iter(),
-        3,
-        (7, 8),
-        &mut writer,
-    )?;
+    let resolver = ArchivedHashSet::<u8, FxHasher64, Narrow>::serialize_from_iter::<
+        VecWriter,
+        u8,
+        u8,
+        _,
+    >(alloc, items.into_iter(), 3, (7, 8), &mut writer)?;
     assert_eq!(rt; resolver.pos(), 4);
     let front = [3, 2, 1, 0, 0xff, 0x28, 0x51, 0x7a, 0xff, 0x28, 0x51, 0x7a];
     let expected = with_empty(alloc, &front, 23)?;
     assert_eq!(rt; writer.bytes(), expected.as_slice());
     let mut header = [0u8; 12];
     let (len, load_factor) = (resolver.len(), resolver.load_factor());
-    match ArchivedHashSet::<u8, FxHasher64, Narrow>::resolve_from_len(len, load_factor, resolver, 36, &mut header) {
+    match ArchivedHashSet::<u8, FxHasher64, Narrow>::resolve_from_len(
+        len,
+        load_factor,
+        resolver,
+        36,
+        &mut header,
+    ) {
         Ok(()) => {}
         Err(_) => assert!(rt; false),
     }

@@ -1,4 +1,4 @@
-use Rattle.std.proofs.Common.{◌≡◌, ap, length, rules, sym, ◌∙◌}
+use Rattle.std.proofs.Common.{◌≡◌, List, ap, length, rules, sym, ◌∙◌}
 use Rattle.std.specs.Borrow.{Bor}
 use Rattle.std.specs.Iterator.{Drains, YieldsFirstBy}
 use Rattle.std.specs.Slice.Iter.{iter_rest}
@@ -13,8 +13,8 @@ pub returns : goal.returns
 returns g c =
     let values = c.args.self.now.0.items in
     let halves : Halves g.row.A.Denot g.row.B.Denot = record { pairs = c.iter.result } in
-    let view = λ (halves : Bor g.row.A.Denot × Bor g.row.B.Denot). (halves.0.now, halves.1.now) in
-    let rest = λ (s : Halves g.row.A.Denot g.row.B.Denot). iter_rest s.pairs in
+    let view : Bor g.row.A.Denot × Bor g.row.B.Denot → g.row.A.Denot × g.row.B.Denot = λ halves. (halves.0.now, halves.1.now) in
+    let rest : Halves g.row.A.Denot g.row.B.Denot → List (g.row.A.Denot × g.row.B.Denot) = λ s. iter_rest s.pairs in
     let steps = YieldsFirstBy view rest in
     let hash = hash_of g.H.KeyHasher.initial g.H.KeyHasher.feed g.H.KeyHasher.finish g.A.KeyHash.calls in
     let f = map_format g.W.Width.word g.A.Archived.Element.shape g.B.Archived.Element.shape g.A.Archive.format g.B.Archive.format hash (7, 8) in
