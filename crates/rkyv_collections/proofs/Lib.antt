@@ -3,6 +3,5 @@ pub mod Through
 pub mod HashedPairs
 pub mod SetItems
 pub mod Listing
-pub mod FirstPairs
 pub mod Homes
 pub mod Lookups
