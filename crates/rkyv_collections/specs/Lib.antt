@@ -2,3 +2,12 @@ pub mod Map
 pub mod Walking
 pub mod Equality
 pub mod Misplaced
+pub mod MapFormat
+pub mod Handing
+pub mod ItemPlaces
+pub mod MapLaws
+pub mod MapSound
+pub mod SetFormat
+pub mod Set
+pub mod SetSound
+pub mod Listed

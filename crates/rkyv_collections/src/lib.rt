@@ -2,5 +2,6 @@
 #![tactic(auto)]
 
 pub mod map;
+pub mod set;
 #[cfg(test)]
 mod tests;

@@ -4,9 +4,12 @@ mod debug;
 mod element;
 mod equality;
 pub mod iter;
+mod hashing;
 mod lookup;
 mod misplaced;
 mod reading;
+pub mod writing;
+pub mod written;
 
 use rkyv_base::view::View;
 use rkyv_base::width::Narrow;

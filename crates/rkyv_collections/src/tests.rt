@@ -1,2 +1,4 @@
 //! Worked examples, and one call of each public function.
 mod reading;
+mod lists;
+mod writing;

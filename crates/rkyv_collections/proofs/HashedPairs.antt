@@ -1,0 +1,101 @@
+-- What is written of pairs under the hashes of their keys is the map of the pairs.
+use Rattle.std.proofs.Common.{◌≡◌, ℕ, ◌+◌, ◌≢◌, refl, ap, sym, subst, ◌∙◌, inl, inr, List, [], ◌∷◌, map, length, Option, Some, None, Result, Ok, Err, MatchResult}
+use Rattle.std.specs.Int.{Width}
+use Rattle.std.specs.Iterator.{Drains, Yields}
+use Rattle.std.proofs.lemmas.List.{length-map}
+use Rattle.rkyv_base.specs.Adapter.{pair_of}
+use Rattle.rkyv_base.specs.Entry.{entry_shape}
+use Rattle.rkyv_base.specs.Format.{Format, GaveUp, Serialized}
+use Rattle.rkyv_base.specs.Pairs.{pair_format, written_as}
+use Rattle.rkyv_base.specs.Shape.{Shape}
+use Rattle.rkyv_base.specs.Writing.{Output}
+use Rattle.rkyv_base.specs.declared.adapter.EntryAdapter.{EntryAdapter}
+use Rattle.rkyv_base.specs.declared.errors.WriteError.{WriteError}
+use Rattle.rkyv_table.specs.Counting.{GaveOther}
+use Rattle.rkyv_table.specs.Serializing.{NoTable, WroteTable}
+use Rattle.rkyv_table.specs.TableFormat.{TableResolver, table_format}
+use Rattle.rkyv_collections.specs.Handing.{HashedStep, NoItems, WroteItems, lent_pairs}
+use Rattle.rkyv_collections.specs.MapFormat.{keyed, map_format}
+use Rattle.rkyv_collections.proofs.Through.{drains_through, other_through, own_counted}
+use Rattle.rkyv_collections.proofs.SeenItems.{seen_gave_up, seen_pairs, seen_serialized}
+
+module _ {T S BK BV A B : Type 0} (inner : T → S) (steps : S → Option (BK × BV) → S → Type 0) (hash : BK → ℕ) where
+  -- a state has the state of the pairs' iterator, and steps as that does
+  abbrev pub Steps : T → Option (ℕ × EntryAdapter BK BV A B) → T → Type 0
+  Steps s r t = HashedStep steps hash (inner s) r (inner t)
+
+  abbrev pub items_in : List (ℕ × EntryAdapter BK BV A B) → List (BK × BV)
+  items_in xs = map (λ x. (x.1.key, x.1.value)) xs
+
+  -- each is under the hash of its key
+  abbrev pub AreHashed : List (ℕ × EntryAdapter BK BV A B) → Type 0
+  AreHashed [] = Unit {0}
+  AreHashed (x ∷ xs) = (x.0 ≡ hash x.1.key) × AreHashed xs
+
+  hashed : (xs : List (ℕ × EntryAdapter BK BV A B)) (s t : T) → Yields Steps s xs t → AreHashed xs
+  hashed [] s t e = tt
+  hashed (x ∷ xs) s t h = (h.1.0, hashed xs h.0 t h.2)
+
+  drained : (xs : List (ℕ × EntryAdapter BK BV A B)) (s : T) → Drains Steps s xs → Drains steps (inner s) (items_in xs) × AreHashed xs
+  drained xs s d = (drains_through inner Steps steps (λ x. (x.1.key, x.1.value)) (λ s' t' h. h) (λ s' t' x h. h.1) xs s d, hashed xs s d.1.0 d.1.1)
+
+  gave_other : (len : ℕ) (s : T) (n : ℕ) → GaveOther Steps len s n → GaveOther steps len (inner s) n
+  gave_other len s n h = other_through inner Steps steps (λ x. (x.1.key, x.1.value)) (λ s' t' h'. h') (λ s' t' x h'. h'.1) len s n h
+
+module _ {T S BK BV A B : Type 0} (inner : T → S) (steps : S → Option (BK × BV) → S → Type 0) (key : BK → A) (value : BV → B) (hash : A → ℕ) where
+  abbrev Under : List (ℕ × EntryAdapter BK BV A B) → Type 0
+  Under xs = AreHashed inner steps (λ k. hash (key k)) xs
+
+  seen_keyed : (xs : List (ℕ × EntryAdapter BK BV A B)) → Under xs
+      → seen_pairs (pair_of key value) xs ≡ keyed hash (lent_pairs key value (items_in inner steps (λ k. hash (key k)) xs))
+  seen_keyed [] h = refl
+  seen_keyed (x ∷ xs) h =
+      ap (λ n. (n, (key x.1.key, value x.1.value)) ∷ seen_pairs (pair_of key value) xs) h.0
+      ∙ ap (λ (t : List (ℕ × (A × B))). (hash (key x.1.key), (key x.1.key, value x.1.value)) ∷ t) (seen_keyed xs h.1)
+
+  module _ {R Q : Type 0} (len : ℕ) (factor : ℕ × ℕ) (max : ℕ) (w : Width) (k v : Shape) (kf : Format A R) (vf : Format B Q) (o o' : Output) (s : T) where
+    abbrev TableOf : Format (List (ℕ × EntryAdapter BK BV A B)) TableResolver
+    TableOf = table_format w (entry_shape k v) (written_as (pair_of key value) (pair_format k v kf vf)) factor
+
+    abbrev MapOf : Format (List (BK × BV)) TableResolver
+    MapOf = written_as (lent_pairs key value) (map_format w k v kf vf hash factor)
+
+    count : (xs : List (ℕ × EntryAdapter BK BV A B)) → length xs ≡ len → length (items_in inner steps (λ q. hash (key q)) xs) ≡ len
+    count xs n = length-map xs (λ (x : ℕ × EntryAdapter BK BV A B). (x.1.key, x.1.value)) ∙ n
+
+    abbrev Given : T → Option (ℕ × EntryAdapter BK BV A B) → T → Type 0
+    Given = Steps inner steps (λ q. hash (key q))
+
+    wrote_map : (r : TableResolver) → WroteTable (Drains Given s) len factor max TableOf o o' r → WroteItems (Drains steps (inner s)) len factor max MapOf o o' r
+    wrote_map r h =
+        let xs = h.1.0 in
+        let d = drained inner steps (λ q. hash (key q)) xs s h.1.1.0 in (
+          h.0,
+          items_in inner steps (λ q. hash (key q)) xs,
+          (d.0, count xs h.1.1.1),
+          subst (λ ps. Serialized (table_format w (entry_shape k v) (pair_format k v kf vf) factor) ps o o' r) (seen_keyed xs d.1)
+              (seen_serialized (pair_of key value) (pair_format k v kf vf) w (entry_shape k v) factor xs o o' r h.1.2),
+        )
+
+    module _ {F : Type 0} (limit : ℕ) where
+      no_map : (e : WriteError F) → NoTable (Drains Given s) len factor max TableOf o o' (GaveOther Given len s) limit e
+          → NoItems (Drains steps (inner s)) len factor max MapOf o o' (GaveOther steps len (inner s)) limit e
+      no_map e (inl h) =
+          inl (own_counted len factor max (GaveOther Given len s) (GaveOther steps len (inner s)) (gave_other inner steps (λ q. hash (key q)) len s) e h.0, h.1)
+      no_map e (inr h) =
+          let xs = h.1.0 in
+          let d = drained inner steps (λ q. hash (key q)) xs s h.1.1.0 in
+          inr (
+            h.0,
+            items_in inner steps (λ q. hash (key q)) xs,
+            (d.0, count xs h.1.1.1),
+            subst (λ ps. GaveUp limit (table_format w (entry_shape k v) (pair_format k v kf vf) factor) ps o o' e) (seen_keyed xs d.1)
+                (seen_gave_up (pair_of key value) (pair_format k v kf vf) w (entry_shape k v) factor xs o o' limit e h.1.2),
+          )
+
+      -- what writing the table of the hashed pairs answers, as what writing the map does
+      pub answers_map : (result : Result TableResolver (WriteError F))
+          → MatchResult result (WroteTable (Drains Given s) len factor max TableOf o o') (NoTable (Drains Given s) len factor max TableOf o o' (GaveOther Given len s) limit)
+          → MatchResult result (WroteItems (Drains steps (inner s)) len factor max MapOf o o') (NoItems (Drains steps (inner s)) len factor max MapOf o o' (GaveOther steps len (inner s)) limit)
+      answers_map (Ok r) h = wrote_map r h
+      answers_map (Err e) h = no_map e h

@@ -1,0 +1,24 @@
+use Rattle.std.proofs.Common.{MatchResult, subst}
+use Rattle.std.specs.Iterator.{Drains}
+use Rattle.rkyv_base.specs.Pairs.{written_as}
+use Rattle.rkyv_table.specs.Counting.{GaveOther}
+use Rattle.rkyv_collections.specs.Handing.{NoItems, WroteItems, lent_pairs}
+use Rattle.rkyv_collections.specs.MapFormat.{hash_of, map_format}
+use Rattle.rkyv_collections.proofs.HashedPairs.{answers_map}
+use Rattle.rkyv_collections.proofs.map.ArchivedHashMap.serialize_from_iter.Goals as goal
+
+pub returns : goal.returns
+returns g c =
+    let hash = hash_of g.H.KeyHasher.initial g.H.KeyHasher.feed g.H.KeyHasher.finish g.A.KeyHash.calls in
+    let steps = g.I.Iterator.next_gives in
+    let w = g.W.Width.word in
+    let k = g.K.Element.shape in
+    let v = g.V.Element.shape in
+    let len = c.args.len in
+    let factor = c.args.load_factor in
+    let max = g.W.Width.MAX_CAPACITY in
+    let o = g.S.Writer.output c.args.serializer.now in
+    let o' = g.S.Writer.output c.serialize_by.new.serializer in
+    let f = written_as (lent_pairs g.BK.Lend.lent g.BV.Lend.lent) (map_format w k v g.A.Archive.format g.B.Archive.format hash factor) in
+    subst (λ iter. MatchResult c.serialize_by.result (WroteItems (Drains steps iter) len factor max f o o') (NoItems (Drains steps iter) len factor max f o o' (GaveOther steps len iter) g.W.Width.LIMIT)) c.new.ensures
+    (answers_map (λ s. s.pairs) steps g.BK.Lend.lent g.BV.Lend.lent hash len factor max w k v g.A.Archive.format g.B.Archive.format o o' c.new.result g.W.Width.LIMIT c.serialize_by.result c.serialize_by.ensures)

@@ -1,0 +1,9 @@
+use Rattle.rkyv_collections.specs.MapSound.{map_sound}
+use Rattle.rkyv_collections.proofs.map.written.written_maps_stand.Goals as goal
+
+pub returns : goal.returns
+returns g c = λ factor.
+    let h = g.H.KeyHasher in
+    let key = g.met.A in
+    map_sound h.initial h.feed h.finish g.W.Width.word g.met.K.Element.laws g.met.V.Element.laws factor g.met.W.Width.layout.kind
+    key.Query.query key.NativeKey.native key.Eq.laws.refl c.requires key.Archive.laws g.met.B.Archive.laws

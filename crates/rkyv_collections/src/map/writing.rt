@@ -1,0 +1,103 @@
+//! Writing hash maps from iterators of pairs.
+
+ghost use Rattle.std.specs.Prelude.{◌≡◌, ◌+◌, ◌<◌, ◌^◌, MatchResult, length};
+ghost use Rattle.std.specs.Iterator.{Drains};
+ghost use Rattle.rkyv_base.specs.Pairs.{written_as};
+ghost use Rattle.rkyv_table.specs.Counting.{GaveOther};
+ghost use Rattle.rkyv_table.specs.Header.{HeaderFar, IsHeader};
+ghost use Rattle.rkyv_table.specs.Numbers.{capacity};
+ghost use Rattle.rkyv_collections.specs.Handing.{NoItems, WroteItems, lent_pairs};
+ghost use Rattle.rkyv_collections.specs.MapFormat.{hash_of, map_format};
+
+use crate::map::ArchivedHashMap;
+use crate::map::hashing::Hashed;
+use rkyv_base::adapter::EntryAdapter;
+use rkyv_base::archive::Serialize;
+use rkyv_base::element::StandsFor;
+use rkyv_base::entry::Entry;
+use rkyv_base::errors::{DistanceTooLarge, WriteError};
+use rkyv_base::lend::Lend;
+use rkyv_base::width::{Narrow, Width};
+use rkyv_base::writer::Writer;
+use rkyv_keys::keys::{KeyElement, NativeKey};
+use rkyv_scan::Group;
+use rkyv_scan::hash::KeyHasher;
+use rkyv_table::table::ArchivedHashTable;
+use rkyv_table::table::resolve::HashTableResolver;
+use std::alloc::Global;
+
+/// What resolves a written map: what resolves the table of its entries.
+pub type HashMapResolver<W = Narrow> = HashTableResolver<W>;
+
+impl<'a, K: KeyElement, V, H: KeyHasher, W: Width> ArchivedHashMap<'a, K, V, H, W> {
+    /// Writes a map of `len` pairs, each a key and a value as themselves or by reference, and
+    /// answers what resolves it.
+    ///
+    /// Each pair is taken once. Equal keys are kept; a lookup then finds the first. Where the bytes
+    /// of a table stand is told by the table's own `serialize_from_iter`: the items are the
+    /// entries, each under the hash of its key. The iterator is asked at most `len + 1` times, and
+    /// never after it gave `None`.
+    ///
+    /// # Errors
+    /// The first that stands of: `InvalidLoadFactor`; `CapacityTooLarge`, where more buckets are
+    /// needed than the width can count; `Memory`, before any pair is taken; and
+    /// `IteratorLengthMismatch`, with the number of pairs, counted up to `len + 1`. Nothing is
+    /// written then. Else the cause is that of the first key, value or piece that fails. What the
+    /// writer held before is kept.
+    pub fn serialize_from_iter<
+        S: Writer,
+        A: NativeKey<K> + Serialize<S, W, Archived = K>,
+        B: Serialize<S, W, Archived = V>,
+        BK: Lend<A> + Drop,
+        BV: Lend<B> + Drop,
+        I: Iterator<Item = (BK, BV)>,
+    >(
+        alloc: Global,
+        iter: I,
+        len: usize,
+        load_factor: (usize, usize),
+        serializer: &mut S,
+    ) -> Result<HashMapResolver<W>, WriteError<S::Fault>>
+    where
+        K: StandsFor<A>,
+        V: StandsFor<B>,
+        requires can { I.can_next iter }
+        requires reads { (key : A) → A.can_read key }
+        ensures { let hash = hash_of H.initial H.feed H.finish A.calls in
+            let f = written_as (lent_pairs BK.lent BV.lent) (map_format W.word K.shape V.shape A.format B.format hash load_factor) in
+            let gave = Drains I.next_gives iter in let o = S.output serializer.old in let o' = S.output serializer.new in MatchResult result
+            (WroteItems gave len load_factor W.MAX_CAPACITY f o o')
+            (NoItems gave len load_factor W.MAX_CAPACITY f o o' (GaveOther I.next_gives len iter) W.LIMIT) }
+    {
+        ArchivedHashTable::<Entry<K, V>, W>::serialize_by::<
+            Group,
+            S,
+            EntryAdapter<BK, BV, A, B>,
+            EntryAdapter<BK, BV, A, B>,
+            Hashed<I, A, B, H>,
+        >(alloc, Hashed::new(iter), len, load_factor, serializer)
+    }
+
+    /// Writes the header of a written map, which is to stand at `pos`, over the whole of `out`.
+    ///
+    /// The length and the load factor are those of the resolver.
+    ///
+    /// # Errors
+    /// Where the map isn't empty, and the distance doesn't fit the width; `out` is unchanged.
+    pub fn resolve_from_len(
+        len: usize,
+        load_factor: (usize, usize),
+        resolver: HashMapResolver<W>,
+        pos: u64,
+        out: &mut [u8],
+    ) -> Result<(), DistanceTooLarge>
+        requires same { (len ≡ resolver.len) × (load_factor ≡ resolver.load_factor) }
+        requires room { length out.old ≡ W.TABLE_SIZE }
+        requires fits { pos + W.TABLE_SIZE < 2 ^ 64 }
+        ensures { MatchResult result
+            (λ _. IsHeader W.word len (capacity len load_factor) resolver.pos pos out.new)
+            (λ _. HeaderFar W.word len resolver.pos pos × (out.new ≡ out.old)) }
+    {
+        ArchivedHashTable::<Entry<K, V>, W>::resolve_from_len(len, load_factor, resolver, pos, out)
+    }
+}

@@ -1,0 +1,117 @@
+//! A set, how many keys it has, and finding one of them.
+
+ghost use Rattle.std.specs.Prelude.{IfSome, IsTrue, ◌↔◌, ◌≡◌};
+ghost use Rattle.rkyv_base.specs.Empty.{unit_shape};
+ghost use Rattle.rkyv_base.specs.Entry.{entry_element, entry_shape};
+ghost use Rattle.rkyv_base.specs.Empty.{unit_element};
+ghost use Rattle.rkyv_base.specs.View.{IsView, archive_of, place_of};
+ghost use Rattle.rkyv_scan.specs.Hash.{hash_of_calls};
+ghost use Rattle.rkyv_table.specs.TableLaws.{table_element};
+ghost use Rattle.rkyv_collections.specs.Map.{IsEntryAt, IsFoundAt, hash_at};
+ghost use Rattle.rkyv_collections.specs.Set.{
+  FindsFirstMember,
+  FindsMember,
+  IsMemberIn,
+  IsSet,
+  IsSetAt,
+  set_bytes,
+  set_len,
+  set_shape,
+};
+
+use crate::map::{ArchivedHashMap, HashMapOf};
+use crate::set::{ArchivedHashSet, HashSetOf};
+use rkyv_base::element::{Element, PartRange};
+use rkyv_base::errors::VerifyError;
+use rkyv_base::view::View;
+use rkyv_base::width::Width;
+use rkyv_keys::keys::{KeyElement, Query};
+use rkyv_scan::hash::KeyHasher;
+
+impl<K: Element, H, W: Width> Element for HashSetOf<K, H, W> {
+    ghost shape = { set_shape W.word K.shape };
+
+    #[inline]
+    fn size() -> usize {
+        HashMapOf::<K, (), H, W>::size()
+    }
+
+    #[inline]
+    fn align() -> usize {
+        HashMapOf::<K, (), H, W>::align()
+    }
+
+    #[inline]
+    fn check(bytes: &[u8], pos: u64, range: PartRange) -> Result<PartRange, VerifyError> {
+        HashMapOf::<K, (), H, W>::check(bytes, pos, range)
+    }
+
+    ghost laws = { table_element W.word W.layout.kind (entry_shape K.shape unit_shape) (entry_element K.shape unit_shape K.laws unit_element) };
+}
+
+impl<'a, K: Element, H, W: Width> ArchivedHashSet<'a, K, H, W> {
+    /// The set whose header is viewed.
+    #[inline]
+    pub fn of(view: View<'a, HashSetOf<K, H, W>>) -> ArchivedHashSet<'a, K, H, W>
+        requires { IsView (set_shape W.word K.shape) view }
+        ensures at { IsSetAt result (archive_of view.entry) (place_of view.entry) }
+        ensures set { IsSet W.word K.shape result }
+    {
+        ArchivedHashSet {
+            map: ArchivedHashMap::of(view.at::<HashMapOf<K, (), H, W>>(view.pos())),
+        }
+    }
+
+    /// Whether it has no keys.
+    #[inline]
+    pub fn is_empty(self) -> bool
+        requires { IsSet W.word K.shape self }
+        ensures { IsTrue result ↔ (set_len W.word self.entry ≡ 0) }
+    {
+        self.map.is_empty()
+    }
+
+    /// How many keys it has.
+    #[inline]
+    pub fn len(self) -> usize
+        requires { IsSet W.word K.shape self }
+        ensures { result ≡ set_len W.word self.entry }
+    {
+        self.map.len()
+    }
+}
+
+impl<'a, K: KeyElement, H: KeyHasher, W: Width> ArchivedHashSet<'a, K, H, W> {
+    /// The key that is asked for: in a set that was written the first such one, in the order in
+    /// which the keys were handed in.
+    ///
+    /// In a set of strangers a key may stand where its hash doesn't lead; then it isn't found.
+    #[inline]
+    pub fn get<Q: Query<K>>(self, key: &Q) -> Option<View<'a, K>>
+        requires set { IsSet W.word K.shape self }
+        requires query { Q.can_read key.now }
+        ensures walked { IfSome result (IsMemberIn W.word K.shape self.entry) }
+        ensures answer { let hash = hash_of_calls H.initial H.feed H.finish (Q.calls key.now) in
+            FindsMember W.word K.shape self.entry hash (Q.fits key.now (set_bytes self.entry)) (IsEntryAt result) }
+        ensures first { let key_hash = hash_at H.initial H.feed H.finish K.key_calls in
+            FindsFirstMember W.word K.shape self.entry key_hash (Q.fits key.now (set_bytes self.entry)) (IsEntryAt result) }
+    {
+        match self.map.get_key_value(key) {
+            Some((stored, _)) => Some(stored),
+            None => None,
+        }
+    }
+
+    /// Whether the key that is asked for is found.
+    #[inline]
+    pub fn contains<Q: Query<K>>(self, key: &Q) -> bool
+        requires set { IsSet W.word K.shape self }
+        requires query { Q.can_read key.now }
+        ensures answer { let hash = hash_of_calls H.initial H.feed H.finish (Q.calls key.now) in
+            FindsMember W.word K.shape self.entry hash (Q.fits key.now (set_bytes self.entry)) (IsFoundAt result) }
+        ensures first { let key_hash = hash_at H.initial H.feed H.finish K.key_calls in
+            FindsFirstMember W.word K.shape self.entry key_hash (Q.fits key.now (set_bytes self.entry)) (IsFoundAt result) }
+    {
+        self.map.contains_key(key)
+    }
+}

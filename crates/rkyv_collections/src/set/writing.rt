@@ -1,0 +1,114 @@
+//! Writing hash sets from iterators of keys.
+
+ghost use Rattle.std.specs.Prelude.{◌≡◌, ◌+◌, ◌<◌, ◌^◌, MatchResult, length};
+ghost use Rattle.std.specs.Iterator.{Drains};
+ghost use Rattle.rkyv_base.specs.Pairs.{written_as};
+ghost use Rattle.rkyv_table.specs.Counting.{GaveOther};
+ghost use Rattle.rkyv_table.specs.Header.{HeaderFar, IsHeader};
+ghost use Rattle.rkyv_table.specs.Numbers.{capacity};
+ghost use Rattle.rkyv_collections.specs.Handing.{NoItems, WroteItems};
+ghost use Rattle.rkyv_collections.specs.MapFormat.{hash_of};
+ghost use Rattle.rkyv_collections.specs.SetFormat.{UnitStep, lent_keys, set_format};
+
+use crate::map::ArchivedHashMap;
+use crate::map::writing::HashMapResolver;
+use crate::set::ArchivedHashSet;
+use rkyv_base::archive::Serialize;
+use rkyv_base::element::StandsFor;
+use rkyv_base::errors::{DistanceTooLarge, WriteError};
+use rkyv_base::lend::Lend;
+use rkyv_base::width::{Narrow, Width};
+use rkyv_base::writer::Writer;
+use rkyv_keys::keys::{KeyElement, NativeKey};
+use rkyv_scan::hash::KeyHasher;
+use std::alloc::Global;
+
+/// What resolves a written set: what resolves the map of its keys.
+pub type HashSetResolver<W = Narrow> = HashMapResolver<W>;
+
+/// The keys of an iterator, each with the unit value.
+#[derive(Drop)]
+struct WithUnits<I> {
+    keys: I,
+}
+
+impl<BK, I: Iterator<Item = BK>> Iterator for WithUnits<I> {
+    type Item = (BK, ());
+
+    ghost can_next = { λ s. I.can_next s.keys };
+
+    ghost next_gives = { λ s r t. UnitStep I.next_gives s.keys r t.keys };
+
+    ghost remaining = { λ s. I.remaining s.keys };
+
+    #[inline]
+    fn next(&mut self) -> Option<(BK, ())> {
+        match self.keys.next() {
+            Some(key) => Some((key, ())),
+            None => None,
+        }
+    }
+}
+
+impl<'a, K: KeyElement, H: KeyHasher, W: Width> ArchivedHashSet<'a, K, H, W> {
+    /// Writes a set of `len` keys, as themselves or by reference, and answers what resolves it.
+    ///
+    /// It is the map of the keys to the unit value: equal keys are kept, and a lookup then finds
+    /// the first. The iterator is asked at most `len + 1` times, and never after it gave `None`.
+    ///
+    /// # Errors
+    /// Those of a map's `serialize_from_iter`; the actual number is that of keys.
+    pub fn serialize_from_iter<
+        S: Writer,
+        A: NativeKey<K> + Serialize<S, W, Archived = K>,
+        BK: Lend<A> + Drop,
+        I: Iterator<Item = BK>,
+    >(
+        alloc: Global,
+        iter: I,
+        len: usize,
+        load_factor: (usize, usize),
+        serializer: &mut S,
+    ) -> Result<HashSetResolver<W>, WriteError<S::Fault>>
+    where
+        K: StandsFor<A>,
+        requires can { I.can_next iter }
+        requires reads { (key : A) → A.can_read key }
+        ensures { let hash = hash_of H.initial H.feed H.finish A.calls in
+            let f = written_as (lent_keys BK.lent) (set_format W.word K.shape A.format hash load_factor) in
+            let gave = Drains I.next_gives iter in let o = S.output serializer.old in let o' = S.output serializer.new in MatchResult result
+            (WroteItems gave len load_factor W.MAX_CAPACITY f o o')
+            (NoItems gave len load_factor W.MAX_CAPACITY f o o' (GaveOther I.next_gives len iter) W.LIMIT) }
+    {
+        ArchivedHashMap::<K, (), H, W>::serialize_from_iter::<S, A, (), BK, (), WithUnits<I>>(
+            alloc,
+            WithUnits { keys: iter },
+            len,
+            load_factor,
+            serializer,
+        )
+    }
+
+    /// Writes the header of a written set, which is to stand at `pos`, over the whole of `out`.
+    ///
+    /// The length and the load factor are those of the resolver.
+    ///
+    /// # Errors
+    /// Where the set isn't empty, and the distance doesn't fit the width; `out` is unchanged.
+    pub fn resolve_from_len(
+        len: usize,
+        load_factor: (usize, usize),
+        resolver: HashSetResolver<W>,
+        pos: u64,
+        out: &mut [u8],
+    ) -> Result<(), DistanceTooLarge>
+        requires same { (len ≡ resolver.len) × (load_factor ≡ resolver.load_factor) }
+        requires room { length out.old ≡ W.TABLE_SIZE }
+        requires fits { pos + W.TABLE_SIZE < 2 ^ 64 }
+        ensures { MatchResult result
+            (λ _. IsHeader W.word len (capacity len load_factor) resolver.pos pos out.new)
+            (λ _. HeaderFar W.word len resolver.pos pos × (out.new ≡ out.old)) }
+    {
+        ArchivedHashMap::<K, (), H, W>::resolve_from_len(len, load_factor, resolver, pos, out)
+    }
+}

@@ -1,0 +1,31 @@
+//! What was written of a set, wherever it stands.
+
+ghost use Rattle.std.specs.Prelude.{ℕ};
+ghost use Rattle.rkyv_base.specs.Format.{IsFormat};
+ghost use Rattle.rkyv_collections.specs.Map.{hash_at};
+ghost use Rattle.rkyv_collections.specs.MapFormat.{hash_of};
+ghost use Rattle.rkyv_collections.specs.Set.{set_shape};
+ghost use Rattle.rkyv_collections.specs.SetFormat.{SetStands, set_format};
+
+use rkyv_base::archive::Archive;
+use rkyv_base::element::StandsFor;
+use rkyv_base::width::Width;
+use rkyv_keys::keys::{KeyElement, NativeKey};
+use rkyv_scan::hash::KeyHasher;
+
+/// In every archive in which what was written of a set sits, and, aligned behind it, its header,
+/// the set holds; its header tells its length and its capacity, its keys were written in the order
+/// handed in, under their hashes, and each stands in its home.
+pub fn written_sets_stand<
+    W: Width,
+    H: KeyHasher,
+    K: KeyElement + StandsFor<A>,
+    A: NativeKey<K> + Archive<W, Archived = K>,
+>()
+    requires { (key : A) → A.can_read key }
+    ensures { (load_factor : ℕ × ℕ) →
+        let hash = hash_at H.initial H.feed H.finish K.key_calls in
+        let own = hash_of H.initial H.feed H.finish A.calls in
+        IsFormat (set_shape W.word K.shape) (SetStands W.word K.shape K.stands hash load_factor)
+        (set_format W.word K.shape A.format own load_factor) }
+{}
