@@ -27,7 +27,7 @@ module _ {K H W : Type 0} where
 
   -- the set's header is at this place of this archive
   abbrev pub IsSetAt : ArchivedHashSet K H W → Bor (List ℕ) → ℕ → Type 0
-  IsSetAt s archive p = IsAt s.map.table.view archive p
+  IsSetAt s archive p = IsAt s.map.view archive p
 
   -- how many keys it has
   abbrev pub set_len : Width → ArchivedHashSet K H W → ℕ
