@@ -106,6 +106,8 @@ impl<
 > NativeKey<Entry<K, V>> for (A, B) {
     ghost native = { entry_fits_its_equal K.laws V.laws
         K.stands V.stands A.eq B.eq A.fits B.fits A.native B.native };
+
+    ghost reads = { λ key. (A.reads key.0, B.reads key.1) };
 }
 
 impl<A, B, K: MatchesNative<A>, V: MatchesNative<B>> MatchesNative<(A, B)> for Entry<K, V> {

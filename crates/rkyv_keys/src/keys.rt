@@ -44,6 +44,9 @@ pub trait Query<K: KeyElement>: KeyHash {
 /// A type whose values are archived as keys of the element K, and asked for by themselves.
 pub trait NativeKey<K: KeyElement + StandsFor<Self>>: Query<K> + Eq {
     ghost native: { FitsItsEqual K.shape K.stands Self.eq Self.fits };
+
+    // It can be read by itself.
+    ghost reads: { (key : Self) → Self.can_read key };
 }
 
 /// A key whose hash makes no call of a `usize` or an `isize`, so that hashers that differ in these

@@ -82,6 +82,8 @@ impl Query<()> for () {
 
 impl NativeKey<()> for () {
     ghost native = { unit_fits_its_equal };
+
+    ghost reads = { λ key. tt };
 }
 
 impl MatchesNative<()> for () {

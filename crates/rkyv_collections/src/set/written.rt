@@ -22,7 +22,6 @@ pub fn written_sets_stand<
     K: KeyElement + StandsFor<A>,
     A: NativeKey<K> + Archive<W, Archived = K>,
 >()
-    requires { (key : A) → A.can_read key }
     ensures { (load_factor : ℕ × ℕ) →
         let hash = hash_at H.initial H.feed H.finish K.key_calls in
         let own = hash_of H.initial H.feed H.finish A.calls in

@@ -22,23 +22,6 @@ use rkyv_scan::hash::KeyHasher;
 use std::alloc::Global;
 use std::marker::PhantomData;
 
-/// A native key that can always be read.
-pub(crate) trait Readable<K: KeyElement + StandsFor<Self>>: NativeKey<K> {
-    ghost reads: { (key : Self) → Self.can_read key };
-}
-
-impl Readable<i8> for i8 {
-    ghost reads = { λ key. tt };
-}
-
-impl Readable<u8> for u8 {
-    ghost reads = { λ key. tt };
-}
-
-impl Readable<()> for () {
-    ghost reads = { λ key. tt };
-}
-
 /// A list of pairs that is archived as a map under the load factor 7 / 8.
 #[derive(Drop)]
 pub(crate) struct Pairs<A, B, H>(pub(crate) Vec<(A, B)>, pub(crate) PhantomData<H>);
@@ -75,7 +58,7 @@ impl<W: Width, H: KeyHasher, A, B, K: KeyElement + StandsFor<A>, V: StandsFor<B>
 impl<W: Width, H: KeyHasher, A: Archive<W>, B: Archive<W>> Archive<W> for Pairs<A, B, H>
 where
     A::Archived: KeyElement,
-    A: Readable<A::Archived>,
+    A: NativeKey<A::Archived>,
 {
     type Archived = HashMapOf<A::Archived, B::Archived, H, W>;
 
@@ -112,7 +95,7 @@ impl<S: Writer, W: Width, H: KeyHasher, A: Serialize<S, W>, B: Serialize<S, W>> 
     for Pairs<A, B, H>
 where
     A::Archived: KeyElement,
-    A: Readable<A::Archived>,
+    A: NativeKey<A::Archived>,
 {
     fn serialize(
         &self,
