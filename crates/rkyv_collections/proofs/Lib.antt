@@ -1,3 +1,5 @@
 pub mod Homes
 pub mod Lookups
 pub mod Matching
+pub mod WrittenPairs
+pub mod EqualMaps

@@ -4,6 +4,7 @@ mod debug;
 mod element;
 mod equality;
 pub mod iter;
+pub mod laws;
 mod lookup;
 mod misplaced;
 mod reading;

@@ -3,6 +3,7 @@
 use crate::map::{ArchivedHashMap, HashMapOf};
 use rkyv_base::access::{access, access_in};
 use rkyv_base::errors::VerifyError;
+use rkyv_base::text::Text;
 use rkyv_base::view::View;
 use rkyv_base::width::Wide;
 use rkyv_keys::equality::ElementEq;
@@ -204,6 +205,45 @@ fn of_a_key_that_was_written_twice_the_first_is_found(rt: HostRuntime) -> Result
     }
     assert!(rt; !map.eq_map(map));
     assert_eq!(rt; format!(in rt.alloc(); "{map:?}")?.as_str(), "{1: 2, 1: 9}");
+    Ok(())
+}
+
+#[test]
+fn keys_that_a_lookup_does_not_answer_are_counted(rt: HostRuntime) -> Result<(), Fail> {
+    let bytes = four_pairs();
+    let map = ArchivedHashMap::of(access::<Small>(&bytes)?);
+    assert_eq!(rt; map.misplaced(), 0);
+    let twice = one_key_twice();
+    let map = ArchivedHashMap::of(access::<Small>(&twice)?);
+    assert_eq!(rt; map.misplaced(), 1);
+    let mut moved = one_pair();
+    moved[0] = 2;
+    let map = ArchivedHashMap::of(access::<Small>(&moved)?);
+    assert!(rt; map.get(&2).is_none());
+    assert_eq!(rt; map.misplaced(), 1);
+    Ok(())
+}
+
+// Where a symbol stands, in the table of a stranger.
+fn address(symbols: &[u8], name: &str) -> Result<Option<u64>, VerifyError> {
+    let map = ArchivedHashMap::of(access::<HashMapOf<Text, u64>>(symbols)?);
+    match map.get(&name) {
+        Some(address) => Ok(Some(address.to_native())),
+        None => Ok(None),
+    }
+}
+
+#[test]
+fn a_symbol_is_found(rt: HostRuntime) -> Result<(), Fail> {
+    let mut bytes = [0xff; 76];
+    bytes[..16].copy_from_slice(&[0; 16]);
+    bytes[16..20].copy_from_slice(b"main");
+    bytes[24..32].copy_from_slice(&[0, 16, 0, 0, 0, 0, 0, 0]);
+    bytes[32] = 0x38;
+    bytes[34] = 0x38;
+    bytes[63..].copy_from_slice(&[0, 0xe0, 0xff, 0xff, 0xff, 1, 0, 0, 0, 2, 0, 0, 0]);
+    assert_eq!(rt; address(&bytes, "main")?, Some(4096));
+    assert_eq!(rt; address(&bytes, "exit")?, None);
     Ok(())
 }
 
