@@ -1,5 +1,5 @@
 -- Equal maps have the same pairs.
-use Rattle.std.proofs.Common.{◌≡◌, ◌↔◌, ℕ, ◌+◌, ◌<◌, ◌∙◌, refl, sym, ap, arith, subst, List, Bool, true, false, ◌&&◌, None, Option, Some, eqb, get_or, length}
+use Rattle.std.proofs.Common.{◌≡◌, ◌↔◌, ℕ, ◌+◌, ◌<◌, ◌∙◌, inl, inr, refl, sym, ap, arith, subst, List, Bool, true, false, ◌&&◌, None, Option, Some, eqb, get_or, length}
 use Rattle.std.specs.Int.{Width}
 use Rattle.std.specs.List.{find, list_all, position_or_len}
 use Rattle.std.specs.Option.{option_map, unwrap_or}
@@ -92,7 +92,7 @@ module _ (w : Width) (k v : Shape) (kl : IsElement k) (vl : IsElement v) (key_ha
         let there = place_of_pair w k v kl vl key_hash same_key same_value c r others second j l in
         elim (cases_option (find (same_key b q c) xs)) [
           | inl none ↦
-              let member = contains_member (get_or xs j 0) xs (j, omega arith, get_or_itself xs j) in
+              let member = contains_member (get_or xs j 0) xs (j, omega arith, get_or_itself xs j (omega arith)) in
               absurd (both_ways _ (none_find (same_key b q c) xs none) (any_member (same_key b q c) (get_or xs j 0) xs member (ap (same_key b q c) there ∙ both.0)))
           | inr some ↦
               let key = (some_find (same_key b q c) xs some.0 some.1).1 in
