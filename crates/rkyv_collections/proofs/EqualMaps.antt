@@ -1,12 +1,11 @@
 -- Equal maps have the same pairs.
-use Rattle.std.proofs.Common.{◌≡◌, ◌↔◌, ℕ, ◌+◌, ◌<◌, ◌∙◌, inl, inr, refl, sym, ap, arith, subst, List, Bool, true, false, ◌&&◌, None, Option, Some, eqb, get_or, length}
+use Rattle.std.proofs.Common.{◌≡◌, ℕ, ◌+◌, ◌<◌, ◌∙◌, inl, inr, refl, sym, ap, arith, subst, List, Bool, true, false, Option, Some, eqb, get_or, length}
 use Rattle.std.specs.Int.{Width}
 use Rattle.std.specs.List.{find, list_all, position_or_len}
 use Rattle.std.specs.Option.{option_map, unwrap_or}
 use Rattle.std.proofs.lemmas.Bool.{and_from, and_parts, both_ways, eq-eqb, eqb-true}
 use Rattle.std.proofs.lemmas.List.{get_or_default, length-map}
 use Rattle.std.proofs.lemmas.List.Folds.{find_at}
-use Rattle.std.proofs.lemmas.List.Sums.{passes_at_first}
 use Rattle.std.proofs.lemmas.Option.{same_Some, slice_get-get_or}
 use Rattle.rkyv_base.specs.Entry.{entry_shape, value_offset}
 use Rattle.rkyv_base.specs.Shape.{IsElement, Shape, Standing}
@@ -73,9 +72,12 @@ module _ (w : Width) (k v : Shape) (kl : IsElement k) (vl : IsElement v) (key_ha
               let key = (some_find (same_key b q c) xs some.0 some.1).1 in
               let place = found_index (same_key b q c) xs some.0 some.1 in
               let inside : place.0 < length others = omega (arith, place.1) in
-              let is : pair_at w k v c r others place.0 ≡ some.0 = sym (place_of_pair w k v kl vl key_hash same_key same_value c r others second place.0 inside) ∙ place.2 in
-              (place.0, inside, subst (λ x. entry_same k v same_key same_value b q c x ≡ true) (sym is)
-              (and_from (same_key b q c some.0) (same_value b (q + value_offset k v) c (some.0 + value_offset k v)) key value))
+              let is : pair_at w k v c r others place.0 ≡ some.0 = sym (place_of_pair w k v kl vl key_hash same_key same_value c r others second place.0 inside) ∙ place.2 in (
+                place.0,
+                inside,
+                subst (λ x. entry_same k v same_key same_value b q c x ≡ true) (sym is)
+                    (and_from (same_key b q c some.0) (same_value b (q + value_offset k v) c (some.0 + value_offset k v)) key value),
+              )
         ]
 
     -- and what is the same as one of the other pairs matches
@@ -129,22 +131,26 @@ module _ (w : Width) (k v : Shape) (kl : IsElement k) (vl : IsElement v) (key_ha
       let every : Bool = list_all matches (item_places w (entry_shape k v).size b p) in
       let count = pair_count w k v kl vl key_hash same_key same_value b p homes first in
       let count' = pair_count w k v kl vl key_hash same_key same_value c r others second in
-      let equivalence = entry_equivalence kl vl ke ve in
-      (
+      let equivalence = entry_equivalence kl vl ke ve in (
         λ equal.
-        let t = and_parts (eqb (len_at w b p) (len_at w c r)) every equal in
-        let n : length homes ≡ length others = sym count ∙ eqb-true (len_at w b p) (len_at w c r) t.0 ∙ count' in
-        let each : EachIsIn w k v key_hash same_key same_value b p homes c r others = λ i h.
-        match_same b c p r homes others first second i h (all_handed w k v kl vl key_hash same_key same_value b p homes first matches t.1 i h) in
-        (each, λ j l.
-        let row = column_matched (length homes) (length others) same (matching b c p r homes others first second each) n j l in
-        (row.0, row.1, equivalence.symmetric b c (pair_at w k v b p homes row.0) (pair_at w k v c r others j)
-        (pair_stands w k v kl vl key_hash same_key same_value b p homes first row.0 row.1) (pair_stands w k v kl vl key_hash same_key same_value c r others second j l) row.2)),
+            let t = and_parts (eqb (len_at w b p) (len_at w c r)) every equal in
+            let n : length homes ≡ length others = sym count ∙ eqb-true (len_at w b p) (len_at w c r) t.0 ∙ count' in
+            let each : EachIsIn w k v key_hash same_key same_value b p homes c r others = λ i h.
+            match_same b c p r homes others first second i h (all_handed w k v kl vl key_hash same_key same_value b p homes first matches t.1 i h) in (
+              each,
+              λ j l.
+                  let row = column_matched (length homes) (length others) same (matching b c p r homes others first second each) n j l in (
+                    row.0,
+                    row.1,
+                    equivalence.symmetric b c (pair_at w k v b p homes row.0) (pair_at w k v c r others j)
+                        (pair_stands w k v kl vl key_hash same_key same_value b p homes first row.0 row.1) (pair_stands w k v kl vl key_hash same_key same_value c r others second j l) row.2,
+                  ),
+            ),
         λ both.
-        let few = rows_within (length homes) (length others) same (matching b c p r homes others first second both.0) in
-        let back : ℕ → ℕ → Bool = λ i j. entry_same k v same_key same_value c (pair_at w k v c r others i) b (pair_at w k v b p homes j) in
-        let few' = rows_within (length others) (length homes) back (matching c b r p others homes second first both.1) in
-        and_from (eqb (len_at w b p) (len_at w c r)) every (eq-eqb (len_at w b p) (len_at w c r) (omega arith))
-        (all_walked w k v kl vl key_hash same_key same_value b p homes first matches
-        (λ i h. let d = both.0 i h in same_matches b c p r homes others first second i d.0 h d.1 d.2)),
+            let few = rows_within (length homes) (length others) same (matching b c p r homes others first second both.0) in
+            let back : ℕ → ℕ → Bool = λ i j. entry_same k v same_key same_value c (pair_at w k v c r others i) b (pair_at w k v b p homes j) in
+            let few' = rows_within (length others) (length homes) back (matching c b r p others homes second first both.1) in
+            and_from (eqb (len_at w b p) (len_at w c r)) every (eq-eqb (len_at w b p) (len_at w c r) (omega arith))
+            (all_walked w k v kl vl key_hash same_key same_value b p homes first matches
+            (λ i h. let d = both.0 i h in same_matches b c p r homes others first second i d.0 h d.1 d.2)),
       )

@@ -1,7 +1,7 @@
 -- Where the pairs of a written map stand, and how a walk and a lookup see them.
-use Rattle.std.proofs.Common.{◌≡◌, ℕ, ◌+◌, ◌^◌, ◌<◌, ◌∙◌, inl, inr, refl, sym, ap, arith, subst, List, [], Bool, true, get_or, length, map, slice_index}
+use Rattle.std.proofs.Common.{◌≡◌, ℕ, ◌^◌, ◌<◌, ◌∙◌, inl, inr, sym, ap, arith, subst, List, Bool, true, length, map, slice_index}
 use Rattle.std.specs.Int.{Width}
-use Rattle.std.specs.List.{All, Contains, find, list_all}
+use Rattle.std.specs.List.{Contains, find, list_all}
 use Rattle.std.proofs.lemmas.List.{get_or-map, get_or_default, length-map}
 use Rattle.std.proofs.lemmas.List.Elements.{All-contains_itself, All-weaker}
 use Rattle.std.proofs.lemmas.List.Folds.{list_all-map}
@@ -11,7 +11,6 @@ use Rattle.rkyv_scan.specs.KindLaws.{word_lawful}
 use Rattle.rkyv_base.specs.Entry.{entry_element, entry_shape}
 use Rattle.rkyv_base.specs.Shape.{IsElement, Shape, Standing}
 use Rattle.rkyv_keys.specs.Equality.{Comparison}
-use Rattle.rkyv_keys.specs.OfEntries.{standing_key}
 use Rattle.rkyv_table.specs.Header.{cap_at, len_at}
 use Rattle.rkyv_table.specs.Placing.{walk}
 use Rattle.rkyv_table.specs.Reading.{IsWalked, home_places, item_at, item_places, place_found, table_controls}
@@ -21,7 +20,7 @@ use Rattle.rkyv_table.proofs.RawWalks.{walk_count}
 use Rattle.rkyv_table.proofs.WalkedHomes.{walked_homes}
 use Rattle.rkyv_table.proofs.Walks.{full_walked}
 use Rattle.rkyv_collections.specs.Equality.{IsWrittenApart, pair_at}
-use Rattle.rkyv_collections.proofs.Homes.{home_count, home_place, home_walked}
+use Rattle.rkyv_collections.proofs.Homes.{home_walked}
 
 module _ (w : Width) (k v : Shape) (kl : IsElement k) (vl : IsElement v) (key_hash : List ℕ → ℕ → ℕ) (same_key same_value : Comparison)
     (b : List ℕ) (p : ℕ) (homes : List ℕ) (map_is : IsWrittenApart w k v key_hash same_key same_value b p homes) where

@@ -21,7 +21,7 @@ module _ (w : Width) (k v : Shape) (key_hash : List ℕ → ℕ → ℕ) (same_k
   abbrev pub pair_matches : List ℕ → ℕ → List ℕ → ℕ → Bool
   pair_matches b q c r =
       unwrap_or (option_map (λ at. same_value b (q + value_offset k v) c (at + value_offset k v))
-          (place_found generic_kind w (entry_shape k v).size c r (key_hash b q) (same_key b q c)))
+      (place_found generic_kind w (entry_shape k v).size c r (key_hash b q) (same_key b q c)))
       false
 
   -- the maps have equal lengths, and each pair of the first is matched in the second

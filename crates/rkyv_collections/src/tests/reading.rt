@@ -27,9 +27,7 @@ fn one_pair() -> [u8; 48] {
 fn four_pairs() -> [u8; 56] {
     let mut bytes = [0xff; 56];
     bytes[..10].copy_from_slice(&[3, 4, 1, 2, 0, 0, 7, 8, 5, 6]);
-    bytes[10..20].copy_from_slice(&[
-        0x4b, 0x1d, 0xff, 0x28, 0x7a, 0x4b, 0x1d, 0xff, 0x28, 0x7a,
-    ]);
+    bytes[10..20].copy_from_slice(&[0x4b, 0x1d, 0xff, 0x28, 0x7a, 0x4b, 0x1d, 0xff, 0x28, 0x7a]);
     bytes[41..].copy_from_slice(&[0, 0, 0, 0xde, 0xff, 0xff, 0xff, 4, 0, 0, 0, 5, 0, 0, 0]);
     bytes
 }
@@ -38,9 +36,7 @@ fn four_pairs() -> [u8; 56] {
 fn four_pairs_backwards() -> [u8; 56] {
     let mut bytes = four_pairs();
     bytes[..10].copy_from_slice(&[7, 8, 1, 2, 0, 0, 3, 4, 5, 6]);
-    bytes[10..20].copy_from_slice(&[
-        0x4b, 0x7a, 0xff, 0x28, 0x1d, 0x4b, 0x7a, 0xff, 0x28, 0x1d,
-    ]);
+    bytes[10..20].copy_from_slice(&[0x4b, 0x7a, 0xff, 0x28, 0x1d, 0x4b, 0x7a, 0xff, 0x28, 0x1d]);
     bytes
 }
 
@@ -123,7 +119,10 @@ fn a_comparison_may_be_handed_in(rt: HostRuntime) -> Result<(), Fail> {
         Some((key, _)) => assert_eq!(rt; key.to_native(), 1),
         None => assert!(rt; false),
     }
-    assert!(rt; map.get_with(&1i8, |_: &i8, _: View<'_, i8>| false).is_none());
+    assert!(rt;
+        map.get_with(&1i8, |_: &i8, _: View<'_, i8>| false)
+            .is_none()
+    );
     assert!(rt; map.get_with(&2i8, |_: &i8, _: View<'_, i8>| true).is_none());
     Ok(())
 }
@@ -148,7 +147,10 @@ fn pairs_are_walked_by_ascending_bucket(rt: HostRuntime) -> Result<(), Fail> {
             None => assert!(rt; false),
         }
     }
-    assert_eq!(rt; format!(in rt.alloc(); "{map:?}")?.as_str(), "{5: 6, 7: 8, 1: 2, 3: 4}");
+    assert_eq!(rt;
+        format!(in rt.alloc(); "{map:?}")?.as_str(),
+        "{5: 6, 7: 8, 1: 2, 3: 4}"
+    );
     Ok(())
 }
 
@@ -267,15 +269,19 @@ fn a_map_is_the_value_of_a_map(rt: HostRuntime) -> Result<(), Fail> {
 fn a_map_inside_is_checked(rt: HostRuntime) {
     let mut bytes = nested();
     bytes[40] = 0xdd;
-    assert!(rt; matches!(
-        access::<Nested>(&bytes),
-        Err(VerifyError::UnwrappedControlByte { index: 30 })
-    ));
+    assert!(rt;
+        matches!(
+            access::<Nested>(&bytes),
+            Err(VerifyError::UnwrappedControlByte { index: 30 })
+        )
+    );
     bytes[40] = 0xde;
-    assert!(rt; matches!(
-        access::<Nested>(&bytes),
-        Err(VerifyError::OutOfRange { pos: 2, size: 35 })
-    ));
+    assert!(rt;
+        matches!(
+            access::<Nested>(&bytes),
+            Err(VerifyError::OutOfRange { pos: 2, size: 35 })
+        )
+    );
 }
 
 #[test]
