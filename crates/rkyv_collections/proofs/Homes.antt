@@ -1,15 +1,11 @@
 -- Where the entries of a written map stand.
-use Rattle.std.proofs.Common.{◌≡◌, ℕ, ◌∙◌, ◌^◌, ◌/◌, ◌<◌, ap, refl, arith, inl, inr, length, subst, List, slice_index, take}
+use Rattle.std.proofs.Common.{◌≡◌, ℕ, ◌^◌, ◌/◌, ◌<◌, ap, refl, arith, inl, inr, length, List, slice_index, take}
 use Rattle.std.specs.Int.{Width}
-use Rattle.std.proofs.lemmas.List.{get_or-map, length-map}
-use Rattle.rkyv_base.specs.Shape.{Shape, IsElement, Viewed}
+use Rattle.std.proofs.lemmas.List.{get_or-map}
 use Rattle.rkyv_table.specs.Header.{cap_at}
-use Rattle.rkyv_table.specs.Numbers.{tag}
 use Rattle.rkyv_table.specs.Placing.{is_free}
 use Rattle.rkyv_table.specs.Probe.{strides}
 use Rattle.rkyv_table.specs.Reading.{IsWalked, WrittenAt, home_places, item_at, table_controls}
-use Rattle.rkyv_table.specs.Table.{table_shape}
-use Rattle.rkyv_table.proofs.Items.{item_viewed}
 use Rattle.rkyv_table.proofs.Written.{shown_below}
 
 module _ (w : Width) (b : List ℕ) (p : ℕ) (hashes homes : List ℕ) (written : WrittenAt w b p hashes homes) where

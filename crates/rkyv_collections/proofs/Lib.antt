@@ -6,3 +6,5 @@ pub mod Listing
 pub mod Homes
 pub mod Lookups
 pub mod Matching
+pub mod WrittenPairs
+pub mod EqualMaps

@@ -1,9 +1,8 @@
 -- From what a table finds to what a map does.
-use Rattle.std.proofs.Common.{◌≡◌, ◌↔◌, ℕ, ◌+◌, ◌∙◌, None, Some, ◌<◌, ap, sym, arith, Bool, true, length, map, subst, List, Option, slice_index}
+use Rattle.std.proofs.Common.{◌≡◌, ℕ, ◌∙◌, None, Some, ap, sym, arith, Bool, length, map, subst, List, Option, slice_index}
 use Rattle.std.specs.Int.{Width}
 use Rattle.std.specs.Option.{is_some}
 use Rattle.std.proofs.lemmas.List.{get_or-map, length-map}
-use Rattle.rkyv_scan.specs.Groups.{generic_kind}
 use Rattle.rkyv_scan.specs.Hash.{HasherCall, hash_of_calls}
 use Rattle.rkyv_base.specs.Entry.{entry_element, entry_shape}
 use Rattle.rkyv_base.specs.Shape.{Shape, IsElement, Standing}
@@ -14,12 +13,12 @@ use Rattle.rkyv_keys.specs.Equality.{Comparison}
 use Rattle.rkyv_keys.specs.Keys.{IsQuery}
 use Rattle.rkyv_keys.specs.OfEntries.{standing_key}
 use Rattle.rkyv_table.specs.Laws.{IsUnderHash}
-use Rattle.rkyv_table.specs.Reading.{IsItem, IsWalked, WrittenAt, home_places, item_at}
+use Rattle.rkyv_table.specs.Reading.{IsItem, IsWalked, home_places, item_at}
 use Rattle.rkyv_table.specs.declared.table.ArchivedHashTable.{ArchivedHashTable}
 use Rattle.rkyv_table.proofs.Items.{item_viewed}
-use Rattle.rkyv_collections.specs.Map.{AnswersKeys, AreUnderHash, IsEntryAt, IsEntryIn, map_archive, IsFoundAt, IsKeyIn, IsKeyPlace, IsMap, MapWrittenAt, hash_at, map_bytes, map_place}
+use Rattle.rkyv_collections.specs.Map.{AreUnderHash, IsEntryAt, IsEntryIn, map_archive, IsFoundAt, IsKeyIn, IsMap, MapWrittenAt, hash_at, map_bytes, map_place}
 use Rattle.rkyv_collections.specs.declared.map.ArchivedHashMap.{ArchivedHashMap}
-use Rattle.rkyv_collections.proofs.Homes.{home_count, home_place, home_walked}
+use Rattle.rkyv_collections.proofs.Homes.{home_place, home_walked}
 
 module _ {K V H W : Type 0} (w : Width) (k v : Shape) (m : ArchivedHashMap K V H W) where
   -- an item of its table is an entry of the map
@@ -43,7 +42,7 @@ module _ {K V H W : Type 0} (w : Width) (k v : Shape) (m : ArchivedHashMap K V H
   pub under_hash : (hash : ℕ) (key_hash : List ℕ → ℕ → ℕ) (accept : ℕ → Bool) (homes : List ℕ)
       → AreUnderHash w k v m hash key_hash accept → MapWrittenAt w (entry_shape k v) key_hash (map_bytes m) (map_place m) homes
       → IsUnderHash hash (map (key_hash (map_bytes m)) (home_places w (entry_shape k v).size (map_bytes m) (map_place m) homes))
-        (home_places w (entry_shape k v).size (map_bytes m) (map_place m) homes) accept
+      (home_places w (entry_shape k v).size (map_bytes m) (map_place m) homes) accept
   under_hash hash key_hash accept homes under written i h accepted =
       let b = map_bytes m in
       let p = map_place m in

@@ -1,11 +1,11 @@
 -- Rows that are matched with columns, no two with the same one.
-use Rattle.std.proofs.Common.{◌≡◌, ℕ, ◌+◌, ◌<◌, ◌≤◌, ◌∙◌, inl, inr, refl, sym, ap, arith, List, Bool, true, false, cond, eqb, ltb, length, get_or, map}
+use Rattle.std.proofs.Common.{◌≡◌, ℕ, ◌+◌, ◌<◌, ◌≤◌, ◌∙◌, inl, inr, refl, sym, ap, arith, Bool, true, false, cond, ltb, map}
 use Rattle.std.specs.List.{list_any, position_or_len, range_with_len}
 use Rattle.std.proofs.lemmas.Bool.{both_ways, cases_Bool, cases_lt, le-ltb, lt-ltb}
 use Rattle.std.proofs.lemmas.List.FromFn.{get_or-range_with_len, length-map-range_with_len, length-range_with_len}
 use Rattle.std.proofs.lemmas.List.Sums.{passes_at_first}
 use Rattle.std.proofs.lemmas.Map.Steps.{length-le_from_distinct_below}
-use Rattle.rkyv_table.proofs.Lists.{any_range, distinct_map_range, from_map_range, none_range}
+use Rattle.rkyv_table.proofs.Lists.{any_range, distinct_map_range, from_map_range}
 use Rattle.rkyv_table.proofs.Written.{first_within}
 
 -- each row has a column that is the same, and no column is the same as two rows
@@ -70,13 +70,13 @@ module _ (rows columns : ℕ) (same : ℕ → ℕ → Bool) (matching : IsMatchi
         let differ : (i k : ℕ) → i < rows + 1 → k < rows + 1 → more i ≡ more k → i ≡ k = λ i k hi hk e.
         elim (cases_lt i rows) [
           | inl li ↦ elim (cases_lt k rows) [
-              | inl lk ↦ columns_differ i k li lk (sym (early i li) ∙ e ∙ early k lk)
-              | inr gk ↦ absurd (other i li (sym (early i li) ∙ e ∙ last k gk))
-            ]
+            | inl lk ↦ columns_differ i k li lk (sym (early i li) ∙ e ∙ early k lk)
+            | inr gk ↦ absurd (other i li (sym (early i li) ∙ e ∙ last k gk))
+          ]
           | inr gi ↦ elim (cases_lt k rows) [
-              | inl lk ↦ absurd (other k lk (sym (early k lk) ∙ sym e ∙ last i gi))
-              | inr gk ↦ omega arith
-            ]
+            | inl lk ↦ absurd (other k lk (sym (early k lk) ∙ sym e ∙ last i gi))
+            | inr gk ↦ omega arith
+          ]
         ] in
         let below : (i : ℕ) → i < rows + 1 → more i < columns = λ i l.
         elim (cases_lt i rows) [

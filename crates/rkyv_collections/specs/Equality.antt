@@ -1,7 +1,7 @@
 -- When two maps are equal.
-use Rattle.std.specs.Prelude.{◌≡◌, ℕ, ◌+◌, ◌<◌, ◌↔◌, List, Bool, true, false, ◌&&◌, ◌==◌, Option, IsTrue, length, slice_index}
+use Rattle.std.specs.Prelude.{◌≡◌, ℕ, ◌+◌, ◌<◌, ◌↔◌, List, Bool, true, false, ◌&&◌, ◌==◌, length, slice_index}
 use Rattle.std.specs.Int.{Width}
-use Rattle.std.specs.List.{Contains, list_all}
+use Rattle.std.specs.List.{list_all}
 use Rattle.std.specs.Option.{option_map, unwrap_or}
 use Rattle.rkyv_scan.specs.Groups.{generic_kind}
 use Rattle.rkyv_base.specs.Entry.{entry_shape, value_offset}
@@ -9,17 +9,37 @@ use Rattle.rkyv_base.specs.Shape.{Shape, Viewed}
 use Rattle.rkyv_keys.specs.Equality.{Comparison}
 use Rattle.rkyv_keys.specs.OfEntries.{entry_same}
 use Rattle.rkyv_table.specs.Header.{len_at}
-use Rattle.rkyv_table.specs.Reading.{home_places, item_places, place_found}
+use Rattle.rkyv_table.specs.Reading.{item_at, item_places, place_found}
 use Rattle.rkyv_collections.specs.Map.{MapWrittenAt, map_shape}
+
+-- where the i-th pair handed in stands
+abbrev pub pair_at : Width → Shape → Shape → List ℕ → ℕ → List ℕ → ℕ → ℕ
+pair_at w k v b p homes i = item_at w (entry_shape k v).size b p (slice_index homes i)
 
 module _ (w : Width) (k v : Shape) (key_hash : List ℕ → ℕ → ℕ) (same_key same_value : Comparison) where
   -- the key that stands in b at q is found in the map of c at r, with a value that is the same
   abbrev pub pair_matches : List ℕ → ℕ → List ℕ → ℕ → Bool
   pair_matches b q c r =
       unwrap_or (option_map (λ at. same_value b (q + value_offset k v) c (at + value_offset k v))
-          (place_found generic_kind w (entry_shape k v).size c r (key_hash b q) (same_key b q c)))
+      (place_found generic_kind w (entry_shape k v).size c r (key_hash b q) (same_key b q c)))
       false
 
   -- the maps have equal lengths, and each pair of the first is matched in the second
   abbrev pub map_equal : Comparison
   map_equal b p c r = (len_at w b p == len_at w c r) && list_all (λ q. pair_matches b q c r) (item_places w (entry_shape k v).size b p)
+
+  -- a map that stands and was written with these homes, no two keys of which are the same
+  pub record IsWrittenApart (b : List ℕ) (p : ℕ) (homes : List ℕ) : Type 0 where
+    pub stands : Viewed (map_shape w k v) b p
+    pub written : MapWrittenAt w (entry_shape k v) key_hash b p homes
+    pub apart : (i j : ℕ) → i < length homes → j < length homes → same_key b (pair_at w k v b p homes i) b (pair_at w k v b p homes j) ≡ true → i ≡ j
+
+  -- each pair of the first map is the same as one of the second
+  abbrev pub EachIsIn : List ℕ → ℕ → List ℕ → List ℕ → ℕ → List ℕ → Type 0
+  EachIsIn b p homes c r others =
+      (i : ℕ) → i < length homes → (j : ℕ) × (j < length others) × (entry_same k v same_key same_value b (pair_at w k v b p homes i) c (pair_at w k v c r others j) ≡ true)
+
+  -- two such maps are equal exactly where each pair of either is the same as one of the other
+  abbrev pub EqualHaveSamePairs : Type 0
+  EqualHaveSamePairs = (b c : List ℕ) (p r : ℕ) (homes others : List ℕ) → IsWrittenApart b p homes → IsWrittenApart c r others
+      → (map_equal b p c r ≡ true) ↔ (EachIsIn b p homes c r others × EachIsIn c r others b p homes)

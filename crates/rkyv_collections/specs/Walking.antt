@@ -1,5 +1,5 @@
 -- What a step of a walk over the pairs of a map gives, of which the places of the keys that are left are known.
-use Rattle.std.specs.Prelude.{◌≡◌, ℕ, ◌+◌, [], ◌∷◌, Option, IfSome, MatchOption}
+use Rattle.std.specs.Prelude.{◌≡◌, ℕ, ◌+◌, [], ◌∷◌, Option, MatchOption}
 use Rattle.rkyv_base.specs.Entry.{value_offset}
 use Rattle.rkyv_base.specs.Shape.{Shape}
 use Rattle.rkyv_base.specs.View.{IsAt, IsView}

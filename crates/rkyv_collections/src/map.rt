@@ -5,6 +5,7 @@ mod element;
 mod equality;
 pub mod iter;
 mod hashing;
+pub mod laws;
 mod lookup;
 mod misplaced;
 mod reading;

@@ -3,7 +3,6 @@ ghost use Rattle.rkyv_base.specs.View.{IsView};
 ghost use Rattle.rkyv_collections.specs.Map.{map_shape};
 
 use crate::map::{ArchivedHashMap, HashMapOf};
-use rkyv_base::element::Element;
 use rkyv_base::view::View;
 use rkyv_base::width::Width;
 use rkyv_keys::debug::{ElementDebug, Shown};

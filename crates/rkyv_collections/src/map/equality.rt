@@ -1,14 +1,12 @@
 //! Equality of maps.
-ghost use Rattle.std.specs.Prelude.{◌≡◌};
+ghost use Rattle.std.specs.Prelude.{◌+◌, ◌≡◌};
+ghost use Rattle.rkyv_base.specs.Entry.{value_offset};
 ghost use Rattle.rkyv_base.specs.View.{IsAt, IsView, archive_of, bytes_of, place_of};
+ghost use Rattle.rkyv_keys.specs.Places.{at_views};
 ghost use Rattle.rkyv_collections.specs.Equality.{map_equal, pair_matches};
 ghost use Rattle.rkyv_collections.specs.Map.{IsMap, hash_at, map_bytes, map_place, map_shape};
-ghost use Rattle.rkyv_base.specs.Entry.{value_offset};
-ghost use Rattle.std.specs.Prelude.{◌+◌};
-ghost use Rattle.rkyv_keys.specs.Places.{at_views};
 
 use crate::map::{ArchivedHashMap, HashMapOf};
-use rkyv_base::element::Element;
 use rkyv_base::view::View;
 use rkyv_base::width::Width;
 use rkyv_keys::equality::ElementEq;

@@ -12,7 +12,6 @@ ghost use Rattle.rkyv_collections.specs.Map.{
   IsEntryAt,
   IsEntryIn,
   IsFoundAt,
-  IsKeyIn,
   IsMap,
   IsPairAt,
   IsPairIn,

@@ -2,16 +2,13 @@
 ghost use Rattle.std.specs.Prelude.{◌≡◌};
 ghost use Rattle.rkyv_base.specs.Entry.{entry_shape};
 ghost use Rattle.rkyv_base.specs.View.{IsView, bytes_of, place_of};
-ghost use Rattle.rkyv_keys.specs.Places.{at_view, at_views};
 ghost use Rattle.rkyv_collections.specs.Map.{IsMap, hash_at, map_bytes, map_place};
 ghost use Rattle.rkyv_collections.specs.Misplaced.{map_misplaced};
 
 use crate::map::ArchivedHashMap;
 use rkyv_base::element::Element;
-use rkyv_base::entry::Entry;
 use rkyv_base::view::View;
 use rkyv_base::width::Width;
-use rkyv_keys::equality::ElementEq;
 use rkyv_keys::hash::hash_value;
 use rkyv_keys::keys::KeyElement;
 use rkyv_scan::hash::KeyHasher;

@@ -3,6 +3,7 @@
 use crate::map::{ArchivedHashMap, HashMapOf};
 use rkyv_base::access::{access, access_in};
 use rkyv_base::errors::VerifyError;
+use rkyv_base::text::Text;
 use rkyv_base::view::View;
 use rkyv_base::width::Wide;
 use rkyv_keys::equality::ElementEq;
@@ -26,9 +27,7 @@ fn one_pair() -> [u8; 48] {
 fn four_pairs() -> [u8; 56] {
     let mut bytes = [0xff; 56];
     bytes[..10].copy_from_slice(&[3, 4, 1, 2, 0, 0, 7, 8, 5, 6]);
-    bytes[10..20].copy_from_slice(&[
-        0x4b, 0x1d, 0xff, 0x28, 0x7a, 0x4b, 0x1d, 0xff, 0x28, 0x7a,
-    ]);
+    bytes[10..20].copy_from_slice(&[0x4b, 0x1d, 0xff, 0x28, 0x7a, 0x4b, 0x1d, 0xff, 0x28, 0x7a]);
     bytes[41..].copy_from_slice(&[0, 0, 0, 0xde, 0xff, 0xff, 0xff, 4, 0, 0, 0, 5, 0, 0, 0]);
     bytes
 }
@@ -37,9 +36,7 @@ fn four_pairs() -> [u8; 56] {
 fn four_pairs_backwards() -> [u8; 56] {
     let mut bytes = four_pairs();
     bytes[..10].copy_from_slice(&[7, 8, 1, 2, 0, 0, 3, 4, 5, 6]);
-    bytes[10..20].copy_from_slice(&[
-        0x4b, 0x7a, 0xff, 0x28, 0x1d, 0x4b, 0x7a, 0xff, 0x28, 0x1d,
-    ]);
+    bytes[10..20].copy_from_slice(&[0x4b, 0x7a, 0xff, 0x28, 0x1d, 0x4b, 0x7a, 0xff, 0x28, 0x1d]);
     bytes
 }
 
@@ -122,7 +119,10 @@ fn a_comparison_may_be_handed_in(rt: HostRuntime) -> Result<(), Fail> {
         Some((key, _)) => assert_eq!(rt; key.to_native(), 1),
         None => assert!(rt; false),
     }
-    assert!(rt; map.get_with(&1i8, |_: &i8, _: View<'_, i8>| false).is_none());
+    assert!(rt;
+        map.get_with(&1i8, |_: &i8, _: View<'_, i8>| false)
+            .is_none()
+    );
     assert!(rt; map.get_with(&2i8, |_: &i8, _: View<'_, i8>| true).is_none());
     Ok(())
 }
@@ -147,7 +147,10 @@ fn pairs_are_walked_by_ascending_bucket(rt: HostRuntime) -> Result<(), Fail> {
             None => assert!(rt; false),
         }
     }
-    assert_eq!(rt; format!(in rt.alloc(); "{map:?}")?.as_str(), "{5: 6, 7: 8, 1: 2, 3: 4}");
+    assert_eq!(rt;
+        format!(in rt.alloc(); "{map:?}")?.as_str(),
+        "{5: 6, 7: 8, 1: 2, 3: 4}"
+    );
     Ok(())
 }
 
@@ -208,6 +211,45 @@ fn of_a_key_that_was_written_twice_the_first_is_found(rt: HostRuntime) -> Result
 }
 
 #[test]
+fn keys_that_a_lookup_does_not_answer_are_counted(rt: HostRuntime) -> Result<(), Fail> {
+    let bytes = four_pairs();
+    let map = ArchivedHashMap::of(access::<Small>(&bytes)?);
+    assert_eq!(rt; map.misplaced(), 0);
+    let twice = one_key_twice();
+    let map = ArchivedHashMap::of(access::<Small>(&twice)?);
+    assert_eq!(rt; map.misplaced(), 1);
+    let mut moved = one_pair();
+    moved[0] = 2;
+    let map = ArchivedHashMap::of(access::<Small>(&moved)?);
+    assert!(rt; map.get(&2).is_none());
+    assert_eq!(rt; map.misplaced(), 1);
+    Ok(())
+}
+
+// Where a symbol stands, in the table of a stranger.
+fn address(symbols: &[u8], name: &str) -> Result<Option<u64>, VerifyError> {
+    let map = ArchivedHashMap::of(access::<HashMapOf<Text, u64>>(symbols)?);
+    match map.get(&name) {
+        Some(address) => Ok(Some(address.to_native())),
+        None => Ok(None),
+    }
+}
+
+#[test]
+fn a_symbol_is_found(rt: HostRuntime) -> Result<(), Fail> {
+    let mut bytes = [0xff; 76];
+    bytes[..16].copy_from_slice(&[0; 16]);
+    bytes[16..20].copy_from_slice(b"main");
+    bytes[24..32].copy_from_slice(&[0, 16, 0, 0, 0, 0, 0, 0]);
+    bytes[32] = 0x38;
+    bytes[34] = 0x38;
+    bytes[63..].copy_from_slice(&[0, 0xe0, 0xff, 0xff, 0xff, 1, 0, 0, 0, 2, 0, 0, 0]);
+    assert_eq!(rt; address(&bytes, "main")?, Some(4096));
+    assert_eq!(rt; address(&bytes, "exit")?, None);
+    Ok(())
+}
+
+#[test]
 fn a_map_is_the_value_of_a_map(rt: HostRuntime) -> Result<(), Fail> {
     let bytes = nested();
     let map = ArchivedHashMap::of(access::<Nested>(&bytes)?);
@@ -227,15 +269,19 @@ fn a_map_is_the_value_of_a_map(rt: HostRuntime) -> Result<(), Fail> {
 fn a_map_inside_is_checked(rt: HostRuntime) {
     let mut bytes = nested();
     bytes[40] = 0xdd;
-    assert!(rt; matches!(
-        access::<Nested>(&bytes),
-        Err(VerifyError::UnwrappedControlByte { index: 30 })
-    ));
+    assert!(rt;
+        matches!(
+            access::<Nested>(&bytes),
+            Err(VerifyError::UnwrappedControlByte { index: 30 })
+        )
+    );
     bytes[40] = 0xde;
-    assert!(rt; matches!(
-        access::<Nested>(&bytes),
-        Err(VerifyError::OutOfRange { pos: 2, size: 35 })
-    ));
+    assert!(rt;
+        matches!(
+            access::<Nested>(&bytes),
+            Err(VerifyError::OutOfRange { pos: 2, size: 35 })
+        )
+    );
 }
 
 #[test]

@@ -1,4 +1,3 @@
-use Rattle.std.proofs.Common.{rules}
 use Rattle.rkyv_collections.proofs.map.ArchivedHashMap.contains_key.Goals as goal
 use Rattle.rkyv_collections.proofs.Lookups.{some_at}
 

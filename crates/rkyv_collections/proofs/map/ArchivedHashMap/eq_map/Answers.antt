@@ -14,8 +14,7 @@ loop-key-init g c =
     let key_hash = hash_at g.H.KeyHasher.initial g.H.KeyHasher.feed g.H.KeyHasher.finish g.K.KeyElement.key_calls in
     let matches : ℕ → Bool = λ q. pair_matches g.W.Width.word k v key_hash g.K.ElementEq.same g.V.ElementEq.same (map_bytes c.args.self) q (map_bytes other) (map_place other) in
     let walk : ItemsLeft = c.iter-key-items.result in
-    let same : c.into_iter-key-iterator.result ≡ walk = cc in
-    (
+    let same : c.into_iter-key-iterator.result ≡ walk = cc in (
       subst (AllStand (entry_shape k v)) (sym same) c.iter-key-items.ensures.stand,
       ap (λ (left : ItemsLeft). left.archive) same ∙ c.iter-key-items.ensures.archive,
       ap (list_all matches) (sym (ap (λ (left : ItemsLeft). left.places) same ∙ c.iter-key-items.ensures.places)),

@@ -1,4 +1,4 @@
-use Rattle.std.proofs.Common.{◌≡◌, ℕ, List, Bool}
+use Rattle.std.proofs.Common.{◌≡◌, ℕ, Bool}
 use Rattle.std.specs.List.{list_all}
 use Rattle.rkyv_base.specs.Entry.{entry_shape}
 use Rattle.rkyv_table.specs.RawItems.{AllStand}

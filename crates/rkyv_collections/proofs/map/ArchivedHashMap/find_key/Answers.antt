@@ -1,7 +1,6 @@
-use Rattle.std.proofs.Common.{ap, ◌∙◌, Bool, ℕ, List}
+use Rattle.std.proofs.Common.{ap, ◌∙◌, ℕ, List}
 use Rattle.std.specs.Borrow.{Bor}
-use Rattle.rkyv_base.specs.View.{IsView}
-use Rattle.rkyv_collections.specs.Map.{AnswersKeys, hash_at, map_bytes}
+use Rattle.rkyv_collections.specs.Map.{map_bytes}
 use Rattle.rkyv_collections.proofs.Lookups.{query_under_hash}
 use Rattle.rkyv_collections.proofs.map.ArchivedHashMap.find_key.Goals as goal
 
@@ -15,5 +14,5 @@ returns-clause-first g c =
     let fits = g.Q.Query.fits c.args.key.now in
     c.find.ensures.first (fits (map_bytes c.args.self)) (λ key r is e. e.1 ∙ ap (λ (archive : Bor (List ℕ)). fits archive.now key.pos) is.archive)
     (query_under_hash g.W.Width.word g.K.Element.shape g.V.Element.shape c.args.self g.met.K.Element.laws g.met.V.Element.laws
-      g.H.KeyHasher.initial g.H.KeyHasher.feed g.H.KeyHasher.finish g.K.ElementEq.same g.K.KeyElement.key_calls
-      g.Q.KeyHash.can_read g.Q.KeyHash.calls g.Q.Query.fits g.met.Q.Query.query c.requires.map c.args.key.now c.requires.query)
+    g.H.KeyHasher.initial g.H.KeyHasher.feed g.H.KeyHasher.finish g.K.ElementEq.same g.K.KeyElement.key_calls
+    g.Q.KeyHash.can_read g.Q.KeyHash.calls g.Q.Query.fits g.met.Q.Query.query c.requires.map c.args.key.now c.requires.query)

@@ -1,0 +1,156 @@
+-- Equal maps have the same pairs.
+use Rattle.std.proofs.Common.{◌≡◌, ℕ, ◌+◌, ◌<◌, ◌∙◌, inl, inr, refl, sym, ap, arith, subst, List, Bool, true, false, Option, Some, eqb, get_or, length}
+use Rattle.std.specs.Int.{Width}
+use Rattle.std.specs.List.{find, list_all, position_or_len}
+use Rattle.std.specs.Option.{option_map, unwrap_or}
+use Rattle.std.proofs.lemmas.Bool.{and_from, and_parts, both_ways, eq-eqb, eqb-true}
+use Rattle.std.proofs.lemmas.List.{get_or_default, length-map}
+use Rattle.std.proofs.lemmas.List.Folds.{find_at}
+use Rattle.std.proofs.lemmas.Option.{same_Some, slice_get-get_or}
+use Rattle.rkyv_base.specs.Entry.{entry_shape, value_offset}
+use Rattle.rkyv_base.specs.Shape.{IsElement, Shape, Standing}
+use Rattle.rkyv_keys.specs.Equality.{Comparison, IsEquivalence}
+use Rattle.rkyv_keys.specs.OfEntries.{entry_equivalence, entry_same, standing_key}
+use Rattle.rkyv_table.specs.Header.{len_at}
+use Rattle.rkyv_table.specs.Reading.{home_places, item_at, item_places}
+use Rattle.rkyv_table.proofs.Lists.{any_member, contains_member, none_find, some_find}
+use Rattle.rkyv_table.proofs.Search.{cases_option}
+use Rattle.rkyv_table.proofs.Written.{first_within}
+use Rattle.rkyv_collections.specs.Equality.{EachIsIn, EqualHaveSamePairs, IsWrittenApart, pair_at, pair_matches}
+use Rattle.rkyv_collections.proofs.Matching.{IsMatching, column_matched, rows_within}
+use Rattle.rkyv_collections.proofs.WrittenPairs.{all_handed, all_walked, first_accepted, hash_small, pair_count, pair_stands, place_of_pair}
+
+-- the first of a list that passes stands at some index
+found_index : (test : ℕ → Bool) (xs : List ℕ) (x : ℕ) → find test xs ≡ Some x → (j : ℕ) × (j < length xs) × (get_or xs j 0 ≡ x)
+found_index test xs x e =
+    let some = some_find test xs x e in
+    let inside = first_within test xs some.0 in
+    let j = position_or_len test xs in
+    (j, inside, same_Some (get_or xs j 0) x (sym (slice_get-get_or xs j 0 inside) ∙ sym (find_at test xs) ∙ e))
+
+get_or_itself : (xs : List ℕ) (i : ℕ) → i < length xs → get_or xs i (get_or xs i 0) ≡ get_or xs i 0
+get_or_itself xs i h = sym (get_or_default xs i 0 (get_or xs i 0) h)
+
+module _ (w : Width) (k v : Shape) (kl : IsElement k) (vl : IsElement v) (key_hash : List ℕ → ℕ → ℕ) (same_key same_value : Comparison)
+    (ke : IsEquivalence k same_key) (ve : IsEquivalence v same_value)
+    (alike : (b c : List ℕ) (q r : ℕ) → Standing k b q → Standing k c r → same_key b q c r ≡ true → key_hash b q ≡ key_hash c r) where
+  module _ (b c : List ℕ) (p r : ℕ) (homes others : List ℕ) (first : IsWrittenApart w k v key_hash same_key same_value b p homes)
+      (second : IsWrittenApart w k v key_hash same_key same_value c r others) where
+    key_stands : (i : ℕ) → i < length homes → Standing k b (pair_at w k v b p homes i)
+    key_stands i h = standing_key kl vl b (pair_at w k v b p homes i) (pair_stands w k v kl vl key_hash same_key same_value b p homes first i h)
+
+    other_stands : (j : ℕ) → j < length others → Standing k c (pair_at w k v c r others j)
+    other_stands j h = standing_key kl vl c (pair_at w k v c r others j) (pair_stands w k v kl vl key_hash same_key same_value c r others second j h)
+
+    -- the value of the first pair is the same as that of the pair that stands at a place
+    same_at : ℕ → ℕ → Bool
+    same_at i place = same_value b (pair_at w k v b p homes i + value_offset k v) c (place + value_offset k v)
+
+    -- the key of the first pair is looked up among those handed in
+    matches_is : (i : ℕ) → i < length homes → pair_matches w k v key_hash same_key same_value b (pair_at w k v b p homes i) c r
+        ≡ unwrap_or (option_map (same_at i) (find (same_key b (pair_at w k v b p homes i) c) (home_places w (entry_shape k v).size c r others))) false
+    unfolding same_at
+    matches_is i h =
+        let q = pair_at w k v b p homes i in
+        ap (λ (found : Option ℕ). unwrap_or (option_map (same_at i) found) false)
+        (first_accepted w k v kl vl key_hash same_key same_value c r others second (key_hash b q) (same_key b q c) (hash_small w k v kl vl key_hash same_key same_value b p homes first i h)
+        (λ j l fits. sym (alike b c q (pair_at w k v c r others j) (key_stands i h) (other_stands j l) fits)))
+
+    -- what matches is the same as one of the other pairs
+    match_same : (i : ℕ) → i < length homes → pair_matches w k v key_hash same_key same_value b (pair_at w k v b p homes i) c r ≡ true
+        → (j : ℕ) × (j < length others) × (entry_same k v same_key same_value b (pair_at w k v b p homes i) c (pair_at w k v c r others j) ≡ true)
+    unfolding same_at
+    match_same i h matched =
+        let q = pair_at w k v b p homes i in
+        let xs = home_places w (entry_shape k v).size c r others in
+        let n = length-map others (item_at w (entry_shape k v).size c r) in
+        let e = sym (matches_is i h) ∙ matched in
+        elim (cases_option (find (same_key b q c) xs)) [
+          | inl none ↦ absurd (both_ways false refl (rw none at e))
+          | inr some ↦
+              let value : same_at i some.0 ≡ true = rw some.1 at e in
+              let key = (some_find (same_key b q c) xs some.0 some.1).1 in
+              let place = found_index (same_key b q c) xs some.0 some.1 in
+              let inside : place.0 < length others = omega (arith, place.1) in
+              let is : pair_at w k v c r others place.0 ≡ some.0 = sym (place_of_pair w k v kl vl key_hash same_key same_value c r others second place.0 inside) ∙ place.2 in (
+                place.0,
+                inside,
+                subst (λ x. entry_same k v same_key same_value b q c x ≡ true) (sym is)
+                    (and_from (same_key b q c some.0) (same_value b (q + value_offset k v) c (some.0 + value_offset k v)) key value),
+              )
+        ]
+
+    -- and what is the same as one of the other pairs matches
+    same_matches : (i j : ℕ) → i < length homes → j < length others
+        → entry_same k v same_key same_value b (pair_at w k v b p homes i) c (pair_at w k v c r others j) ≡ true
+        → pair_matches w k v key_hash same_key same_value b (pair_at w k v b p homes i) c r ≡ true
+    unfolding same_at
+    same_matches i j h l same =
+        let q = pair_at w k v b p homes i in
+        let x = pair_at w k v c r others j in
+        let xs = home_places w (entry_shape k v).size c r others in
+        let n = length-map others (item_at w (entry_shape k v).size c r) in
+        let both = and_parts (same_key b q c x) (same_value b (q + value_offset k v) c (x + value_offset k v)) same in
+        let there = place_of_pair w k v kl vl key_hash same_key same_value c r others second j l in
+        elim (cases_option (find (same_key b q c) xs)) [
+          | inl none ↦
+              let member = contains_member (get_or xs j 0) xs (j, omega arith, get_or_itself xs j (omega arith)) in
+              absurd (both_ways _ (none_find (same_key b q c) xs none) (any_member (same_key b q c) (get_or xs j 0) xs member (ap (same_key b q c) there ∙ both.0)))
+          | inr some ↦
+              let key = (some_find (same_key b q c) xs some.0 some.1).1 in
+              let place = found_index (same_key b q c) xs some.0 some.1 in
+              let inside : place.0 < length others = omega (arith, place.1) in
+              let y = pair_at w k v c r others place.0 in
+              let is : y ≡ some.0 = sym (place_of_pair w k v kl vl key_hash same_key same_value c r others second place.0 inside) ∙ place.2 in
+              let found_key : same_key b q c y ≡ true = subst (λ z. same_key b q c z ≡ true) (sym is) key in
+              let turned = ke.symmetric b c q x (key_stands i h) (other_stands j l) both.0 in
+              let one : j ≡ place.0 = second.apart j place.0 l inside (ke.transitive c b c x q y (other_stands j l) (key_stands i h) (other_stands place.0 inside) turned found_key) in
+              let here : x ≡ some.0 = ap (pair_at w k v c r others) one ∙ is in
+              matches_is i h ∙ rw some.1 (subst (λ z. same_at i z ≡ true) here both.1)
+        ]
+
+    -- the pairs of the first map are matched with those of the second, no two with the same one
+    matching : EachIsIn w k v key_hash same_key same_value b p homes c r others
+        → IsMatching (length homes) (length others) (λ i j. entry_same k v same_key same_value b (pair_at w k v b p homes i) c (pair_at w k v c r others j))
+    matching each = record {
+      each = each;
+      apart = λ i i' j h h' l one two.
+          let q = pair_at w k v b p homes i in
+          let q' = pair_at w k v b p homes i' in
+          let x = pair_at w k v c r others j in
+          let key = (and_parts (same_key b q c x) (same_value b (q + value_offset k v) c (x + value_offset k v)) one).0 in
+          let key' = (and_parts (same_key b q' c x) (same_value b (q' + value_offset k v) c (x + value_offset k v)) two).0 in
+          let turned = ke.symmetric b c q' x (key_stands i' h') (other_stands j l) key' in
+          first.apart i i' h h' (ke.transitive b c b q x q' (key_stands i h) (other_stands j l) (key_stands i' h') key turned);
+    }
+
+  pub equal_have_same_pairs : EqualHaveSamePairs w k v key_hash same_key same_value
+  equal_have_same_pairs b c p r homes others first second =
+      let same : ℕ → ℕ → Bool = λ i j. entry_same k v same_key same_value b (pair_at w k v b p homes i) c (pair_at w k v c r others j) in
+      let matches : ℕ → Bool = λ q. pair_matches w k v key_hash same_key same_value b q c r in
+      let every : Bool = list_all matches (item_places w (entry_shape k v).size b p) in
+      let count = pair_count w k v kl vl key_hash same_key same_value b p homes first in
+      let count' = pair_count w k v kl vl key_hash same_key same_value c r others second in
+      let equivalence = entry_equivalence kl vl ke ve in (
+        λ equal.
+            let t = and_parts (eqb (len_at w b p) (len_at w c r)) every equal in
+            let n : length homes ≡ length others = sym count ∙ eqb-true (len_at w b p) (len_at w c r) t.0 ∙ count' in
+            let each : EachIsIn w k v key_hash same_key same_value b p homes c r others = λ i h.
+            match_same b c p r homes others first second i h (all_handed w k v kl vl key_hash same_key same_value b p homes first matches t.1 i h) in (
+              each,
+              λ j l.
+                  let row = column_matched (length homes) (length others) same (matching b c p r homes others first second each) n j l in (
+                    row.0,
+                    row.1,
+                    equivalence.symmetric b c (pair_at w k v b p homes row.0) (pair_at w k v c r others j)
+                        (pair_stands w k v kl vl key_hash same_key same_value b p homes first row.0 row.1) (pair_stands w k v kl vl key_hash same_key same_value c r others second j l) row.2,
+                  ),
+            ),
+        λ both.
+            let few = rows_within (length homes) (length others) same (matching b c p r homes others first second both.0) in
+            let back : ℕ → ℕ → Bool = λ i j. entry_same k v same_key same_value c (pair_at w k v c r others i) b (pair_at w k v b p homes j) in
+            let few' = rows_within (length others) (length homes) back (matching c b r p others homes second first both.1) in
+            and_from (eqb (len_at w b p) (len_at w c r)) every (eq-eqb (len_at w b p) (len_at w c r) (omega arith))
+            (all_walked w k v kl vl key_hash same_key same_value b p homes first matches
+            (λ i h. let d = both.0 i h in same_matches b c p r homes others first second i d.0 h d.1 d.2)),
+      )

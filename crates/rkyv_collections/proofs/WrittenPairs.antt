@@ -1,0 +1,108 @@
+-- Where the pairs of a written map stand, and how a walk and a lookup see them.
+use Rattle.std.proofs.Common.{◌≡◌, ℕ, ◌^◌, ◌<◌, ◌∙◌, inl, inr, sym, ap, arith, subst, List, Bool, true, length, map, slice_index}
+use Rattle.std.specs.Int.{Width}
+use Rattle.std.specs.List.{Contains, find, list_all}
+use Rattle.std.proofs.lemmas.List.{get_or-map, get_or_default, length-map}
+use Rattle.std.proofs.lemmas.List.Elements.{All-contains_itself, All-weaker}
+use Rattle.std.proofs.lemmas.List.Folds.{list_all-map}
+use Rattle.std.proofs.lemmas.List.Sums.{AllPass-from_list_all, list_all-from_AllPass}
+use Rattle.rkyv_scan.specs.Groups.{generic_kind}
+use Rattle.rkyv_scan.specs.KindLaws.{word_lawful}
+use Rattle.rkyv_base.specs.Entry.{entry_element, entry_shape}
+use Rattle.rkyv_base.specs.Shape.{IsElement, Shape, Standing}
+use Rattle.rkyv_keys.specs.Equality.{Comparison}
+use Rattle.rkyv_table.specs.Header.{cap_at, len_at}
+use Rattle.rkyv_table.specs.Placing.{walk}
+use Rattle.rkyv_table.specs.Reading.{IsWalked, home_places, item_at, item_places, place_found, table_controls}
+use Rattle.rkyv_table.proofs.FirstFound.{first_found}
+use Rattle.rkyv_table.proofs.Items.{item_viewed}
+use Rattle.rkyv_table.proofs.RawWalks.{walk_count}
+use Rattle.rkyv_table.proofs.WalkedHomes.{walked_homes}
+use Rattle.rkyv_table.proofs.Walks.{full_walked}
+use Rattle.rkyv_collections.specs.Equality.{IsWrittenApart, pair_at}
+use Rattle.rkyv_collections.proofs.Homes.{home_walked}
+
+module _ (w : Width) (k v : Shape) (kl : IsElement k) (vl : IsElement v) (key_hash : List ℕ → ℕ → ℕ) (same_key same_value : Comparison)
+    (b : List ℕ) (p : ℕ) (homes : List ℕ) (map_is : IsWrittenApart w k v key_hash same_key same_value b p homes) where
+  places : List ℕ
+  places = home_places w (entry_shape k v).size b p homes
+
+  hashes : List ℕ
+  hashes = map (key_hash b) places
+
+  hash_count : length hashes ≡ length homes
+  unfolding hashes places
+  hash_count = length-map places (key_hash b) ∙ length-map homes (item_at w (entry_shape k v).size b p)
+
+  pub place_of_pair : (i : ℕ) → i < length homes → slice_index (home_places w (entry_shape k v).size b p homes) i ≡ pair_at w k v b p homes i
+  place_of_pair i h = get_or-map (item_at w (entry_shape k v).size b p) homes i 0 0 h
+
+  -- the i-th hash is that of the i-th key
+  pub hash_of_pair : (i : ℕ) → i < length homes
+      → slice_index (map (key_hash b) (home_places w (entry_shape k v).size b p homes)) i ≡ key_hash b (pair_at w k v b p homes i)
+  unfolding hashes places
+  hash_of_pair i h =
+      let n = length-map homes (item_at w (entry_shape k v).size b p) in
+      get_or-map (key_hash b) places i 0 0 (omega arith) ∙ ap (key_hash b) (place_of_pair i h)
+
+  pub hash_small : (i : ℕ) → i < length homes → key_hash b (pair_at w k v b p homes i) < 2 ^ 64
+  unfolding hashes places
+  hash_small i h = subst (λ n. n < 2 ^ 64) (hash_of_pair i h) (map_is.written.fit i 0 (omega (arith, hash_count)))
+
+  pub pair_walked : (i : ℕ) → i < length homes → IsWalked w b p (slice_index homes i)
+  unfolding hashes places
+  pair_walked i h = home_walked w b p hashes homes map_is.written i (omega (arith, hash_count))
+
+  pub pair_stands : (i : ℕ) → i < length homes → Standing (entry_shape k v) b (pair_at w k v b p homes i)
+  pair_stands i h = (item_viewed w (entry_shape k v) (entry_element k v kl vl) b p map_is.stands (slice_index homes i) (pair_walked i h)).stands
+
+  -- as many pairs as the header tells
+  pub pair_count : len_at w b p ≡ length homes
+  unfolding hashes places
+  pair_count = map_is.written.count ∙ hash_count
+
+  -- a walked bucket is the home of a pair
+  walked_pair : (bucket : ℕ) → Contains (walk (table_controls w b p) (cap_at w b p)) bucket → Contains homes bucket
+  unfolding hashes places
+  walked_pair bucket at = elim map_is.written.placed [
+    | inl none ↦
+        let count = walk_count w (entry_shape k v) (entry_element k v kl vl) b p map_is.stands in
+        let z : length homes ≡ 0 = ap length none.1 in
+        absurd (omega (arith, at.1, count, pair_count, z))
+    | inr placed ↦ ((walked_homes (cap_at w b p) hashes homes (table_controls w b p) placed.0 map_is.written.fit placed.1).members bucket).0 at
+  ]
+
+  -- what holds of each walked pair holds of each pair handed in, and the other way
+  pub all_handed : (matches : ℕ → Bool) → list_all matches (item_places w (entry_shape k v).size b p) ≡ true
+      → (i : ℕ) → i < length homes → matches (pair_at w k v b p homes i) ≡ true
+  all_handed matches every i h =
+      let at : ℕ → ℕ = item_at w (entry_shape k v).size b p in
+      let ws = walk (table_controls w b p) (cap_at w b p) in
+      let each = AllPass-from_list_all (λ bucket. matches (at bucket)) ws (sym (list_all-map matches at ws) ∙ every) in
+      let here = full_walked (cap_at w b p) (table_controls w b p) (slice_index homes i) (pair_walked i h) in
+      subst (λ bucket. matches (at bucket) ≡ true) here.2 (each here.0 (slice_index homes i) here.1)
+
+  pub all_walked : (matches : ℕ → Bool) → ((i : ℕ) → i < length homes → matches (pair_at w k v b p homes i) ≡ true)
+      → list_all matches (item_places w (entry_shape k v).size b p) ≡ true
+  all_walked matches every =
+      let at : ℕ → ℕ = item_at w (entry_shape k v).size b p in
+      let ws = walk (table_controls w b p) (cap_at w b p) in
+      list_all-map matches at ws
+      ∙ list_all-from_AllPass (λ bucket. matches (at bucket)) ws
+      (All-weaker (Contains ws) (λ bucket. matches (at bucket) ≡ true)
+      (λ bucket in_walk.
+      let home = walked_pair bucket in_walk in
+      let is : slice_index homes home.0 ≡ bucket = get_or_default homes home.0 0 bucket home.1 ∙ home.2 in
+      subst (λ x. matches (at x) ≡ true) is (every home.0 home.1))
+      ws (All-contains_itself ws))
+
+  -- a lookup that accepts keys under the hash alone finds the first of those that are accepted
+  pub first_accepted : (hash : ℕ) (accept : ℕ → Bool) → hash < 2 ^ 64
+      → ((i : ℕ) → i < length homes → accept (pair_at w k v b p homes i) ≡ true → key_hash b (pair_at w k v b p homes i) ≡ hash)
+      → place_found generic_kind w (entry_shape k v).size b p hash accept ≡ find accept (home_places w (entry_shape k v).size b p homes)
+  unfolding hashes places
+  first_accepted hash accept small under =
+      first_found generic_kind word_lawful w (entry_shape k v).size b p hash small hashes homes accept map_is.written
+      (λ i h accepted.
+      let l : i < length homes = omega (arith, hash_count) in
+      hash_of_pair i l ∙ under i l (ap accept (sym (place_of_pair i l)) ∙ accepted))

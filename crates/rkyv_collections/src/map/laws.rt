@@ -1,0 +1,14 @@
+//! Laws of maps, over their definitions alone.
+ghost use Rattle.rkyv_collections.specs.Equality.{EqualHaveSamePairs};
+ghost use Rattle.rkyv_collections.specs.Map.{hash_at};
+
+use rkyv_base::width::Width;
+use rkyv_keys::equality::ElementEquiv;
+use rkyv_keys::keys::KeyElement;
+use rkyv_scan::hash::KeyHasher;
+
+/// Two maps that were written of distinct keys are equal exactly where each pair of either is the
+/// same as one of the other.
+pub fn equal_maps_have_the_same_pairs<K: KeyElement, V: ElementEquiv, H: KeyHasher, W: Width>()
+    ensures { EqualHaveSamePairs W.word K.shape V.shape (hash_at H.initial H.feed H.finish K.key_calls) K.same V.same }
+{}
