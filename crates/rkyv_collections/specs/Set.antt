@@ -6,7 +6,11 @@ use Rattle.rkyv_base.specs.Empty.{unit_shape}
 use Rattle.rkyv_base.specs.Shape.{Shape}
 use Rattle.rkyv_base.specs.View.{IsAt}
 use Rattle.rkyv_base.specs.declared.view.View.{View}
-use Rattle.rkyv_collections.specs.Map.{FindsFirstKey, FindsKey, IsKeyIn, IsMap, map_bytes, map_len, map_place, map_shape}
+use Rattle.rkyv_keys.specs.Equality.{Comparison}
+use Rattle.rkyv_keys.specs.OfUnits.{unit_same}
+use Rattle.rkyv_collections.specs.Equality.{map_equal}
+use Rattle.rkyv_collections.specs.Map.{FindsFirstKey, FindsKey, IsKeyIn, IsMap, key_places, map_archive, map_bytes, map_len, map_place, map_shape}
+use Rattle.rkyv_collections.specs.Misplaced.{map_misplaced}
 use Rattle.rkyv_collections.specs.declared.set.ArchivedHashSet.{ArchivedHashSet}
 
 -- the header of a set: that of a map to the unit value
@@ -18,7 +22,10 @@ module _ {K H W : Type 0} where
   abbrev pub IsSet : Width → Shape → ArchivedHashSet K H W → Type 0
   IsSet w k s = IsMap w k unit_shape s.map
 
-  -- the archive of the set, and the position of its header
+  -- the archive of the set, its bytes, and the position of its header
+  abbrev pub set_archive : ArchivedHashSet K H W → Bor (List ℕ)
+  set_archive s = map_archive s.map
+
   abbrev pub set_bytes : ArchivedHashSet K H W → List ℕ
   set_bytes s = map_bytes s.map
 
@@ -33,6 +40,10 @@ module _ {K H W : Type 0} where
   abbrev pub set_len : Width → ArchivedHashSet K H W → ℕ
   set_len w s = map_len w s.map
 
+  -- where its keys stand, by ascending bucket
+  abbrev pub member_places : Width → Shape → ArchivedHashSet K H W → List ℕ
+  member_places w k s = key_places w k unit_shape s.map
+
   -- the view is that of a key of the set
   abbrev pub IsMemberIn : Width → Shape → ArchivedHashSet K H W → View K → Type 0
   IsMemberIn w k s key = IsKeyIn w k unit_shape s.map key
@@ -44,3 +55,11 @@ module _ {K H W : Type 0} where
   -- and on a written one: of the position of the first accepted key in the order handed in
   abbrev pub FindsFirstMember : Width → Shape → ArchivedHashSet K H W → (List ℕ → ℕ → ℕ) → (ℕ → Bool) → (Option ℕ → Type 0) → Type 0
   FindsFirstMember w k s key_hash accept Told = FindsFirstKey w k unit_shape s.map key_hash accept Told
+
+-- equally many keys, and each of the first is found in the other
+abbrev pub set_equal : Width → Shape → (List ℕ → ℕ → ℕ) → Comparison → Comparison
+set_equal w k key_hash same = map_equal w k unit_shape key_hash same unit_same
+
+-- how many keys a lookup doesn't answer where they stand
+abbrev pub set_misplaced : Width → Shape → (List ℕ → ℕ → ℕ) → Comparison → List ℕ → ℕ → ℕ
+set_misplaced w k key_hash same = map_misplaced w k unit_shape key_hash same

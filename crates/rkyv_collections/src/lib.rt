@@ -5,3 +5,9 @@ pub mod map;
 pub mod set;
 #[cfg(test)]
 mod tests;
+
+pub use map::iter::{Iter, Keys, Values};
+pub use map::writing::HashMapResolver;
+pub use map::{ArchivedHashMap, HashMapOf};
+pub use set::writing::HashSetResolver;
+pub use set::{ArchivedHashSet, HashSetOf};

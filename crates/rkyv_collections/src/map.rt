@@ -3,8 +3,8 @@
 mod debug;
 mod element;
 mod equality;
-pub mod iter;
 mod hashing;
+pub mod iter;
 pub mod laws;
 mod lookup;
 mod misplaced;
@@ -28,5 +28,5 @@ pub struct HashMapOf<K, V, H = FxHasher64, W = Narrow> {
 /// A hash map of K to V under the hasher H that is read in place, in an archive of the width W.
 #[derive_where(Clone, Copy)]
 pub struct ArchivedHashMap<'a, K, V, H = FxHasher64, W = Narrow> {
-    view: View<'a, HashMapOf<K, V, H, W>>,
+    pub(crate) view: View<'a, HashMapOf<K, V, H, W>>,
 }

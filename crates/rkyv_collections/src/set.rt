@@ -1,5 +1,7 @@
 //! Hash sets.
 
+mod debug;
+mod equality;
 mod reading;
 pub mod writing;
 pub mod written;

@@ -1,4 +1,5 @@
 //! Worked examples, and one call of each public function.
-mod reading;
 mod lists;
+mod reading;
+mod sets;
 mod writing;

@@ -22,7 +22,7 @@ pub trait ElementDebug: Element {
 
 /// The value at a position of some bytes, where one stands.
 #[inline]
-fn standing<T: Element>(bytes: &[u8], pos: u64) -> Option<View<'_, T>>
+pub fn standing<T: Element>(bytes: &[u8], pos: u64) -> Option<View<'_, T>>
     ensures { MatchOption result
         (Viewed T.shape bytes.now pos → ⊥)
         (λ v. IsAt v bytes.entry pos × Viewed T.shape bytes.now pos) }

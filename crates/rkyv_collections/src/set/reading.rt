@@ -1,11 +1,12 @@
 //! A set, how many keys it has, and finding one of them.
 
-ghost use Rattle.std.specs.Prelude.{IfSome, IsTrue, ◌↔◌, ◌≡◌};
+ghost use Rattle.std.specs.Prelude.{IfSome, IsTrue, length, ◌↔◌, ◌≡◌};
 ghost use Rattle.rkyv_base.specs.Empty.{unit_shape};
 ghost use Rattle.rkyv_base.specs.Entry.{entry_element, entry_shape};
 ghost use Rattle.rkyv_base.specs.Empty.{unit_element};
 ghost use Rattle.rkyv_base.specs.View.{IsView, archive_of, place_of};
 ghost use Rattle.rkyv_scan.specs.Hash.{hash_of_calls};
+ghost use Rattle.rkyv_table.specs.RawItems.{AllStand};
 ghost use Rattle.rkyv_table.specs.TableLaws.{table_element};
 ghost use Rattle.rkyv_collections.specs.Map.{IsEntryAt, IsFoundAt, hash_at};
 ghost use Rattle.rkyv_collections.specs.Set.{
@@ -14,11 +15,14 @@ ghost use Rattle.rkyv_collections.specs.Set.{
   IsMemberIn,
   IsSet,
   IsSetAt,
+  member_places,
+  set_archive,
   set_bytes,
   set_len,
   set_shape,
 };
 
+use crate::map::iter::Keys;
 use crate::map::{ArchivedHashMap, HashMapOf};
 use crate::set::{ArchivedHashSet, HashSetOf};
 use rkyv_base::element::{Element, PartRange};
@@ -78,6 +82,18 @@ impl<'a, K: Element, H, W: Width> ArchivedHashSet<'a, K, H, W> {
         ensures { result ≡ set_len W.word self.entry }
     {
         self.map.len()
+    }
+
+    /// Its keys, by ascending bucket.
+    #[inline]
+    pub fn iter(self) -> Keys<'a, K, (), H, W>
+        requires { IsSet W.word K.shape self }
+        ensures archive { result.archive ≡ set_archive self.entry }
+        ensures places { result.places ≡ member_places W.word K.shape self.entry }
+        ensures count { length result.places ≡ set_len W.word self.entry }
+        ensures stand { AllStand (entry_shape K.shape unit_shape) result }
+    {
+        self.map.keys()
     }
 }
 

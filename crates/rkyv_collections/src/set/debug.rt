@@ -1,0 +1,31 @@
+//! Printing sets.
+ghost use Rattle.rkyv_base.specs.View.{IsView};
+ghost use Rattle.rkyv_collections.specs.Set.{set_shape};
+
+use crate::set::{ArchivedHashSet, HashSetOf};
+use rkyv_base::view::View;
+use rkyv_base::width::Width;
+use rkyv_keys::debug::{ElementDebug, Shown, standing};
+use std::fmt::{self, Debug, Formatter, Write};
+
+impl<K: ElementDebug, H, W: Width> ElementDebug for HashSetOf<K, H, W> {
+    fn debug<U: Write>(view: View<'_, HashSetOf<K, H, W>>, f: &mut Formatter<U>) -> fmt::Result
+        requires { IsView (set_shape W.word K.shape) view }
+    {
+        let mut printed = f.debug_set();
+        for key in ArchivedHashSet::of(view).iter() {
+            printed.entry(&Shown::new(key));
+        }
+        printed.finish()
+    }
+}
+
+impl<'a, K: ElementDebug, H, W: Width> Debug for ArchivedHashSet<'a, K, H, W> {
+    fn fmt<U: Write>(&self, f: &mut Formatter<U>) -> fmt::Result {
+        let map = self.map.view;
+        match standing::<HashSetOf<K, H, W>>(map.bytes(), map.pos()) {
+            Some(view) => HashSetOf::debug(view, f),
+            None => Err(fmt::Error),
+        }
+    }
+}

@@ -1,0 +1,70 @@
+//! Sets of given bytes, read in place.
+
+use crate::set::{ArchivedHashSet, HashSetOf};
+use rkyv_base::access::access;
+use rkyv_keys::equality::ElementEq;
+use std::test::Fail;
+
+// The set of 1, 2 and 3: buckets from 0 on, controls from 4 on, header at 36.
+fn three() -> [u8; 48] {
+    let mut bytes = [0xff; 48];
+    bytes[..4].copy_from_slice(&[3, 2, 1, 0]);
+    bytes[4..12].copy_from_slice(&[0xff, 0x28, 0x51, 0x7a, 0xff, 0x28, 0x51, 0x7a]);
+    bytes[35..].copy_from_slice(&[0, 0xe0, 0xff, 0xff, 0xff, 3, 0, 0, 0, 4, 0, 0, 0]);
+    bytes
+}
+
+// The set of the unit value, handed in twice: no bytes of buckets, controls from 0 on, header at 32.
+fn two_units() -> [u8; 44] {
+    let mut bytes = [0xff; 44];
+    bytes[..6].copy_from_slice(&[0, 0, 0xff, 0, 0, 0xff]);
+    bytes[31..].copy_from_slice(&[0, 0xe0, 0xff, 0xff, 0xff, 2, 0, 0, 0, 3, 0, 0, 0]);
+    bytes
+}
+
+#[test]
+fn keys_are_walked_by_ascending_bucket(rt: HostRuntime) -> Result<(), Fail> {
+    let bytes = three();
+    let set = ArchivedHashSet::of(access::<HashSetOf<u8>>(&bytes)?);
+    let mut keys = set.iter();
+    assert_eq!(rt; keys.len(), 3);
+    for wanted in [1, 2, 3] {
+        match keys.next() {
+            Some(key) => assert_eq!(rt; key.to_native(), wanted),
+            None => assert!(rt; false),
+        }
+    }
+    assert_eq!(rt; keys.size_hint(), (0, Some(0)));
+    assert!(rt; keys.next().is_none());
+    assert_eq!(rt; format!(in rt.alloc(); "{set:?}")?.as_str(), "{1, 2, 3}");
+    Ok(())
+}
+
+#[test]
+fn sets_are_compared(rt: HostRuntime) -> Result<(), Fail> {
+    let bytes = three();
+    let mut other = three();
+    let root = access::<HashSetOf<u8>>(&bytes)?;
+    let set = ArchivedHashSet::of(root);
+    assert!(rt; set.eq_set(set));
+    assert!(rt; HashSetOf::<u8>::same(root, root));
+    other[2] = 9;
+    let other = ArchivedHashSet::of(access::<HashSetOf<u8>>(&other)?);
+    assert!(rt; !set.eq_set(other));
+    Ok(())
+}
+
+#[test]
+fn a_key_that_was_handed_in_twice_is_misplaced_once(rt: HostRuntime) -> Result<(), Fail> {
+    let bytes = three();
+    assert_eq!(rt;
+        ArchivedHashSet::of(access::<HashSetOf<u8>>(&bytes)?).misplaced(),
+        0
+    );
+    let twice = two_units();
+    let set = ArchivedHashSet::of(access::<HashSetOf<()>>(&twice)?);
+    assert_eq!(rt; set.len(), 2);
+    assert!(rt; set.contains(&()));
+    assert_eq!(rt; set.misplaced(), 1);
+    Ok(())
+}
