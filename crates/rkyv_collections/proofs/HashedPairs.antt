@@ -1,5 +1,5 @@
 -- What is written of pairs under the hashes of their keys is the map of the pairs.
-use Rattle.std.proofs.Common.{◌≡◌, ℕ, ◌+◌, ◌≢◌, refl, ap, sym, subst, ◌∙◌, inl, inr, List, [], ◌∷◌, map, length, Option, Some, None, Result, Ok, Err, MatchResult}
+use Rattle.std.proofs.Common.{◌≡◌, ℕ, refl, ap, subst, ◌∙◌, inl, inr, List, [], ◌∷◌, map, length, Option, Result, Ok, Err, MatchResult}
 use Rattle.std.specs.Int.{Width}
 use Rattle.std.specs.Iterator.{Drains, Yields}
 use Rattle.std.proofs.lemmas.List.{length-map}

@@ -1,5 +1,5 @@
 -- A table that is written of items is the table of what is seen in them.
-use Rattle.std.proofs.Common.{◌≡◌, ℕ, suc, ◌+◌, ◌-◌, ◌*◌, ◌<◌, refl, ap, sym, subst, ◌∙◌, arith, inl, inr, List, [], ◌∷◌, map, take, drop, length, slice_get, slice_index, Option, Some, None}
+use Rattle.std.proofs.Common.{◌≡◌, ℕ, suc, ◌+◌, ◌-◌, ◌*◌, ◌<◌, refl, ap, sym, subst, ◌∙◌, inl, inr, List, [], ◌∷◌, map, take, drop, length, slice_get, slice_index, Option, Some, None}
 use Rattle.std.specs.List.{take-map, drop-map}
 use Rattle.std.specs.Option.{option_map}
 use Rattle.std.specs.Int.{Width}

@@ -1,5 +1,5 @@
 -- What an iterator gives that passes on what another one gives.
-use Rattle.std.proofs.Common.{◌≡◌, ℕ, ◌+◌, sym, ap, subst, ◌∙◌, inl, inr, List, [], ◌∷◌, map, length, Option, Some, None, Result, Ok, Err, MatchResult}
+use Rattle.std.proofs.Common.{◌≡◌, ℕ, ◌+◌, sym, ap, subst, ◌∙◌, inl, inr, List, [], ◌∷◌, map, Option, Some, None, Result, Ok, Err, MatchResult}
 use Rattle.std.specs.Iterator.{Drains, Yields}
 use Rattle.std.proofs.lemmas.List.{length-map}
 use Rattle.rkyv_base.specs.Format.{Format, GaveUp, Serialized}

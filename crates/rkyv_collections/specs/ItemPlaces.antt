@@ -1,5 +1,5 @@
 -- Where the items of a table stand, by where its buckets begin, and what holds there.
-use Rattle.std.proofs.Common.{◌≡◌, ℕ, zero, suc, ◌+◌, ◌-◌, ◌*◌, ◌<◌, ◌≤◌, refl, sym, ap, subst, ◌∙◌, arith, inl, inr, List, ◌∷◌, Bool, true, false, filter, length, slice_index, slice_range, pos, ◌+ℤ◌}
+use Rattle.std.proofs.Common.{◌≡◌, ℕ, zero, suc, ◌+◌, ◌-◌, ◌*◌, ◌<◌, ◌≤◌, sym, ap, subst, ◌∙◌, arith, inl, inr, List, ◌∷◌, Bool, true, false, filter, slice_index, slice_range, pos, ◌+ℤ◌}
 use Rattle.std.specs.Int.{Width}
 use Rattle.std.specs.List.{range_with_len}
 use Rattle.std.specs.Prelude.{unsigned_abs}

@@ -1,17 +1,16 @@
 -- A map that was written holds and stands wherever its bytes sit, and stands where the same bytes do.
-use Rattle.std.proofs.Common.{◌≡◌, ℕ, suc, ◌+◌, ◌-◌, ◌*◌, ◌^◌, ◌<◌, ◌≤◌, refl, sym, ap, subst, ◌∙◌, arith, inl, inr, List, [], ◌∷◌, map, length, slice_get, slice_index, Some, pos, ◌+ℤ◌, get_or}
+use Rattle.std.proofs.Common.{◌≡◌, ℕ, ◌+◌, ◌-◌, ◌*◌, ◌^◌, ◌<◌, ◌≤◌, refl, sym, ap, subst, ◌∙◌, arith, inl, inr, List, [], ◌∷◌, map, length, slice_get, slice_index, Some, pos, ◌+ℤ◌}
 use Rattle.std.specs.Int.{Width, byte_len, cast_signed, from_le_bytes}
 use Rattle.std.specs.Prelude.{unsigned_abs, slice_range}
 use Rattle.std.proofs.lemmas.List.{ext_get_or, get_or-map, length-map}
-use Rattle.std.proofs.lemmas.Option.{slice_get-map, slice_get_cases, slice_get_within}
-use Rattle.rkyv_base.specs.Bytes.{Same, number_at, same_part, signed_at}
+use Rattle.std.proofs.lemmas.Option.{slice_get_cases, slice_get_within}
+use Rattle.rkyv_base.specs.Bytes.{Same, number_at, same_part}
 use Rattle.rkyv_base.specs.Entry.{entry_element, entry_shape, same_key, value_offset}
 use Rattle.rkyv_base.specs.Format.{Format, IsFormat, StandsNear}
 use Rattle.rkyv_base.specs.Pairs.{PairStands, pair_format, pair_is_format, pair_near}
 use Rattle.rkyv_base.specs.Shape.{IsElement, Shape, Standing, standing}
 use Rattle.rkyv_base.specs.Text.{IsArchiveWord}
 use Rattle.rkyv_table.specs.Header.{begin_told, cap_at, len_at}
-use Rattle.rkyv_table.specs.Laws.{AreHashes}
 use Rattle.rkyv_table.specs.Numbers.{capacity, control_count}
 use Rattle.rkyv_table.specs.Placing.{Written}
 use Rattle.rkyv_table.specs.Reading.{IsWalked, WrittenAt, controls_place, home_places, item_at, table_controls}
