@@ -1,5 +1,5 @@
 -- A lookup in a written table.
-use Rattle.std.proofs.Common.{◌≡◌, ℕ, ◌∙◌, ◌<◌, ◌^◌, inl, inr, refl, sym, ap, subst, arith, Bool, true, List, length, slice_index}
+use Rattle.std.proofs.Common.{◌≡◌, ℕ, ◌∙◌, ◌<◌, ◌^◌, inl, inr, refl, ap, arith, Bool, List, length}
 use Rattle.std.specs.Int.{Width}
 use Rattle.std.specs.List.{find}
 use Rattle.std.specs.Option.{option_map}

@@ -1,6 +1,6 @@
 -- What the numbers of a header tell.
 use Rattle.std.proofs.Common.{◌≡◌, ◌∙◌, ℕ, ◌*◌, ap, List, ℤ, pos, ◌+ℤ◌, ◌-ℤ◌, FitsSigned, to_z, of_z}
-use Rattle.std.specs.Int.{Width, w64, w128}
+use Rattle.std.specs.Int.{Width, w128}
 use Rattle.std.proofs.lemmas.Int.{to_z-of_z}
 use Rattle.rkyv_base.specs.Bytes.{signed_at}
 use Rattle.rkyv_table.specs.Header.{begin_told, cap_at}

@@ -1,13 +1,12 @@
 -- Homes, and the controls of a written table, are lists that capacity and hashes determine.
-use Rattle.std.proofs.Common.{◌≡◌, ℕ, zero, suc, ◌+◌, ◌*◌, ◌-◌, ◌%◌, ◌<◌, ◌≤◌, inl, inr, refl, sym, ap, ◌∙◌, arith, List, [], ◌∷◌, ◌++◌, Bool, true, false, cond, not, eqb, ltb, length, get_or, take, map, Some, get_or-take, length-take}
+use Rattle.std.proofs.Common.{◌≡◌, ℕ, zero, suc, ◌+◌, ◌*◌, ◌%◌, ◌<◌, ◌≤◌, inl, inr, refl, sym, ap, ◌∙◌, arith, List, [], ◌∷◌, ◌++◌, Bool, true, false, cond, eqb, ltb, length, get_or, take, map, Some, length-take}
 use Rattle.std.specs.List.{list_any, find, fold, range_with_len, position_or_len}
 use Rattle.std.specs.Option.{unwrap_or}
 use Rattle.std.proofs.lemmas.Nat.{mod_below}
-use Rattle.std.proofs.lemmas.List.{take_all, take_more, take-append-le, get_or_append_left, get_or_push, length_push, ext_get_or, get_or_past, get_or-map, length-map}
+use Rattle.std.proofs.lemmas.List.{take_all, take_more, ext_get_or, get_or_past, get_or-map, length-map}
 use Rattle.std.proofs.lemmas.List.FromFn.{length-map-range_with_len, get_or-map-range_with_len}
-use Rattle.std.proofs.lemmas.List.Folds.{find_at}
 use Rattle.std.proofs.lemmas.List.Sums.{fold-append, passes_at_first}
-use Rattle.std.proofs.lemmas.Bool.{cases_Bool, cases_lt, or_parts, eqb-true, lt-ltb, le-ltb, not-false, not-true, both_ways}
+use Rattle.std.proofs.lemmas.Bool.{cases_Bool, cases_lt, or_parts, eqb-true, lt-ltb, le-ltb, both_ways}
 use Rattle.rkyv_table.specs.Numbers.{tag, control_count}
 use Rattle.rkyv_table.specs.Probe.{shown}
 use Rattle.rkyv_table.specs.Placing.{is_free, Homes, with_home, homes, Written, bucket_control, written_controls}

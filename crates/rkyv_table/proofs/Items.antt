@@ -1,5 +1,5 @@
 -- What an accepted table gives to its readers.
-use Rattle.std.proofs.Common.{◌≡◌, ℕ, zero, suc, ◌+◌, ◌-◌, ◌*◌, ◌<◌, ◌≤◌, ◌%◌, inl, inr, refl, sym, ap, subst, ◌∙◌, arith, List, ◌∷◌, Bool, true, false, filter, length, slice_index, ℤ, pos, ◌+ℤ◌, slice_range}
+use Rattle.std.proofs.Common.{◌≡◌, ℕ, zero, suc, ◌+◌, ◌-◌, ◌*◌, ◌<◌, ◌≤◌, inl, inr, refl, sym, ap, subst, ◌∙◌, arith, List, ◌∷◌, Bool, true, false, filter, length, slice_index, ℤ, pos, ◌+ℤ◌, slice_range}
 use Rattle.std.specs.List.{range_with_len}
 use Rattle.std.specs.Prelude.{unsigned_abs}
 use Rattle.std.specs.Int.{Width}
@@ -9,7 +9,7 @@ use Rattle.std.proofs.Math.Nat.{mul-le-mul_right, add-mul}
 use Rattle.rkyv_scan.specs.Groups.{Kind, is_full}
 use Rattle.rkyv_base.specs.Bytes.{signed_at}
 use Rattle.rkyv_base.specs.Parts.{PartIn}
-use Rattle.rkyv_base.specs.Shape.{Shape, IsElement, Standing, Viewed, standing}
+use Rattle.rkyv_base.specs.Shape.{Shape, IsElement, Viewed, standing}
 use Rattle.rkyv_table.specs.Controls.{IsFullBucket}
 use Rattle.rkyv_table.specs.Finding.{end, found}
 use Rattle.rkyv_table.specs.Header.{len_at, cap_at, begin_told}

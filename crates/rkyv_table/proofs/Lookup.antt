@@ -4,7 +4,7 @@ use Rattle.std.specs.List.{find, list_any, Contains, range_with_len, position_or
 use Rattle.std.proofs.lemmas.List.FromFn.{length-range_with_len, get_or-range_with_len}
 use Rattle.std.proofs.lemmas.List.Folds.{Any-from_list_any}
 use Rattle.std.proofs.lemmas.Nat.{mod_below}
-use Rattle.std.proofs.lemmas.Bool.{cases_Bool, cases_eq, cases_lt, eq-eqb, ne_eqb, or_left, or_right, or_from, or_parts, ltb-true, ltb-false, le-leb, not-false, not-true, and_parts, and_from, lt-ltb}
+use Rattle.std.proofs.lemmas.Bool.{cases_Bool, cases_eq, cases_lt, eq-eqb, ne_eqb, or_left, or_right, or_from, or_parts, ltb-true, ltb-false, le-leb, not-false, not-true, and_parts}
 use Rattle.rkyv_table.specs.Numbers.{start, tag, control_count, probe_capacity}
 use Rattle.rkyv_table.specs.Probe.{strides}
 use Rattle.rkyv_table.specs.Controls.{IsFullBucket}

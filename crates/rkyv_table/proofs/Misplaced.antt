@@ -1,18 +1,17 @@
 -- Items that a lookup of their own doesn't answer.
-use Rattle.std.proofs.Common.{◌≡◌, ℕ, zero, suc, ◌+◌, ◌%◌, ◌^◌, ◌<◌, ◌≤◌, inl, inr, refl, sym, ap, subst, ◌∙◌, arith, List, [], ◌∷◌, Bool, true, false, not, cond, ◌&&◌, ◌||◌, eqb, length, filter, get_or, map, take, Option, Some, None, get_or-take, length-take}
+use Rattle.std.proofs.Common.{◌≡◌, ℕ, suc, ◌+◌, ◌%◌, ◌^◌, ◌<◌, ◌≤◌, inl, inr, refl, sym, ap, subst, ◌∙◌, arith, List, [], ◌∷◌, Bool, true, false, not, ◌&&◌, eqb, length, filter, get_or, map, take, Option, Some, None, get_or-take, length-take}
 use Rattle.std.specs.Prelude.{MatchOption}
 use Rattle.std.specs.List.{find, list_any, Contains, IsDistinct, range_with_len, position_or_len}
 use Rattle.std.specs.Cmp.{nat_eq_equiv}
-use Rattle.std.specs.Option.{option_and_then}
 use Rattle.std.proofs.lemmas.List.{ext_get_or, get_or_default, nil_from_length}
 use Rattle.std.proofs.lemmas.List.Folds.{Any-from_list_any, find_at, list_any_at}
 use Rattle.std.proofs.lemmas.List.FromFn.{length-range_with_len, get_or-range_with_len, length-map-range_with_len, get_or-map-range_with_len}
 use Rattle.std.proofs.lemmas.List.Sums.{fails_before_first, passes_at_first}
 use Rattle.std.proofs.lemmas.Map.Made.{length-from_same_keys}
 use Rattle.std.proofs.lemmas.Option.{none-some, same_Some, slice_get-get_or}
-use Rattle.std.proofs.lemmas.Bool.{cases_Bool, cases_eq, cases_lt, and_parts, and_from, eq-eqb, eqb-true, ne_eqb, not-false, not-true, or_left, or_right, both_ways, true≢false}
+use Rattle.std.proofs.lemmas.Bool.{cases_Bool, cases_eq, cases_lt, and_parts, and_from, eq-eqb, eqb-true, ne_eqb, not-false, or_left, or_right, true≢false}
 use Rattle.rkyv_scan.specs.Groups.{Kind, IsKind, is_full}
-use Rattle.rkyv_table.specs.Finding.{marked, candidates, shows_empty, ends_at, found}
+use Rattle.rkyv_table.specs.Finding.{marked, candidates, ends_at, found}
 use Rattle.rkyv_table.specs.Misplaced.{AloneAccepted, AsksForOne, IsSameness, NoneAccepted, is_answer, is_misplaced, misplaced, repeated, repeats_earlier}
 use Rattle.rkyv_table.specs.Numbers.{tag}
 use Rattle.rkyv_table.specs.Placing.{Accepted, Written, walk}
@@ -70,9 +69,10 @@ module _ (kind : Kind) (cap len h : ℕ) (controls : List ℕ) (law : IsKind kin
       let e' = sym (answer_cons kind controls cap (tag h) accept p ps) ∙ e in
       elim (cases_Bool (ends_at kind controls cap (tag h) accept p)) [
         | inl t ↦
-            let f : find accept (candidates kind controls cap (tag h) p) ≡ Some b = rw t at e' in
-            ((some_find accept (candidates kind controls cap (tag h) p) b f).1,
-            candidate_walked p b (sub p (or_left (eqb p p) (list_any (eqb p) ps) (eq-eqb p p refl))) (found_member accept b (candidates kind controls cap (tag h) p) f))
+            let f : find accept (candidates kind controls cap (tag h) p) ≡ Some b = rw t at e' in (
+              (some_find accept (candidates kind controls cap (tag h) p) b f).1,
+              candidate_walked p b (sub p (or_left (eqb p p) (list_any (eqb p) ps) (eq-eqb p p refl))) (found_member accept b (candidates kind controls cap (tag h) p) f),
+            )
         | inr n ↦
             let f : answer kind controls cap (tag h) accept ps ≡ Some b = rw n at e' in
             answer_walked accept b ps (λ q m. sub q (or_right (eqb q p) (list_any (eqb q) ps) m)) f

@@ -5,7 +5,7 @@ use Rattle.std.proofs.Math.Nat.{mod-add-mod, mod-eq_of_lt}
 use Rattle.std.proofs.Math.Pow.{pow_mono}
 use Rattle.std.proofs.lemmas.Nat.{and_mask, mod_below, pow_pos}
 use Rattle.std.proofs.lemmas.Bool.{cases_lt, lt-ltb, le-ltb}
-use Rattle.rkyv_table.specs.Numbers.{modulus, control_count, probe_capacity}
+use Rattle.rkyv_table.specs.Numbers.{modulus, probe_capacity}
 use Rattle.rkyv_table.specs.Probe.{probe_place, strides, strides_from, IsProbe}
 use Rattle.rkyv_table.proofs.Triangle.{triangle, twice}
 use Rattle.rkyv_table.proofs.Modulus.{modulus_power}

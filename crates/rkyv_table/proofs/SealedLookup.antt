@@ -1,5 +1,5 @@
 -- What a lookup tells of the table that is read tells of the seal.
-use Rattle.std.proofs.Common.{◌≡◌, ℕ, ◌+◌, ◌∙◌, sym, subst, ap, Bool, List, Option}
+use Rattle.std.proofs.Common.{◌≡◌, ℕ, sym, subst, Bool, List, Option}
 use Rattle.std.specs.Int.{Width}
 use Rattle.std.specs.List.{find}
 use Rattle.rkyv_base.specs.Seal.{SealAt, archive_in, pos_in}
@@ -9,7 +9,7 @@ use Rattle.rkyv_base.specs.declared.seal.Seal.{Seal}
 use Rattle.rkyv_base.specs.declared.view.View.{View}
 use Rattle.rkyv_scan.specs.Groups.{Kind}
 use Rattle.rkyv_table.specs.Laws.{IsUnderHash}
-use Rattle.rkyv_table.specs.Reading.{FindsFirst, FindsFound, IsItem, IsItemPlace, IsTable, IsWalked, WrittenAt, home_places, item_at, place_found}
+use Rattle.rkyv_table.specs.Reading.{FindsFirst, FindsFound, IsItemPlace, IsTable, IsWalked, WrittenAt, home_places, item_at, place_found}
 use Rattle.rkyv_table.specs.SealedLookup.{IsItemSeal, IsReadAt, IsTableSeal, SealsFirst, SealsFound}
 use Rattle.rkyv_table.specs.Table.{table_shape}
 use Rattle.rkyv_table.specs.declared.table.ArchivedHashTable.{ArchivedHashTable}

@@ -1,12 +1,11 @@
 -- A write of one item in place keeps the table.
-use Rattle.std.specs.Prelude.{◌≡◌, ◌≢◌, ℕ, suc, ◌+◌, ◌-◌, ◌*◌, ◌<◌, ◌≤◌, ℤ, pos, ◌+ℤ◌, ◌-ℤ◌, List, [], ◌∷◌, Bool, length, slice_index, slice_range, unsigned_abs}
+use Rattle.std.specs.Prelude.{◌≡◌, ◌≢◌, ℕ, suc, ◌+◌, ◌-◌, ◌*◌, ◌<◌, ◌≤◌, pos, ◌+ℤ◌, ◌-ℤ◌, List, [], ◌∷◌, Bool, length, slice_index, slice_range, unsigned_abs}
 use Rattle.std.specs.Int.{Width, byte_len, cast_signed, from_le_bytes}
-use Rattle.std.proofs.Common.{arith, refl, subst, sym, ◌∙◌, ap, inl, inr, get_or, ltb}
+use Rattle.std.proofs.Common.{arith, subst, sym, ◌∙◌, ap, inl, inr}
 use Rattle.std.proofs.lemmas.Bool.{cases_eq, cases_lt}
 use Rattle.std.proofs.lemmas.Int.{ints}
 use Rattle.std.proofs.Math.Nat.{mul-le-mul_right}
 use Rattle.rkyv_base.specs.Bytes.{Same, number_at, same_part, signed_at}
-use Rattle.rkyv_base.specs.Parts.{PartIn}
 use Rattle.rkyv_base.specs.Entry.{entry_element, entry_shape, parts_inside, size_of_small, whole_size}
 use Rattle.rkyv_base.specs.Sealing.{Keeps, Outside, Sealed, value_place}
 use Rattle.rkyv_base.specs.Shape.{IsElement, Shape, Viewed}
@@ -21,7 +20,7 @@ use Rattle.rkyv_table.specs.Numbers.{control_count}
 use Rattle.rkyv_table.specs.Places.{AllHold}
 use Rattle.rkyv_table.specs.PlaceLaws.{AllBelow, range_below}
 use Rattle.rkyv_table.specs.Placing.{Accepted, Written, walk}
-use Rattle.rkyv_table.specs.Table.{IsPart, TableAt, TableHolds, bucket_at, controls_at, part_size, table_shape}
+use Rattle.rkyv_table.specs.Table.{IsPart, TableAt, bucket_at, controls_at, table_shape}
 use Rattle.rkyv_table.specs.TableLaws.{bucket_inside, of_numbers}
 
 -- two buckets share no byte
@@ -125,9 +124,13 @@ module _ (w : Width) (s : Shape) (law : IsElement s) (b : List ℕ) (p i : ℕ) 
   at_kept lo hi l (inl h) = inl h
   at_kept lo hi l (inr (n, part, is, e)) =
       let same : whole.0 ≡ n = let x = whole.1.part.begins in let y = part.begins in omega (arith, ints, x, y) in
-      inr (n, part,
-      part_kept s law b c n (cap_at w b p) i walked.0 (subst (λ m. Sealed b (bucket_at s.size m (cap_at w b p) i) s.size c) same sealed_at)
-      (subst (λ m. Keeps s b c (bucket_at s.size m (cap_at w b p) i)) same keeps_at) (len_at w b p) lo part.above is, e)
+      inr (
+        n,
+        part,
+        part_kept s law b c n (cap_at w b p) i walked.0 (subst (λ m. Sealed b (bucket_at s.size m (cap_at w b p) i) s.size c) same sealed_at)
+            (subst (λ m. Keeps s b c (bucket_at s.size m (cap_at w b p) i)) same keeps_at) (len_at w b p) lo part.above is,
+        e,
+      )
 
   other_same : (j : ℕ) → IsWalked w b p j → j ≢ i → SameValue s b c (item_at w s.size b p j)
   other_same j there ne =
@@ -175,8 +178,10 @@ module _ (w : Width) (s : Shape) (b c : List ℕ) (p i : ℕ) (kept : KeepsTable
     fit = x.fit;
     placed = elim x.placed [
       | inl e ↦ inl e
-      | inr u ↦ inr (subst (λ n. length hashes < n) (sym (cap_kept w b c p kept.header)) u.0,
-        subst (λ n. Written n hashes homes (table_controls w c p)) (sym (cap_kept w b c p kept.header)) (subst (Written (cap_at w b p) hashes homes) (sym kept.controls) u.1))
+      | inr u ↦ inr (
+        subst (λ n. length hashes < n) (sym (cap_kept w b c p kept.header)) u.0,
+        subst (λ n. Written n hashes homes (table_controls w c p)) (sym (cap_kept w b c p kept.header)) (subst (Written (cap_at w b p) hashes homes) (sym kept.controls) u.1),
+      )
     ];
   }
 
@@ -192,8 +197,8 @@ module _ (w : Width) (k v : Shape) (kl : IsElement k) (vl : IsElement v) (b : Li
       let small = size_of_small (whole_size k v) there.stands.1.0 in
       let inside = parts_inside k v in (
         table_kept w s law b p i view walked c
-        (sealed_wider b c (value_place k v q) v.size q s.size (omega arith) (omega (arith, small, inside.1)) sealed)
-        (entry_kept k v kl vl b c q sealed keeps),
+            (sealed_wider b c (value_place k v q) v.size q s.size (omega arith) (omega (arith, small, inside.1)) sealed)
+            (entry_kept k v kl vl b c q sealed keeps),
         record {
           fixed = same_outside b (value_place k v q) v.size c sealed q (q + k.size) (omega arith) (inl (omega (arith, inside.0)));
           parts = λ l h.

@@ -1,6 +1,6 @@
 -- A walk over written controls visits the homes.
-use Rattle.std.proofs.Common.{◌≡◌, ℕ, zero, suc, ◌+◌, ◌<◌, ◌≤◌, ◌^◌, ◌∙◌, ◌↔◌, inl, inr, refl, sym, ap, subst, arith, eqb, Bool, true, false, not, List, length, take, filter, slice_index, get_or}
-use Rattle.std.specs.List.{AllPairs, Contains, IsDistinct, list_any, range_with_len}
+use Rattle.std.proofs.Common.{◌≡◌, ℕ, ◌<◌, ◌∙◌, inl, inr, sym, ap, subst, arith, eqb, not, List, length, take, slice_index, get_or}
+use Rattle.std.specs.List.{AllPairs, Contains, list_any, range_with_len}
 use Rattle.std.proofs.lemmas.Bool.{cases_Bool, ne_eqb, not-false, true≢false}
 use Rattle.std.proofs.lemmas.List.{get_or-take, get_or_default, length-take}
 use Rattle.std.proofs.lemmas.List.FromFn.{get_or-range_with_len, length-range_with_len}
@@ -9,7 +9,6 @@ use Rattle.std.proofs.lemmas.Map.Keys.{IsDistinct-from_apart}
 use Rattle.rkyv_scan.specs.Groups.{is_full}
 use Rattle.rkyv_table.specs.Controls.{IsFullBucket}
 use Rattle.rkyv_table.specs.Laws.{AreHashes}
-use Rattle.rkyv_table.specs.Numbers.{tag}
 use Rattle.rkyv_table.specs.Placing.{Written, is_free, walk}
 use Rattle.rkyv_table.specs.Probe.{shown}
 use Rattle.rkyv_table.specs.WalkLaws.{VisitsHomes}

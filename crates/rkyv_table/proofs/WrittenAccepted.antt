@@ -1,5 +1,5 @@
 -- The controls of a written table are those of an accepted one: as many full buckets as items.
-use Rattle.std.proofs.Common.{◌≡◌, ℕ, ◌+◌, ◌^◌, ◌<◌, refl, sym, ◌∙◌, arith, List, true, false, ◌&&◌, eqb, ltb, length, get_or, take, replicate, get_or-take, length-take}
+use Rattle.std.proofs.Common.{◌≡◌, ℕ, ◌+◌, ◌^◌, ◌<◌, refl, sym, ◌∙◌, arith, List, false, ◌&&◌, eqb, ltb, length, get_or, take, replicate, get_or-take, length-take}
 use Rattle.std.specs.List.{list_any, range_with_len, IsDistinct}
 use Rattle.std.specs.Cmp.{nat_eq_equiv}
 use Rattle.std.proofs.lemmas.Map.Keys.{IsDistinct-from_apart}

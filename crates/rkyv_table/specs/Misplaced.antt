@@ -1,5 +1,5 @@
 -- Items that a lookup of their own doesn't answer.
-use Rattle.std.specs.Prelude.{◌≡◌, ◌≢◌, ℕ, ◌<◌, ◌^◌, List, Bool, true, false, not, length, Option, Some, None, filter, take, slice_index, eqb, MatchOption}
+use Rattle.std.specs.Prelude.{◌≡◌, ℕ, ◌<◌, ◌^◌, List, Bool, true, false, not, length, Option, Some, None, filter, take, slice_index, eqb, MatchOption}
 use Rattle.std.specs.List.{Contains, list_any, range_with_len}
 use Rattle.rkyv_scan.specs.Groups.{Kind, IsKind}
 use Rattle.rkyv_table.specs.Finding.{found}

@@ -1,12 +1,12 @@
 -- How many items of a table a lookup of their own doesn't answer.
-use Rattle.std.specs.Prelude.{◌≡◌, ℕ, Bool, not}
+use Rattle.std.specs.Prelude.{◌≡◌, ℕ, Bool, Option}
 use Rattle.std.specs.Int.{Width}
 use Rattle.rkyv_base.specs.Shape.{Shape}
 use Rattle.rkyv_base.specs.declared.view.View.{View}
 use Rattle.rkyv_scan.specs.Groups.{Kind}
 use Rattle.rkyv_table.specs.Header.{cap_at, len_at}
-use Rattle.rkyv_table.specs.Misplaced.{is_answer, is_misplaced, misplaced}
-use Rattle.rkyv_table.specs.Reading.{Answers, IsItem, bucket_found, item_at, table_bytes, table_controls, table_place}
+use Rattle.rkyv_table.specs.Misplaced.{is_misplaced, misplaced}
+use Rattle.rkyv_table.specs.Reading.{IsItem, IsItemIn, bucket_found, item_at, table_bytes, table_controls, table_place}
 use Rattle.rkyv_table.specs.declared.table.ArchivedHashTable.{ArchivedHashTable}
 
 -- the comparison may be asked of each two items
@@ -32,10 +32,15 @@ table_misplaced kind w s t hash_of same =
     misplaced kind (table_controls w (table_bytes t) (table_place t)) (cap_at w (table_bytes t) (table_place t)) (len_at w (table_bytes t) (table_place t))
     (λ i. hash_of (item_at w s.size (table_bytes t) (table_place t) i)) (λ i j. same (item_at w s.size (table_bytes t) (table_place t) i) (item_at w s.size (table_bytes t) (table_place t) j))
 
--- a lookup doesn't answer the bucket
-abbrev pub TellsElsewhere : {T W : Type 0} → (View T → Bool → Type 0) → Kind → Width → Shape → ArchivedHashTable T W → ℕ → ℕ → Bool → Type 0
-TellsElsewhere post kind w s t hash bucket result =
-    (accept : ℕ → Bool) → Answers post w s t accept → result ≡ not (is_answer bucket (bucket_found kind w s.size (table_bytes t) (table_place t) hash accept))
+-- what the comparison answers of the items in two buckets
+abbrev pub AnswersOf : {T W : Type 0} → (View T → View T → Bool → Type 0) → Width → Shape → ArchivedHashTable T W → ℕ → ℕ → Bool → Type 0
+AnswersOf {T} post w s t i j result = (x : View T) × (y : View T) × IsItemIn w s t i x × IsItemIn w s t j y × post x y result
+
+-- a lookup of the bucket's own item answers the bucket that is found
+abbrev pub FindsOwn : {T W : Type 0} → (View T → View T → Bool → Type 0) → Kind → Width → Shape → ArchivedHashTable T W → ℕ → ℕ → Option ℕ → Type 0
+FindsOwn compares kind w s t hash bucket result =
+    (same : ℕ → ℕ → Bool) → ComparesAs compares w s t same
+    → result ≡ bucket_found kind w s.size (table_bytes t) (table_place t) hash (same (item_at w s.size (table_bytes t) (table_place t) bucket))
 
 -- the number of the misplaced items, where both functions go by the positions of items
 abbrev pub CountsMisplaced : {T W : Type 0} → (View T → ℕ → Type 0) → (View T → View T → Bool → Type 0) → Kind → Width → Shape → ArchivedHashTable T W → ℕ → Type 0

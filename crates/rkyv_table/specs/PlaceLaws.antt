@@ -1,7 +1,7 @@
 -- Laws of values at places, one after the other.
 use Rattle.std.specs.Prelude.{◌≡◌, ℕ, zero, suc, ◌+◌, ◌<◌, ◌≤◌, ⊤, Bool, List, [], ◌∷◌, filter}
 use Rattle.std.specs.List.{range_with_len}
-use Rattle.std.proofs.Common.{refl, arith, subst, sym, ◌∙◌, inl, inr}
+use Rattle.std.proofs.Common.{refl, arith, subst, inl, inr}
 use Rattle.std.proofs.lemmas.Bool.{cases_Bool}
 use Rattle.rkyv_base.specs.declared.errors.VerifyError.{VerifyError}
 use Rattle.rkyv_base.specs.Bytes.{Same, same_part}

@@ -1,5 +1,5 @@
 -- Where items stand, and what the controls say of it.
-use Rattle.std.specs.Prelude.{◌≡◌, ℕ, ◌+◌, ◌*◌, ◌-◌, ◌%◌, ◌<◌, ◌≤◌, List, [], ◌∷◌, ◌++◌, Bool, true, not, ltb, eqb, cond, map, length, take, slice_index, slice_index_or, Some, filter}
+use Rattle.std.specs.Prelude.{◌≡◌, ℕ, ◌*◌, ◌-◌, ◌%◌, ◌<◌, ◌≤◌, List, [], ◌∷◌, ◌++◌, Bool, true, not, ltb, eqb, cond, map, length, take, slice_index, slice_index_or, Some, filter}
 use Rattle.std.specs.List.{find, list_any, fold, range_with_len, position_or_len}
 use Rattle.std.specs.Option.{unwrap_or}
 use Rattle.rkyv_scan.specs.Groups.{is_full}

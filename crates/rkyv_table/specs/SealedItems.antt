@@ -1,5 +1,5 @@
 -- What a cursor over the items of a table has left, which lends each to be written.
-use Rattle.std.specs.Prelude.{◌≡◌, ℕ, ◌+◌, ◌<◌, ◌≤◌, [], ◌∷◌, List, Option, length, MatchOption}
+use Rattle.std.specs.Prelude.{◌≡◌, ℕ, ◌+◌, ◌<◌, [], ◌∷◌, List, Option, length, MatchOption}
 use Rattle.std.specs.Int.{Width}
 use Rattle.rkyv_base.specs.Seal.{place_in}
 use Rattle.rkyv_base.specs.Shape.{Shape, Viewed}

@@ -1,5 +1,5 @@
 -- A table is an element.
-use Rattle.std.specs.Prelude.{◌≡◌, ℕ, suc, ◌+◌, ◌-◌, ◌*◌, ◌%◌, ◌<◌, ◌≤◌, ◌⊎◌, ℤ, pos, ◌+ℤ◌, ◌-ℤ◌, List, slice_index}
+use Rattle.std.specs.Prelude.{◌≡◌, ℕ, suc, ◌+◌, ◌-◌, ◌*◌, ◌%◌, ◌<◌, ◌≤◌, ℤ, pos, ◌+ℤ◌, ◌-ℤ◌, List, slice_index}
 use Rattle.std.specs.Int.{Width, byte_len, from_le_bytes, cast_signed}
 use Rattle.std.proofs.Common.{refl, arith, subst, sym, ◌∙◌, ap, inl, inr}
 use Rattle.std.proofs.Math.Nat.{mul-le-mul_right, mul-zero}
@@ -7,13 +7,13 @@ use Rattle.std.proofs.lemmas.Nat.{mul-mod}
 use Rattle.rkyv_scan.specs.Groups.{is_full}
 use Rattle.rkyv_base.specs.declared.errors.VerifyError.{VerifyError}
 use Rattle.rkyv_base.specs.Bytes.{Same, number_at, signed_at, same_part}
-use Rattle.rkyv_base.specs.Parts.{PartIn, part_clear, part_one, part_wider}
+use Rattle.rkyv_base.specs.Parts.{part_clear, part_one, part_wider}
 use Rattle.rkyv_base.specs.Shape.{Shape, IsElement, IsAlign, by_align, sum_multiple}
 use Rattle.rkyv_base.specs.Text.{IsArchiveWord, by_archive_word}
 use Rattle.rkyv_table.specs.Header.{begin_told, cap_at, len_at}
 use Rattle.rkyv_table.specs.Numbers.{control_count}
 use Rattle.rkyv_table.specs.Places.{AllHold}
-use Rattle.rkyv_table.specs.PlaceLaws.{AllBelow, all_between, all_clear, all_lower, all_near, range_below}
+use Rattle.rkyv_table.specs.PlaceLaws.{AllBelow, all_clear, all_lower, all_near, range_below}
 use Rattle.rkyv_table.specs.Placing.{Accepted, Repeats, walk}
 use Rattle.rkyv_table.specs.Repeating.{FirstUnlike}
 use Rattle.rkyv_table.specs.Table.{FailsInside, IsPart, ItemsHold, TableAt, TableFailsAt, TableHolds, bucket_at, controls_at, part_size, table_shape}

@@ -7,4 +7,7 @@ pub mod table;
 mod tests;
 
 pub use controls::find::Strides;
+pub use table::raw_iter::RawIter;
+pub use table::raw_iter_seal::RawIterSeal;
+pub use table::resolve::HashTableResolver;
 pub use table::{ArchivedHashTable, TableOf};

@@ -1,23 +1,23 @@
 //! Tables of items.
 
-pub mod buckets;
-pub mod bytes;
+mod buckets;
+mod bytes;
 mod element;
-pub mod hands_in;
+mod hands_in;
 mod header;
 pub(crate) mod items;
 pub mod laws;
 mod lookup;
 pub mod misplaced;
-pub mod parts;
+mod parts;
 pub mod raw_iter;
 pub mod raw_iter_seal;
 mod reading;
 pub mod resolve;
 pub mod sealed;
-pub mod serialize;
-pub mod take;
-pub mod take_two;
+mod serialize;
+mod take;
+mod take_two;
 mod verify;
 pub mod written;
 

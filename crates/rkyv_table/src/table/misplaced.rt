@@ -1,10 +1,11 @@
 //! Counting the items that a lookup of their own doesn't answer.
+ghost use Rattle.std.specs.Prelude.{not, ◌≡◌};
 ghost use Rattle.rkyv_scan.specs.Groups.{generic_kind};
-ghost use Rattle.rkyv_table.specs.Misplaced.{NoneMisplacedIsComplete, RepeatedAreMisplaced};
-ghost use Rattle.rkyv_table.specs.MisplacedIn.{CountsMisplaced, MayCompare, TellsElsewhere};
-ghost use Rattle.rkyv_table.specs.Reading.{IsTable, MayAsk};
+ghost use Rattle.rkyv_table.specs.Misplaced.{is_answer, NoneMisplacedIsComplete, RepeatedAreMisplaced};
+ghost use Rattle.rkyv_table.specs.MisplacedIn.{AnswersOf, CountsMisplaced, FindsOwn, MayCompare};
+ghost use Rattle.rkyv_table.specs.Reading.{AreItems, IsTable, IsWalked, MayAsk, table_bytes, table_place};
 
-use crate::controls::find::Strides;
+use crate::controls::find::{Strides, find};
 use crate::table::ArchivedHashTable;
 use crate::table::items::Items;
 use rkyv_base::element::Element;
@@ -12,17 +13,45 @@ use rkyv_base::view::View;
 use rkyv_base::width::Width;
 use rkyv_scan::Group;
 
+// Whether a lookup didn't answer the bucket.
+#[inline]
+fn is_elsewhere(bucket: usize, found: Option<usize>) -> bool
+    ensures { result ≡ not (is_answer bucket found) }
+{
+    match found {
+        Some(found) => bucket != found,
+        None => true,
+    }
+}
+
 impl<'a, T: Element, W: Width> ArchivedHashTable<'a, T, W> {
-    // Whether a lookup doesn't answer the bucket.
-    fn is_elsewhere<F: Fn(View<'a, T>) -> bool>(self, bucket: usize, hash: u64, cmp: F) -> bool
-        requires table { IsTable W.word T.shape self }
-        requires callable { MayAsk (F.pre cmp) W.word T.shape self }
-        ensures { TellsElsewhere (F.post cmp) generic_kind W.word T.shape self.entry hash bucket result }
+    // The bucket that a lookup of a bucket's own item answers.
+    #[inline]
+    fn own_lookup<S: Fn(View<'a, T>, View<'a, T>) -> bool>(
+        items: Items<'a, T, W>,
+        bucket: usize,
+        hash: u64,
+        same: &S,
+    ) -> Option<usize>
+        requires items { AreItems W.word T.shape items }
+        requires walked { IsWalked W.word (table_bytes items.table) (table_place items.table) bucket }
+        requires comparable { MayCompare (S.pre same.now) W.word T.shape items.table }
+        ensures { FindsOwn (S.post same.now) generic_kind W.word T.shape items.entry.table hash bucket result }
     {
-        match self.find::<Group, F>(hash, cmp, &mut Strides::new()) {
-            Some(found) => bucket != found.bucket,
-            None => true,
-        }
+        find::<Group, _>(
+            items.controls,
+            items.cap,
+            items.len,
+            hash,
+            |other|
+                requires items { AreItems W.word T.shape items }
+                requires walked { IsWalked W.word (table_bytes items.table) (table_place items.table) bucket }
+                requires other { IsWalked W.word (table_bytes items.table) (table_place items.table) other }
+                requires comparable { MayCompare (S.pre same.now) W.word T.shape items.table }
+                ensures { AnswersOf (S.post same.entry.now) W.word T.shape items.entry.table bucket other result }
+            { same(items.item(bucket), items.item(other)) },
+            &mut Strides::new(),
+        )
     }
 
     /// How many items a lookup of their own doesn't answer: under the hash that `hash_of` gives of
@@ -44,12 +73,8 @@ impl<'a, T: Element, W: Width> ArchivedHashTable<'a, T, W> {
         let items = Items::of(self);
         let mut count = 0;
         for bucket in items.walk::<Group>() {
-            let item = items.item(bucket);
-            let accepts = |other|
-                requires { S.pre same item other }
-                ensures { S.post same item.entry other.entry result }
-            { same(item, other) };
-            if self.is_elsewhere(bucket, hash_of(item), accepts) {
+            let hash = hash_of(items.item(bucket));
+            if is_elsewhere(bucket, Self::own_lookup(items, bucket, hash, &same)) {
                 count += 1;
             }
         }

@@ -2,6 +2,7 @@
 ghost use Rattle.std.specs.Prelude.{IsTrue, MatchResult, length, ◌%◌, ◌*◌, ◌+◌, ◌↔◌, ◌≡◌, ◌≤◌};
 ghost use Rattle.std.specs.Int.{byte_len};
 ghost use Rattle.rkyv_base.specs.Checking.{Fails, Passes};
+ghost use Rattle.rkyv_base.specs.View.{IsView};
 ghost use Rattle.rkyv_table.specs.Header.{cap_at, len_at};
 ghost use Rattle.rkyv_table.specs.Reading.{IsTable, table_bytes, table_place};
 ghost use Rattle.rkyv_table.specs.Table.{table_shape};
@@ -42,7 +43,8 @@ impl<'a, T: Element, W: Width> ArchivedHashTable<'a, T, W> {
     /// The table whose header is viewed.
     #[inline]
     pub fn of(view: View<'a, TableOf<T, W>>) -> ArchivedHashTable<'a, T, W>
-        ensures { result.view ≡ view.entry }
+        ensures view { result.view ≡ view.entry }
+        ensures table { IsView (table_shape W.word T.shape) view.entry → IsTable W.word T.shape result }
     {
         ArchivedHashTable { view }
     }

@@ -303,3 +303,22 @@ fn a_table_is_asked_by_another_hasher(rt: HostRuntime) -> Result<(), Fail> {
     assert_eq!(rt; counted_wide(bytes, hashes[1], large as u64)?, (true, 1));
     Ok(())
 }
+
+// Whether a table of a stranger has this number under this hash.
+fn has_number(bytes: &[u8], hash: u64, wanted: u32) -> Result<bool, VerifyError> {
+    let table = ArchivedHashTable::of(access::<TableOf<u32>>(bytes)?);
+    Ok(
+        table
+            .get_with(hash, |item| item.to_native() == wanted)
+            .is_some(),
+    )
+}
+
+#[test]
+fn a_number_of_a_stranger_is_looked_up(rt: HostRuntime) -> Result<(), Fail> {
+    let bytes = archived(rt.alloc(), &[7u32, 9], &[16, 3], (7, 8))?;
+    assert!(rt; has_number(bytes.as_slice(), 16, 7)?);
+    assert!(rt; !has_number(bytes.as_slice(), 16, 9)?);
+    assert!(rt; has_number(&[0; 11], 16, 7).is_err());
+    Ok(())
+}

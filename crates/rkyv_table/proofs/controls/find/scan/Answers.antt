@@ -1,4 +1,4 @@
-use Rattle.std.proofs.Common.{arith, ◌≡◌, ◌+◌, ◌*◌, ◌<◌, ◌≤◌, ◌/◌, ℕ, sym, ap, ◌∙◌, take, drop, List, leb, get_or, None, ◌%◌}
+use Rattle.std.proofs.Common.{arith, ◌≡◌, ◌+◌, ◌*◌, ◌<◌, ◌≤◌, ◌/◌, ℕ, sym, ap, ◌∙◌, take, drop, List, leb, get_or, None}
 use Rattle.std.specs.List.{find, list_any, range_with_len}
 use Rattle.rkyv_scan.specs.Groups.{Kind}
 use Rattle.rkyv_table.proofs.Groups.{candidates_in, empty_in, all_candidates, all_empty, no_candidates, no_empty, found_more, found_whole, more_empty, group_of, group_fits, groups_end, or_no, places_are, mark_told, width_divides}

@@ -1,4 +1,4 @@
-use Rattle.std.proofs.Common.{◌≡◌, ℕ, ◌<◌, ◌≤◌, ◌∙◌, arith, inl, inr, subst, sym, rules, false}
+use Rattle.std.proofs.Common.{◌∙◌, arith, inl, inr, subst, sym}
 use Rattle.std.proofs.lemmas.Bool.{cases_eq, true≢false}
 use Rattle.rkyv_table.specs.Repeating.{RepeatsAt}
 use Rattle.rkyv_table.proofs.controls.repeats.check_repeats.Goals as goal

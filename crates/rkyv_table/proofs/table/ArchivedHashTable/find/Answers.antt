@@ -1,5 +1,5 @@
-use Rattle.std.proofs.Common.{refl, ap, subst, sym, ◌∙◌, ◌+◌, ℕ}
-use Rattle.rkyv_table.specs.Reading.{Answers, AreItems, IsItem, bucket_found, item_at, lookup_end, table_bytes, table_place}
+use Rattle.std.proofs.Common.{refl, ap, subst, ◌∙◌, ◌+◌, ℕ}
+use Rattle.rkyv_table.specs.Reading.{IsItem, bucket_found, item_at, lookup_end, table_bytes, table_place}
 use Rattle.rkyv_table.proofs.Items.{read_accepted, read_end, read_found, read_walked}
 use Rattle.rkyv_table.proofs.table.ArchivedHashTable.find.Goals as goal
 

@@ -3,8 +3,7 @@ use Rattle.std.specs.List.{All}
 use Rattle.rkyv_scan.specs.Groups.{generic_kind}
 use Rattle.rkyv_table.specs.Header.{cap_at}
 use Rattle.rkyv_table.specs.MisplacedIn.{ComparesAs, HashesAs, bucket_misplaced, table_misplaced}
-use Rattle.rkyv_table.specs.Placing.{walk}
-use Rattle.rkyv_table.specs.Reading.{IsWalked, table_bytes, table_controls, table_place}
+use Rattle.rkyv_table.specs.Reading.{IsWalked, table_bytes, table_place}
 use Rattle.rkyv_table.proofs.table.ArchivedHashTable.misplaced_by.Given as goal
 
 abbrev pub invariant-loop-bucket : goal.invariant-loop-bucket

@@ -8,8 +8,8 @@ pub returns-clause-iter : goal.returns-clause-iter
 returns-clause-iter g c =
     let same = c.of-items.ensures.table in
     let read : IsReadAt c.args.this c.of-items.result.table = (
-      ap (λ t. t.view.archive.now) same ∙ ap (λ v. v.archive.now) c.of.ensures ∙ c.as_view.ensures.bytes,
-      ap (λ t. t.view.pos) same ∙ ap (λ v. v.pos) c.of.ensures ∙ c.as_view.ensures.pos,
+      ap (λ t. t.view.archive.now) same ∙ ap (λ v. v.archive.now) c.of.ensures.view ∙ c.as_view.ensures.bytes,
+      ap (λ t. t.view.pos) same ∙ ap (λ v. v.pos) c.of.ensures.view ∙ c.as_view.ensures.pos,
     ) in
     begun_at g.W.Width.word g.T.Element.shape g.met.T.Element.laws c.args.this c.requires.table c.of-items.result c.of-items.ensures.items read _ c.into_parts-archive.ensures.bytes refl refl refl refl
 
@@ -17,8 +17,8 @@ pub returns-clause-buckets : goal.returns-clause-buckets
 returns-clause-buckets g c =
     let same = c.of-items.ensures.table in
     let read : IsReadAt c.args.this c.of-items.result.table = (
-      ap (λ t. t.view.archive.now) same ∙ ap (λ v. v.archive.now) c.of.ensures ∙ c.as_view.ensures.bytes,
-      ap (λ t. t.view.pos) same ∙ ap (λ v. v.pos) c.of.ensures ∙ c.as_view.ensures.pos,
+      ap (λ t. t.view.archive.now) same ∙ ap (λ v. v.archive.now) c.of.ensures.view ∙ c.as_view.ensures.bytes,
+      ap (λ t. t.view.pos) same ∙ ap (λ v. v.pos) c.of.ensures.view ∙ c.as_view.ensures.pos,
     ) in
     let r : RawIterSeal g.row.T.Denot = record { archive = c.into_parts-archive.result.0; place = c.of-items.result.place; cap = c.of-items.result.cap; next = 0; left = c.of-items.result.len; kind = record {} } in
     all_left_at g.W.Width.word g.T.Element.shape g.met.T.Element.laws c.args.this c.requires.table c.of-items.result c.of-items.ensures.items read r c.into_parts-archive.ensures.bytes refl refl refl refl

@@ -1,5 +1,4 @@
-use Rattle.std.proofs.Common.{◌≡◌, ◌-◌, ◌≤◌, length}
-use Rattle.rkyv_table.specs.Numbers.{control_count}
+use Rattle.std.proofs.Common.{◌≡◌, ◌-◌}
 use Rattle.rkyv_table.specs.Walking.{IsWalk, left}
 use Rattle.rkyv_table.proofs.controls.walk.WalkIterator.next.Given as goal
 

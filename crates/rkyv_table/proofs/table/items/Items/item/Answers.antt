@@ -1,6 +1,5 @@
-use Rattle.std.proofs.Common.{◌≡◌, ◌∙◌, ◌<◌, ◌-◌, ◌*◌, ◌+◌, ◌≤◌, ap, arith, subst, sym}
-use Rattle.rkyv_base.specs.Shape.{Viewed}
-use Rattle.rkyv_table.specs.Reading.{controls_place, item_at}
+use Rattle.std.proofs.Common.{◌≡◌, ◌∙◌, ◌<◌, ◌-◌, ◌*◌, ◌+◌, ap, arith}
+use Rattle.rkyv_table.specs.Reading.{item_at}
 use Rattle.rkyv_table.proofs.Items.{item_before, item_viewed}
 use Rattle.rkyv_table.proofs.table.items.Items.item.Goals as goal
 

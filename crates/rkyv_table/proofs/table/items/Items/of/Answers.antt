@@ -1,7 +1,5 @@
-use Rattle.std.proofs.Common.{◌≡◌, ◌∙◌, ◌<◌, ◌+◌, ◌≤◌, ap, arith, refl, sym, pos, ◌+ℤ◌, length, slice_range, List, ℕ, Bor}
-use Rattle.rkyv_base.specs.Bytes.{signed_at}
+use Rattle.std.proofs.Common.{◌≡◌, ◌<◌, ap, arith, length, List, ℕ, Bor}
 use Rattle.rkyv_table.specs.Header.{cap_at}
-use Rattle.rkyv_table.specs.Numbers.{control_count}
 use Rattle.rkyv_table.specs.Reading.{controls_place}
 use Rattle.rkyv_table.proofs.Items.{controls_inside}
 use Rattle.rkyv_table.proofs.table.items.Items.of.Goals as goal

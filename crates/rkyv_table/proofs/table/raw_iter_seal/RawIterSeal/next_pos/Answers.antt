@@ -1,4 +1,4 @@
-use Rattle.std.proofs.Common.{◌≡◌, ℕ, ◌+◌, ◌-◌, ◌<◌, ◌≤◌, ◌∙◌, ap, arith, length}
+use Rattle.std.proofs.Common.{◌∙◌, ap, arith, length}
 use Rattle.rkyv_table.proofs.table.raw_iter_seal.RawIterSeal.next_pos.Goals as goal
 
 pub returns-in-Some-clause-takes : goal.returns-in-Some-clause-takes
