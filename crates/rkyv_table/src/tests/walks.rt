@@ -3,8 +3,9 @@
 use crate::table::raw_iter::RawIter;
 use crate::table::{ArchivedHashTable, TableOf};
 use crate::tests::archives::{FOUR_PAIRS, SIXTEEN, archived, hash_of_i8};
-use crate::tests::reading::walks_pairs;
+use crate::tests::reading::walked;
 use rkyv_base::access::access;
+use rkyv_base::entry::Entry;
 use rkyv_base::errors::VerifyError;
 use rkyv_base::width::Narrow;
 use std::test::Fail;
@@ -19,13 +20,13 @@ fn walks(bytes: &[u8], items: &[u8]) -> Result<bool, VerifyError> {
     for wanted in items {
         right = right && rest.len() == left && rest.size_hint() == (left, Some(left));
         left = left.saturating_sub(1);
-        match rest.next_view() {
-            Some(item) => right = right && item.to_native() == *wanted,
+        match rest.next() {
+            Some(pos) => right = right && bytes.get(pos as usize) == Some(wanted),
             None => return Ok(false),
         }
     }
     right = right && rest.len() == 0 && rest.size_hint() == (0, Some(0));
-    Ok(right && rest.next_view().is_none() && rest.next().is_none() && rest.next_view().is_none())
+    Ok(right && rest.next().is_none() && rest.next().is_none())
 }
 
 #[test]
@@ -44,8 +45,8 @@ fn items_are_walked_by_ascending_bucket(rt: HostRuntime) -> Result<(), Fail> {
 fn pairs_are_walked_by_ascending_bucket(rt: HostRuntime) -> Result<(), Fail> {
     let hashes = [hash_of_i8(1), hash_of_i8(3), hash_of_i8(5), hash_of_i8(7)];
     let bytes = archived(rt.alloc(), &FOUR_PAIRS, &hashes, (7, 8))?;
-    let pairs = [(5i8, 6i8), (7, 8), (1, 2), (3, 4)];
-    assert!(rt; walks_pairs::<i8, i8, Narrow>(bytes.as_slice(), &pairs)?);
+    let items = walked::<Entry<i8, i8>, Narrow>(rt.alloc(), bytes.as_slice())?;
+    assert_eq!(rt; items.as_slice(), [5, 6, 7, 8, 1, 2, 3, 4].as_slice());
     Ok(())
 }
 
@@ -53,7 +54,8 @@ fn pairs_are_walked_by_ascending_bucket(rt: HostRuntime) -> Result<(), Fail> {
 fn a_repeated_key_is_walked_twice(rt: HostRuntime) -> Result<(), Fail> {
     let hashes = [hash_of_i8(1), hash_of_i8(1)];
     let bytes = archived(rt.alloc(), &[(1i8, 2i8), (1, 9)], &hashes, (7, 8))?;
-    assert!(rt; walks_pairs::<i8, i8, Narrow>(bytes.as_slice(), &[(1, 2), (1, 9)])?);
+    let items = walked::<Entry<i8, i8>, Narrow>(rt.alloc(), bytes.as_slice())?;
+    assert_eq!(rt; items.as_slice(), [1, 2, 1, 9].as_slice());
     Ok(())
 }
 
@@ -86,4 +88,22 @@ fn an_empty_walk_gives_nothing(rt: HostRuntime) {
     assert_eq!(rt; rest.len(), 0);
     assert_eq!(rt; rest.next(), None);
     assert!(rt; rest.next_view().is_none());
+}
+
+#[test]
+fn a_walk_gives_views(rt: HostRuntime) -> Result<(), Fail> {
+    let bytes = archived(rt.alloc(), &[10u8, 20], &[2, 2], (1, 1))?;
+    let table = ArchivedHashTable::of(access::<TableOf<u8>>(bytes.as_slice())?);
+    let mut rest = table.raw_iter();
+    match rest.next_view() {
+        Some(item) => assert_eq!(rt; item.to_native(), 20),
+        None => assert!(rt; false, "the first item is there"),
+    }
+    match rest.next_view() {
+        Some(item) => assert_eq!(rt; item.to_native(), 10),
+        None => assert!(rt; false, "the second item is there"),
+    }
+    assert!(rt; rest.next_view().is_none());
+    assert!(rt; rest.next_view().is_none());
+    Ok(())
 }

@@ -2,7 +2,7 @@
 
 use crate::table::{ArchivedHashTable, TableOf};
 use crate::tests::archives::hash_of_u32;
-use crate::tests::reading::{counts, place_of, value_of, walks_pairs};
+use crate::tests::reading::{counts, place_of, value_of, walked};
 use rkyv_base::access::access_in;
 use rkyv_base::element::{Element, PartRange};
 use rkyv_base::entry::Entry;
@@ -77,7 +77,8 @@ fn a_wide_pair_is_read(rt: HostRuntime) -> Result<(), Fail> {
     assert_eq!(rt; place, Some(0));
     let found = value_of::<u32, u32, Wide>(&ONE_WIDE_PAIR, hash_of_u32(2), 2)?;
     assert_eq!(rt; found, (None, 1));
-    assert!(rt; walks_pairs::<u32, u32, Wide>(&ONE_WIDE_PAIR, &[(1, 2)])?);
+    let items = walked::<Entry<u32, u32>, Wide>(rt.alloc(), &ONE_WIDE_PAIR)?;
+    assert_eq!(rt; items.as_slice(), &ONE_WIDE_PAIR[..8]);
     Ok(())
 }
 
