@@ -56,16 +56,13 @@ pub(crate) fn place_of<K: Scalar + PartialEq, V: Scalar, W: Width>(
     key: K,
 ) -> Result<Option<u64>, VerifyError> {
     let table = ArchivedHashTable::of(access_in::<W, TableOf<Entry<K, V>, W>>(bytes)?);
-    Ok(
-        table.get_pos_with(
-            hash,
-            |pair| -> bool
-                requires { IsView (entry_shape (scalar_shape K.encoding) (scalar_shape V.encoding)) pair }
-            { has_key(pair, key) },
-        ),
-    )
+    Ok(table.get_pos_with(
+        hash,
+        |pair| -> bool
+            requires { IsView (entry_shape (scalar_shape K.encoding) (scalar_shape V.encoding)) pair }
+        { has_key(pair, key) },
+    ))
 }
-
 
 /// How many items a walk gives.
 pub(crate) fn count_walked<T: Element, W: Width>(bytes: &[u8]) -> Result<usize, VerifyError> {
@@ -78,7 +75,9 @@ pub(crate) fn walked<T: Element, W: Width>(alloc: Global, bytes: &[u8]) -> Resul
     let table = ArchivedHashTable::of(access_in::<W, TableOf<T, W>>(bytes)?);
     let mut items = Vec::new(alloc);
     for pos in table.raw_iter() {
-        let tail = bytes.get(pos as usize..).ok_or("the item begins in the archive")?;
+        let tail = bytes
+            .get(pos as usize..)
+            .ok_or("the item begins in the archive")?;
         let item = tail.get(..T::size()).ok_or("the item ends in the archive")?;
         items.extend_from_slice(item)?;
     }
