@@ -6,7 +6,6 @@ use rkyv_base::access::access;
 use rkyv_base::element::Element;
 use rkyv_base::entry::Entry;
 use rkyv_base::errors::VerifyError;
-use rkyv_base::scalars::Scalar;
 use rkyv_base::text::Text;
 use std::test::Fail;
 
@@ -31,7 +30,8 @@ fn texts_are_written_by_ascending_bucket(rt: HostRuntime) -> Result<(), Fail> {
     assert_eq!(rt; pos, 52);
     assert_eq!(rt; bytes.len(), 83);
     // the first text is in the highest bucket, and so the last
-    assert_eq!(rt; &bytes[..26], b"wonderful twowonderful one".as_slice());
+    let (texts, others) = bytes.split_at_checked(26).ok_or("both texts are there")?;
+    assert_eq!(rt; texts, b"wonderful twowonderful one".as_slice());
     let buckets = [
         0, 0, // up to the alignment
         0x8d, 0, 0, 0, 0xf1, 0xff, 0xff, 0xff, // 15 bytes before
@@ -39,7 +39,7 @@ fn texts_are_written_by_ascending_bucket(rt: HostRuntime) -> Result<(), Fail> {
         0x8d, 0, 0, 0, 0xd4, 0xff, 0xff, 0xff, // 44 bytes before
         0, 0xff, 0, 0, 0xff, 0, // the controls
     ];
-    assert!(rt; is_then_empty(&bytes[26..], &buckets, 25));
+    assert!(rt; is_then_empty(others, &buckets, 25));
     Ok(())
 }
 
@@ -73,17 +73,11 @@ fn two_texts_may_not_have_one_part(rt: HostRuntime) -> Result<(), Fail> {
     Ok(())
 }
 
-// The value that a key leads to in the table that another key leads to.
-fn inner_value(bytes: &[u8], hash: u64, key: i8) -> Result<Option<i8>, VerifyError> {
+// How many pairs the table has that a key leads to.
+fn inner_len(bytes: &[u8], hash: u64, key: i8) -> Result<Option<usize>, VerifyError> {
     let outer = ArchivedHashTable::of(access::<Outer>(bytes)?);
     match outer.get_with(hash, |entry| entry.key().to_native() == key) {
-        Some(entry) => {
-            let inner = ArchivedHashTable::of(entry.value());
-            match inner.get_with(hash, |pair| pair.key().to_native() == key) {
-                Some(pair) => Ok(Some(pair.value().to_native())),
-                None => Ok(None),
-            }
-        }
+        Some(entry) => Ok(Some(ArchivedHashTable::of(entry.value()).len())),
         None => Ok(None),
     }
 }
@@ -91,10 +85,8 @@ fn inner_value(bytes: &[u8], hash: u64, key: i8) -> Result<Option<i8>, VerifyErr
 #[test]
 fn a_table_in_a_table_is_read(rt: HostRuntime) -> Result<(), Fail> {
     assert_eq!(rt; <Outer as Element>::size(), 12);
-    let value = inner_value(&NESTED, hash_of_i8(1), 1)?;
-    assert_eq!(rt; value, Some(2));
-    let value = inner_value(&NESTED, hash_of_i8(2), 2)?;
-    assert_eq!(rt; value, None);
+    assert_eq!(rt; inner_len(&NESTED, hash_of_i8(1), 1)?, Some(1));
+    assert_eq!(rt; inner_len(&NESTED, hash_of_i8(2), 2)?, None);
     Ok(())
 }
 
