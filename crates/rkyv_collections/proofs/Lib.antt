@@ -3,7 +3,6 @@ pub mod Through
 pub mod HashedPairs
 pub mod SetItems
 pub mod Listing
-pub mod Homes
 pub mod Lookups
 pub mod Matching
 pub mod WrittenPairs

@@ -1,5 +1,5 @@
 -- From what a table finds to what a map does.
-use Rattle.std.proofs.Common.{◌≡◌, ℕ, ◌∙◌, None, Some, ap, sym, arith, Bool, length, map, subst, List, Option, slice_index}
+use Rattle.std.proofs.Common.{◌≡◌, ℕ, ◌<◌, ◌∙◌, None, Some, ap, sym, arith, Bool, length, map, subst, List, Option, slice_index}
 use Rattle.std.specs.Int.{Width}
 use Rattle.std.specs.Option.{is_some}
 use Rattle.std.proofs.lemmas.List.{get_or-map, length-map}
@@ -18,7 +18,7 @@ use Rattle.rkyv_table.specs.declared.table.ArchivedHashTable.{ArchivedHashTable}
 use Rattle.rkyv_table.proofs.Items.{item_viewed}
 use Rattle.rkyv_collections.specs.Map.{AreUnderHash, IsEntryAt, IsEntryIn, map_archive, IsFoundAt, IsKeyIn, IsMap, MapWrittenAt, hash_at, map_bytes, map_place}
 use Rattle.rkyv_collections.specs.declared.map.ArchivedHashMap.{ArchivedHashMap}
-use Rattle.rkyv_collections.proofs.Homes.{home_place, home_walked}
+use Rattle.rkyv_table.proofs.WrittenTables.{home_count, home_place, home_walked}
 
 module _ {K V H W : Type 0} (w : Width) (k v : Shape) (m : ArchivedHashMap K V H W) where
   -- an item of its table is an entry of the map
@@ -48,8 +48,9 @@ module _ {K V H W : Type 0} (w : Width) (k v : Shape) (m : ArchivedHashMap K V H
       let p = map_place m in
       let places = home_places w (entry_shape k v).size b p homes in
       let hashes = map (key_hash b) places in
-      let walked = home_walked w b p hashes homes written i h in
-      let at : slice_index places i ≡ _ = home_place w b p hashes homes written (entry_shape k v).size i h in
+      let below : i < length homes = omega (arith, h, home_count w b p hashes homes written) in
+      let walked = home_walked w b p hashes homes written i below in
+      let at : slice_index places i ≡ _ = home_place w (entry_shape k v).size b p homes i below in
       let here = under (slice_index places i) (slice_index homes i, walked, at) accepted in
       let n : length hashes ≡ length places = length-map places (key_hash b) in
       get_or-map (key_hash b) places i 0 0 (omega arith) ∙ here

@@ -20,7 +20,7 @@ use Rattle.rkyv_table.proofs.RawWalks.{walk_count}
 use Rattle.rkyv_table.proofs.WalkedHomes.{walked_homes}
 use Rattle.rkyv_table.proofs.Walks.{full_walked}
 use Rattle.rkyv_collections.specs.Equality.{IsWrittenApart, pair_at}
-use Rattle.rkyv_collections.proofs.Homes.{home_walked}
+use Rattle.rkyv_table.proofs.WrittenTables.{home_place, home_walked}
 
 module _ (w : Width) (k v : Shape) (kl : IsElement k) (vl : IsElement v) (key_hash : List ℕ → ℕ → ℕ) (same_key same_value : Comparison)
     (b : List ℕ) (p : ℕ) (homes : List ℕ) (map_is : IsWrittenApart w k v key_hash same_key same_value b p homes) where
@@ -35,7 +35,7 @@ module _ (w : Width) (k v : Shape) (kl : IsElement k) (vl : IsElement v) (key_ha
   hash_count = length-map places (key_hash b) ∙ length-map homes (item_at w (entry_shape k v).size b p)
 
   pub place_of_pair : (i : ℕ) → i < length homes → slice_index (home_places w (entry_shape k v).size b p homes) i ≡ pair_at w k v b p homes i
-  place_of_pair i h = get_or-map (item_at w (entry_shape k v).size b p) homes i 0 0 h
+  place_of_pair i h = home_place w (entry_shape k v).size b p homes i h
 
   -- the i-th hash is that of the i-th key
   pub hash_of_pair : (i : ℕ) → i < length homes
@@ -51,7 +51,7 @@ module _ (w : Width) (k v : Shape) (kl : IsElement k) (vl : IsElement v) (key_ha
 
   pub pair_walked : (i : ℕ) → i < length homes → IsWalked w b p (slice_index homes i)
   unfolding hashes places
-  pair_walked i h = home_walked w b p hashes homes map_is.written i (omega (arith, hash_count))
+  pair_walked i h = home_walked w b p hashes homes map_is.written i h
 
   pub pair_stands : (i : ℕ) → i < length homes → Standing (entry_shape k v) b (pair_at w k v b p homes i)
   pair_stands i h = (item_viewed w (entry_shape k v) (entry_element k v kl vl) b p map_is.stands (slice_index homes i) (pair_walked i h)).stands

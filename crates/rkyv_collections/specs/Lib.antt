@@ -4,7 +4,6 @@ pub mod Equality
 pub mod Misplaced
 pub mod MapFormat
 pub mod Handing
-pub mod ItemPlaces
 pub mod MapLaws
 pub mod MapSound
 pub mod SetFormat

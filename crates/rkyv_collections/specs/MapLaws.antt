@@ -1,25 +1,27 @@
 -- A map that was written holds and stands wherever its bytes sit, and stands where the same bytes do.
-use Rattle.std.proofs.Common.{◌≡◌, ℕ, ◌+◌, ◌-◌, ◌*◌, ◌^◌, ◌<◌, ◌≤◌, refl, sym, ap, subst, ◌∙◌, arith, inl, inr, List, [], ◌∷◌, map, length, slice_get, slice_index, Some, pos, ◌+ℤ◌}
-use Rattle.std.specs.Int.{Width, byte_len, cast_signed, from_le_bytes}
-use Rattle.std.specs.Prelude.{unsigned_abs, slice_range}
+use Rattle.std.proofs.Common.{◌≡◌, ℕ, ◌+◌, ◌-◌, ◌*◌, ◌<◌, ◌≤◌, refl, sym, ap, subst, ◌∙◌, arith, inl, inr, List, [], ◌∷◌, map, length, slice_get, slice_index, Some}
+use Rattle.std.specs.Int.{Width, byte_len}
+use Rattle.std.specs.Prelude.{slice_range}
 use Rattle.std.proofs.lemmas.List.{ext_get_or, get_or-map, length-map}
 use Rattle.std.proofs.lemmas.Option.{slice_get_cases, slice_get_within}
-use Rattle.rkyv_base.specs.Bytes.{Same, number_at, same_part}
+use Rattle.rkyv_base.specs.Bytes.{Same, same_part}
 use Rattle.rkyv_base.specs.Entry.{entry_element, entry_shape, same_key, value_offset}
 use Rattle.rkyv_base.specs.Format.{Format, IsFormat, StandsNear}
 use Rattle.rkyv_base.specs.Pairs.{PairStands, pair_format, pair_is_format, pair_near}
 use Rattle.rkyv_base.specs.Shape.{IsElement, Shape, Standing, standing}
 use Rattle.rkyv_base.specs.Text.{IsArchiveWord}
-use Rattle.rkyv_table.specs.Header.{begin_told, cap_at, len_at}
+use Rattle.rkyv_table.specs.Header.{cap_at}
 use Rattle.rkyv_table.specs.Numbers.{capacity, control_count}
 use Rattle.rkyv_table.specs.Placing.{Written}
-use Rattle.rkyv_table.specs.Reading.{IsWalked, WrittenAt, controls_place, home_places, item_at, table_controls}
-use Rattle.rkyv_table.specs.Table.{TableHolds, bucket_at, controls_at}
-use Rattle.rkyv_table.specs.TableFormat.{BucketsStand, TableStands}
-use Rattle.rkyv_table.specs.TableSound.{capacity_above, table_is_format}
+use Rattle.rkyv_table.specs.Reading.{WrittenAt, controls_place, home_places, item_at, table_controls}
+use Rattle.rkyv_table.specs.Table.{TableHolds}
+use Rattle.rkyv_table.specs.TableFormat.{TableStands}
+use Rattle.rkyv_table.specs.TableSound.{table_is_format}
 use Rattle.rkyv_table.specs.Taking.{hashes_of, items_of}
-use Rattle.rkyv_table.proofs.WrittenStep.{home_below}
-use Rattle.rkyv_collections.specs.ItemPlaces.{HoldsAt, HoldsWithin, holds_at, item_holds, told_controls, told_item, told_place}
+use Rattle.rkyv_table.specs.ItemPlaces.{HeldPart, HoldsWithin, holds_at, item_holds, told_place}
+use Rattle.rkyv_table.specs.SameHeader.{cap_same, len_same, place_same}
+use Rattle.rkyv_table.specs.WrittenTables.{IsWrittenOf}
+use Rattle.rkyv_table.proofs.WrittenTables.{home_count, home_place, home_walked, table_written}
 use Rattle.rkyv_collections.specs.Map.{map_shape}
 use Rattle.rkyv_collections.specs.MapFormat.{MapStands, keyed, map_format}
 
@@ -51,9 +53,6 @@ module _ (k v : Shape) (kl : IsElement k) (vl : IsElement v) (w : Width) where
   abbrev place : List ℕ → ℕ → List ℕ → ℕ → ℕ
   place b p homes i = slice_index (home_places w S.size b p homes) i
 
-  place_is : (b : List ℕ) (p : ℕ) (homes : List ℕ) (i : ℕ) → i < length homes → place b p homes i ≡ item_at w S.size b p (slice_index homes i)
-  place_is b p homes i h = get_or-map (item_at w S.size b p) homes i 0 0 h
-
   -- the key of an entry that holds
   pub key_standing : (b : List ℕ) (q lo hi l : ℕ) → HoldsWithin S b q lo hi l → hi ≤ q → Standing k b q
   key_standing b q lo hi l h o =
@@ -61,57 +60,26 @@ module _ (k v : Shape) (kl : IsElement k) (vl : IsElement v) (w : Width) where
       standing k kl b q h.lower hi e.1 h.below o e.2
 
   module _ (b : List ℕ) (p lo hi l : ℕ) (h : TableHolds w S b p lo hi l) (hashes homes : List ℕ) (written : WrittenAt w b p hashes homes) where
-    pub home_count : length homes ≡ length hashes
-    home_count = elim written.placed [
-      | inl e ↦ ap length e.1 ∙ sym (ap length e.0)
-      | inr e ↦ e.1.placed.count
-    ]
-
-    home_walked : (i : ℕ) → i < length homes → IsWalked w b p (slice_index homes i)
-    home_walked i below = elim written.placed [
-      | inl e ↦ absurd (omega (arith, below, ap length e.1))
-      | inr e ↦
-          let n : i < length hashes = omega (arith, below, home_count) in
-          let t = e.1.tags i n in
-          let f : slice_index hashes i < 2 ^ 64 = written.fit i 0 n in
-          (home_below (cap_at w b p) hashes homes (table_controls w b p) i (omega (arith, e.0)) e.1 n, omega (arith, t, f))
-    ]
-
     -- the entry of each item handed in
-    pub entry_there : (i : ℕ) → i < length homes → (t : HoldsAt w S b p lo hi l) × HoldsWithin S b (place b p homes i) lo t.begin t.begin
+    pub entry_there : (i : ℕ) → i < length homes → (t : HeldPart w S b p lo hi l) × HoldsWithin S b (place b p homes i) lo t.begin t.begin
         × (t.begin ≤ place b p homes i) × (place b p homes i + S.size ≤ l)
     entry_there i below =
-        let walked = home_walked i below in
+        let walked = home_walked w b p hashes homes written i below in
         let t = holds_at w S law b p lo hi l h (omega (arith, walked.0)) in
         let r = item_holds w S law b p lo hi l h (slice_index homes i) walked t in
-        let e = sym (place_is b p homes i below) in
+        let e = sym (home_place w S.size b p homes i below) in
         (t, subst (λ q. HoldsWithin S b q lo t.begin t.begin) e r.0, subst (λ q. t.begin ≤ q) e r.1, subst (λ q. q + S.size ≤ l) e r.2)
 
   module _ {A B : Type 0} (key : List ℕ → ℕ → A → Type 0) (value : List ℕ → ℕ → B → Type 0) (hash : List ℕ → ℕ → ℕ) (factor : ℕ × ℕ) where
     module _ (near : HashNear k hash) (kn : StandsNear k key) (vn : StandsNear v value) (pairs : List (A × B)) (b c : List ℕ) (p lo hi l : ℕ) (o : lo ≤ hi)
         (h : TableHolds w S b p lo hi l) (fixed : Same b c p (p + 3 * byte_len w)) (part : Same b c lo l) (st : MapStands w k v key value hash factor b p pairs) where
-      same_number : (j : ℕ) → j + byte_len w ≤ 3 * byte_len w → number_at w b (p + j) ≡ number_at w c (p + j)
-      same_number j fits = ap (from_le_bytes w) (same_part b c p (p + 3 * byte_len w) (p + j) (p + j + byte_len w) (omega arith) (omega arith) (omega arith) fixed)
-
-      same_len : len_at w b p ≡ len_at w c p
-      same_len = same_number (byte_len w) (omega arith)
-
-      same_cap : cap_at w b p ≡ cap_at w c p
-      same_cap = same_number (2 * byte_len w) (omega arith)
-
-      same_place : controls_place w b p ≡ controls_place w c p
-      same_place =
-          let z : p + 0 ≡ p = omega arith in
-          let e : number_at w b p ≡ number_at w c p = subst (λ n. number_at w b n ≡ number_at w c n) z (same_number 0 (omega arith)) in
-          ap (λ n. unsigned_abs (pos p +ℤ cast_signed w n)) e
-
       same_places : home_places w S.size b p st.homes ≡ home_places w S.size c p st.homes
-      same_places = ap (λ z. map (λ i. z - (i + 1) * S.size) st.homes) same_place
+      same_places = ap (λ z. map (λ i. z - (i + 1) * S.size) st.homes) (place_same w b c p fixed)
 
       abbrev hashes : List ℕ
       hashes = map (hash b) (home_places w S.size b p st.homes)
 
-      there : (i : ℕ) → i < length st.homes → (t : HoldsAt w S b p lo hi l) × HoldsWithin S b (place b p st.homes i) lo t.begin t.begin
+      there : (i : ℕ) → i < length st.homes → (t : HeldPart w S b p lo hi l) × HoldsWithin S b (place b p st.homes i) lo t.begin t.begin
           × (t.begin ≤ place b p st.homes i) × (place b p st.homes i + S.size ≤ l)
       there i below = entry_there b p lo hi l h hashes st.homes st.written i below
 
@@ -156,18 +124,18 @@ module _ (k v : Shape) (kl : IsElement k) (vl : IsElement v) (w : Width) where
           let ends = t.ends in
           let z = controls_place w b p in
           same_part b c lo l z (z + control_count (cap_at w b p)) (omega (arith, at, above)) (omega (arith, at, ends)) (omega arith) part
-          ∙ ap (λ n. slice_range c n (n + control_count (cap_at w b p))) same_place
-          ∙ ap (λ n. slice_range c (controls_place w c p) (controls_place w c p + control_count n)) same_cap
+          ∙ ap (λ n. slice_range c n (n + control_count (cap_at w b p))) (place_same w b c p fixed)
+          ∙ ap (λ n. slice_range c (controls_place w c p) (controls_place w c p + control_count n)) (cap_same w b c p fixed)
 
       written_again : WrittenAt w c p hashes st.homes
       written_again = record {
-        count = sym same_len ∙ st.written.count;
+        count = sym (len_same w b c p fixed) ∙ st.written.count;
         fit = st.written.fit;
         placed = elim st.written.placed [
           | inl e ↦ inl e
           | inr e ↦ inr (
-            subst (λ n. length hashes < n) same_cap e.0,
-            subst (λ n. Written n hashes st.homes (table_controls w c p)) same_cap
+            subst (λ n. length hashes < n) (cap_same w b c p fixed) e.0,
+            subst (λ n. Written n hashes st.homes (table_controls w c p)) (cap_same w b c p fixed)
                 (subst (λ (xs : List ℕ). Written (cap_at w b p) hashes st.homes xs) (same_controls (omega (arith, e.0))) e.1),
           )
         ];
@@ -177,8 +145,8 @@ module _ (k v : Shape) (kl : IsElement k) (vl : IsElement v) (w : Width) where
       stands_again = record {
         homes = st.homes;
         written = subst (λ (xs : List ℕ). WrittenAt w c p xs st.homes) same_hashes written_again;
-        len = sym same_len ∙ st.len;
-        cap = sym same_cap ∙ st.cap;
+        len = sym (len_same w b c p fixed) ∙ st.len;
+        cap = sym (cap_same w b c p fixed) ∙ st.cap;
         at = λ i pair e.
             let inside = slice_get_within pairs i pair e in
             let n0 = st.written.count in
@@ -197,62 +165,33 @@ module _ (k v : Shape) (kl : IsElement k) (vl : IsElement v) (w : Width) where
       }
 
     module _ (own : A → ℕ) (alike : HashesAlike k key hash own) where
-      none_stand : (c : List ℕ) (p : ℕ) → TableStands w S (PairStands k v key value) factor c p [] → MapStands w k v key value hash factor c p []
-      none_stand c p t = record {
-        homes = [];
-        written = record { count = t.len; fit = λ i d below. absurd (omega (arith, below)); placed = inl (refl, refl) };
-        len = t.len;
-        cap = t.cap;
-        at = λ i pair e. absurd cc;
-      }
-
-      module _ (pairs : List (A × B)) (c : List ℕ) (p lo hi l : ℕ) (h : TableHolds w S c p lo hi l) (t : TableStands w S (PairStands k v key value) factor c p (keyed own pairs)) (some : 0 < length pairs) where
-        count : length (keyed own pairs) ≡ length pairs
-        count = length-map pairs (λ (pair : A × B). (own pair.0, pair))
-
-        buckets : (begin : ℕ) × (pos begin ≡ begin_told w S.size c p) × BucketsStand S.size (PairStands k v key value) c (capacity (length (keyed own pairs)) factor) begin (keyed own pairs)
-        buckets = t.buckets (omega (arith, count, some))
+      module _ (pairs : List (A × B)) (c : List ℕ) (p lo hi l : ℕ) (h : TableHolds w S c p lo hi l) (t : TableStands w S (PairStands k v key value) factor c p (keyed own pairs)) where
+        whole : IsWrittenOf w S.size (PairStands k v key value) c p (keyed own pairs)
+        whole = table_written w S (PairStands k v key value) factor c p (keyed own pairs) t
 
         abbrev homes : List ℕ
-        homes = buckets.2.homes
+        homes = whole.homes
 
         abbrev under : List ℕ
         under = hashes_of (keyed own pairs)
 
+        count : length (keyed own pairs) ≡ length pairs
+        count = length-map pairs (λ (pair : A × B). (own pair.0, pair))
+
         under_count : length under ≡ length pairs
         under_count = length-map (keyed own pairs) (λ (x : ℕ × (A × B)). x.0) ∙ count
 
-        written_under : WrittenAt w c p under homes
-        written_under =
-            let room = capacity_above (length (keyed own pairs)) factor (omega (arith, count, some)) in
-            let cap = t.cap in
-            let there = subst (λ n. Written n under homes (controls_at S.size c buckets.0 n)) (sym cap) buckets.2.controls in
-            record {
-              count = t.len ∙ count ∙ sym under_count;
-              fit = buckets.2.hashes;
-              placed = inr (
-                omega (arith, room, cap, count, under_count),
-                subst (λ (xs : List ℕ). Written (cap_at w c p) under homes xs) (sym (told_controls w S.size c p buckets.0 buckets.1)) there,
-              );
-            }
-
         homes_count : length homes ≡ length pairs
-        homes_count = home_count c p lo hi l h under homes written_under ∙ under_count
+        homes_count = home_count w c p under homes whole.written ∙ under_count
 
         pair_at : (i : ℕ) (pair : A × B) → slice_get pairs i ≡ Some pair → PairStands k v key value c (place c p homes i) pair
-        pair_at i pair e =
-            let inside = slice_get_within pairs i pair e in
-            let below : i < length homes = omega (arith, inside, homes_count) in
-            let walked = home_walked c p lo hi l h under homes written_under i below in
-            let at = told_item w S.size c p buckets.0 buckets.1 (slice_index homes i) walked.0 in
-            let stands = buckets.2.items i pair (ap (λ (xs : List (A × B)). slice_get xs i) (keyed_items own pairs) ∙ e) in
-            subst (λ q. PairStands k v key value c q pair) (ap (λ n. bucket_at S.size buckets.0 n (slice_index homes i)) (sym t.cap) ∙ sym at ∙ sym (place_is c p homes i below)) stands
+        pair_at i pair e = whole.at i pair (ap (λ (xs : List (A × B)). slice_get xs i) (keyed_items own pairs) ∙ e)
 
         hash_there : (i : ℕ) → i < length pairs → slice_index under i ≡ hash c (place c p homes i)
         hash_there i inside = elim (slice_get_cases pairs i).1 [
           | inl x ↦
               let below : i < length homes = omega (arith, inside, homes_count) in
-              let r = entry_there c p lo hi l h under homes written_under i below in
+              let r = entry_there c p lo hi l h under homes whole.written i below in
               let q = place c p homes i in
               let stands = key_standing c q lo r.0.begin r.0.begin r.1 r.2 in
               ap (λ (xs : List ℕ). slice_index xs i) (keyed_hashes own pairs) ∙ get_or-map (λ (pair : A × B). own pair.0) pairs i x.0 0 inside ∙ ap (λ (pair : A × B). own pair.0) x.3
@@ -269,19 +208,14 @@ module _ (k v : Shape) (kl : IsElement k) (vl : IsElement v) (w : Width) where
             let inside : i < length pairs = omega (arith, below, under_count) in
             hash_there i inside ∙ sym (get_or-map (hash c) places i 0 0 (omega (arith, inside, n, homes_count))))
 
-        some_stand : MapStands w k v key value hash factor c p pairs
-        some_stand = record {
+        pub pairs_stand : MapStands w k v key value hash factor c p pairs
+        pairs_stand = record {
           homes = homes;
-          written = subst (λ (xs : List ℕ). WrittenAt w c p xs homes) hashes_there written_under;
+          written = subst (λ (xs : List ℕ). WrittenAt w c p xs homes) hashes_there whole.written;
           len = t.len ∙ count;
           cap = t.cap ∙ ap (λ n. capacity n factor) count;
           at = pair_at;
         }
-
-      pub pairs_stand : (pairs : List (A × B)) (c : List ℕ) (p lo hi l : ℕ) → TableHolds w S c p lo hi l
-          → TableStands w S (PairStands k v key value) factor c p (keyed own pairs) → MapStands w k v key value hash factor c p pairs
-      pairs_stand [] c p lo hi l h t = none_stand c p t
-      pairs_stand (x ∷ xs) c p lo hi l h t = some_stand (x ∷ xs) c p lo hi l h t (omega arith)
 
       module _ {R Q : Type 0} (kind : IsArchiveWord w) (kf : Format A R) (vf : Format B Q) (kw : IsFormat k key kf) (vw : IsFormat v value vf) where
         -- In every archive in which what was written of a map sits, and, aligned behind it, its header, the map holds, with its

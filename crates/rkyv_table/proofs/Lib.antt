@@ -12,6 +12,7 @@ pub mod FirstFree
 pub mod WrittenStep
 pub mod Walks
 pub mod WrittenAccepted
+pub mod WrittenTables
 pub mod HomeList
 pub mod Headers
 pub mod SealedTable

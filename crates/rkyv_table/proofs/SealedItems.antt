@@ -15,6 +15,7 @@ use Rattle.rkyv_base.specs.Seal.{archive_in, pos_in}
 use Rattle.rkyv_base.specs.declared.seal.ArchiveSeal.{ArchiveSeal}
 use Rattle.rkyv_table.specs.Placing.{walk}
 use Rattle.rkyv_table.specs.SealedItems.{IsItemAt, IsSealIter, StaysThere, buckets_left}
+use Rattle.rkyv_table.specs.SameHeader.{cap_same, place_same}
 use Rattle.rkyv_table.specs.SealedTable.{KeepsTable}
 use Rattle.rkyv_table.specs.Table.{table_shape}
 use Rattle.rkyv_base.specs.Sealing.{Keeps, Sealed}
@@ -23,7 +24,7 @@ use Rattle.rkyv_table.specs.Walking.{full_from}
 use Rattle.rkyv_table.specs.declared.table.raw_iter_seal.RawIterSeal.{RawIterSeal}
 use Rattle.rkyv_table.proofs.Items.{controls_inside, item_before, item_viewed}
 use Rattle.rkyv_table.proofs.RawWalks.{walk_count}
-use Rattle.rkyv_table.proofs.SealedTable.{cap_kept, place_kept, table_kept}
+use Rattle.rkyv_table.proofs.SealedTable.{table_kept}
 use Rattle.rkyv_table.proofs.Walks.{filter_agree_range, whole_walk}
 
 pub full_taken : (controls : List ℕ) (cap b : ℕ) → b < cap → slice_index controls b < 128 → full_from controls cap b ≡ b ∷ full_from controls cap (b + 1)
@@ -121,8 +122,8 @@ module _ {T : Type 0} (w : Width) (s : Shape) (p i q : ℕ) (before after : RawI
         cursor_table,
         record {
           table = viewed_kept (table_shape w s) before.archive.now after.archive.now p sealed.same_length cursor_table.holds is.table;
-          cap = there.cap ∙ is.cap ∙ sym (cap_kept w before.archive.now after.archive.now p header);
-          place = λ h. there.place ∙ is.place (subst (λ n. 0 < n) there.cap h) ∙ sym (place_kept w before.archive.now after.archive.now p header);
+          cap = there.cap ∙ is.cap ∙ cap_same w before.archive.now after.archive.now p header;
+          place = λ h. there.place ∙ is.place (subst (λ n. 0 < n) there.cap h) ∙ place_same w before.archive.now after.archive.now p header;
           left = there.left ∙ is.left ∙ ap length (sym cursor_buckets);
         },
         cursor_buckets,

@@ -1,26 +1,28 @@
 -- A write of one item in place keeps the table.
-use Rattle.std.specs.Prelude.{◌≡◌, ◌≢◌, ℕ, suc, ◌+◌, ◌-◌, ◌*◌, ◌<◌, ◌≤◌, pos, ◌+ℤ◌, ◌-ℤ◌, List, [], ◌∷◌, Bool, length, slice_index, slice_range, unsigned_abs}
-use Rattle.std.specs.Int.{Width, byte_len, cast_signed, from_le_bytes}
+use Rattle.std.specs.Prelude.{◌≡◌, ◌≢◌, ℕ, suc, ◌+◌, ◌-◌, ◌*◌, ◌<◌, ◌≤◌, List, [], ◌∷◌, Bool, length, slice_index, slice_range}
+use Rattle.std.specs.Int.{Width, byte_len}
 use Rattle.std.proofs.Common.{arith, subst, sym, ◌∙◌, ap, inl, inr}
 use Rattle.std.proofs.lemmas.Bool.{cases_eq, cases_lt}
 use Rattle.std.proofs.lemmas.Int.{ints}
 use Rattle.std.proofs.Math.Nat.{mul-le-mul_right}
-use Rattle.rkyv_base.specs.Bytes.{Same, number_at, same_part, signed_at}
+use Rattle.rkyv_base.specs.Bytes.{Same}
 use Rattle.rkyv_base.specs.Entry.{entry_element, entry_shape, parts_inside, size_of_small, whole_size}
 use Rattle.rkyv_base.specs.Sealing.{Keeps, Outside, Sealed, value_place}
 use Rattle.rkyv_base.specs.Shape.{IsElement, Shape, Viewed}
 use Rattle.rkyv_base.proofs.Sealing.{entry_kept, holds_elsewhere, same_outside, sealed_wider}
-use Rattle.rkyv_table.proofs.Items.{Part, bucket_holds, controls_are, item_is, item_viewed, part_of, place_is}
+use Rattle.rkyv_table.proofs.Items.{item_viewed, part_of}
 use Rattle.rkyv_table.specs.Reading.{IsWalked, WrittenAt, bucket_found, controls_place, item_at, table_controls}
 use Rattle.rkyv_table.specs.SealedTable.{KeepsTable, SameValue}
 use Rattle.rkyv_scan.specs.Groups.{Kind, is_full}
 use Rattle.rkyv_table.specs.Finding.{found}
 use Rattle.rkyv_table.specs.Header.{begin_told, cap_at, len_at}
+use Rattle.rkyv_table.specs.ItemPlaces.{HeldPart, bucket_holds_within, told_controls, told_item, told_place}
 use Rattle.rkyv_table.specs.Numbers.{control_count}
 use Rattle.rkyv_table.specs.Places.{AllHold}
 use Rattle.rkyv_table.specs.PlaceLaws.{AllBelow, range_below}
 use Rattle.rkyv_table.specs.Placing.{Accepted, Written, walk}
 use Rattle.rkyv_table.specs.Table.{IsPart, TableAt, bucket_at, controls_at, table_shape}
+use Rattle.rkyv_table.specs.SameHeader.{begin_same, cap_same, item_same, len_same, place_same}
 use Rattle.rkyv_table.specs.TableLaws.{bucket_inside, of_numbers}
 
 -- two buckets share no byte
@@ -67,63 +69,43 @@ module _ (s : Shape) (law : IsElement s) (b c : List ℕ) (begin cap i : ℕ) (w
         items = subst (λ (x : List ℕ). AllHold s at c begin (walk x cap) lo is.last) controls_kept items;
       }
 
--- the numbers of a header stay where its bytes do
-module _ (w : Width) (b c : List ℕ) (p : ℕ) (same : Same b c p (p + 3 * byte_len w)) where
-  number_kept : (k : ℕ) → k + byte_len w ≤ 3 * byte_len w → number_at w c (p + k) ≡ number_at w b (p + k)
-  number_kept k h = ap (from_le_bytes w) (sym (same_part b c p (p + 3 * byte_len w) (p + k) (p + k + byte_len w) (omega arith) (omega arith) (omega arith) same))
-
-  pub len_kept : len_at w c p ≡ len_at w b p
-  len_kept = number_kept (byte_len w) (omega arith)
-
-  pub cap_kept : cap_at w c p ≡ cap_at w b p
-  cap_kept = number_kept (2 * byte_len w) (omega arith)
-
-  distance_kept : signed_at w c p ≡ signed_at w b p
-  distance_kept = let z : p + 0 ≡ p = omega arith in ap (cast_signed w) (rw z at (number_kept 0 (omega arith)))
-
-  pub begin_kept : (size : ℕ) → begin_told w size c p ≡ begin_told w size b p
-  begin_kept size = ap (λ n. (pos p +ℤ n) -ℤ pos (cap_at w c p * size)) distance_kept ∙ ap (λ n. (pos p +ℤ signed_at w b p) -ℤ pos (n * size)) cap_kept
-
-  pub place_kept : controls_place w c p ≡ controls_place w b p
-  place_kept = ap (λ n. unsigned_abs (pos p +ℤ n)) distance_kept
-
 -- what stands in a walked bucket has its parts before the buckets
-parts_before : (w : Width) (s : Shape) (law : IsElement s) (b : List ℕ) (p : ℕ) (view : Viewed (table_shape w s) b p) (begin j l : ℕ) → Part w s b p begin → IsWalked w b p j
-    → s.holds b (bucket_at s.size begin (cap_at w b p) j) 0 (bucket_at s.size begin (cap_at w b p) j) l → l ≤ begin
-parts_before w s law b p view begin j l t walked h =
+parts_before : (w : Width) (s : Shape) (law : IsElement s) (b : List ℕ) (p e : ℕ) (t : HeldPart w s b p 0 p e) (j l : ℕ) → IsWalked w b p j
+    → s.holds b (bucket_at s.size t.begin (cap_at w b p) j) 0 (bucket_at s.size t.begin (cap_at w b p) j) l → l ≤ t.begin
+parts_before w s law b p e t j l walked h =
     let cap = cap_at w b p in
-    let q = bucket_at s.size begin cap j in
-    let full : slice_index (controls_at s.size b begin cap) j < 128 = subst (λ (xs : List ℕ). slice_index xs j < 128) (controls_are w s law b p view begin t) walked.1 in
-    let one = bucket_holds s law b begin cap 0 t.is.last j (omega arith) t.is.items walked.0 full in
-    let d : (l' : ℕ) × s.holds b q 0 begin l' × (l' ≤ one.1) = law.lower b q one.0 0 begin one.1 (omega arith) one.2 one.3 in
-    let k : (one.0 ≤ one.1) × (one.1 ≤ begin) = law.between b q one.0 begin one.1 one.2 one.3 in
-    let e : l ≡ d.0 = law.one b q 0 q l d.0 h (law.higher b q 0 begin q d.0 (omega arith) d.1) in
-    omega (arith, e, d.2, k.1)
+    let q = bucket_at s.size t.begin cap j in
+    let full : slice_index (controls_at s.size b t.begin cap) j < 128 = subst (λ (xs : List ℕ). slice_index xs j < 128) (told_controls w s.size b p t.begin t.part.begins) walked.1 in
+    let one = bucket_holds_within s law b t.begin cap 0 t.is.last j (omega arith) t.is.items walked.0 full in
+    let d : (l' : ℕ) × s.holds b q 0 t.begin l' × (l' ≤ one.rest) = law.lower b q one.lower 0 t.begin one.rest (omega arith) one.below one.holds in
+    let k = law.between b q one.lower t.begin one.rest one.below one.holds in
+    let same : l ≡ d.0 = law.one b q 0 q l d.0 h (law.higher b q 0 t.begin q d.0 (omega arith) d.1) in
+    omega (arith, same, d.2, k.1)
 
 module _ (w : Width) (s : Shape) (law : IsElement s) (b : List ℕ) (p i : ℕ) (view : Viewed (table_shape w s) b p) (walked : IsWalked w b p i)
     (c : List ℕ) (sealed : Sealed b (item_at w s.size b p i) s.size c) (keeps : Keeps s b c (item_at w s.size b p i)) where
-  whole : (begin : ℕ) × Part w s b p begin
+  whole : HeldPart w s b p 0 p view.stands.0
   whole = part_of w s law b p view (omega (arith, walked.0))
 
-  at_is : (j : ℕ) → j < cap_at w b p → item_at w s.size b p j ≡ bucket_at s.size whole.0 (cap_at w b p) j
-  at_is j h = item_is w s law b p view whole.0 j whole.1 h
+  at_is : (j : ℕ) → j < cap_at w b p → item_at w s.size b p j ≡ bucket_at s.size whole.begin (cap_at w b p) j
+  at_is j h = told_item w s.size b p whole.begin whole.part.begins j h
 
-  sealed_at : Sealed b (bucket_at s.size whole.0 (cap_at w b p) i) s.size c
+  sealed_at : Sealed b (bucket_at s.size whole.begin (cap_at w b p) i) s.size c
   sealed_at = subst (λ q. Sealed b q s.size c) (at_is i walked.0) sealed
 
-  keeps_at : Keeps s b c (bucket_at s.size whole.0 (cap_at w b p) i)
+  keeps_at : Keeps s b c (bucket_at s.size whole.begin (cap_at w b p) i)
   keeps_at = subst (Keeps s b c) (at_is i walked.0) keeps
 
   header_same : Same b c p (p + 3 * byte_len w)
   header_same =
-      let u = bucket_inside s.size whole.0 (cap_at w b p) i walked.0 in
-      let below = whole.1.part.below in
-      same_outside b (bucket_at s.size whole.0 (cap_at w b p) i) s.size c sealed_at p (p + 3 * byte_len w) (omega arith) (inr (omega (arith, u.1)))
+      let u = bucket_inside s.size whole.begin (cap_at w b p) i walked.0 in
+      let below = whole.part.below in
+      same_outside b (bucket_at s.size whole.begin (cap_at w b p) i) s.size c sealed_at p (p + 3 * byte_len w) (omega arith) (inr (omega (arith, u.1)))
 
   at_kept : (lo hi l : ℕ) → TableAt s b (begin_told w s.size b p) (cap_at w b p) (len_at w b p) lo hi l → TableAt s c (begin_told w s.size b p) (cap_at w b p) (len_at w b p) lo hi l
   at_kept lo hi l (inl h) = inl h
   at_kept lo hi l (inr (n, part, is, e)) =
-      let same : whole.0 ≡ n = let x = whole.1.part.begins in let y = part.begins in omega (arith, ints, x, y) in
+      let same : whole.begin ≡ n = let x = whole.part.begins in let y = part.begins in omega (arith, ints, x, y) in
       inr (
         n,
         part,
@@ -134,53 +116,53 @@ module _ (w : Width) (s : Shape) (law : IsElement s) (b : List ℕ) (p i : ℕ) 
 
   other_same : (j : ℕ) → IsWalked w b p j → j ≢ i → SameValue s b c (item_at w s.size b p j)
   other_same j there ne =
-      let q = bucket_at s.size whole.0 (cap_at w b p) i in
-      let r = bucket_at s.size whole.0 (cap_at w b p) j in
+      let q = bucket_at s.size whole.begin (cap_at w b p) i in
+      let r = bucket_at s.size whole.begin (cap_at w b p) j in
       subst (SameValue s b c) (sym (at_is j there.0))
       record {
-        fixed = same_outside b q s.size c sealed_at r (r + s.size) (omega arith) (buckets_apart s.size whole.0 (cap_at w b p) i j walked.0 there.0 ne);
+        fixed = same_outside b q s.size c sealed_at r (r + s.size) (omega arith) (buckets_apart s.size whole.begin (cap_at w b p) i j walked.0 there.0 ne);
         parts = λ l h.
-            let low : l ≤ whole.0 = parts_before w s law b p view whole.0 j l whole.1 there h in
+            let low : l ≤ whole.begin = parts_before w s law b p view.stands.0 whole j l there h in
             same_outside b q s.size c sealed_at 0 l (omega arith) (inl (omega (arith, low)));
       }
 
   pub table_kept : KeepsTable w s b c p i
   table_kept =
       let same = header_same in
-      let caps = cap_kept w b c p same in
+      let caps = sym (cap_same w b c p same) in
       record {
-        holds = λ lo hi l o o' h. of_numbers s c (sym (begin_kept w b c p same s.size)) (sym caps) (sym (len_kept w b c p same)) (at_kept lo hi l h);
+        holds = λ lo hi l o o' h. of_numbers s c (begin_same w b c p same s.size) (cap_same w b c p same) (len_same w b c p same) (at_kept lo hi l h);
         header = same;
         controls =
-            ap (λ z. slice_range c z (z + control_count (cap_at w c p))) (place_kept w b c p same)
+            ap (λ z. slice_range c z (z + control_count (cap_at w c p))) (sym (place_same w b c p same))
             ∙ ap (λ k. slice_range c (controls_place w b p) (controls_place w b p + control_count k)) caps
-            ∙ ap (λ z. slice_range c z (z + control_count (cap_at w b p))) (place_is w s law b p view whole.0 whole.1)
-            ∙ sym (controls_kept s law b c whole.0 (cap_at w b p) i walked.0 sealed_at keeps_at)
-            ∙ sym (controls_are w s law b p view whole.0 whole.1);
+            ∙ ap (λ z. slice_range c z (z + control_count (cap_at w b p))) (told_place w s.size b p whole.begin whole.part.begins)
+            ∙ sym (controls_kept s law b c whole.begin (cap_at w b p) i walked.0 sealed_at keeps_at)
+            ∙ sym (told_controls w s.size b p whole.begin whole.part.begins);
         others = other_same;
       }
 
 -- a lookup answers in a kept table what it answered
 module _ (w : Width) (s : Shape) (b c : List ℕ) (p i : ℕ) (kept : KeepsTable w s b c p i) where
   pub item_stays : (j : ℕ) → item_at w s.size c p j ≡ item_at w s.size b p j
-  item_stays j = ap (λ n. n - (j + 1) * s.size) (place_kept w b c p kept.header)
+  item_stays j = sym (item_same w b c p kept.header s.size j)
 
   pub lookup_kept : (kind : Kind) (hash : ℕ) (accept : ℕ → Bool) → bucket_found kind w s.size c p hash accept ≡ bucket_found kind w s.size b p hash accept
   lookup_kept kind hash accept =
       ap (λ x. found kind x (cap_at w c p) (len_at w c p) hash (λ j. accept (item_at w s.size c p j))) kept.controls
-      ∙ ap (λ n. found kind (table_controls w b p) n (len_at w c p) hash (λ j. accept (item_at w s.size c p j))) (cap_kept w b c p kept.header)
-      ∙ ap (λ n. found kind (table_controls w b p) (cap_at w b p) n hash (λ j. accept (item_at w s.size c p j))) (len_kept w b c p kept.header)
-      ∙ ap (λ n. found kind (table_controls w b p) (cap_at w b p) (len_at w b p) hash (λ j. accept (n - (j + 1) * s.size))) (place_kept w b c p kept.header)
+      ∙ ap (λ n. found kind (table_controls w b p) n (len_at w c p) hash (λ j. accept (item_at w s.size c p j))) (sym (cap_same w b c p kept.header))
+      ∙ ap (λ n. found kind (table_controls w b p) (cap_at w b p) n hash (λ j. accept (item_at w s.size c p j))) (sym (len_same w b c p kept.header))
+      ∙ ap (λ n. found kind (table_controls w b p) (cap_at w b p) (len_at w b p) hash (λ j. accept (n - (j + 1) * s.size))) (sym (place_same w b c p kept.header))
 
   pub written_kept : (hashes homes : List ℕ) → WrittenAt w b p hashes homes → WrittenAt w c p hashes homes
   written_kept hashes homes x = record {
-    count = len_kept w b c p kept.header ∙ x.count;
+    count = sym (len_same w b c p kept.header) ∙ x.count;
     fit = x.fit;
     placed = elim x.placed [
       | inl e ↦ inl e
       | inr u ↦ inr (
-        subst (λ n. length hashes < n) (sym (cap_kept w b c p kept.header)) u.0,
-        subst (λ n. Written n hashes homes (table_controls w c p)) (sym (cap_kept w b c p kept.header)) (subst (Written (cap_at w b p) hashes homes) (sym kept.controls) u.1),
+        subst (λ n. length hashes < n) (cap_same w b c p kept.header) u.0,
+        subst (λ n. Written n hashes homes (table_controls w c p)) (cap_same w b c p kept.header) (subst (Written (cap_at w b p) hashes homes) (sym kept.controls) u.1),
       )
     ];
   }

@@ -13,7 +13,9 @@ pub mod Places
 pub mod Table
 pub mod PlaceLaws
 pub mod TableLaws
+pub mod ItemPlaces
 pub mod Reading
+pub mod SameHeader
 pub mod Lending
 pub mod Slots
 pub mod Taking
@@ -30,5 +32,6 @@ pub mod SlotWalk
 pub mod SlotSound
 pub mod HeaderReads
 pub mod TableSound
+pub mod WrittenTables
 pub mod SealedItems
 pub mod MisplacedIn

@@ -1,12 +1,12 @@
 -- A table is an element.
-use Rattle.std.specs.Prelude.{◌≡◌, ℕ, suc, ◌+◌, ◌-◌, ◌*◌, ◌%◌, ◌<◌, ◌≤◌, ℤ, pos, ◌+ℤ◌, ◌-ℤ◌, List, slice_index}
-use Rattle.std.specs.Int.{Width, byte_len, from_le_bytes, cast_signed}
+use Rattle.std.specs.Prelude.{◌≡◌, ℕ, suc, ◌+◌, ◌-◌, ◌*◌, ◌%◌, ◌<◌, ◌≤◌, ℤ, List, slice_index}
+use Rattle.std.specs.Int.{Width, byte_len}
 use Rattle.std.proofs.Common.{refl, arith, subst, sym, ◌∙◌, ap, inl, inr}
 use Rattle.std.proofs.Math.Nat.{mul-le-mul_right, mul-zero}
 use Rattle.std.proofs.lemmas.Nat.{mul-mod}
 use Rattle.rkyv_scan.specs.Groups.{is_full}
 use Rattle.rkyv_base.specs.declared.errors.VerifyError.{VerifyError}
-use Rattle.rkyv_base.specs.Bytes.{Same, number_at, signed_at, same_part}
+use Rattle.rkyv_base.specs.Bytes.{Same, same_part}
 use Rattle.rkyv_base.specs.Parts.{part_clear, part_one, part_wider}
 use Rattle.rkyv_base.specs.Shape.{Shape, IsElement, IsAlign, by_align, sum_multiple}
 use Rattle.rkyv_base.specs.Text.{IsArchiveWord, by_archive_word}
@@ -16,6 +16,7 @@ use Rattle.rkyv_table.specs.Places.{AllHold}
 use Rattle.rkyv_table.specs.PlaceLaws.{AllBelow, all_clear, all_lower, all_near, range_below}
 use Rattle.rkyv_table.specs.Placing.{Accepted, Repeats, walk}
 use Rattle.rkyv_table.specs.Repeating.{FirstUnlike}
+use Rattle.rkyv_table.specs.SameHeader.{begin_same, cap_same, len_same}
 use Rattle.rkyv_table.specs.Table.{FailsInside, IsPart, ItemsHold, TableAt, TableFailsAt, TableHolds, bucket_at, controls_at, part_size, table_shape}
 
 -- a bucket stands between the begin of the buckets and the controls
@@ -124,20 +125,10 @@ module _ (s : Shape) (law : IsElement s) where
   at_near b c told cap len lo hi l same (inl h) = inl h
   at_near b c told cap len lo hi l same (inr (n, part, is, e)) = inr (n, part, is_near b c cap len lo n part.above (subst (Same b c lo) e same) is, e)
 
-  -- the numbers of a header are those of its fixed bytes
-  number_near : (w : Width) (b c : List ℕ) (p k n : ℕ) → k + byte_len w ≤ n → Same b c p (p + n) → number_at w b (p + k) ≡ number_at w c (p + k)
-  number_near w b c p k n h same = ap (from_le_bytes w) (same_part b c p (p + n) (p + k) (p + k + byte_len w) (omega arith) (omega arith) (omega arith) same)
-
   holds_near : (w : Width) (b c : List ℕ) (p lo hi l : ℕ) → Same b c p (p + 3 * byte_len w) → Same b c lo l → TableHolds w s b p lo hi l → TableHolds w s c p lo hi l
   holds_near w b c p lo hi l fixed part h =
-      let e0 : number_at w b (p + 0) ≡ number_at w c (p + 0) = number_near w b c p 0 (3 * byte_len w) (omega arith) fixed in
-      let e1 : len_at w b p ≡ len_at w c p = number_near w b c p (byte_len w) (3 * byte_len w) (omega arith) fixed in
-      let e2 : cap_at w b p ≡ cap_at w c p = number_near w b c p (2 * byte_len w) (3 * byte_len w) (omega arith) fixed in
-      let z : p + 0 ≡ p = omega arith in
-      let e3 : number_at w b p ≡ number_at w c p = rw z at e0 in
-      let told : begin_told w s.size b p ≡ begin_told w s.size c p =
-      ap (λ n. (pos p +ℤ cast_signed w n) -ℤ pos (cap_at w b p * s.size)) e3 ∙ ap (λ n. (pos p +ℤ signed_at w c p) -ℤ pos (n * s.size)) e2 in
-      at_near b c (begin_told w s.size c p) (cap_at w c p) (len_at w c p) lo hi l part (of_numbers s b told e2 e1 h)
+      at_near b c (begin_told w s.size c p) (cap_at w c p) (len_at w c p) lo hi l part
+      (of_numbers s b (begin_same w b c p fixed s.size) (cap_same w b c p fixed) (len_same w b c p fixed) h)
 
 pub table_element : (w : Width) → IsArchiveWord w → (s : Shape) → IsElement s → IsElement (table_shape w s)
 table_element w kind s law = record {

@@ -6,6 +6,7 @@ ghost use Rattle.rkyv_base.specs.Pairs.{written_as};
 ghost use Rattle.rkyv_table.specs.Lending.{lent_stands};
 ghost use Rattle.rkyv_table.specs.Table.{table_shape};
 ghost use Rattle.rkyv_table.specs.TableFormat.{TableStands, table_format};
+ghost use Rattle.rkyv_table.specs.WrittenTables.{StandingWereWritten};
 
 use rkyv_base::archive::Archive;
 use rkyv_base::lend::Lend;
@@ -23,4 +24,11 @@ pub fn written_tables_stand<W: Width, U: Archive<W>, X: Lend<U>>()
 pub fn tables_stand_nearby<W: Width, U: Archive<W>, X: Lend<U>>()
     ensures { (load_factor : ℕ × ℕ) → let s = U.Archived.shape in
         StandsNear (table_shape W.word s) (TableStands W.word s (lent_stands X.lent U.Archived.stands) load_factor) }
+{}
+
+/// A table whose items stand was written of them in their order, under their hashes, and each stands
+/// at its home: so a lookup answers the first that is accepted.
+pub fn standing_tables_were_written<W: Width, U: Archive<W>, X: Lend<U>>()
+    ensures { (load_factor : ℕ × ℕ) →
+        StandingWereWritten W.word U.Archived.shape (lent_stands X.lent U.Archived.stands) load_factor }
 {}

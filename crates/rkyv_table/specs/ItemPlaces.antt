@@ -16,7 +16,7 @@ use Rattle.rkyv_table.specs.PlaceLaws.{all_between}
 use Rattle.rkyv_table.specs.Places.{AllHold}
 use Rattle.rkyv_table.specs.Placing.{walk}
 use Rattle.rkyv_table.specs.Reading.{IsWalked, controls_place, item_at, table_controls}
-use Rattle.rkyv_table.specs.Table.{IsPart, TableHolds, bucket_at, controls_at, part_size}
+use Rattle.rkyv_table.specs.Table.{IsPart, ItemsHold, TableHolds, bucket_at, controls_at, part_size}
 use Rattle.rkyv_table.specs.TableLaws.{bucket_inside}
 
 -- the value at q holds in a range of its own, inside that from lo to hi, and leaves a lower end that is at most l
@@ -52,6 +52,14 @@ module _ (s : Shape) (law : IsElement s) (at : ℕ → ℕ) where
         ]
   ]
 
+-- the item in a full bucket holds in a range of its own
+pub bucket_holds_within : (s : Shape) → IsElement s → (b : List ℕ) (begin cap lo l i : ℕ) → lo ≤ begin → ItemsHold s b begin cap lo l → i < cap
+    → slice_index (controls_at s.size b begin cap) i < 128 → HoldsWithin s b (bucket_at s.size begin cap i) lo begin l
+unfolding walk
+bucket_holds_within s law b begin cap lo l i o h below full =
+    each_holds s law (bucket_at s.size begin cap) (λ j. is_full (slice_index (controls_at s.size b begin cap) j)) b begin 0 cap lo l i o h (omega arith) (omega arith)
+    (lt-ltb (slice_index (controls_at s.size b begin cap) i) 128 full)
+
 module _ (w : Width) (size : ℕ) (b : List ℕ) (p begin : ℕ) (told : pos begin ≡ begin_told w size b p) where
   -- where the controls stand
   pub told_place : controls_place w b p ≡ begin + cap_at w b p * size
@@ -71,31 +79,29 @@ module _ (w : Width) (size : ℕ) (b : List ℕ) (p begin : ℕ) (told : pos beg
       ap (λ z. z - (i + 1) * size) told_place ∙ omega (arith, m)
 
 -- the buckets and controls of a table that holds, where its header tells of buckets
-pub record HoldsAt (w : Width) (s : Shape) (b : List ℕ) (p lo hi l : ℕ) : Type 0 where
+pub record HeldPart (w : Width) (s : Shape) (b : List ℕ) (p lo hi l : ℕ) : Type 0 where
   pub begin : ℕ
   pub part : PartIn (begin_told w s.size b p) (part_size s.size (cap_at w b p)) s.align lo hi begin
   pub is : IsPart s b (cap_at w b p) (len_at w b p) lo begin
   pub ends : l ≡ begin + part_size s.size (cap_at w b p)
 
 module _ (w : Width) (s : Shape) (law : IsElement s) (b : List ℕ) (p lo hi l : ℕ) (h : TableHolds w s b p lo hi l) where
-  pub holds_at : 0 < cap_at w b p → HoldsAt w s b p lo hi l
+  pub holds_at : 0 < cap_at w b p → HeldPart w s b p lo hi l
   holds_at some = elim h [
     | inl e ↦ absurd (omega (arith, e.1, some))
     | inr t ↦ record { begin = t.0; part = t.1; is = t.2; ends = t.3 }
   ]
 
   -- the item in a full bucket holds, and stands before the controls
-  pub item_holds : (i : ℕ) → IsWalked w b p i → (t : HoldsAt w s b p lo hi l)
+  pub item_holds : (i : ℕ) → IsWalked w b p i → (t : HeldPart w s b p lo hi l)
       → HoldsWithin s b (item_at w s.size b p i) lo t.begin t.begin × (t.begin ≤ item_at w s.size b p i) × (item_at w s.size b p i + s.size ≤ l)
-  unfolding walk
   item_holds i walked t =
       let cap = cap_at w b p in
       let told = t.part.begins in
       let full : slice_index (controls_at s.size b t.begin cap) i < 128 = subst (λ (xs : List ℕ). slice_index xs i < 128) (told_controls w s.size b p t.begin told) walked.1 in
       let above = t.part.above in
       let ends = all_between s law (bucket_at s.size t.begin cap) b t.begin (walk (controls_at s.size b t.begin cap) cap) lo t.is.last above t.is.items in
-      let one = each_holds s law (bucket_at s.size t.begin cap) (λ j. is_full (slice_index (controls_at s.size b t.begin cap) j)) b t.begin 0 cap lo t.is.last i above t.is.items (omega arith) (omega (arith, walked.0))
-      (lt-ltb (slice_index (controls_at s.size b t.begin cap) i) 128 full) in
+      let one = bucket_holds_within s law b t.begin cap lo t.is.last i above t.is.items walked.0 full in
       let u = bucket_inside s.size t.begin cap i walked.0 in
       let e = t.ends in
       subst (λ q. HoldsWithin s b q lo t.begin t.begin × (t.begin ≤ q) × (q + s.size ≤ l)) (sym (told_item w s.size b p t.begin told i walked.0)) (

@@ -1,0 +1,90 @@
+-- A table whose items stand was written of them.
+use Rattle.std.proofs.Common.{◌≡◌, ℕ, ◌^◌, ◌<◌, ap, refl, sym, subst, ◌∙◌, arith, inl, inr, List, [], ◌∷◌, length, slice_get, slice_index, Some, pos}
+use Rattle.std.specs.Int.{Width}
+use Rattle.std.proofs.lemmas.List.{get_or-map, length-map}
+use Rattle.std.proofs.lemmas.Option.{slice_get_within}
+use Rattle.rkyv_base.specs.Shape.{Shape}
+use Rattle.rkyv_table.specs.Header.{begin_told, cap_at}
+use Rattle.rkyv_table.specs.ItemPlaces.{told_controls, told_item}
+use Rattle.rkyv_table.specs.Numbers.{capacity}
+use Rattle.rkyv_table.specs.Placing.{Written}
+use Rattle.rkyv_table.specs.Reading.{IsWalked, WrittenAt, home_places, item_at, table_controls}
+use Rattle.rkyv_table.specs.Table.{bucket_at, controls_at}
+use Rattle.rkyv_table.specs.TableFormat.{BucketsStand, TableStands}
+use Rattle.rkyv_table.specs.TableSound.{capacity_above}
+use Rattle.rkyv_table.specs.Taking.{hashes_of, items_of}
+use Rattle.rkyv_table.specs.WrittenTables.{IsWrittenOf, StandingWereWritten}
+use Rattle.rkyv_table.proofs.WrittenStep.{home_below}
+
+-- where the i-th item handed in stands
+pub home_place : (w : Width) (size : ℕ) (b : List ℕ) (p : ℕ) (homes : List ℕ) (i : ℕ) → i < length homes
+    → slice_index (home_places w size b p homes) i ≡ item_at w size b p (slice_index homes i)
+home_place w size b p homes i h = get_or-map (item_at w size b p) homes i 0 0 h
+
+module _ (w : Width) (b : List ℕ) (p : ℕ) (hashes homes : List ℕ) (written : WrittenAt w b p hashes homes) where
+  -- as many homes as hashes
+  pub home_count : length homes ≡ length hashes
+  home_count = elim written.placed [
+    | inl none ↦ rw (none.0, none.1) refl
+    | inr some ↦ some.1.placed.count
+  ]
+
+  -- in each home an item stands
+  pub home_walked : (i : ℕ) → i < length homes → IsWalked w b p (slice_index homes i)
+  home_walked i below = elim written.placed [
+    | inl none ↦ absurd (omega (arith, below, ap length none.1))
+    | inr some ↦
+        let n : i < length hashes = omega (arith, below, home_count) in
+        let tag = some.1.tags i n in
+        let small : slice_index hashes i < 2 ^ 64 = written.fit i 0 n in
+        (home_below (cap_at w b p) hashes homes (table_controls w b p) i (omega (arith, some.0)) some.1 n, omega (arith, tag, small))
+  ]
+
+module _ {X : Type 0} (w : Width) (s : Shape) (stands : List ℕ → ℕ → X → Type 0) (factor : ℕ × ℕ) (c : List ℕ) (p : ℕ) where
+  none_written : TableStands w s stands factor c p [] → IsWrittenOf w s.size stands c p []
+  none_written t = record {
+    homes = [];
+    written = record { count = t.len; fit = λ i d below. absurd (omega (arith, below)); placed = inl (refl, refl) };
+    at = λ i x e. absurd cc;
+  }
+
+  module _ (pairs : List (ℕ × X)) (t : TableStands w s stands factor c p pairs) (some : 0 < length pairs) where
+    buckets : (begin : ℕ) × (pos begin ≡ begin_told w s.size c p) × BucketsStand s.size stands c (capacity (length pairs) factor) begin pairs
+    buckets = t.buckets some
+
+    abbrev homes : List ℕ
+    homes = buckets.2.homes
+
+    written : WrittenAt w c p (hashes_of pairs) homes
+    written =
+        let room = capacity_above (length pairs) factor some in
+        let count = length-map pairs (λ (x : ℕ × X). x.0) in
+        let cap = t.cap in
+        let there = subst (λ n. Written n (hashes_of pairs) homes (controls_at s.size c buckets.0 n)) (sym cap) buckets.2.controls in
+        record {
+          count = t.len ∙ sym count;
+          fit = buckets.2.hashes;
+          placed = inr (
+            omega (arith, room, cap, count),
+            subst (λ (xs : List ℕ). Written (cap_at w c p) (hashes_of pairs) homes xs) (sym (told_controls w s.size c p buckets.0 buckets.1)) there,
+          );
+        }
+
+    item_there : (i : ℕ) (x : X) → slice_get (items_of pairs) i ≡ Some x → stands c (slice_index (home_places w s.size c p homes) i) x
+    item_there i x e =
+        let inside = slice_get_within (items_of pairs) i x e in
+        let hashes = length-map pairs (λ (y : ℕ × X). y.0) in
+        let items = length-map pairs (λ (y : ℕ × X). y.1) in
+        let below : i < length homes = omega (arith, inside, hashes, items, home_count w c p (hashes_of pairs) homes written) in
+        let walked = home_walked w c p (hashes_of pairs) homes written i below in
+        let at = told_item w s.size c p buckets.0 buckets.1 (slice_index homes i) walked.0 in
+        subst (λ q. stands c q x)
+        (ap (λ n. bucket_at s.size buckets.0 n (slice_index homes i)) (sym t.cap) ∙ sym at ∙ sym (home_place w s.size c p homes i below)) (buckets.2.items i x e)
+
+    some_written : IsWrittenOf w s.size stands c p pairs
+    some_written = record { homes = homes; written = written; at = item_there }
+
+-- where the items of a table stand, it was written of them
+pub table_written : {X : Type 0} (w : Width) (s : Shape) (stands : List ℕ → ℕ → X → Type 0) (factor : ℕ × ℕ) → StandingWereWritten w s stands factor
+table_written w s stands factor c p [] t = none_written w s stands factor c p t
+table_written w s stands factor c p (x ∷ xs) t = some_written w s stands factor c p (x ∷ xs) t (omega arith)

@@ -1,0 +1,7 @@
+use Rattle.rkyv_table.proofs.WrittenTables.{table_written}
+use Rattle.rkyv_table.specs.Lending.{lent_stands}
+use Rattle.rkyv_table.proofs.table.written.standing_tables_were_written.Goals as goal
+
+pub returns : goal.returns
+returns g c = λ load_factor.
+    table_written g.W.Width.word g.U.Archived.Element.shape (lent_stands g.X.Lend.lent g.U.Archived.StandsFor.stands) load_factor
