@@ -37,10 +37,10 @@ module _ (w : Width) (k v : Shape) (kl : IsElement k) (vl : IsElement v) (key_ha
   module _ (b c : List ℕ) (p r : ℕ) (homes others : List ℕ) (first : IsWrittenApart w k v key_hash same_key same_value b p homes)
       (second : IsWrittenApart w k v key_hash same_key same_value c r others) where
     key_stands : (i : ℕ) → i < length homes → Standing k b (pair_at w k v b p homes i)
-    key_stands i h = standing_key kl vl b (pair_at w k v b p homes i) (pair_stands w k v kl vl key_hash same_key same_value b p homes first i h)
+    key_stands i h = standing_key kl vl b (pair_at w k v b p homes i) (pair_stands w k v kl vl key_hash b p homes first.stands first.written i h)
 
     other_stands : (j : ℕ) → j < length others → Standing k c (pair_at w k v c r others j)
-    other_stands j h = standing_key kl vl c (pair_at w k v c r others j) (pair_stands w k v kl vl key_hash same_key same_value c r others second j h)
+    other_stands j h = standing_key kl vl c (pair_at w k v c r others j) (pair_stands w k v kl vl key_hash c r others second.stands second.written j h)
 
     -- the value of the first pair is the same as that of the pair that stands at a place
     same_at : ℕ → ℕ → Bool
@@ -53,7 +53,7 @@ module _ (w : Width) (k v : Shape) (kl : IsElement k) (vl : IsElement v) (key_ha
     matches_is i h =
         let q = pair_at w k v b p homes i in
         ap (λ (found : Option ℕ). unwrap_or (option_map (same_at i) found) false)
-        (first_accepted w k v kl vl key_hash same_key same_value c r others second (key_hash b q) (same_key b q c) (hash_small w k v kl vl key_hash same_key same_value b p homes first i h)
+        (first_accepted w k v kl vl key_hash c r others second.stands second.written (key_hash b q) (same_key b q c) (hash_small w k v kl vl key_hash b p homes first.stands first.written i h)
         (λ j l fits. sym (alike b c q (pair_at w k v c r others j) (key_stands i h) (other_stands j l) fits)))
 
     -- what matches is the same as one of the other pairs
@@ -72,7 +72,7 @@ module _ (w : Width) (k v : Shape) (kl : IsElement k) (vl : IsElement v) (key_ha
               let key = (some_find (same_key b q c) xs some.0 some.1).1 in
               let place = found_index (same_key b q c) xs some.0 some.1 in
               let inside : place.0 < length others = omega (arith, place.1) in
-              let is : pair_at w k v c r others place.0 ≡ some.0 = sym (place_of_pair w k v kl vl key_hash same_key same_value c r others second place.0 inside) ∙ place.2 in (
+              let is : pair_at w k v c r others place.0 ≡ some.0 = sym (place_of_pair w k v kl vl key_hash c r others second.stands second.written place.0 inside) ∙ place.2 in (
                 place.0,
                 inside,
                 subst (λ x. entry_same k v same_key same_value b q c x ≡ true) (sym is)
@@ -91,7 +91,7 @@ module _ (w : Width) (k v : Shape) (kl : IsElement k) (vl : IsElement v) (key_ha
         let xs = home_places w (entry_shape k v).size c r others in
         let n = length-map others (item_at w (entry_shape k v).size c r) in
         let both = and_parts (same_key b q c x) (same_value b (q + value_offset k v) c (x + value_offset k v)) same in
-        let there = place_of_pair w k v kl vl key_hash same_key same_value c r others second j l in
+        let there = place_of_pair w k v kl vl key_hash c r others second.stands second.written j l in
         elim (cases_option (find (same_key b q c) xs)) [
           | inl none ↦
               let member = contains_member (get_or xs j 0) xs (j, omega arith, get_or_itself xs j (omega arith)) in
@@ -101,7 +101,7 @@ module _ (w : Width) (k v : Shape) (kl : IsElement k) (vl : IsElement v) (key_ha
               let place = found_index (same_key b q c) xs some.0 some.1 in
               let inside : place.0 < length others = omega (arith, place.1) in
               let y = pair_at w k v c r others place.0 in
-              let is : y ≡ some.0 = sym (place_of_pair w k v kl vl key_hash same_key same_value c r others second place.0 inside) ∙ place.2 in
+              let is : y ≡ some.0 = sym (place_of_pair w k v kl vl key_hash c r others second.stands second.written place.0 inside) ∙ place.2 in
               let found_key : same_key b q c y ≡ true = subst (λ z. same_key b q c z ≡ true) (sym is) key in
               let turned = ke.symmetric b c q x (key_stands i h) (other_stands j l) both.0 in
               let one : j ≡ place.0 = second.apart j place.0 l inside (ke.transitive c b c x q y (other_stands j l) (key_stands i h) (other_stands place.0 inside) turned found_key) in
@@ -129,21 +129,21 @@ module _ (w : Width) (k v : Shape) (kl : IsElement k) (vl : IsElement v) (key_ha
       let same : ℕ → ℕ → Bool = λ i j. entry_same k v same_key same_value b (pair_at w k v b p homes i) c (pair_at w k v c r others j) in
       let matches : ℕ → Bool = λ q. pair_matches w k v key_hash same_key same_value b q c r in
       let every : Bool = list_all matches (item_places w (entry_shape k v).size b p) in
-      let count = pair_count w k v kl vl key_hash same_key same_value b p homes first in
-      let count' = pair_count w k v kl vl key_hash same_key same_value c r others second in
+      let count = pair_count w k v kl vl key_hash b p homes first.stands first.written in
+      let count' = pair_count w k v kl vl key_hash c r others second.stands second.written in
       let equivalence = entry_equivalence kl vl ke ve in (
         λ equal.
             let t = and_parts (eqb (len_at w b p) (len_at w c r)) every equal in
             let n : length homes ≡ length others = sym count ∙ eqb-true (len_at w b p) (len_at w c r) t.0 ∙ count' in
             let each : EachIsIn w k v key_hash same_key same_value b p homes c r others = λ i h.
-            match_same b c p r homes others first second i h (all_handed w k v kl vl key_hash same_key same_value b p homes first matches t.1 i h) in (
+            match_same b c p r homes others first second i h (all_handed w k v kl vl key_hash b p homes first.stands first.written matches t.1 i h) in (
               each,
               λ j l.
                   let row = column_matched (length homes) (length others) same (matching b c p r homes others first second each) n j l in (
                     row.0,
                     row.1,
                     equivalence.symmetric b c (pair_at w k v b p homes row.0) (pair_at w k v c r others j)
-                        (pair_stands w k v kl vl key_hash same_key same_value b p homes first row.0 row.1) (pair_stands w k v kl vl key_hash same_key same_value c r others second j l) row.2,
+                        (pair_stands w k v kl vl key_hash b p homes first.stands first.written row.0 row.1) (pair_stands w k v kl vl key_hash c r others second.stands second.written j l) row.2,
                   ),
             ),
         λ both.
@@ -151,6 +151,6 @@ module _ (w : Width) (k v : Shape) (kl : IsElement k) (vl : IsElement v) (key_ha
             let back : ℕ → ℕ → Bool = λ i j. entry_same k v same_key same_value c (pair_at w k v c r others i) b (pair_at w k v b p homes j) in
             let few' = rows_within (length others) (length homes) back (matching c b r p others homes second first both.1) in
             and_from (eqb (len_at w b p) (len_at w c r)) every (eq-eqb (len_at w b p) (len_at w c r) (omega arith))
-            (all_walked w k v kl vl key_hash same_key same_value b p homes first matches
+            (all_walked w k v kl vl key_hash b p homes first.stands first.written matches
             (λ i h. let d = both.0 i h in same_matches b c p r homes others first second i d.0 h d.1 d.2)),
       )

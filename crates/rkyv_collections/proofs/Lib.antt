@@ -7,3 +7,4 @@ pub mod Lookups
 pub mod Matching
 pub mod WrittenPairs
 pub mod EqualMaps
+pub mod MisplacedKeys

@@ -9,8 +9,7 @@ use Rattle.std.proofs.lemmas.List.Sums.{AllPass-from_list_all, list_all-from_All
 use Rattle.rkyv_scan.specs.Groups.{generic_kind}
 use Rattle.rkyv_scan.specs.KindLaws.{word_lawful}
 use Rattle.rkyv_base.specs.Entry.{entry_element, entry_shape}
-use Rattle.rkyv_base.specs.Shape.{IsElement, Shape, Standing}
-use Rattle.rkyv_keys.specs.Equality.{Comparison}
+use Rattle.rkyv_base.specs.Shape.{IsElement, Shape, Standing, Viewed}
 use Rattle.rkyv_table.specs.Header.{cap_at, len_at}
 use Rattle.rkyv_table.specs.Placing.{walk}
 use Rattle.rkyv_table.specs.Reading.{IsWalked, home_places, item_at, item_places, place_found, table_controls}
@@ -19,11 +18,12 @@ use Rattle.rkyv_table.proofs.Items.{item_viewed}
 use Rattle.rkyv_table.proofs.RawWalks.{walk_count}
 use Rattle.rkyv_table.proofs.WalkedHomes.{walked_homes}
 use Rattle.rkyv_table.proofs.Walks.{full_walked}
-use Rattle.rkyv_collections.specs.Equality.{IsWrittenApart, pair_at}
+use Rattle.rkyv_collections.specs.Equality.{pair_at}
+use Rattle.rkyv_collections.specs.Map.{MapWrittenAt, map_shape}
 use Rattle.rkyv_table.proofs.WrittenTables.{home_place, home_walked}
 
-module _ (w : Width) (k v : Shape) (kl : IsElement k) (vl : IsElement v) (key_hash : List ℕ → ℕ → ℕ) (same_key same_value : Comparison)
-    (b : List ℕ) (p : ℕ) (homes : List ℕ) (map_is : IsWrittenApart w k v key_hash same_key same_value b p homes) where
+module _ (w : Width) (k v : Shape) (kl : IsElement k) (vl : IsElement v) (key_hash : List ℕ → ℕ → ℕ)
+    (b : List ℕ) (p : ℕ) (homes : List ℕ) (view : Viewed (map_shape w k v) b p) (written : MapWrittenAt w (entry_shape k v) key_hash b p homes) where
   places : List ℕ
   places = home_places w (entry_shape k v).size b p homes
 
@@ -47,29 +47,29 @@ module _ (w : Width) (k v : Shape) (kl : IsElement k) (vl : IsElement v) (key_ha
 
   pub hash_small : (i : ℕ) → i < length homes → key_hash b (pair_at w k v b p homes i) < 2 ^ 64
   unfolding hashes places
-  hash_small i h = subst (λ n. n < 2 ^ 64) (hash_of_pair i h) (map_is.written.fit i 0 (omega (arith, hash_count)))
+  hash_small i h = subst (λ n. n < 2 ^ 64) (hash_of_pair i h) (written.fit i 0 (omega (arith, hash_count)))
 
   pub pair_walked : (i : ℕ) → i < length homes → IsWalked w b p (slice_index homes i)
   unfolding hashes places
-  pair_walked i h = home_walked w b p hashes homes map_is.written i h
+  pair_walked i h = home_walked w b p hashes homes written i h
 
   pub pair_stands : (i : ℕ) → i < length homes → Standing (entry_shape k v) b (pair_at w k v b p homes i)
-  pair_stands i h = (item_viewed w (entry_shape k v) (entry_element k v kl vl) b p map_is.stands (slice_index homes i) (pair_walked i h)).stands
+  pair_stands i h = (item_viewed w (entry_shape k v) (entry_element k v kl vl) b p view (slice_index homes i) (pair_walked i h)).stands
 
   -- as many pairs as the header tells
   pub pair_count : len_at w b p ≡ length homes
   unfolding hashes places
-  pair_count = map_is.written.count ∙ hash_count
+  pair_count = written.count ∙ hash_count
 
   -- a walked bucket is the home of a pair
   walked_pair : (bucket : ℕ) → Contains (walk (table_controls w b p) (cap_at w b p)) bucket → Contains homes bucket
   unfolding hashes places
-  walked_pair bucket at = elim map_is.written.placed [
+  walked_pair bucket at = elim written.placed [
     | inl none ↦
-        let count = walk_count w (entry_shape k v) (entry_element k v kl vl) b p map_is.stands in
+        let count = walk_count w (entry_shape k v) (entry_element k v kl vl) b p view in
         let z : length homes ≡ 0 = ap length none.1 in
         absurd (omega (arith, at.1, count, pair_count, z))
-    | inr placed ↦ ((walked_homes (cap_at w b p) hashes homes (table_controls w b p) placed.0 map_is.written.fit placed.1).members bucket).0 at
+    | inr placed ↦ ((walked_homes (cap_at w b p) hashes homes (table_controls w b p) placed.0 written.fit placed.1).members bucket).0 at
   ]
 
   -- what holds of each walked pair holds of each pair handed in, and the other way
@@ -102,7 +102,7 @@ module _ (w : Width) (k v : Shape) (kl : IsElement k) (vl : IsElement v) (key_ha
       → place_found generic_kind w (entry_shape k v).size b p hash accept ≡ find accept (home_places w (entry_shape k v).size b p homes)
   unfolding hashes places
   first_accepted hash accept small under =
-      first_found generic_kind word_lawful w (entry_shape k v).size b p hash small hashes homes accept map_is.written
+      first_found generic_kind word_lawful w (entry_shape k v).size b p hash small hashes homes accept written
       (λ i h accepted.
       let l : i < length homes = omega (arith, hash_count) in
       hash_of_pair i l ∙ under i l (ap accept (sym (place_of_pair i l)) ∙ accepted))

@@ -108,8 +108,12 @@ IsEntryIn w k v m entry = (entry.archive ≡ map_archive m) × IsView (entry_sha
 abbrev pub IsEntryAt : {E : Type 0} → Option (View E) → Option ℕ → Type 0
 IsEntryAt result place = place_of_found result ≡ place
 
+-- where the key of a pair that may have been found stands
+abbrev pub key_place_found : {K V : Type 0} → Option (View K × View V) → Option ℕ
+key_place_found {K} {V} result = option_map (λ (pair : View K × View V). place_of pair.0) result
+
 abbrev pub IsPairAt : {K V : Type 0} → Option (View K × View V) → Option ℕ → Type 0
-IsPairAt {K} {V} result place = option_map (λ (pair : View K × View V). place_of pair.0) result ≡ place
+IsPairAt result place = key_place_found result ≡ place
 
 -- the value that was found stands behind the key at the position, or none was found
 abbrev pub IsValueAt : {V : Type 0} → Shape → Shape → Option (View V) → Option ℕ → Type 0

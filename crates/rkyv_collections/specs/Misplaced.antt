@@ -1,16 +1,40 @@
 -- How many keys of a map a lookup doesn't answer where they stand.
-use Rattle.std.specs.Prelude.{ℕ, List}
+use Rattle.std.specs.Prelude.{◌≡◌, ℕ, List, Bool, true, false, Option, MatchOption}
 use Rattle.std.specs.Int.{Width}
 use Rattle.rkyv_scan.specs.Groups.{generic_kind}
 use Rattle.rkyv_base.specs.Entry.{entry_shape}
-use Rattle.rkyv_base.specs.Shape.{Shape}
+use Rattle.rkyv_base.specs.Shape.{Shape, Viewed}
 use Rattle.rkyv_keys.specs.Equality.{Comparison}
 use Rattle.rkyv_table.specs.Header.{cap_at, len_at}
-use Rattle.rkyv_table.specs.Misplaced.{misplaced}
-use Rattle.rkyv_table.specs.Reading.{item_at, table_controls}
+use Rattle.rkyv_table.specs.Misplaced.{misplaced, repeated}
+use Rattle.rkyv_table.specs.Reading.{IsWalked, home_places, item_at, table_controls}
+use Rattle.rkyv_collections.specs.Map.{MapWrittenAt, map_shape}
 
 -- of how many buckets a lookup of their own key answers another bucket, or none
 abbrev pub map_misplaced : Width → Shape → Shape → (List ℕ → ℕ → ℕ) → Comparison → List ℕ → ℕ → ℕ
 map_misplaced w k v key_hash same_key b p =
     let at : ℕ → ℕ = item_at w (entry_shape k v).size b p in
     misplaced generic_kind (table_controls w b p) (cap_at w b p) (len_at w b p) (λ i. key_hash b (at i)) (λ i j. same_key b (at i) b (at j))
+
+-- In a map that stands and was written, those keys are misplaced that are the same as one handed in earlier.
+abbrev pub RepeatedKeysAreMisplaced : Width → Shape → Shape → (List ℕ → ℕ → ℕ) → Comparison → Type 0
+RepeatedKeysAreMisplaced w k v key_hash same_key =
+    (b : List ℕ) (p : ℕ) (homes : List ℕ) → Viewed (map_shape w k v) b p → MapWrittenAt w (entry_shape k v) key_hash b p homes
+    → map_misplaced w k v key_hash same_key b p ≡ repeated (λ q r. same_key b q b r) (home_places w (entry_shape k v).size b p homes)
+
+module _ (w : Width) (size : ℕ) (b : List ℕ) (p : ℕ) (fits : ℕ → Bool) where
+  -- no key of the map fits
+  abbrev pub NoneFits : Type 0
+  NoneFits = (i : ℕ) → IsWalked w b p i → fits (item_at w size b p i) ≡ false
+
+  -- the key at the place fits, and no other key of the map does
+  pub record FitsAlone (place : ℕ) : Type 0 where
+    pub bucket : ℕ
+    pub walked : IsWalked w b p bucket
+    pub at : place ≡ item_at w size b p bucket
+    pub fitting : fits place ≡ true
+    pub alone : (i : ℕ) → IsWalked w b p i → fits (item_at w size b p i) ≡ true → i ≡ bucket
+
+  -- the one key that fits was found, or there is none
+  abbrev pub FindsTheOne : Option ℕ → Type 0
+  FindsTheOne found = MatchOption found NoneFits FitsAlone

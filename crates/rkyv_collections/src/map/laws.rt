@@ -1,7 +1,9 @@
 //! Laws of maps, over their definitions alone.
 ghost use Rattle.rkyv_collections.specs.Equality.{EqualHaveSamePairs};
 ghost use Rattle.rkyv_collections.specs.Map.{hash_at};
+ghost use Rattle.rkyv_collections.specs.Misplaced.{RepeatedKeysAreMisplaced};
 
+use rkyv_base::element::Element;
 use rkyv_base::width::Width;
 use rkyv_keys::equality::ElementEquiv;
 use rkyv_keys::keys::KeyElement;
@@ -11,4 +13,10 @@ use rkyv_scan::hash::KeyHasher;
 /// same as one of the other.
 pub fn equal_maps_have_the_same_pairs<K: KeyElement, V: ElementEquiv, H: KeyHasher, W: Width>()
     ensures { EqualHaveSamePairs W.word K.shape V.shape (hash_at H.initial H.feed H.finish K.key_calls) K.same V.same }
+{}
+
+/// In a map that was written, `misplaced` is the number of keys that are the same as one handed in
+/// earlier.
+pub fn repeated_keys_are_misplaced<K: KeyElement, V: Element, H: KeyHasher, W: Width>()
+    ensures { RepeatedKeysAreMisplaced W.word K.shape V.shape (hash_at H.initial H.feed H.finish K.key_calls) K.same }
 {}

@@ -1,5 +1,5 @@
 //! Finding a pair by its key.
-ghost use Rattle.std.specs.Prelude.{Bool, IfSome, IsSome, ℕ, ◌≡◌};
+ghost use Rattle.std.specs.Prelude.{Bool, IfSome, IsSome, ℕ, ◌<◌, ◌^◌, ◌≡◌};
 ghost use Rattle.rkyv_base.specs.Entry.{entry_shape};
 ghost use Rattle.rkyv_base.specs.View.{IsAt, IsView, archive_of, place_of};
 ghost use Rattle.rkyv_base.specs.declared.view.View.{View};
@@ -19,8 +19,12 @@ ghost use Rattle.rkyv_collections.specs.Map.{
   IsValueIn,
   MayAskKeys,
   hash_at,
+  key_place_found,
   map_bytes,
+  map_place,
 };
+ghost use Rattle.rkyv_collections.specs.Misplaced.{FindsTheOne, map_misplaced};
+ghost use Rattle.rkyv_table.specs.Reading.{place_of_found};
 
 use crate::map::ArchivedHashMap;
 use rkyv_base::element::Element;
@@ -52,6 +56,7 @@ impl<'a, K: KeyElement, V: Element, H: KeyHasher, W: Width> ArchivedHashMap<'a, 
             (accept : ℕ → Bool) → AnswersKeys W.word K.shape V.shape self.entry (F.post cmp key.entry) accept
             → AreUnderHash W.word K.shape V.shape self.entry hash key_hash accept
             → FindsFirstKey W.word K.shape V.shape self.entry key_hash accept (IsEntryAt result) }
+        ensures hash { hash_of_calls H.initial H.feed H.finish (Q.calls key.now) < 2 ^ 64 }
     {
         let hash = hash_value::<Q, H>(key);
         self.table().get_with(
@@ -132,6 +137,9 @@ impl<'a, K: KeyElement, V: Element, H: KeyHasher, W: Width> ArchivedHashMap<'a, 
             FindsKey W.word K.shape V.shape self.entry hash (Q.fits key.now (map_bytes self.entry)) (IsEntryAt result) }
         ensures first { let key_hash = hash_at H.initial H.feed H.finish K.key_calls in
             FindsFirstKey W.word K.shape V.shape self.entry key_hash (Q.fits key.now (map_bytes self.entry)) (IsEntryAt result) }
+        ensures complete { let key_hash = hash_at H.initial H.feed H.finish K.key_calls in
+            map_misplaced W.word K.shape V.shape key_hash K.same (map_bytes self.entry) (map_place self.entry) ≡ 0
+            → FindsTheOne W.word (entry_shape K.shape V.shape).size (map_bytes self.entry) (map_place self.entry) (Q.fits key.now (map_bytes self.entry)) (place_of_found result) }
     {
         self.find(
             key,
@@ -146,7 +154,8 @@ impl<'a, K: KeyElement, V: Element, H: KeyHasher, W: Width> ArchivedHashMap<'a, 
     /// The pair whose key is the one that is asked for: in a map that was written the first such
     /// one, in the order in which the pairs were handed in.
     ///
-    /// In a map of strangers a key may stand where its hash doesn't lead; then it isn't found.
+    /// In a map of strangers a key may stand where its hash doesn't lead; then it isn't found. Where
+    /// `misplaced` is 0 none does: the one key that fits is found, and none exactly where none fits.
     #[inline]
     pub fn get_key_value<Q: Query<K>>(self, key: &Q) -> Option<(View<'a, K>, View<'a, V>)>
         requires map { IsMap W.word K.shape V.shape self }
@@ -156,6 +165,9 @@ impl<'a, K: KeyElement, V: Element, H: KeyHasher, W: Width> ArchivedHashMap<'a, 
             FindsKey W.word K.shape V.shape self.entry hash (Q.fits key.now (map_bytes self.entry)) (IsPairAt result) }
         ensures first { let key_hash = hash_at H.initial H.feed H.finish K.key_calls in
             FindsFirstKey W.word K.shape V.shape self.entry key_hash (Q.fits key.now (map_bytes self.entry)) (IsPairAt result) }
+        ensures complete { let key_hash = hash_at H.initial H.feed H.finish K.key_calls in
+            map_misplaced W.word K.shape V.shape key_hash K.same (map_bytes self.entry) (map_place self.entry) ≡ 0
+            → FindsTheOne W.word (entry_shape K.shape V.shape).size (map_bytes self.entry) (map_place self.entry) (Q.fits key.now (map_bytes self.entry)) (key_place_found result) }
     {
         match self.find_key(key) {
             Some(found) => Some((found.key(), found.value())),

@@ -19,8 +19,12 @@ ghost use Rattle.rkyv_collections.specs.Set.{
   set_archive,
   set_bytes,
   set_len,
+  set_misplaced,
+  set_place,
   set_shape,
 };
+ghost use Rattle.rkyv_collections.specs.Misplaced.{FindsTheOne};
+ghost use Rattle.rkyv_table.specs.Reading.{place_of_found};
 
 use crate::map::iter::Keys;
 use crate::map::{ArchivedHashMap, HashMapOf};
@@ -101,7 +105,8 @@ impl<'a, K: KeyElement, H: KeyHasher, W: Width> ArchivedHashSet<'a, K, H, W> {
     /// The key that is asked for: in a set that was written the first such one, in the order in
     /// which the keys were handed in.
     ///
-    /// In a set of strangers a key may stand where its hash doesn't lead; then it isn't found.
+    /// In a set of strangers a key may stand where its hash doesn't lead; then it isn't found. Where
+    /// `misplaced` is 0 none does: the one key that fits is found, and none exactly where none fits.
     #[inline]
     pub fn get<Q: Query<K>>(self, key: &Q) -> Option<View<'a, K>>
         requires set { IsSet W.word K.shape self }
@@ -111,6 +116,9 @@ impl<'a, K: KeyElement, H: KeyHasher, W: Width> ArchivedHashSet<'a, K, H, W> {
             FindsMember W.word K.shape self.entry hash (Q.fits key.now (set_bytes self.entry)) (IsEntryAt result) }
         ensures first { let key_hash = hash_at H.initial H.feed H.finish K.key_calls in
             FindsFirstMember W.word K.shape self.entry key_hash (Q.fits key.now (set_bytes self.entry)) (IsEntryAt result) }
+        ensures complete { let key_hash = hash_at H.initial H.feed H.finish K.key_calls in
+            set_misplaced W.word K.shape key_hash K.same (set_bytes self.entry) (set_place self.entry) ≡ 0
+            → FindsTheOne W.word (entry_shape K.shape unit_shape).size (set_bytes self.entry) (set_place self.entry) (Q.fits key.now (set_bytes self.entry)) (place_of_found result) }
     {
         match self.map.get_key_value(key) {
             Some((stored, _)) => Some(stored),

@@ -1,0 +1,142 @@
+-- Keys of a map that a lookup doesn't answer where they stand.
+use Rattle.std.proofs.Common.{◌≡◌, ℕ, ◌^◌, ◌<◌, ◌||◌, ◌∷◌, [], ◌∙◌, inl, inr, refl, sym, ap, arith, subst, List, Bool, true, Option, Some, None, length, filter, map, take, slice_index}
+use Rattle.std.specs.Option.{option_map}
+use Rattle.std.specs.Prelude.{MatchOption}
+use Rattle.std.specs.Int.{Width}
+use Rattle.std.specs.List.{Contains, list_any, range_with_len}
+use Rattle.std.proofs.lemmas.Bool.{cases_eq}
+use Rattle.std.proofs.lemmas.List.{get_or_default, get_or-map, length-map, nil_from_length, take-map}
+use Rattle.rkyv_scan.specs.Groups.{generic_kind}
+use Rattle.rkyv_scan.specs.Hash.{HasherCall, hash_of_calls}
+use Rattle.rkyv_scan.specs.KindLaws.{word_lawful}
+use Rattle.rkyv_base.specs.Entry.{entry_element, entry_shape}
+use Rattle.rkyv_base.specs.Shape.{IsElement, Shape, Standing, Viewed}
+use Rattle.rkyv_keys.specs.Equality.{Comparison, IsEquivalence}
+use Rattle.rkyv_keys.specs.Keys.{IsQuery}
+use Rattle.rkyv_keys.specs.OfEntries.{standing_key}
+use Rattle.rkyv_table.specs.Finding.{found}
+use Rattle.rkyv_table.specs.Header.{cap_at, len_at}
+use Rattle.rkyv_table.specs.Misplaced.{AloneAccepted, AsksForOne, IsSameness, NoneAccepted, misplaced, repeated, repeats_earlier}
+use Rattle.rkyv_table.specs.Placing.{walk}
+use Rattle.rkyv_table.specs.Reading.{home_places, item_at, place_found, table_controls}
+use Rattle.rkyv_table.proofs.Items.{controls_accepted, item_viewed, no_items}
+use Rattle.rkyv_table.proofs.Misplaced.{complete, repeated_misplaced}
+use Rattle.rkyv_table.proofs.RawWalks.{walk_count}
+use Rattle.rkyv_table.proofs.Walks.{filter_agree_range, full_walked, walked_full}
+use Rattle.rkyv_collections.specs.Equality.{pair_at}
+use Rattle.rkyv_collections.specs.Map.{MapWrittenAt, hash_at, map_shape}
+use Rattle.rkyv_collections.specs.Misplaced.{FindsTheOne, RepeatedKeysAreMisplaced, map_misplaced}
+use Rattle.rkyv_collections.proofs.WrittenPairs.{hash_of_pair, pair_count, pair_stands}
+
+-- what repeats among items repeats among their places
+module _ (at : ℕ → ℕ) (same : ℕ → ℕ → Bool) (homes : List ℕ) where
+  any_earlier : (x : ℕ) (is : List ℕ) → list_any (λ j. same x (at j)) is ≡ list_any (same x) (map at is)
+  any_earlier x [] = refl
+  any_earlier x (j ∷ is) = ap (λ rest. same x (at j) || rest) (any_earlier x is)
+
+  pub repeated_places : repeated (λ i j. same (at i) (at j)) homes ≡ repeated same (map at homes)
+  repeated_places =
+      let n = length-map homes at in
+      ap length (filter_agree_range (repeats_earlier (λ i j. same (at i) (at j)) homes) (repeats_earlier same (map at homes)) 0 (length homes)
+      (λ i from to.
+      ap (λ x. list_any (λ j. same x (at j)) (take i homes)) (sym (get_or-map at homes i 0 0 (omega arith)))
+      ∙ any_earlier (slice_index (map at homes) i) (take i homes)
+      ∙ ap (list_any (same (slice_index (map at homes) i))) (sym (take-map at i homes))))
+      ∙ ap (λ (m : ℕ). length (filter (repeats_earlier same (map at homes)) (range_with_len 0 m))) (sym n)
+
+module _ (w : Width) (k v : Shape) (kl : IsElement k) (vl : IsElement v) (key_hash : List ℕ → ℕ → ℕ) (same_key : Comparison)
+    (equivalence : IsEquivalence k same_key)
+    (alike : (b c : List ℕ) (q r : ℕ) → Standing k b q → Standing k c r → same_key b q c r ≡ true → key_hash b q ≡ key_hash c r) where
+  module _ (b : List ℕ) (p : ℕ) (homes : List ℕ) (view : Viewed (map_shape w k v) b p) (written : MapWrittenAt w (entry_shape k v) key_hash b p homes) where
+    abbrev at : ℕ → ℕ
+    at = item_at w (entry_shape k v).size b p
+
+    abbrev hashes : List ℕ
+    hashes = map (key_hash b) (home_places w (entry_shape k v).size b p homes)
+
+    key_there : (i : ℕ) → Contains homes i → Standing k b (at i)
+    key_there i c =
+        let is : slice_index homes c.0 ≡ i = get_or_default homes c.0 0 i c.1 ∙ c.2 in
+        subst (λ x. Standing k b (at x)) is (standing_key kl vl b (pair_at w k v b p homes c.0) (pair_stands w k v kl vl key_hash b p homes view written c.0 c.1))
+
+    sameness : IsSameness (λ i. key_hash b (at i)) (λ i j. same_key b (at i) b (at j)) hashes homes
+    sameness = record {
+      hashed = λ i h. sym (hash_of_pair w k v kl vl key_hash b p homes view written i h);
+      equal = λ i j c d s. alike b b (at i) (at j) (key_there i c) (key_there j d) s;
+      reflexive = λ i c. equivalence.reflexive b (at i) (key_there i c);
+      symmetric = λ i j c d s. equivalence.symmetric b b (at i) (at j) (key_there i c) (key_there j d) s;
+      transitive = λ i j l c d e s t. equivalence.transitive b b b (at i) (at j) (at l) (key_there i c) (key_there j d) (key_there l e) s t;
+    }
+
+    repeated_keys : map_misplaced w k v key_hash same_key b p ≡ repeated (λ q r. same_key b q b r) (home_places w (entry_shape k v).size b p homes)
+    repeated_keys = elim written.placed [
+      | inl none ↦
+          let count = walk_count w (entry_shape k v) (entry_element k v kl vl) b p view in
+          let pairs = pair_count w k v kl vl key_hash b p homes view written in
+          let z : length homes ≡ 0 = ap length none.1 in
+          let empty : walk (table_controls w b p) (cap_at w b p) ≡ [] = nil_from_length (walk (table_controls w b p) (cap_at w b p)) (count ∙ pairs ∙ z) in
+          rw (empty, none.1) refl
+      | inr some ↦
+          ap (λ n. misplaced generic_kind (table_controls w b p) (cap_at w b p) n (λ i. key_hash b (at i)) (λ i j. same_key b (at i) b (at j))) written.count
+          ∙ repeated_misplaced generic_kind (cap_at w b p) hashes homes (table_controls w b p) (λ i. key_hash b (at i)) (λ i j. same_key b (at i) b (at j)) word_lawful
+          some.0 (λ j l. written.fit j 0 l) some.1 sameness
+          ∙ repeated_places at (λ q r. same_key b q b r) homes
+    ]
+
+  pub repeated_keys_misplaced : RepeatedKeysAreMisplaced w k v key_hash same_key
+  repeated_keys_misplaced b p homes view written = repeated_keys b p homes view written
+
+-- where no key is misplaced, a lookup finds the one key that fits
+module _ {Q State : Type 0} (w : Width) (k v : Shape) (kl : IsElement k) (vl : IsElement v) (initial : State) (feed : State → HasherCall → State) (finish : State → ℕ)
+    (same : Comparison) (key_calls : List ℕ → ℕ → List HasherCall) (can_read : Q → Type 0) (calls : Q → List HasherCall) (fits : Q → List ℕ → ℕ → Bool)
+    (query : IsQuery k same key_calls can_read calls fits) (b : List ℕ) (p : ℕ) (view : Viewed (map_shape w k v) b p) (q : Q) (can : can_read q)
+    (small : hash_of_calls initial feed finish (calls q) < 2 ^ 64) (none : map_misplaced w k v (hash_at initial feed finish key_calls) same b p ≡ 0) where
+  abbrev size : ℕ
+  size = (entry_shape k v).size
+
+  abbrev place_in : ℕ → ℕ
+  place_in = item_at w size b p
+
+  abbrev cap : ℕ
+  cap = cap_at w b p
+
+  abbrev controls : List ℕ
+  controls = table_controls w b p
+
+  abbrev hash : ℕ
+  hash = hash_of_calls initial feed finish (calls q)
+
+  abbrev accept : ℕ → Bool
+  accept i = fits q b (place_in i)
+
+  key_walked : (i : ℕ) → Contains (walk controls cap) i → Standing k b (place_in i)
+  key_walked i c =
+      standing_key kl vl b (place_in i) (item_viewed w (entry_shape k v) (entry_element k v kl vl) b p view i (walked_full cap controls i c)).stands
+
+  asks : AsksForOne controls cap hash accept (λ i. hash_at initial feed finish key_calls b (place_in i)) (λ i j. same b (place_in i) b (place_in j))
+  asks = record {
+    hashed = λ i c f. ap (hash_of_calls initial feed finish) (sym (query.alike q b (place_in i) can (key_walked i c) f));
+    same = λ i j c d f. query.class q b b (place_in i) (place_in j) can (key_walked i c) (key_walked j d) f;
+  }
+
+  by_place : (o : Option ℕ) → MatchOption o (NoneAccepted controls cap accept) (AloneAccepted controls cap accept) → FindsTheOne w size b p (fits q b) (option_map place_in o)
+  by_place None n = λ i walked. n i (full_walked cap controls i walked)
+  by_place (Some i) a = record {
+    bucket = i;
+    walked = walked_full cap controls i a.walked;
+    at = refl;
+    fitting = a.accepted;
+    alone = λ j walked f. a.alone j (full_walked cap controls j walked) f;
+  }
+
+  pub finds_the_one : FindsTheOne w size b p (fits q b) (place_found generic_kind w size b p hash (fits q b))
+  finds_the_one = elim (cases_eq cap 0) [
+    | inl z ↦
+        let e = no_items w (entry_shape k v) (entry_element k v kl vl) b p view z in
+        subst (λ n. FindsTheOne w size b p (fits q b) (option_map place_in (found generic_kind controls cap n hash accept))) (sym e)
+        (by_place None (λ i c. absurd (omega (arith, (walked_full cap controls i c).0, z))))
+    | inr some ↦
+        by_place (found generic_kind controls cap (len_at w b p) hash accept)
+        (complete generic_kind cap (len_at w b p) hash controls accept (λ i. hash_at initial feed finish key_calls b (place_in i)) (λ i j. same b (place_in i) b (place_in j)) word_lawful
+        (controls_accepted w (entry_shape k v) (entry_element k v kl vl) b p view (omega arith)) small none asks)
+  ]

@@ -1,0 +1,12 @@
+use Rattle.std.proofs.Common.{ap}
+use Rattle.rkyv_scan.specs.Hash.{hash_of_calls}
+use Rattle.rkyv_collections.specs.Map.{hash_at}
+use Rattle.rkyv_collections.proofs.MisplacedKeys.{repeated_keys_misplaced}
+use Rattle.rkyv_collections.proofs.map.laws.repeated_keys_are_misplaced.Goals as goal
+
+pub returns : goal.returns
+returns g c =
+    repeated_keys_misplaced g.W.Width.word g.K.Element.shape g.V.Element.shape g.met.K.Element.laws g.met.V.Element.laws
+    (hash_at g.H.KeyHasher.initial g.H.KeyHasher.feed g.H.KeyHasher.finish g.K.KeyElement.key_calls) g.K.ElementEq.same
+    g.met.K.ElementEquiv.equivalence
+    (λ b c q r h g' same. ap (hash_of_calls g.H.KeyHasher.initial g.H.KeyHasher.feed g.H.KeyHasher.finish) (g.met.K.KeyElement.key.alike b c q r h g' same))
