@@ -1,5 +1,6 @@
 //! Worked examples, and one call of each public function.
 mod lists;
+mod nested;
 mod reading;
 mod sets;
 mod writing;

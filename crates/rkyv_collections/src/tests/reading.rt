@@ -284,6 +284,21 @@ fn a_map_inside_is_checked(rt: HostRuntime) {
     );
 }
 
+// A front is no archive, but for those that end in eight zeros: an empty map.
+#[test]
+fn each_front_of_an_archive_is_answered(rt: HostRuntime) {
+    let bytes = nested();
+    for len in 0..112 {
+        match access::<Nested>(&bytes[..len]) {
+            Ok(root) => {
+                assert!(rt; len == 60 || len == 64 || len == 68);
+                assert!(rt; ArchivedHashMap::of(root).is_empty());
+            }
+            Err(_) => assert!(rt; len != 60 && len != 64 && len != 68),
+        }
+    }
+}
+
 #[test]
 fn a_wide_map_is_read(rt: HostRuntime) -> Result<(), Fail> {
     let mut bytes = [0xff; 72];
