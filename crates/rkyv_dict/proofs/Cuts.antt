@@ -2,7 +2,7 @@
 use Rattle.std.proofs.Common.{◌≡◌, ◌==◌, ℕ, ◌+◌, ◌<◌, Bool, true, List, [], ◌∷◌, length, take, drop, Some, None, refl, sym, ◌∙◌, subst, arith, ltb, ⊎_elim}
 use Rattle.std.specs.List.{slice_split, position, position_or_len}
 use Rattle.std.proofs.lemmas.List.Splits.{slice_split_first, slice_split_none, length-slice_split}
-use Rattle.rkyv_dict.specs.Script.{Request, parts_of, one_number_of, two_numbers_of, bare_of, kind_of}
+use Rattle.rkyv_dict.specs.Script.{Request, parts_of, one_of, two_of, bare_of}
 use Rattle.std.proofs.lemmas.List.Quantifiers.{position-Some}
 use Rattle.std.proofs.lemmas.List.Sums.{position_or_len_is, fails_before_first}
 use Rattle.std.proofs.lemmas.Bool.{cases_lt, lt-ltb}
@@ -33,14 +33,11 @@ cons_of (first ∷ others) h = (first, others, refl)
 pub split_cons : (p : ℕ → Bool) (xs : List ℕ) → (first : List ℕ) × (others : List (List ℕ)) × (slice_split p xs ≡ first ∷ others)
 split_cons p xs = cons_of (slice_split p xs) (omega (arith, length-slice_split p xs))
 
-pub one_number_of_more : (most : ℕ) (word rest : List ℕ) → one_number_of most (word ∷ parts_of 32 rest) ≡ None
-one_number_of_more most word rest = let s = split_cons (λ b. b == 32) rest in rw s.2 refl
+pub one_of_more : (word rest : List ℕ) → one_of (word ∷ parts_of 32 rest) ≡ None
+one_of_more word rest = let s = split_cons (λ b. b == 32) rest in rw s.2 refl
 
-pub two_numbers_of_more : (most : ℕ) (first second rest : List ℕ) → two_numbers_of most (first ∷ second ∷ parts_of 32 rest) ≡ None
-two_numbers_of_more most first second rest = let s = split_cons (λ b. b == 32) rest in rw s.2 refl
+pub two_of_more : (first second rest : List ℕ) → two_of (first ∷ second ∷ parts_of 32 rest) ≡ None
+two_of_more first second rest = let s = split_cons (λ b. b == 32) rest in rw s.2 refl
 
 pub bare_of_more : (request : Request) (rest : List ℕ) → bare_of request (parts_of 32 rest) ≡ None
 bare_of_more request rest = let s = split_cons (λ b. b == 32) rest in rw s.2 refl
-
-pub kind_of_more : (word rest : List ℕ) → kind_of (word ∷ parts_of 32 rest) ≡ None
-kind_of_more word rest = let s = split_cons (λ b. b == 32) rest in rw s.2 refl

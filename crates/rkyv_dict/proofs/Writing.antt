@@ -1,9 +1,8 @@
 -- What is written, what is held back, and what is still to come.
-use Rattle.std.proofs.Common.{◌≡◌, ℕ, List, ◌∷◌, ◌++◌, take, drop, Option, sym, ap, ◌∙◌, append_assoc, take-append-drop, subst}
+use Rattle.std.proofs.Common.{◌≡◌, ℕ, List, ◌++◌, take, drop, Option, sym, ap, ◌∙◌, append_assoc, take-append-drop, subst}
 use Rattle.std.specs.Prelude.{Result, Ok, Err, OnErr}
 use Rattle.std.specs.Io.KnownBytes.{Appends, Consumes}
 use Rattle.std.proofs.KnownBytes.{Appends-trans, Consumes-trans}
-use Rattle.rkyv_dict.specs.Output.{State, answers, answer_to, state_after}
 use Rattle.rkyv_dict.specs.Run.{AppendsFront, MovesFront, Gathers}
 
 -- of what is held back a front is written
@@ -29,14 +28,6 @@ front_more a b c whole held more first second = record {
   parts = sym (first.parts ∙ ap (λ l. first.moved ++ (l ++ more)) (sym second.parts) ∙ simp append_assoc);
   appended = Appends-trans a b c first.moved second.front first.appended second.appended;
 }
-
--- a line is answered: its answer is held back with the rest
-pub line_held : (held now : List ℕ) (s s' : State) (parts more : List (List ℕ)) (line : List ℕ)
-    → parts ≡ line ∷ more → s' ≡ state_after s line → now ≡ held ++ answer_to s line
-    → held ++ answers s parts ≡ now ++ answers s' more
-line_held held now s s' parts more line cut after text =
-    ap (λ l. held ++ answers s l) cut ∙ sym (append_assoc held (answer_to s line) (answers (state_after s line) more))
-    ∙ ap (λ l. l ++ answers (state_after s line) more) (sym text) ∙ ap (λ t. now ++ answers t more) (sym after)
 
 pub gathers_more : (a b c : Option (List ℕ)) (before after : List ℕ) → Consumes a b before → Gathers b c before after → Consumes a c after
 gathers_more a b c before after first second =
