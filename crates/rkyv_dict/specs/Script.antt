@@ -7,7 +7,7 @@ use Rattle.std.specs.Option.{option_map, option_copied}
 use Rattle.std.specs.Str.{is_utf8, bytes_eq}
 use Rattle.std.specs.Str.Parse.{digits_value}
 use Rattle.rkyv_dict.specs.Hex.{bytes_said}
-use Rattle.rkyv_dict.specs.Forms.{Asked, number, text}
+use Rattle.rkyv_dict.specs.Forms.{Asked, asked_number, asked_text}
 use Rattle.rkyv_dict.specs.declared.form.Kind.{Kind}
 use Rattle.rkyv_dict.specs.declared.form.Kind.TheVariants.{Num, Text}
 use Rattle.rkyv_dict.specs.declared.form.Bits.{Bits}
@@ -137,8 +137,8 @@ put_asked Text arguments = option_map (λ p. put_texts p.0 p.1) (said_by_both te
 
 -- a key of this kind
 abbrev pub get_asked : Kind → List (List ℕ) → Option Request
-get_asked Num arguments = option_map (λ k. get_value (number k)) (said_by (number_of most_number) (one_of arguments))
-get_asked Text arguments = option_map (λ t. get_value (text t)) (said_by text_of (one_of arguments))
+get_asked Num arguments = option_map (λ k. get_value (asked_number k)) (said_by (number_of most_number) (one_of arguments))
+get_asked Text arguments = option_map (λ t. get_value (asked_text t)) (said_by text_of (one_of arguments))
 
 abbrev pub check_asked : List (List ℕ) → Option Request
 check_asked arguments = option_map (λ bytes. check_archive bytes) (said_by hex_of_word (one_of arguments))

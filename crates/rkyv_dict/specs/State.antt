@@ -7,7 +7,7 @@ use Rattle.rkyv_dict.specs.declared.form.Form.{Form}
 use Rattle.rkyv_dict.specs.declared.form.Kind.{Kind}
 use Rattle.rkyv_dict.specs.declared.form.Kind.TheVariants.{Num, Text}
 use Rattle.rkyv_dict.specs.Archives.{IsArchive}
-use Rattle.rkyv_dict.specs.Built.{IsBuilt, form_of_pairs}
+use Rattle.rkyv_dict.specs.Built.{Holds, form_of_pairs}
 use Rattle.rkyv_dict.specs.Forms.{Pairs, numbers, texts}
 
 -- an archive: its bytes, and the pairs that it was built of, unless it came by `check`
@@ -47,10 +47,11 @@ abbrev pub with_texts : Pairs → List ℕ → List ℕ → Pairs
 with_texts (numbers pairs) key value = numbers pairs
 with_texts (texts pairs) key value = texts (pairs ++ (key, value) ∷ [])
 
--- the archive of a state is one, and what was built holds the pairs that it was built of
+-- an archive of this form; what was built holds the pairs that it was built of
 pub record IsSoundIn (form : Form) (archived : Archived) : Type 0 where
   pub archive : IsArchive form archived.bytes
-  pub built : ForSome archived.built_of (λ pairs. (factor : ℕ × ℕ) × IsBuilt form factor pairs archived.bytes)
+  pub built : ForSome archived.built_of (λ pairs. (factor : ℕ × ℕ) × Holds form factor archived.bytes pairs)
 
+-- the archive of a state, if there is one, is one
 unfoldable pub IsSound : State → Type 0
 IsSound s = ForSome s.archive (IsSoundIn (form_of s))
