@@ -6,7 +6,7 @@ use Rattle.rkyv_dict.specs.declared.form.Bits.{Bits}
 use Rattle.rkyv_dict.specs.Counts.{take_pairs}
 use Rattle.rkyv_dict.specs.Forms.{Pairs}
 use Rattle.rkyv_dict.specs.Shown.{archived_seen}
-use Rattle.rkyv_dict.specs.State.{Archived, State}
+use Rattle.rkyv_dict.specs.State.{State}
 
 built_kept : (old new : Pairs) (most : ℕ) (handed : Option ℕ) → ForSome handed (λ n. n ≤ most)
     → ((n : ℕ) → n ≤ most → take_pairs n new ≡ take_pairs n old)

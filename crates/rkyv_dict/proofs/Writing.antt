@@ -1,5 +1,5 @@
 -- What is written, what is held back, and what is still to come.
-use Rattle.std.proofs.Common.{◌≡◌, ℕ, List, ◌++◌, take, drop, Option, sym, ap, ◌∙◌, append_assoc, take-append-drop, subst}
+use Rattle.std.proofs.Common.{ℕ, List, ◌++◌, take, drop, Option, sym, ap, ◌∙◌, append_assoc, take-append-drop, subst}
 use Rattle.std.specs.Prelude.{Result, Ok, Err, OnErr, IfSome, None, Some}
 use Rattle.std.specs.Io.KnownBytes.{Appends, Consumes}
 use Rattle.std.proofs.KnownBytes.{Appends-trans, Consumes-trans}

@@ -1,5 +1,5 @@
 -- What a script has set so far.
-use Rattle.std.specs.Prelude.{ℕ, List, [], ◌∷◌, ◌++◌, Option, Some, None}
+use Rattle.std.specs.Prelude.{ℕ, List, [], ◌∷◌, ◌++◌, Option, None}
 use Rattle.std.specs.Option.{ForSome}
 use Rattle.rkyv_dict.specs.declared.form.Bits.{Bits}
 use Rattle.rkyv_dict.specs.declared.form.Bits.TheVariants.{Bits32}

@@ -1,6 +1,6 @@
-use Rattle.std.proofs.Common.{ap, ◌∙◌, subst, string_bytes}
+use Rattle.std.proofs.Common.{ap, ◌∙◌, subst}
 use Rattle.std.specs.Option.{option_copied}
-use Rattle.rkyv_dict.specs.Run.{AppendsBeginning, AppendsFront}
+use Rattle.rkyv_dict.specs.Run.{AppendsFront}
 use Rattle.rkyv_dict.specs.Script.{parts_after}
 use Rattle.rkyv_dict.specs.Shown.{state_seen}
 use Rattle.rkyv_dict.proofs.Running.{progress_front, progress_line, progress_moved, progress_none}
