@@ -10,3 +10,9 @@ pub mod Shown
 pub mod Table
 pub mod Written
 pub mod Run
+pub mod Forms
+pub mod Parts
+pub mod Archives
+pub mod Built
+pub mod First
+pub mod Listed

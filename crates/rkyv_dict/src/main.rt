@@ -1,11 +1,15 @@
 //! Reads a script of commands on a dictionary from standard input, and writes its answers.
 #![tactic(auto)]
 
+pub mod archives;
 pub mod buckets;
 pub mod dict;
+pub mod form;
 pub mod hex;
 pub mod layout;
+mod listed;
 pub mod map;
+pub mod parts;
 pub mod refusal;
 pub mod run;
 pub mod script;
