@@ -20,7 +20,7 @@ use Rattle.rkyv_collections.specs.Misplaced.{map_misplaced}
 use Rattle.rkyv_dict.specs.declared.form.Form.{Form}
 use Rattle.rkyv_dict.specs.declared.form.Kind.{Kind}
 use Rattle.rkyv_dict.specs.declared.form.Kind.TheVariants.{Num, Text}
-use Rattle.rkyv_dict.specs.Forms.{Asked, number, text, limit_of, word_of}
+use Rattle.rkyv_dict.specs.Forms.{Asked, asked_number, asked_text, limit_of, word_of}
 use Rattle.rkyv_dict.specs.Parts.{Parts, number_parts, parts_of, text_parts}
 
 -- a line ends with LF
@@ -102,10 +102,10 @@ misplaced_count form b = keys_misplaced (parts_of form) b
 
 -- the text of the value that a lookup finds; a key of another kind is never found
 abbrev pub found_in : Kind → Form → List ℕ → Asked → Option (List ℕ)
-found_in Num form b (number n) = value_under (number_parts (word_of form.bits) (limit_of form.bits)) b (U32 n ∷ []) (λ q. n == number_at w32 b q)
-found_in Num form b (text t) = None
-found_in Text form b (number n) = None
-found_in Text form b (text t) = value_under (text_parts (word_of form.bits) (limit_of form.bits)) b (text_calls t) (λ q. same_bytes t (text_at (word_of form.bits) b q))
+found_in Num form b (asked_number n) = value_under (number_parts (word_of form.bits) (limit_of form.bits)) b (U32 n ∷ []) (λ q. n == number_at w32 b q)
+found_in Num form b (asked_text t) = None
+found_in Text form b (asked_number n) = None
+found_in Text form b (asked_text t) = value_under (text_parts (word_of form.bits) (limit_of form.bits)) b (text_calls t) (λ q. same_bytes t (text_at (word_of form.bits) b q))
 
 abbrev pub value_found : Form → List ℕ → Asked → Option (List ℕ)
 value_found form b key = found_in form.kind form b key

@@ -16,8 +16,8 @@ pub data Pairs : Type 0 where
 
 -- a key that is asked for
 pub data Asked : Type 0 where
-  number : ℕ → Asked
-  text : List ℕ → Asked
+  asked_number : ℕ → Asked
+  asked_text : List ℕ → Asked
 
 -- a text is its bytes
 abbrev pub text_pair : Bor (List ℕ) × Bor (List ℕ) → List ℕ × List ℕ
@@ -28,8 +28,8 @@ pairs_seen (Numbers pairs) = numbers pairs.items
 pairs_seen (Texts pairs) = texts (map text_pair pairs.items)
 
 abbrev pub key_seen : Key → Asked
-key_seen (Number n) = number n
-key_seen (Text t) = text t.now
+key_seen (Number n) = asked_number n
+key_seen (Text t) = asked_text t.now
 
 -- the bytes of a count or a distance
 abbrev pub word_of : Bits → Width

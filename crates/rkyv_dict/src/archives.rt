@@ -1,6 +1,6 @@
 //! The archives of a dictionary: checking, looking up, listing, counting and building.
 
-ghost use Rattle.std.specs.Prelude.{ℕ, ◌×◌, ◌≡◌, ◌++◌, MatchResult, OnOk, string_bytes};
+ghost use Rattle.std.specs.Prelude.{ℕ, ◌≡◌, ◌++◌, MatchResult, OnOk, string_bytes};
 ghost use Rattle.rkyv_base.specs.View.{IsAt};
 ghost use Rattle.rkyv_dict.specs.Archives.{IsArchive, IsMapArchive, IsRefused, MapArchiveFails, entry_count, keys_misplaced, line, listing, misplaced_count, pair_count, pair_lines, root, value_found, value_line, value_under};
 ghost use Rattle.rkyv_dict.specs.Built.{BuildRefused, Holds, IsBuilt, form_of_pairs};
@@ -71,10 +71,10 @@ pub fn push_value(
 ) -> Result<(), AllocError>
     requires { IsArchive form bytes.now }
     ensures found { OnOk result (string_bytes out.new
-        ≡ string_bytes out.old ++ value_line (value_found form bytes.now (key_seen key))) }
+        ≡ string_bytes out.old ++ value_line (value_found form bytes.now (key_seen key.entry))) }
     ensures first { (pairs : Pairs) (factor : ℕ × ℕ) → Holds form factor bytes.now pairs
         → OnOk result (string_bytes out.new
-        ≡ string_bytes out.old ++ value_line (first_value pairs (key_seen key))) }
+        ≡ string_bytes out.old ++ value_line (first_value pairs (key_seen key.entry))) }
 {
     push_line(out, "none")
 }

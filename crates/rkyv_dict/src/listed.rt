@@ -1,9 +1,11 @@
 //! Lists of pairs that are archived as maps.
 
-ghost use Rattle.std.specs.Prelude.{◌≡◌, length};
+ghost use Rattle.std.specs.Prelude.{ℕ, ◌≡◌, List, length};
 ghost use Rattle.std.specs.Iterator.{YieldsFirstBy, at_most};
 ghost use Rattle.std.specs.Slice.Iter.{iter_rest};
 ghost use Rattle.rkyv_collections.specs.Listed.{listed, listed_format};
+ghost use Rattle.rkyv_base.specs.Format.{Format};
+ghost use Rattle.rkyv_table.specs.TableFormat.{TableResolver};
 ghost use Rattle.rkyv_scan.specs.Hash.{fx_feed, low_halves};
 ghost use Rattle.rkyv_collections.specs.Map.{map_shape};
 ghost use Rattle.rkyv_collections.specs.MapFormat.{MapStands, map_format};
@@ -87,8 +89,8 @@ where
     }
 
     ghost laws = { let shape = map_shape W.word A.Archived.shape A.Archived.shape in
-        let stands = λ x. MapStands W.word A.Archived.shape A.Archived.shape A.Archived.stands A.Archived.stands (λ c q. hash (A.Archived.key_calls c q)) x.load_factor in
-        let format = λ x. map_format W.word A.Archived.shape A.Archived.shape A.format A.format (λ a. hash (A.calls a)) x.load_factor in
+        let stands : Self → List ℕ → ℕ → List (A × A) → Type 0 = λ x. MapStands W.word A.Archived.shape A.Archived.shape A.Archived.stands A.Archived.stands (λ c q. hash (A.Archived.key_calls c q)) x.load_factor in
+        let format : Self → Format (List (A × A)) TableResolver = λ x. map_format W.word A.Archived.shape A.Archived.shape A.format A.format (λ a. hash (A.calls a)) x.load_factor in
         written_under-format (λ x. x.pairs.now) shape stands (λ x. listed W.MAX_CAPACITY x.load_factor (format x))
         (λ x. listed_format W.MAX_CAPACITY x.load_factor shape (stands x) (format x)
         (map_sound 0 (fx_feed low_halves) (λ held. held) W.word A.Archived.laws A.Archived.laws x.load_factor W.layout.kind A.query A.native A.Eq.laws.refl A.reads A.Archive.laws A.Archive.laws)) };
