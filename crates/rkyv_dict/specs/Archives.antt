@@ -32,6 +32,10 @@ abbrev pub value_line : Option (List ℕ) → List ℕ
 value_line None = line (codes "none")
 value_line (Some text) = line text
 
+-- the line of the pair at q: the text of its key, and that of the value behind it
+unfoldable pub line_at : Shape → (List ℕ → ℕ → List ℕ) → List ℕ → ℕ → List ℕ
+line_at s text b q = line (text b q ++ codes " " ++ text b (q + value_offset s s))
+
 -- the hash of a list of calls
 abbrev pub hash : List HasherCall → ℕ
 hash calls = fx_hash low_halves calls
@@ -63,16 +67,13 @@ module _ (k : Parts) where
     unfoldable pub pair_places : List ℕ
     pair_places = item_places k.word pair_shape.size b root
 
-    -- the text of the value of the pair at q, and the pair's line
-    unfoldable pub value_text : ℕ → List ℕ
+    -- the text of the value of the pair at q
+    abbrev pub value_text : ℕ → List ℕ
     value_text q = k.text b (q + value_offset k.shape k.shape)
 
-    abbrev pub pair_line : ℕ → List ℕ
-    pair_line q = line (k.text b q ++ codes " " ++ value_text q)
-
     -- the number of pairs, then a line for each
-    abbrev pub pair_lines : List ℕ
-    pair_lines = line (codes "entries " ++ decimal pair_count) ++ flat_map pair_line pair_places
+    unfoldable pub pair_lines : List ℕ
+    pair_lines = line (codes "entries " ++ decimal pair_count) ++ flat_map (line_at k.shape k.text b) pair_places
 
     -- the text of the value that a lookup finds of a key with these calls, where accept tells of a key by its place
     unfoldable pub value_under : List HasherCall → (ℕ → Bool) → Option (List ℕ)

@@ -116,6 +116,12 @@ where
             &A,
             &A,
             Halves<'_, A>,
-        >(alloc, halves, self.pairs.len(), self.load_factor, serializer)
+        >(
+            alloc,
+            halves,
+            self.pairs.len(),
+            self.load_factor,
+            serializer,
+        )
     }
 }
