@@ -1,6 +1,6 @@
 //! The archives of a dictionary: checking, looking up, listing, counting and building.
 
-ghost use Rattle.std.specs.Prelude.{ℕ, ◌≡◌, ◌++◌, IfSome, List, MatchResult, OnOk, codes, string_bytes};
+ghost use Rattle.std.specs.Prelude.{ℕ, ◌≡◌, ◌++◌, IfSome, List, MatchResult, OnOk, codes, decimal, string_bytes};
 ghost use Rattle.std.specs.List.{flat_map};
 ghost use Rattle.std.specs.Option.{option_map};
 ghost use Rattle.rkyv_base.specs.View.{IsAt, IsView};
@@ -106,6 +106,14 @@ fn push_pair<P: Part>(
     push_line(out, "")
 }
 
+/// Appends the line of the number of pairs.
+fn push_count(count: usize, out: &mut String) -> Result<(), AllocError>
+    ensures { OnOk result (string_bytes out.new
+        ≡ string_bytes out.old ++ line (codes "entries " ++ decimal count)) }
+{
+    write!(out, "entries {count}\n")
+}
+
 /// Appends a line for each pair, by ascending bucket.
 fn push_lines<P: Part, W: Width>(
     map: ArchivedHashMap<'_, P, P, FxHasher64, W>,
@@ -128,8 +136,7 @@ fn push_map<P: Part, W: Width>(bytes: &[u8], out: &mut String) -> Result<(), All
         OnOk result (string_bytes out.new ≡ string_bytes out.old ++ pair_lines m bytes.now) }
 {
     let map = map_of::<P, W>(bytes);
-    let count = map.len();
-    write!(out, "entries {count}\n")?;
+    push_count(map.len(), out)?;
     push_lines(map, out)
 }
 
