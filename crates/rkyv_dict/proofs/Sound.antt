@@ -2,10 +2,11 @@
 use Rattle.std.proofs.Common.{◌≡◌, ℕ, List, [], ◌∷◌, ◌++◌, Option, Some, None, Result, refl, sym, subst, ap, ◌∙◌, inl, inr}
 use Rattle.std.specs.Prelude.{OnOk}
 use Rattle.std.specs.Option.{ForSome}
+use Rattle.rkyv_dict.specs.declared.form.Bits.{Bits}
 use Rattle.rkyv_dict.specs.declared.form.Form.{Form}
-use Rattle.rkyv_dict.specs.Archives.{IsArchive, value_found, value_line}
+use Rattle.rkyv_dict.specs.Archives.{IsArchive, IsMapArchive, value_found, value_line}
 use Rattle.rkyv_dict.specs.Answers.{Does, DoesIf, DoesLine}
-use Rattle.rkyv_dict.specs.Built.{Holds, IsBuilt, kind_of_pairs}
+use Rattle.rkyv_dict.specs.Built.{Holds, IsArchiveOf, IsBuilt, PairsStand, form_of_pairs, kind_of_pairs}
 use Rattle.rkyv_dict.specs.First.{first_value}
 use Rattle.rkyv_dict.specs.Forms.{Asked, Pairs, numbers, texts}
 use Rattle.rkyv_dict.specs.Output.{answered, get_line, value_in}
@@ -21,11 +22,15 @@ kind_with_texts (numbers pairs) key value = refl
 kind_with_texts (texts pairs) key value = refl
 
 -- what was built is an archive that holds the pairs
-built_archive : (form : Form) (factor : ℕ × ℕ) (pairs : Pairs) (bytes : List ℕ) → IsBuilt form factor pairs bytes → IsArchive form bytes
-built_archive form factor pairs bytes built = built.archive
+built_archive : (bits : Bits) (factor : ℕ × ℕ) (pairs : Pairs) (bytes : List ℕ) → IsBuilt (form_of_pairs bits pairs) factor pairs bytes → IsArchive (form_of_pairs bits pairs) bytes
+unfolding IsArchiveOf IsMapArchive
+built_archive bits factor (numbers pairs) bytes built = built.0
+built_archive bits factor (texts pairs) bytes built = built.0
 
-built_holds : (form : Form) (factor : ℕ × ℕ) (pairs : Pairs) (bytes : List ℕ) → IsBuilt form factor pairs bytes → Holds form factor bytes pairs
-built_holds form factor pairs bytes built = built.holds
+built_holds : (bits : Bits) (factor : ℕ × ℕ) (pairs : Pairs) (bytes : List ℕ) → IsBuilt (form_of_pairs bits pairs) factor pairs bytes → Holds (form_of_pairs bits pairs) factor bytes pairs
+unfolding IsArchiveOf PairsStand
+built_holds bits factor (numbers pairs) bytes built = built.1
+built_holds bits factor (texts pairs) bytes built = built.1
 
 pub sound_here : (s : State) (a : Archived) → IsSound s → s.archive ≡ Some a → IsSoundIn (form_of s) a
 unfolding IsSound

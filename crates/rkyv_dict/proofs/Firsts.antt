@@ -1,0 +1,1 @@
+-- The first pair whose key is accepted: by the places of a map that was written, and in the list of which it was.
