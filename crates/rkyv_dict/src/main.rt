@@ -12,6 +12,8 @@ pub mod parts;
 pub mod run;
 pub mod script;
 pub mod words;
+#[cfg(test)]
+mod tests;
 
 use run::{RunError, run};
 use std::process::ExitCode;
