@@ -2,9 +2,10 @@
 use Rattle.std.proofs.Common.{◌≡◌, ℕ, List, [], ◌∷◌, ◌++◌, Option, Some, None, Result, refl, sym, subst, ap, ◌∙◌, inl, inr}
 use Rattle.std.specs.Prelude.{OnOk}
 use Rattle.std.specs.Option.{ForSome}
+use Rattle.rkyv_base.specs.declared.errors.VerifyError.{VerifyError}
 use Rattle.rkyv_dict.specs.declared.form.Bits.{Bits}
 use Rattle.rkyv_dict.specs.declared.form.Form.{Form}
-use Rattle.rkyv_dict.specs.Archives.{IsArchive, IsMapArchive, value_found, value_line}
+use Rattle.rkyv_dict.specs.Archives.{IsArchive, IsMapArchive, IsRefused, value_found, value_line}
 use Rattle.rkyv_dict.specs.Answers.{Does, DoesIf, DoesLine}
 use Rattle.rkyv_dict.specs.Built.{Holds, IsArchiveOf, IsBuilt, PairsStand, form_of_pairs, kind_of_pairs}
 use Rattle.rkyv_dict.specs.First.{first_value}
@@ -38,6 +39,9 @@ sound_here s a sound is = sound a is
 
 pub archive_here : (s : State) (a : Archived) (form : Form) (bytes : List ℕ) → IsSound s → s.archive ≡ Some a → form ≡ form_of s → bytes ≡ a.bytes → IsArchive form bytes
 archive_here s a form bytes sound is f b = rw (f, b) (sound_here s a sound is).archive
+
+pub refused_here : (s : State) (form : Form) (b bytes : List ℕ) (e : VerifyError) → form ≡ form_of s → b ≡ bytes → IsRefused form b e → IsRefused (form_of s) bytes e
+refused_here s form b bytes e f is h = subst (λ (g : Form). IsRefused g bytes e) f (subst (λ (l : List ℕ). IsRefused form l e) is h)
 
 -- a lookup answers the value of the first pair, where the archive was built, and else what is found
 value_by : {U E : Type 0} (form : Form) (bytes : List ℕ) (built : Option Pairs) (r : Result U E) (now old : List ℕ) (key : Asked)

@@ -8,6 +8,7 @@ mod widths;
 
 use crate::run::{RunError, run};
 use std::alloc::{AllocError, Global};
+use std::process::Abort;
 use std::test::Fail;
 
 /// The archive of the one pair 1 2.
@@ -22,9 +23,9 @@ fn output(alloc: Global, script: &[u8]) -> Result<Vec<u8>, RunError> {
 }
 
 /// Whether each script answers what stands beside it.
-fn answers(rt: HostRuntime, rows: &[(&str, &str)]) -> Result<(), Fail> {
+fn answers(rt: &impl Abort, alloc: Global, rows: &[(&str, &str)]) -> Result<(), Fail> {
     for (script, want) in rows {
-        let out = output(rt.alloc(), script.as_bytes())?;
+        let out = output(alloc, script.as_bytes())?;
         assert_eq!(rt; out.as_slice(), want.as_bytes(), "{script}");
     }
     Ok(())

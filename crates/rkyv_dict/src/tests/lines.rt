@@ -5,7 +5,8 @@ use std::test::Fail;
 #[test]
 fn skips_empty_lines(rt: HostRuntime) -> Result<(), Fail> {
     answers(
-        rt,
+        &rt,
+        rt.alloc(),
         &[(
             "\n\nput 0 4294967295\n\n\nbuild\nget 0\n\nget 4294967295",
             "built 60\n4294967295\nnone\n",
@@ -93,7 +94,8 @@ fn text_that_is_not_utf8_is_a_bad_line(rt: HostRuntime) -> Result<(), Fail> {
 #[test]
 fn bad_lines_change_nothing(rt: HostRuntime) -> Result<(), Fail> {
     answers(
-        rt,
+        &rt,
+        rt.alloc(),
         &[(
             "put 1 2\nbuild\nkind\nwidth 16\nlf 1\ncheck 0\nput 1\nget 1\nbuild\n",
             "built 60\nerror 10 BadLine\nerror 10 BadLine\nerror 10 BadLine\nerror 10 BadLine\nerror 10 BadLine\n2\nbuilt 60\n",

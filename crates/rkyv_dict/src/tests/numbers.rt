@@ -5,7 +5,8 @@ use std::test::Fail;
 #[test]
 fn answers_scripts(rt: HostRuntime) -> Result<(), Fail> {
     answers(
-        rt,
+        &rt,
+        rt.alloc(),
         &[
             (
                 "put 1 2\nbuild\nhex\nget 1\nget 2\nlist\n",
@@ -35,7 +36,8 @@ fn answers_scripts(rt: HostRuntime) -> Result<(), Fail> {
 #[test]
 fn refused_builds_leave_no_archive_and_keep_the_list(rt: HostRuntime) -> Result<(), Fail> {
     answers(
-        rt,
+        &rt,
+        rt.alloc(),
         &[
             (
                 "put 1 2\nbuild\nlf 0 1\nbuild\nget 1\nlf 1 0\nbuild\nlf 7 8\nbuild\nget 1\n",
@@ -52,7 +54,8 @@ fn refused_builds_leave_no_archive_and_keep_the_list(rt: HostRuntime) -> Result<
 #[test]
 fn kind_empties_list_and_archive_and_keeps_the_load_factor(rt: HostRuntime) -> Result<(), Fail> {
     answers(
-        rt,
+        &rt,
+        rt.alloc(),
         &[
             (
                 "put 1 2\nlf 8 7\nkind num\nget 1\nlist\naudit\nhex\nbuild\nlf 7 8\nbuild\nlist\n",
@@ -105,7 +108,8 @@ fn answers_past_a_piece(rt: HostRuntime) -> Result<(), Fail> {
 #[test]
 fn takes_numbers_at_their_limits(rt: HostRuntime) -> Result<(), Fail> {
     answers(
-        rt,
+        &rt,
+        rt.alloc(),
         &[(
             "lf 18446744073709551615 18446744073709551615\nput 4294967295 0\nput 0 4294967295\nbuild\nget 4294967295\nget 0\n",
             "built 68\n0\n4294967295\n",

@@ -19,7 +19,8 @@ fn takes_an_archive(rt: HostRuntime) -> Result<(), Fail> {
 #[test]
 fn audits_an_archive(rt: HostRuntime) -> Result<(), Fail> {
     answers(
-        rt,
+        &rt,
+        rt.alloc(),
         &[(
             "check 05000000020000000000000000000000ff28ff28ffffffffffffffffffffffffffffffffffffffffffffffffffffff00e0ffffff0100000002000000\nlist\nget 5\nget 1\naudit\n",
             "ok 1\nentries 1\n5 2\nnone\nnone\nmisplaced 1\n",
@@ -65,7 +66,8 @@ fn tells_why_an_archive_is_refused(rt: HostRuntime) -> Result<(), Fail> {
 #[test]
 fn a_refused_check_keeps_the_archive(rt: HostRuntime) -> Result<(), Fail> {
     answers(
-        rt,
+        &rt,
+        rt.alloc(),
         &[
             (
                 "put 1 2\nbuild\nput 3 4\ncheck 01\nget 1\ncheck 010000000000000000000000\nget 1\ncheck 01\nlist\nbuild\nget 3\n",
@@ -80,7 +82,8 @@ fn a_refused_check_keeps_the_archive(rt: HostRuntime) -> Result<(), Fail> {
 #[test]
 fn prints_texts_as_they_are(rt: HostRuntime) -> Result<(), Fail> {
     answers(
-        rt,
+        &rt,
+        rt.alloc(),
         &[
             (
                 "kind text\ncheck 61ffffffffffffff0a2078ffffffffff00000000000000000000000000000000ff55ff55ffffffffffffffffffffffffffffffffffffffffffffffffffffff00e0ffffff0100000002000000\nget a\nlist\n",

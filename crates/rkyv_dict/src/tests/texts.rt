@@ -5,7 +5,8 @@ use std::test::Fail;
 #[test]
 fn archives_texts(rt: HostRuntime) -> Result<(), Fail> {
     answers(
-        rt,
+        &rt,
+        rt.alloc(),
         &[
             (
                 "kind text\nput a b\nbuild\nget a\nget b\nlist\n",
@@ -34,7 +35,8 @@ fn archives_texts(rt: HostRuntime) -> Result<(), Fail> {
 #[test]
 fn kind_empties_the_list(rt: HostRuntime) -> Result<(), Fail> {
     answers(
-        rt,
+        &rt,
+        rt.alloc(),
         &[(
             "put 1 2\nkind text\nput 1 2\nbuild\nlist\nkind num\nlist\nbuild\n",
             "built 76\nentries 1\n1 2\nerror 11 NoArchive\nbuilt 12\n",
@@ -45,7 +47,8 @@ fn kind_empties_the_list(rt: HostRuntime) -> Result<(), Fail> {
 #[test]
 fn words_may_hold_what_is_no_space(rt: HostRuntime) -> Result<(), Fail> {
     answers(
-        rt,
+        &rt,
+        rt.alloc(),
         &[(
             "kind text\nput \t\r x\r\nput \0 \u{a0}\nput 01 -1\nbuild\nget \t\r\nget \0\nget 01\nget 1\n",
             "built 108\nx\r\n\u{a0}\n-1\nnone\n",
@@ -56,7 +59,8 @@ fn words_may_hold_what_is_no_space(rt: HostRuntime) -> Result<(), Fail> {
 #[test]
 fn texts_have_a_byte_at_least(rt: HostRuntime) -> Result<(), Fail> {
     answers(
-        rt,
+        &rt,
+        rt.alloc(),
         &[(
             "kind text\nput  b\nput a \nput a\nput a b c\nget \nget\nget a b\nput a  b\nbuild\n",
             "error 10 BadLine\nerror 10 BadLine\nerror 10 BadLine\nerror 10 BadLine\nerror 10 BadLine\nerror 10 BadLine\nerror 10 BadLine\nerror 10 BadLine\nbuilt 12\n",

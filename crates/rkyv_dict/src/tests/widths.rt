@@ -5,7 +5,8 @@ use std::test::Fail;
 #[test]
 fn archives_in_64_bits(rt: HostRuntime) -> Result<(), Fail> {
     answers(
-        rt,
+        &rt,
+        rt.alloc(),
         &[
             (
                 "width 64\nput 1 2\nbuild\nhex\nget 1\nlist\naudit\n",
@@ -34,7 +35,8 @@ fn archives_in_64_bits(rt: HostRuntime) -> Result<(), Fail> {
 #[test]
 fn width_empties_list_and_archive_and_keeps_the_rest(rt: HostRuntime) -> Result<(), Fail> {
     answers(
-        rt,
+        &rt,
+        rt.alloc(),
         &[
             (
                 "put 1 2\nbuild\nwidth 32\nget 1\nbuild\n",
