@@ -1,16 +1,15 @@
 -- An archive of pairs is that of what is seen in them.
-use Rattle.std.proofs.Common.{◌≡◌, ℕ, ◌+◌, refl, ap, sym, subst, ◌∙◌, inl, inr, List, [], ◌∷◌, map, length, slice_get, slice_index, Option, Some, None, Result, Ok, Err, MatchResult}
+use Rattle.std.proofs.Common.{◌≡◌, ℕ, refl, ap, sym, subst, ◌∙◌, inl, inr, List, [], ◌∷◌, map, length, slice_get, slice_index, Result, Ok, Err, MatchResult}
 use Rattle.std.specs.Borrow.{Bor}
 use Rattle.std.proofs.lemmas.List.{length-map}
 use Rattle.std.proofs.lemmas.Option.{slice_get-map}
 use Rattle.rkyv_scan.specs.Hash.{HasherCall}
-use Rattle.rkyv_base.specs.Entry.{round_up}
 use Rattle.rkyv_base.specs.Format.{Format}
 use Rattle.rkyv_base.specs.Pairs.{PairStands, pair_format, written_as}
-use Rattle.rkyv_base.specs.Root.{RootBytes, RootNext, RootRefuses, fresh}
+use Rattle.rkyv_base.specs.Root.{RootNext, RootRefuses, fresh}
 use Rattle.rkyv_base.specs.Text.{TextReads}
 use Rattle.rkyv_base.specs.TextWriting.{text_format}
-use Rattle.rkyv_base.specs.Writing.{Refusal, end_of}
+use Rattle.rkyv_base.specs.Writing.{Refusal}
 use Rattle.rkyv_base.specs.declared.pairs.EntryResolver.{EntryResolver}
 use Rattle.rkyv_base.specs.declared.errors.WriteError.{WriteError}
 use Rattle.rkyv_base.proofs.GivingUp.{told_after}
@@ -20,7 +19,7 @@ use Rattle.rkyv_table.specs.Reading.{home_places}
 use Rattle.rkyv_table.specs.TableFormat.{ItemRefuses, TableParts, TablePiece, TableResolver}
 use Rattle.rkyv_table.proofs.TableSteps.{none_appended}
 use Rattle.rkyv_collections.specs.Listed.{ListRefuses}
-use Rattle.rkyv_collections.specs.MapFormat.{MapStands, keyed}
+use Rattle.rkyv_collections.specs.MapFormat.{keyed}
 use Rattle.rkyv_collections.proofs.SeenItems.{seen_pairs, seen_piece, seen_refusal, seen_table, was_seen}
 use Rattle.rkyv_dict.specs.Archives.{hash, header_shape, pair_shape, root}
 use Rattle.rkyv_dict.specs.Built.{BuildRefused, IsArchiveOf, IsBuilt, NoArchiveOf, PairsStandAt, form_of_pairs, pairs_format}

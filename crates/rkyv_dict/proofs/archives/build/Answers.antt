@@ -4,7 +4,6 @@ use Rattle.rkyv_dict.specs.Forms.{pairs_seen}
 use Rattle.rkyv_dict.specs.declared.form.Bits.{Bits}
 use Rattle.rkyv_dict.specs.declared.form.Bits.TheVariants.{Bits32, Bits64}
 use Rattle.rkyv_dict.specs.declared.form.PairList.{PairList}
-use Rattle.rkyv_dict.specs.declared.form.PairList.TheVariants.{Texts}
 use Rattle.rkyv_dict.proofs.TextLists.{texts_built}
 use Rattle.rkyv_dict.proofs.archives.build.Goals as goal
 

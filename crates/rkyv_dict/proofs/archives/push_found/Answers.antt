@@ -4,12 +4,10 @@ use Rattle.std.specs.Option.{option_map}
 use Rattle.rkyv_scan.specs.Groups.{generic_kind}
 use Rattle.rkyv_base.specs.Entry.{entry_shape, value_offset}
 use Rattle.rkyv_base.specs.View.{bytes_of}
-use Rattle.rkyv_keys.specs.Places.{at_view}
-use Rattle.rkyv_table.specs.Reading.{home_places, place_found, place_of_found}
+use Rattle.rkyv_table.specs.Reading.{home_places, place_found}
 use Rattle.rkyv_collections.specs.Map.{MapWrittenAt}
 use Rattle.rkyv_dict.specs.Archives.{hash, value_line, value_under}
 use Rattle.rkyv_dict.specs.First.{HasHomes, first_under}
-use Rattle.rkyv_dict.specs.Parts.{parts_by}
 use Rattle.rkyv_dict.proofs.Roots.{back_at, read_at, some_map, text_found}
 use Rattle.rkyv_dict.proofs.archives.push_found.Goals as goal
 
