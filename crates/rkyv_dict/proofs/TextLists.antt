@@ -1,26 +1,31 @@
 -- An archive of pairs is that of what is seen in them.
-use Rattle.std.proofs.Common.{◌≡◌, ℕ, ◌+◌, refl, ap, sym, subst, ◌∙◌, inl, inr, List, [], ◌∷◌, map, length, slice_get, slice_index, Option, Some, None, Result, Ok, Err, MatchResult}
+use Rattle.std.proofs.Common.{◌≡◌, ℕ, refl, ap, sym, subst, ◌∙◌, inl, inr, List, [], ◌∷◌, map, length, slice_get, slice_index, Result, Ok, Err, MatchResult}
+use Rattle.std.specs.Borrow.{Bor}
 use Rattle.std.proofs.lemmas.List.{length-map}
 use Rattle.std.proofs.lemmas.Option.{slice_get-map}
 use Rattle.rkyv_scan.specs.Hash.{HasherCall}
-use Rattle.rkyv_base.specs.Entry.{round_up}
 use Rattle.rkyv_base.specs.Format.{Format}
 use Rattle.rkyv_base.specs.Pairs.{PairStands, pair_format, written_as}
-use Rattle.rkyv_base.specs.Root.{RootBytes, RootNext, RootRefuses, fresh}
-use Rattle.rkyv_base.specs.Writing.{Refusal, end_of}
+use Rattle.rkyv_base.specs.Root.{RootNext, RootRefuses, fresh}
+use Rattle.rkyv_base.specs.Text.{TextReads}
+use Rattle.rkyv_base.specs.TextWriting.{text_format}
+use Rattle.rkyv_base.specs.Writing.{Refusal}
 use Rattle.rkyv_base.specs.declared.pairs.EntryResolver.{EntryResolver}
 use Rattle.rkyv_base.specs.declared.errors.WriteError.{WriteError}
 use Rattle.rkyv_base.proofs.GivingUp.{told_after}
+use Rattle.rkyv_keys.specs.Calls.{text_calls}
 use Rattle.rkyv_table.specs.Numbers.{capacity}
 use Rattle.rkyv_table.specs.Reading.{home_places}
 use Rattle.rkyv_table.specs.TableFormat.{ItemRefuses, TableParts, TablePiece, TableResolver}
 use Rattle.rkyv_table.proofs.TableSteps.{none_appended}
 use Rattle.rkyv_collections.specs.Listed.{ListRefuses}
-use Rattle.rkyv_collections.specs.MapFormat.{MapStands, keyed}
+use Rattle.rkyv_collections.specs.MapFormat.{keyed}
 use Rattle.rkyv_collections.proofs.SeenItems.{seen_pairs, seen_piece, seen_refusal, seen_table, was_seen}
 use Rattle.rkyv_dict.specs.Archives.{hash, header_shape, pair_shape, root}
-use Rattle.rkyv_dict.specs.Built.{IsArchiveOf, NoArchiveOf, PairsStandAt, pairs_format}
-use Rattle.rkyv_dict.specs.Parts.{Parts}
+use Rattle.rkyv_dict.specs.Built.{BuildRefused, IsArchiveOf, IsBuilt, NoArchiveOf, PairsStandAt, form_of_pairs, pairs_format}
+use Rattle.rkyv_dict.specs.Forms.{buckets_of, limit_of, text_pair, texts, word_of}
+use Rattle.rkyv_dict.specs.Parts.{Parts, text_parts}
+use Rattle.rkyv_dict.specs.declared.form.Bits.{Bits}
 
 module _ {A B : Type 0} (see : A → B) where
   abbrev pub both : A × A → B × B
@@ -102,8 +107,17 @@ module _ {A B : Type 0} (see : A → B) where
             fresh fresh h.0 [] e (none_appended fresh) (λ front piece n. root_next 0 front piece n) (λ c n. root_refuses 0 c n) h.1,
       )
 
-      pub result_seen : {F : Type 0} (result : Result (List ℕ) (WriteError F))
-          → MatchResult result (IsArchiveOf k StandsSeen factor most (written_as see format) (λ a. calls (see a)) pairs) (NoArchiveOf k StandsSeen factor most (written_as see format) (λ a. calls (see a)) pairs)
-          → MatchResult result (IsArchiveOf k stands factor most format calls (map both pairs)) (NoArchiveOf k stands factor most format calls (map both pairs))
-      result_seen (Ok b) h = archive_seen b h
-      result_seen (Err e) h = refused_seen e h
+      pub result_seen : {F V : Type 0} (items_of : V → List ℕ) (result : Result V (WriteError F))
+          → MatchResult result (λ v. IsArchiveOf k StandsSeen factor most (written_as see format) (λ a. calls (see a)) pairs (items_of v)) (NoArchiveOf k StandsSeen factor most (written_as see format) (λ a. calls (see a)) pairs)
+          → MatchResult result (λ v. IsArchiveOf k stands factor most format calls (map both pairs) (items_of v)) (NoArchiveOf k stands factor most format calls (map both pairs))
+      result_seen items_of (Ok v) h = archive_seen (items_of v) h
+      result_seen items_of (Err e) h = refused_seen e h
+
+-- an archive of texts that are lent
+pub texts_built : {F V : Type 0} (items_of : V → List ℕ) (bits : Bits) (factor : ℕ × ℕ) (pairs : List (Bor (List ℕ) × Bor (List ℕ))) (result : Result V (WriteError F))
+    → MatchResult result
+    (λ v. IsArchiveOf (text_parts (word_of bits) (limit_of bits)) (λ b p t. TextReads (word_of bits) b p t.now) factor (buckets_of bits) (written_as (λ t. t.now) (text_format (word_of bits))) (λ t. text_calls t.now) pairs (items_of v))
+    (NoArchiveOf (text_parts (word_of bits) (limit_of bits)) (λ b p t. TextReads (word_of bits) b p t.now) factor (buckets_of bits) (written_as (λ t. t.now) (text_format (word_of bits))) (λ t. text_calls t.now) pairs)
+    → MatchResult result (λ v. IsBuilt (form_of_pairs bits (texts (map text_pair pairs))) factor (texts (map text_pair pairs)) (items_of v)) (BuildRefused (form_of_pairs bits (texts (map text_pair pairs))) factor (texts (map text_pair pairs)))
+texts_built items_of bits factor pairs result h =
+    result_seen (λ t. t.now) (text_parts (word_of bits) (limit_of bits)) (TextReads (word_of bits)) factor (buckets_of bits) (text_format (word_of bits)) text_calls pairs items_of result h
