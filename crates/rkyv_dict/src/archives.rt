@@ -161,8 +161,8 @@ where
     A::Archived: Part,
     ensures { let m = parts_by W.word W.LIMIT A.Archived.shape A.Archived.text A.Archived.same A.Archived.key_calls in
         MatchResult result
-        (λ v. IsArchiveOf m A.Archived.stands load_factor W.MAX_CAPACITY A.format A.calls pairs.now v.items)
-        (NoArchiveOf m A.Archived.stands load_factor W.MAX_CAPACITY A.format A.calls pairs.now) }
+        (λ v. IsArchiveOf m load_factor W.MAX_CAPACITY A.format A.calls A.Archived.stands pairs.now v.items)
+        (NoArchiveOf m load_factor W.MAX_CAPACITY A.format A.calls pairs.now) }
 {
     let list = Listed { pairs, load_factor };
     to_bytes_in::<W, Listed<'_, A>>(alloc, &list)
