@@ -16,7 +16,7 @@ use Rattle.rkyv_table.specs.Reading.{home_places}
 use Rattle.rkyv_dict.specs.Archives.{hash, pair_shape, root, value_text}
 use Rattle.rkyv_dict.specs.Built.{Holds, PairsStand, PairsStandAt}
 use Rattle.rkyv_dict.specs.First.{HasHomes, first_under, first_value}
-use Rattle.rkyv_dict.specs.Forms.{Pairs, asked_number, asked_text, limit_of, numbers, texts, word_of}
+use Rattle.rkyv_dict.specs.Forms.{Pairs, asked_number, asked_text, numbers, texts, word_of}
 use Rattle.rkyv_dict.specs.Parts.{Parts, number_parts, text_parts}
 use Rattle.rkyv_dict.specs.declared.form.Bits.{Bits}
 use Rattle.rkyv_dict.specs.declared.form.Form.{Form}
@@ -40,7 +40,7 @@ firsts_alike fits asks shown show (x ∷ xs) (y ∷ ys) n h =
 
 module _ (k : Parts) {A : Type 0} (stands : List ℕ → ℕ → A → Type 0) (factor : ℕ × ℕ) (b : List ℕ) (pairs : List (A × A))
     (fits : ℕ → Bool) (asks : A → Bool) (show : A → List ℕ) (alike : (q : ℕ) (a : A) → stands b q a → fits q ≡ asks a) (reads : (q : ℕ) (a : A) → stands b q a → k.text b q ≡ show a) where
-  first_at : (h : PairsStandAt k stands factor b (root k b) pairs)
+  first_at : (h : PairsStandAt k factor stands b (root k b) pairs)
       → option_map (value_text k b) (find fits (home_places k.word (pair_shape k).size b (root k b) h.homes)) ≡ option_map (λ pair. show pair.1) (find (λ pair. asks pair.0) pairs)
   first_at h =
       let places = home_places k.word (pair_shape k).size b (root k b) h.homes in
@@ -49,7 +49,7 @@ module _ (k : Parts) {A : Type 0} (stands : List ℕ → ℕ → A → Type 0) (
       (λ i pair e. let there = h.at i pair e in
       (alike (slice_index places i) pair.0 there.0, reads (slice_index places i + value_offset k.shape k.shape) pair.1 there.1))
 
-  pub first_stands : PairsStand k stands factor pairs b
+  pub first_stands : PairsStand k factor stands pairs b
       → (homes : List ℕ) × HasHomes k b homes × (first_under k b homes fits ≡ option_map (λ pair. show pair.1) (find (λ pair. asks pair.0) pairs))
   unfolding PairsStand HasHomes first_under
   first_stands h = (h.homes, h.written, first_at h)
@@ -65,18 +65,18 @@ form_is form kind bits e d = ap {B = Form} (λ k. record { kind = k; bits = form
 module _ (bits : Bits) (factor : ℕ × ℕ) (b : List ℕ) where
   -- in a map of numbers, and in one of texts
   pub first_number : (pairs : Pairs) (n : ℕ) → Holds (record { kind = Num; bits = bits }) factor b pairs
-      → (homes : List ℕ) × HasHomes (number_parts (word_of bits) (limit_of bits)) b homes
-      × (first_under (number_parts (word_of bits) (limit_of bits)) b homes (λ q. n == number_at w32 b q) ≡ first_value pairs (asked_number n))
+      → (homes : List ℕ) × HasHomes (number_parts bits) b homes
+      × (first_under (number_parts bits) b homes (λ q. n == number_at w32 b q) ≡ first_value pairs (asked_number n))
   first_number (numbers pairs) n h =
-      let there = first_stands (number_parts (word_of bits) (limit_of bits)) (ScalarStands (unsigned w32)) factor b pairs
+      let there = first_stands (number_parts bits) (ScalarStands (unsigned w32)) factor b pairs
       (λ q. n == number_at w32 b q) (λ key. n == key) decimal (λ q v st. ap (λ x. n == x) st) (λ q v st. ap decimal st) h in
       (there.0, there.1, there.2 ∙ shown_first decimal (find (λ pair. n == pair.0) pairs))
   first_number (texts pairs) n h = absurd h
 
   pub first_text : (pairs : Pairs) (t : List ℕ) → Holds (record { kind = Text; bits = bits }) factor b pairs
-      → (homes : List ℕ) × HasHomes (text_parts (word_of bits) (limit_of bits)) b homes
-      × (first_under (text_parts (word_of bits) (limit_of bits)) b homes (λ q. same_bytes t (text_at (word_of bits) b q)) ≡ first_value pairs (asked_text t))
+      → (homes : List ℕ) × HasHomes (text_parts bits) b homes
+      × (first_under (text_parts bits) b homes (λ q. same_bytes t (text_at (word_of bits) b q)) ≡ first_value pairs (asked_text t))
   first_text (texts pairs) t h =
-      first_stands (text_parts (word_of bits) (limit_of bits)) (TextReads (word_of bits)) factor b pairs
+      first_stands (text_parts bits) (TextReads (word_of bits)) factor b pairs
       (λ q. same_bytes t (text_at (word_of bits) b q)) (λ key. same_bytes t key) (λ v. v) (λ q v st. ap (same_bytes t) st) (λ q v st. st) h
   first_text (numbers pairs) t h = absurd h

@@ -32,11 +32,18 @@ pub some_map : {X : Type 0} {P Q : X → Type 0} (o : Option X) → ((x : X) →
 some_map None f h = h
 some_map (Some x) f h = f x h
 
-module _ {V : Type 0} (text : List ℕ → ℕ → List ℕ) (b : List ℕ) (off : ℕ) where
-  -- the text of a value that may have been found, by the place of its key
-  pub text_found : (value : Option (View V)) (place : Option ℕ) → IfSome value (λ v. bytes_of v ≡ b) → place_of_found value ≡ option_map (λ q. q + off) place
-      → option_map (at_view text) value ≡ option_map (λ q. text b (q + off)) place
-  text_found None None same e = refl
-  text_found None (Some q) same e = absurd cc
-  text_found (Some v) None same e = absurd cc
-  text_found (Some v) (Some q) same e = ap Some (ap (λ a. text a v.pos) same ∙ ap (text b) (same_Some v.pos (q + off) e))
+-- the text of a value that may have been found, by the place of its key
+text_found : {V : Type 0} (text : List ℕ → ℕ → List ℕ) (b : List ℕ) (off : ℕ) (value : Option (View V)) (place : Option ℕ) → IfSome value (λ v. bytes_of v ≡ b)
+    → place_of_found value ≡ option_map (λ q. q + off) place → option_map (at_view text) value ≡ option_map (λ q. text b (q + off)) place
+text_found text b off None None same e = refl
+text_found text b off None (Some q) same e = absurd cc
+text_found text b off (Some v) None same e = absurd cc
+text_found text b off (Some v) (Some q) same e = ap Some (ap (λ a. text a v.pos) same ∙ ap (text b) (same_Some v.pos (q + off) e))
+
+-- where the place is told of where a view is
+pub text_read : {T V : Type 0} (text : List ℕ → ℕ → List ℕ) (off : ℕ) (v : View T) (archive : Bor (List ℕ)) (p : ℕ) → IsAt v archive p
+    → (value : Option (View V)) → IfSome value (λ x. x.archive ≡ v.archive) → (place : List ℕ → ℕ → Option ℕ)
+    → place_of_found value ≡ option_map (λ q. q + off) (place (bytes_of v) (place_of v)) → option_map (at_view text) value ≡ option_map (λ q. text archive.now (q + off)) (place archive.now p)
+text_read text off v archive p at value same place e =
+    let bytes : IfSome value (λ x. bytes_of x ≡ archive.now) = some_map value (λ x s. ap (λ (a : Bor (List ℕ)). a.now) (s ∙ at.0)) same in
+    text_found text archive.now off value (place archive.now p) bytes (e ∙ ap (option_map (λ q. q + off)) (read_at place v archive p at))

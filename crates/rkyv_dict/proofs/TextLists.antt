@@ -23,7 +23,7 @@ use Rattle.rkyv_collections.specs.MapFormat.{keyed}
 use Rattle.rkyv_collections.proofs.SeenItems.{seen_pairs, seen_piece, seen_refusal, seen_table, was_seen}
 use Rattle.rkyv_dict.specs.Archives.{hash, header_shape, pair_shape, root}
 use Rattle.rkyv_dict.specs.Built.{BuildRefused, IsArchiveOf, IsBuilt, NoArchiveOf, PairsStandAt, form_of_pairs, pairs_format}
-use Rattle.rkyv_dict.specs.Forms.{buckets_of, limit_of, text_pair, texts, word_of}
+use Rattle.rkyv_dict.specs.Forms.{buckets_of, text_pair, texts, word_of}
 use Rattle.rkyv_dict.specs.Parts.{Parts, text_parts}
 use Rattle.rkyv_dict.specs.declared.form.Bits.{Bits}
 
@@ -39,7 +39,7 @@ module _ {A B : Type 0} (see : A → B) where
     abbrev StandsSeen : List ℕ → ℕ → A → Type 0
     StandsSeen b p a = stands b p (see a)
 
-    stands_seen : (b : List ℕ) (p : ℕ) (pairs : List (A × A)) → PairsStandAt k StandsSeen factor b p pairs → PairsStandAt k stands factor b p (map both pairs)
+    stands_seen : (b : List ℕ) (p : ℕ) (pairs : List (A × A)) → PairsStandAt k factor StandsSeen b p pairs → PairsStandAt k factor stands b p (map both pairs)
     stands_seen b p pairs h =
         let count : length (map both pairs) ≡ length pairs = length-map pairs both in
         record {
@@ -54,10 +54,10 @@ module _ {A B : Type 0} (see : A → B) where
 
     module _ {R : Type 0} (most : ℕ) (format : Format B R) (calls : B → List HasherCall) (pairs : List (A × A)) where
       abbrev Before : Format (List (A × A)) TableResolver
-      Before = pairs_format k StandsSeen factor most (written_as see format) (λ a. calls (see a))
+      Before = pairs_format k factor most (written_as see format) (λ a. calls (see a))
 
       abbrev After : Format (List (B × B)) TableResolver
-      After = pairs_format k stands factor most format calls
+      After = pairs_format k factor most format calls
 
       same_keyed : seen_pairs both (keyed (λ a. hash (calls (see a))) pairs) ≡ keyed (λ b. hash (calls b)) (map both pairs)
       same_keyed = keyed_seen (λ b. hash (calls b)) pairs
@@ -81,7 +81,7 @@ module _ {A B : Type 0} (see : A → B) where
           inr (subst (λ ps. ItemRefuses k.word (pair_shape k) items factor ps p c) same_keyed
           (seen_refusal both items k.word (pair_shape k) factor (keyed (λ a. hash (calls (see a))) pairs) p c h))
 
-      pub archive_seen : (b : List ℕ) → IsArchiveOf k StandsSeen factor most (written_as see format) (λ a. calls (see a)) pairs b → IsArchiveOf k stands factor most format calls (map both pairs) b
+      pub archive_seen : (b : List ℕ) → IsArchiveOf k factor most (written_as see format) (λ a. calls (see a)) StandsSeen pairs b → IsArchiveOf k factor most format calls stands (map both pairs) b
       unfolding IsArchiveOf
       archive_seen b (accepted, there, (part, r, out, parts, image, at, is)) =
           (accepted, stands_seen b (root k b) pairs there, (part, r, out, parts_seen 0 part r parts, image, at, is))
@@ -99,7 +99,7 @@ module _ {A B : Type 0} (see : A → B) where
       root_refuses p c (inr (inl h)) = inr (inl h)
       root_refuses p c (inr (inr h)) = inr (inr (h.0, h.1, h.2, parts_seen p h.1 h.2 h.3, h.4))
 
-      pub refused_seen : {F : Type 0} (e : WriteError F) → NoArchiveOf k StandsSeen factor most (written_as see format) (λ a. calls (see a)) pairs e → NoArchiveOf k stands factor most format calls (map both pairs) e
+      pub refused_seen : {F : Type 0} (e : WriteError F) → NoArchiveOf k factor most (written_as see format) (λ a. calls (see a)) pairs e → NoArchiveOf k factor most format calls (map both pairs) e
       unfolding NoArchiveOf
       refused_seen e h = (
         h.0,
@@ -108,16 +108,16 @@ module _ {A B : Type 0} (see : A → B) where
       )
 
       pub result_seen : {F V : Type 0} (items_of : V → List ℕ) (result : Result V (WriteError F))
-          → MatchResult result (λ v. IsArchiveOf k StandsSeen factor most (written_as see format) (λ a. calls (see a)) pairs (items_of v)) (NoArchiveOf k StandsSeen factor most (written_as see format) (λ a. calls (see a)) pairs)
-          → MatchResult result (λ v. IsArchiveOf k stands factor most format calls (map both pairs) (items_of v)) (NoArchiveOf k stands factor most format calls (map both pairs))
+          → MatchResult result (λ v. IsArchiveOf k factor most (written_as see format) (λ a. calls (see a)) StandsSeen pairs (items_of v)) (NoArchiveOf k factor most (written_as see format) (λ a. calls (see a)) pairs)
+          → MatchResult result (λ v. IsArchiveOf k factor most format calls stands (map both pairs) (items_of v)) (NoArchiveOf k factor most format calls (map both pairs))
       result_seen items_of (Ok v) h = archive_seen (items_of v) h
       result_seen items_of (Err e) h = refused_seen e h
 
 -- an archive of texts that are lent
 pub texts_built : {F V : Type 0} (items_of : V → List ℕ) (bits : Bits) (factor : ℕ × ℕ) (pairs : List (Bor (List ℕ) × Bor (List ℕ))) (result : Result V (WriteError F))
     → MatchResult result
-    (λ v. IsArchiveOf (text_parts (word_of bits) (limit_of bits)) (λ b p t. TextReads (word_of bits) b p t.now) factor (buckets_of bits) (written_as (λ t. t.now) (text_format (word_of bits))) (λ t. text_calls t.now) pairs (items_of v))
-    (NoArchiveOf (text_parts (word_of bits) (limit_of bits)) (λ b p t. TextReads (word_of bits) b p t.now) factor (buckets_of bits) (written_as (λ t. t.now) (text_format (word_of bits))) (λ t. text_calls t.now) pairs)
+    (λ v. IsArchiveOf (text_parts bits) factor (buckets_of bits) (written_as (λ t. t.now) (text_format (word_of bits))) (λ t. text_calls t.now) (λ b p t. TextReads (word_of bits) b p t.now) pairs (items_of v))
+    (NoArchiveOf (text_parts bits) factor (buckets_of bits) (written_as (λ t. t.now) (text_format (word_of bits))) (λ t. text_calls t.now) pairs)
     → MatchResult result (λ v. IsBuilt (form_of_pairs bits (texts (map text_pair pairs))) factor (texts (map text_pair pairs)) (items_of v)) (BuildRefused (form_of_pairs bits (texts (map text_pair pairs))) factor (texts (map text_pair pairs)))
 texts_built items_of bits factor pairs result h =
-    result_seen (λ t. t.now) (text_parts (word_of bits) (limit_of bits)) (TextReads (word_of bits)) factor (buckets_of bits) (text_format (word_of bits)) text_calls pairs items_of result h
+    result_seen (λ t. t.now) (text_parts bits) (TextReads (word_of bits)) factor (buckets_of bits) (text_format (word_of bits)) text_calls pairs items_of result h

@@ -4,7 +4,7 @@ use Rattle.std.specs.Int.{w32}
 use Rattle.std.specs.List.{flat_map}
 use Rattle.std.specs.Option.{option_map}
 use Rattle.rkyv_scan.specs.Groups.{generic_kind}
-use Rattle.rkyv_scan.specs.Hash.{HasherCall, U32, fx_hash, low_halves}
+use Rattle.rkyv_scan.specs.Hash.{HasherCall, fx_hash, low_halves}
 use Rattle.rkyv_base.specs.Access.{Accepted, AccessFails}
 use Rattle.rkyv_base.specs.Bytes.{number_at}
 use Rattle.rkyv_base.specs.Entry.{entry_shape, value_offset}
@@ -17,11 +17,12 @@ use Rattle.rkyv_table.specs.Header.{len_at}
 use Rattle.rkyv_table.specs.Reading.{item_places, place_found}
 use Rattle.rkyv_collections.specs.Map.{map_shape}
 use Rattle.rkyv_collections.specs.Misplaced.{map_misplaced}
+use Rattle.rkyv_dict.specs.declared.form.Bits.{Bits}
 use Rattle.rkyv_dict.specs.declared.form.Form.{Form}
 use Rattle.rkyv_dict.specs.declared.form.Kind.{Kind}
 use Rattle.rkyv_dict.specs.declared.form.Kind.TheVariants.{Num, Text}
-use Rattle.rkyv_dict.specs.Forms.{Asked, asked_number, asked_text, limit_of, word_of}
-use Rattle.rkyv_dict.specs.Parts.{Parts, number_parts, parts_of, text_parts}
+use Rattle.rkyv_dict.specs.Forms.{Asked, asked_number, asked_text, word_of}
+use Rattle.rkyv_dict.specs.Parts.{Parts, number_calls, number_parts, parts_of, text_parts}
 
 -- a line ends with LF
 abbrev pub line : List ℕ → List ℕ
@@ -102,11 +103,11 @@ abbrev pub misplaced_count : Form → List ℕ → ℕ
 misplaced_count form b = keys_misplaced (parts_of form) b
 
 -- the text of the value that a lookup finds; a key of another kind is never found
-abbrev pub found_in : Kind → Form → List ℕ → Asked → Option (List ℕ)
-found_in Num form b (asked_number n) = value_under (number_parts (word_of form.bits) (limit_of form.bits)) b (U32 n ∷ []) (λ q. n == number_at w32 b q)
-found_in Num form b (asked_text t) = None
-found_in Text form b (asked_number n) = None
-found_in Text form b (asked_text t) = value_under (text_parts (word_of form.bits) (limit_of form.bits)) b (text_calls t) (λ q. same_bytes t (text_at (word_of form.bits) b q))
+abbrev pub found_in : Kind → Bits → List ℕ → Asked → Option (List ℕ)
+found_in Num bits b (asked_number n) = value_under (number_parts bits) b (number_calls n) (λ q. n == number_at w32 b q)
+found_in Text bits b (asked_text t) = value_under (text_parts bits) b (text_calls t) (λ q. same_bytes t (text_at (word_of bits) b q))
+found_in Num bits b (asked_text t) = None
+found_in Text bits b (asked_number n) = None
 
 abbrev pub value_found : Form → List ℕ → Asked → Option (List ℕ)
-value_found form b key = found_in form.kind form b key
+value_found form b key = found_in form.kind form.bits b key

@@ -10,6 +10,7 @@ use Rattle.rkyv_base.specs.Text.{text_at, text_shape}
 use Rattle.rkyv_keys.specs.Calls.{text_calls}
 use Rattle.rkyv_keys.specs.Equality.{Comparison}
 use Rattle.rkyv_keys.specs.OfTexts.{same_bytes}
+use Rattle.rkyv_dict.specs.declared.form.Bits.{Bits}
 use Rattle.rkyv_dict.specs.declared.form.Form.{Form}
 use Rattle.rkyv_dict.specs.declared.form.Kind.{Kind}
 use Rattle.rkyv_dict.specs.declared.form.Kind.TheVariants.{Num, Text}
@@ -32,19 +33,26 @@ parts_by word limit shape text same calls = record { word = word; limit = limit;
 abbrev pub number_text : List ℕ → ℕ → List ℕ
 number_text b p = decimal (number_at w32 b p)
 
+-- the calls of a number of 32 bits
+abbrev pub number_calls : ℕ → List HasherCall
+number_calls n = U32 n ∷ []
+
 -- numbers of 32 bits
-abbrev pub number_parts : Width → ℕ → Parts
-number_parts word limit =
-    parts_by word limit (scalar_shape (unsigned w32)) number_text (λ b p c q. number_at w32 b p == number_at w32 c q) (λ b p. U32 (number_at w32 b p) ∷ [])
+abbrev pub number_parts : Bits → Parts
+number_parts bits =
+    parts_by (word_of bits) (limit_of bits) (scalar_shape (unsigned w32)) number_text
+    (λ b p c q. number_at w32 b p == number_at w32 c q) (λ b p. number_calls (number_at w32 b p))
 
 -- texts
-abbrev pub text_parts : Width → ℕ → Parts
-text_parts word limit =
-    parts_by word limit (text_shape word) (text_at word) (λ b p c q. same_bytes (text_at word b p) (text_at word c q)) (λ b p. text_calls (text_at word b p))
+abbrev pub text_parts : Bits → Parts
+text_parts bits =
+    let text_there = text_at (word_of bits) in
+    parts_by (word_of bits) (limit_of bits) (text_shape (word_of bits)) text_there
+    (λ b p c q. same_bytes (text_there b p) (text_there c q)) (λ b p. text_calls (text_there b p))
 
-abbrev pub parts_in : Kind → Width → ℕ → Parts
-parts_in Num word limit = number_parts word limit
-parts_in Text word limit = text_parts word limit
+abbrev pub parts_in : Kind → Bits → Parts
+parts_in Num bits = number_parts bits
+parts_in Text bits = text_parts bits
 
 abbrev pub parts_of : Form → Parts
-parts_of form = parts_in form.kind (word_of form.bits) (limit_of form.bits)
+parts_of form = parts_in form.kind form.bits

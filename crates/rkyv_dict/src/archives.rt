@@ -12,6 +12,9 @@ ghost use Rattle.rkyv_dict.specs.First.{HasHomes, first_under, first_value};
 ghost use Rattle.rkyv_dict.specs.Forms.{Pairs, key_seen, pairs_seen};
 ghost use Rattle.rkyv_dict.specs.Parts.{parts_by};
 
+#[cfg(test)]
+mod tests;
+
 use crate::form::{Bits, Form, Key, Kind, PairList};
 use crate::listed::Listed;
 use crate::parts::Part;
@@ -49,7 +52,8 @@ fn check_map<P: Part, W: Width>(bytes: &[u8]) -> Result<usize, VerifyError>
 
 /// The map of an archive.
 fn map_of<'a, P: Part, W: Width>(bytes: &'a [u8]) -> ArchivedHashMap<'a, P, P, FxHasher64, W>
-    requires { IsMapArchive (parts_by W.word W.LIMIT P.shape P.text P.same P.key_calls) bytes.now }
+    requires { let m = parts_by W.word W.LIMIT P.shape P.text P.same P.key_calls in
+        IsMapArchive m bytes.now }
     ensures at { let m = parts_by W.word W.LIMIT P.shape P.text P.same P.key_calls in
         IsAt result.view bytes.entry (root m bytes.now) }
     ensures map { IsMap W.word P.shape P.shape result }
@@ -78,13 +82,16 @@ fn push_found<P: Part, W: Width, Q: Query<P>>(
     key: &Q,
     out: &mut String,
 ) -> Result<(), AllocError>
-    requires archive { IsMapArchive (parts_by W.word W.LIMIT P.shape P.text P.same P.key_calls) bytes.now }
+    requires archive { let m = parts_by W.word W.LIMIT P.shape P.text P.same P.key_calls in
+        IsMapArchive m bytes.now }
     requires query { Q.can_read key.now }
-    ensures found { let m = parts_by W.word W.LIMIT P.shape P.text P.same P.key_calls in OnOk result
-        (string_bytes out.new ≡ string_bytes out.old ++ value_line (value_under m bytes.now (Q.calls key.now) (Q.fits key.now bytes.now))) }
+    ensures found { let m = parts_by W.word W.LIMIT P.shape P.text P.same P.key_calls in
+        let value = value_under m bytes.now (Q.calls key.now) (Q.fits key.now bytes.now) in
+        OnOk result (string_bytes out.new ≡ string_bytes out.old ++ value_line value) }
     ensures first { let m = parts_by W.word W.LIMIT P.shape P.text P.same P.key_calls in
-        (homes : List ℕ) → HasHomes m bytes.now homes → OnOk result
-        (string_bytes out.new ≡ string_bytes out.old ++ value_line (first_under m bytes.now homes (Q.fits key.now bytes.now))) }
+        (homes : List ℕ) → HasHomes m bytes.now homes →
+        let value = first_under m bytes.now homes (Q.fits key.now bytes.now) in
+        OnOk result (string_bytes out.new ≡ string_bytes out.old ++ value_line value) }
 {
     push_text(map_of::<P, W>(bytes).get(key), out)
 }
@@ -120,8 +127,9 @@ fn push_lines<P: Part, W: Width>(
     out: &mut String,
 ) -> Result<(), AllocError>
     requires { IsMap W.word P.shape P.shape map }
-    ensures { OnOk result (string_bytes out.new ≡ string_bytes out.old
-        ++ flat_map (line_at P.shape P.text (map_bytes map.entry)) (key_places W.word P.shape P.shape map.entry)) }
+    ensures { let lines = flat_map (line_at P.shape P.text (map_bytes map.entry)) in
+        OnOk result (string_bytes out.new
+        ≡ string_bytes out.old ++ lines (key_places W.word P.shape P.shape map.entry)) }
 {
     for (key, value) in map.iter() {
         push_pair(key, value, out)?;
@@ -131,7 +139,8 @@ fn push_lines<P: Part, W: Width>(
 
 /// Appends the number of pairs, and a line for each.
 fn push_map<P: Part, W: Width>(bytes: &[u8], out: &mut String) -> Result<(), AllocError>
-    requires { IsMapArchive (parts_by W.word W.LIMIT P.shape P.text P.same P.key_calls) bytes.now }
+    requires { let m = parts_by W.word W.LIMIT P.shape P.text P.same P.key_calls in
+        IsMapArchive m bytes.now }
     ensures { let m = parts_by W.word W.LIMIT P.shape P.text P.same P.key_calls in
         OnOk result (string_bytes out.new ≡ string_bytes out.old ++ pair_lines m bytes.now) }
 {
@@ -142,8 +151,10 @@ fn push_map<P: Part, W: Width>(bytes: &[u8], out: &mut String) -> Result<(), All
 
 /// How many keys a lookup doesn't answer where they stand.
 fn count_misplaced<P: Part, W: Width>(bytes: &[u8]) -> usize
-    requires { IsMapArchive (parts_by W.word W.LIMIT P.shape P.text P.same P.key_calls) bytes.now }
-    ensures { result ≡ keys_misplaced (parts_by W.word W.LIMIT P.shape P.text P.same P.key_calls) bytes.now }
+    requires { let m = parts_by W.word W.LIMIT P.shape P.text P.same P.key_calls in
+        IsMapArchive m bytes.now }
+    ensures { let m = parts_by W.word W.LIMIT P.shape P.text P.same P.key_calls in
+        result ≡ keys_misplaced m bytes.now }
 {
     map_of::<P, W>(bytes).misplaced()
 }
@@ -158,8 +169,8 @@ where
     A::Archived: Part,
     ensures { let m = parts_by W.word W.LIMIT A.Archived.shape A.Archived.text A.Archived.same A.Archived.key_calls in
         MatchResult result
-        (λ v. IsArchiveOf m A.Archived.stands load_factor W.MAX_CAPACITY A.format A.calls pairs.now v.items)
-        (NoArchiveOf m A.Archived.stands load_factor W.MAX_CAPACITY A.format A.calls pairs.now) }
+        (λ v. IsArchiveOf m load_factor W.MAX_CAPACITY A.format A.calls A.Archived.stands pairs.now v.items)
+        (NoArchiveOf m load_factor W.MAX_CAPACITY A.format A.calls pairs.now) }
 {
     let list = Listed { pairs, load_factor };
     to_bytes_in::<W, Listed<'_, A>>(alloc, &list)

@@ -1,4 +1,4 @@
-use Rattle.std.proofs.Common.{ap, ◌∙◌, ◌++◌, ℕ, List, append_assoc, codes, decimal, string_bytes}
+use Rattle.std.proofs.Common.{ap, ◌∙◌, ◌≡◌, ◌++◌, ℕ, List, append_assoc, codes, decimal, string_bytes}
 use Rattle.std.specs.List.{flat_map}
 use Rattle.rkyv_base.specs.Entry.{entry_shape}
 use Rattle.rkyv_table.specs.Header.{len_at}
@@ -19,6 +19,6 @@ returns g c =
     let head : ℕ → List ℕ = λ n. line (codes "entries " ++ decimal n) in
     let rest : List ℕ → ℕ → List ℕ = λ b p. flat_map (line_at s g.P.Part.text b) (item_places w (entry_shape s s).size b p) in
     let here : List ℕ = rest (map_bytes m) (map_place m) in
-    let counted = c.in_ok-push_count.ensures ∙ ap (λ n. old ++ head n) c.len.ensures in
+    let counted : string_bytes c.push_count.new.out ≡ old ++ head (map_len w m) = c.in_ok-push_count.ensures ∙ ap (λ n. old ++ head n) c.len.ensures in
     let placed = read_at (λ b p. head (len_at w b p) ++ rest b p) m.view _ _ c.map_of-map.ensures.at in
     ok_map c.push_lines.result (λ e. e ∙ ap (λ t. t ++ here) counted ∙ append_assoc old (head (map_len w m)) here ∙ ap (λ t. old ++ t) placed) c.push_lines.ensures
