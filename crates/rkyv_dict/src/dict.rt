@@ -20,7 +20,8 @@ use rkyv_base::errors::{VerifyError, WriteError};
 use rkyv_base::writer::NoMemory;
 use std::alloc::{AllocError, Global};
 
-/// The bytes of an archive, and of how many pairs of the list they were built, unless they were checked.
+/// The bytes of an archive, and of how many pairs of the list they were built, unless they came by
+/// `check`.
 #[derive(Drop)]
 struct Stored {
     bytes: Vec<u8>,
@@ -47,7 +48,8 @@ fn push_line(out: &mut String, text: &str) -> Result<(), AllocError>
 
 /// Appends why bytes are no archive.
 fn push_refusal(out: &mut String, error: &VerifyError) -> Result<(), AllocError>
-    ensures { OnOk result (string_bytes out.new ≡ string_bytes out.old ++ refused_line error.now) }
+    ensures { OnOk result
+        (string_bytes out.new ≡ string_bytes out.old ++ refused_line error.now) }
 {
     let told = refusal_told(error);
     write!(out, "refused {told}\n")
@@ -102,8 +104,9 @@ impl<'a> Dict<'a> {
     /// Appends what `get` answers.
     fn push_get(&self, key: Key<'_>, out: &mut String) -> Result<(), AllocError>
         requires { IsSound (state_seen self.now) }
-        ensures { let s = state_seen self.now in OnOk result (string_bytes out.new
-            ≡ string_bytes out.old ++ answered (get_line (form_of s) (key_seen key.entry)) s.archive) }
+        ensures { let s = state_seen self.now in let key = key_seen key.entry in
+            OnOk result (string_bytes out.new
+            ≡ string_bytes out.old ++ answered (get_line (form_of s) key) s.archive) }
     {
         let Some(archive) = &self.archive else {
             return push_line(out, "error 11 NoArchive");

@@ -28,7 +28,8 @@ pub fn push_hex(text: &mut String, bytes: &[u8]) -> Result<(), AllocError>
 
 /// The value of a digit of either case.
 fn digit(glyph: u8) -> Option<u8>
-    ensures value { result ≡ (if is_ascii_hexdigit glyph then Some (digit_value glyph) else None) }
+    ensures value { result
+        ≡ (if is_ascii_hexdigit glyph then Some (digit_value glyph) else None) }
     ensures small { IfSome result (λ d. d < 16) }
 {
     match glyph {

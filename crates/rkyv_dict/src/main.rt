@@ -11,9 +11,9 @@ pub mod pairs;
 pub mod parts;
 pub mod run;
 pub mod script;
-pub mod words;
 #[cfg(test)]
 mod tests;
+pub mod words;
 
 use run::{RunError, run};
 use std::process::ExitCode;

@@ -38,9 +38,12 @@ pub fn count_of(list: &PairList<'_>) -> usize
     }
 }
 
-/// Adds a pair of numbers at the end of a list of numbers. The pairs that were there stay, also where no memory is left.
+/// Adds a pair of numbers at the end of a list of numbers.
+///
+/// Fails only by want of memory; the pairs that were there stay.
 pub fn put_numbers(list: &mut PairList<'_>, key: u32, value: u32) -> Result<(), AllocError>
-    ensures added { OnOk result (pairs_seen list.new ≡ with_numbers (pairs_seen list.old) key value) }
+    ensures added { OnOk result
+        (pairs_seen list.new ≡ with_numbers (pairs_seen list.old) key value) }
     ensures kept { pair_count list.old ≤ pair_count list.new }
     ensures first { (n : ℕ) → n ≤ pair_count list.old
         → take_pairs n (pairs_seen list.new) ≡ take_pairs n (pairs_seen list.old) }
@@ -54,8 +57,14 @@ pub fn put_numbers(list: &mut PairList<'_>, key: u32, value: u32) -> Result<(), 
     }
 }
 
-/// Adds a pair of texts at the end of a list of texts. The pairs that were there stay, also where no memory is left.
-pub fn put_texts<'a>(list: &mut PairList<'a>, key: &'a str, value: &'a str) -> Result<(), AllocError>
+/// Adds a pair of texts at the end of a list of texts.
+///
+/// Fails only by want of memory; the pairs that were there stay.
+pub fn put_texts<'a>(
+    list: &mut PairList<'a>,
+    key: &'a str,
+    value: &'a str,
+) -> Result<(), AllocError>
     ensures added { OnOk result
         (pairs_seen list.new ≡ with_texts (pairs_seen list.old) key.now value.now) }
     ensures kept { pair_count list.old ≤ pair_count list.new }

@@ -6,7 +6,10 @@ ghost use Rattle.std.specs.Prelude.{◌≡◌, IfOk};
 
 use crate::form::{Bits, Key, Kind};
 use crate::hex::read_hex;
-use crate::words::{bits_by_name, cut_word, is_word, kind_by_name, one_number, one_text, one_word, two_numbers, two_texts};
+use crate::words::{
+    bits_by_name, cut_word, is_word, kind_by_name, one_number, one_text, one_word, two_numbers,
+    two_texts,
+};
 use std::alloc::{AllocError, Global};
 use std::str;
 
@@ -155,8 +158,8 @@ fn by_verb<'a>(
 
 /// The command of a line that isn't empty; `None` for a bad line.
 ///
-/// One space stands between two words. A number is `0` or digits without a leading zero, a text is a word of one byte or
-/// more, and bytes are pairs of digits of either case.
+/// One space stands between two words. A number is `0` or digits without a leading zero, a text is
+/// a word of one byte or more, and bytes are pairs of digits of either case.
 ///
 /// Fails only by want of memory for the bytes of `check`.
 #[tactic(auto, unfolding(crate::specs::Script::request_of), using(crate::proofs::Texts::utf8_yes, crate::proofs::Texts::utf8_no))]
@@ -165,7 +168,8 @@ pub fn read_command(
     kind: Kind,
     line: &[u8],
 ) -> Result<Option<Command<'_>>, AllocError>
-    ensures { IfOk result (λ command. option_map request_seen command ≡ request_of kind line.now) }
+    ensures { IfOk result (λ command.
+        option_map request_seen command ≡ request_of kind line.now) }
 {
     match str::from_utf8(line) {
         Ok(text) => {

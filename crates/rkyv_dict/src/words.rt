@@ -17,7 +17,8 @@ fn place_of(bytes: &[u8], at: u8) -> Option<usize>
 
 /// The bytes before the first `at`, and those after it.
 pub fn cut(bytes: &[u8], at: u8) -> (&[u8], Option<&[u8]>)
-    ensures parts { parts_of at bytes.now ≡ result.0.now ∷ parts_after at (option_copied result.1) }
+    ensures parts { parts_of at bytes.now
+        ≡ result.0.now ∷ parts_after at (option_copied result.1) }
     ensures shorter { IfSome result.1 (λ rest. length rest.now < length bytes.now) }
 {
     match place_of(bytes, at) {

@@ -83,7 +83,10 @@ fn refuses_bad_lines(rt: HostRuntime) -> Result<(), Fail> {
 
 #[test]
 fn text_that_is_not_utf8_is_a_bad_line(rt: HostRuntime) -> Result<(), Fail> {
-    let out = output(rt.alloc(), b"kind text\nput a \xff\nput \xc3 b\nbuild\nget \xff\n")?;
+    let out = output(
+        rt.alloc(),
+        b"kind text\nput a \xff\nput \xc3 b\nbuild\nget \xff\n",
+    )?;
     assert_eq!(rt;
         out.as_slice(),
         b"error 10 BadLine\nerror 10 BadLine\nbuilt 12\nerror 10 BadLine\n".as_slice()

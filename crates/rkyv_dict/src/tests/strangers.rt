@@ -73,7 +73,10 @@ fn a_refused_check_keeps_the_archive(rt: HostRuntime) -> Result<(), Fail> {
                 "put 1 2\nbuild\nput 3 4\ncheck 01\nget 1\ncheck 010000000000000000000000\nget 1\ncheck 01\nlist\nbuild\nget 3\n",
                 "built 60\nrefused 1 OutOfRange\n2\nok 0\nnone\nrefused 1 OutOfRange\nentries 0\nbuilt 68\n4\n",
             ),
-            ("check 01\nget 1\n", "refused 1 OutOfRange\nerror 11 NoArchive\n"),
+            (
+                "check 01\nget 1\n",
+                "refused 1 OutOfRange\nerror 11 NoArchive\n",
+            ),
         ],
     )
 }

@@ -101,7 +101,8 @@ fn reads_and_writes_byte_by_byte(rt: HostRuntime) -> Result<(), Fail> {
         left: 1000,
     };
     assert_eq!(rt; cause(run(rt.alloc(), &mut reader, &mut writer)), "none");
-    let want = b"built 60\n01000000020000000000000000000000ff28ff28ffffffffffffffffffffffffffffffffffffffffffffffffffffff00e0ffffff0100000002000000\n2\nnone\nentries 1\n1 2\n";
+    let want =
+        b"built 60\n01000000020000000000000000000000ff28ff28ffffffffffffffffffffffffffffffffffffffffffffffffffffff00e0ffffff0100000002000000\n2\nnone\nentries 1\n1 2\n";
     assert_eq!(rt; writer.taken.as_slice(), want.as_slice());
     Ok(())
 }

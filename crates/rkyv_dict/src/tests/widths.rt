@@ -54,7 +54,10 @@ fn width_empties_list_and_archive_and_keeps_the_rest(rt: HostRuntime) -> Result<
 fn checks_in_64_bits(rt: HostRuntime) -> Result<(), Fail> {
     let script = checks(rt.alloc(), "width 64\n", ONE, "list\n")?;
     let out = output(rt.alloc(), script.as_bytes())?;
-    assert_eq!(rt; out.as_slice(), b"refused 2 Unaligned\nerror 11 NoArchive\n".as_slice());
+    assert_eq!(rt;
+        out.as_slice(),
+        b"refused 2 Unaligned\nerror 11 NoArchive\n".as_slice()
+    );
     let wide =
         "01000000020000000000000000000000ff28ff28ffffffffffffffffffffffffffffffffffffffffffffffffffffff00e0ffffffffffffff01000000000000000200000000000000";
     let script = checks(rt.alloc(), "width 64\n", wide, "get 1\n")?;
