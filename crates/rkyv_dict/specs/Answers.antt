@@ -1,10 +1,11 @@
 -- What the lines of a script answer, one after the other.
-use Rattle.std.specs.Prelude.{◌≡◌, ◌⊎◌, ℕ, List, [], ◌∷◌, ◌++◌, Option, Some, None}
+use Rattle.std.specs.Prelude.{◌≡◌, ◌⊎◌, ℕ, false, List, [], ◌∷◌, ◌++◌, Option, Some, None}
 use Rattle.rkyv_base.specs.declared.errors.VerifyError.{VerifyError}
 use Rattle.rkyv_base.specs.declared.errors.WriteError.{WriteError}
 use Rattle.rkyv_base.specs.declared.writer.NoMemory.{NoMemory}
 use Rattle.rkyv_dict.specs.Archives.{IsArchive, IsRefused, entry_count}
 use Rattle.rkyv_dict.specs.Built.{BuildRefused, IsBuilt, kind_of_pairs}
+use Rattle.rkyv_dict.specs.Errors.{wants_memory}
 use Rattle.rkyv_dict.specs.Output.{answered, audit_line, bad_line, built_line, error_line, get_line, hex_line, list_lines, ok_line, refused_line}
 use Rattle.rkyv_dict.specs.Script.{Request, set_kind, set_width, set_load_factor, put_numbers, put_texts, build_archive, check_archive, show_hex, get_value, list_pairs, count_misplaced, request_of}
 use Rattle.rkyv_dict.specs.State.{State, emptied, form_of, with_numbers, with_texts}
@@ -18,10 +19,11 @@ pub record Builds (s : State) (answer : List ℕ) (s' : State) : Type 0 where
   pub answers : answer ≡ built_line bytes
   pub after : s' ≡ record s { archive = Some (record { bytes = bytes; built_of = Some s.pairs }) }
 
--- or is refused for a cause that stands, and leaves no archive
+-- or is refused for a cause that stands and is no want of memory, and leaves no archive
 pub record RefusesBuild (s : State) (answer : List ℕ) (s' : State) : Type 0 where
   pub cause : WriteError NoMemory
   pub stands : BuildRefused (form_of s) s.load_factor s.pairs cause
+  pub told : wants_memory cause ≡ false
   pub answers : answer ≡ error_line cause
   pub after : s' ≡ record s { archive = None }
 

@@ -1,5 +1,5 @@
 -- Errors as the answers tell them: the number and the name.
-use Rattle.std.specs.Prelude.{ℕ, List, codes}
+use Rattle.std.specs.Prelude.{ℕ, Bool, true, false, List, codes}
 use Rattle.rkyv_base.specs.declared.errors.VerifyError.{VerifyError}
 use Rattle.rkyv_base.specs.declared.errors.VerifyError.TheVariants.{OutOfRange, Unaligned, InvalidLength, WrongNumberOfElements, UnwrappedControlByte, PlaceOutOfRange, InvalidValue, Refused}
 use Rattle.rkyv_base.specs.declared.errors.WriteError.{WriteError}
@@ -27,3 +27,15 @@ cause_told TextTooLong = codes "6 TextTooLong"
 cause_told (Writer fault) = codes "7 Writer"
 cause_told Memory = codes "8 Memory"
 cause_told (RefusedWrite reason) = codes "9 Refused"
+
+-- want of memory: no line tells it
+unfoldable pub wants_memory : {F : Type 0} → WriteError F → Bool
+wants_memory (InvalidLoadFactor numerator denominator) = false
+wants_memory (IteratorLengthMismatch mismatch) = false
+wants_memory (CapacityTooLarge len) = false
+wants_memory PositionTooLarge = false
+wants_memory DistanceTooLarge = false
+wants_memory TextTooLong = false
+wants_memory (Writer fault) = true
+wants_memory Memory = true
+wants_memory (RefusedWrite reason) = false

@@ -11,7 +11,7 @@ ghost use Rattle.std.specs.Option.{ForSome};
 ghost use Rattle.std.specs.Prelude.{◌≡◌, ◌≤◌, ◌++◌, OnOk, string_bytes};
 
 use crate::archives;
-use crate::errors::{cause_told, refusal_told};
+use crate::errors::{cause_told, refusal_told, wants_memory};
 use crate::form::{Bits, Form, Key, Kind, PairList};
 use crate::hex::push_hex;
 use crate::pairs::{count_of, kind_of, no_pairs, put_numbers, put_texts};
@@ -151,9 +151,10 @@ impl<'a> Dict<'a> {
                 self.archive = Some(Stored { bytes, handed });
                 write!(out, "built {len}\n")
             }
-            Err(WriteError::Memory) => Err(AllocError),
-            Err(WriteError::Writer(_)) => Err(AllocError),
             Err(cause) => {
+                if wants_memory(&cause) {
+                    return Err(AllocError);
+                }
                 self.archive = None;
                 push_cause(out, &cause)
             }

@@ -1,5 +1,5 @@
 //! Errors as the answers tell them.
-ghost use Rattle.rkyv_dict.specs.Errors.{cause_told, refusal_told};
+ghost use Rattle.rkyv_dict.specs.Errors.{cause_told, refusal_told, wants_memory};
 ghost use Rattle.std.specs.Prelude.{◌≡◌};
 
 use rkyv_base::errors::{VerifyError, WriteError};
@@ -38,4 +38,12 @@ pub fn cause_told(error: &WriteError<NoMemory>) -> &'static str
         WriteError::Memory => "8 Memory",
         WriteError::Refused(_) => "9 Refused",
     }
+}
+
+/// Whether the list is not archived for want of memory.
+#[tactic(auto, unfolding(crate::specs::Errors::wants_memory))]
+pub fn wants_memory(error: &WriteError<NoMemory>) -> bool
+    ensures { result ≡ wants_memory error.now }
+{
+    matches!(error, WriteError::Writer(_) | WriteError::Memory)
 }
