@@ -44,7 +44,7 @@ module _ {X Y : Type 0} (seen : X → Y) where
   seen_at : (slots : List (Option X)) (i : ℕ) (s : Option X) → slice_get slots i ≡ Some s → slice_get (seen_slots seen slots) i ≡ Some (option_map seen s)
   seen_at slots i s e = slice_get-map (option_map seen) slots i ∙ ap (option_map (option_map seen)) e
 
-  was_seen : (o : Option X) (y : Y) → option_map seen o ≡ Some y → (x : X) × (o ≡ Some x) × (seen x ≡ y)
+  pub was_seen : (o : Option X) (y : Y) → option_map seen o ≡ Some y → (x : X) × (o ≡ Some x) × (seen x ≡ y)
   was_seen None y e = absurd cc
   was_seen (Some x) y e = (x, refl, cc)
 
@@ -162,7 +162,7 @@ module _ {X Y R : Type 0} (seen : X → Y) (f : Format Y R) where
     seen_written z part (inl h) = inl (ap (seen_pairs seen) h.0, h.1, h.2)
     seen_written z part (inr h) = inr (seen_slots seen h.0, h.1, seen_inside seen factor pairs h.0 h.1 h.2, seen_bytes s h.0 h.1 p z part h.3)
 
-    seen_table : (part : List ℕ) (r : TableResolver) → TableParts w s (written_as seen f) factor pairs p part r → TableParts w s f factor (seen_pairs seen pairs) p part r
+    pub seen_table : (part : List ℕ) (r : TableResolver) → TableParts w s (written_as seen f) factor pairs p part r → TableParts w s f factor (seen_pairs seen pairs) p part r
     seen_table part r h = record {
       len = h.len ∙ sym (length-map pairs (λ (pair : ℕ × X). (pair.0, seen pair.1)));
       factor = h.factor;
@@ -170,10 +170,10 @@ module _ {X Y R : Type 0} (seen : X → Y) (f : Format Y R) where
       written = seen_written r.pos part h.written;
     }
 
-    seen_piece : (front piece : List ℕ) → TablePiece w s (written_as seen f) factor pairs p front piece → TablePiece w s f factor (seen_pairs seen pairs) p front piece
+    pub seen_piece : (front piece : List ℕ) → TablePiece w s (written_as seen f) factor pairs p front piece → TablePiece w s f factor (seen_pairs seen pairs) p front piece
     seen_piece front piece h = (seen_slots seen h.0, h.1, seen_inside seen factor pairs h.0 h.1 h.2, seen_next s h.0 h.1 p front piece h.3)
 
-    seen_refusal : (c : Refusal) → ItemRefuses w s (written_as seen f) factor pairs p c → ItemRefuses w s f factor (seen_pairs seen pairs) p c
+    pub seen_refusal : (c : Refusal) → ItemRefuses w s (written_as seen f) factor pairs p c → ItemRefuses w s f factor (seen_pairs seen pairs) p c
     seen_refusal c h = (seen_slots seen h.0, h.1, seen_inside seen factor pairs h.0 h.1 h.2, seen_refuses s h.0 h.1 p c h.3)
 
   module _ (w : Width) (s : Shape) (factor : ℕ × ℕ) (pairs : List (ℕ × X)) (o o' : Output) where

@@ -1,10 +1,9 @@
 -- What is written, what is held back, and what is still to come.
-use Rattle.std.proofs.Common.{◌≡◌, ℕ, List, ◌∷◌, ◌++◌, take, drop, Option, sym, ap, ◌∙◌, append_assoc, take-append-drop, subst}
-use Rattle.std.specs.Prelude.{Result, Ok, Err, OnErr}
+use Rattle.std.proofs.Common.{ℕ, List, ◌++◌, take, drop, Option, sym, ap, ◌∙◌, append_assoc, take-append-drop, subst}
+use Rattle.std.specs.Prelude.{Result, Ok, Err, OnErr, IfSome, None, Some}
 use Rattle.std.specs.Io.KnownBytes.{Appends, Consumes}
 use Rattle.std.proofs.KnownBytes.{Appends-trans, Consumes-trans}
-use Rattle.rkyv_dict.specs.Output.{State, answers, answer_to, state_after}
-use Rattle.rkyv_dict.specs.Run.{AppendsFront, MovesFront, Gathers}
+use Rattle.rkyv_dict.specs.Run.{MovesFront, Gathers}
 
 -- of what is held back a front is written
 pub moves_taken : (a b c : Option (List ℕ)) (whole held : List ℕ) (n : ℕ) → MovesFront a b whole held → Appends b c (take n held) → MovesFront a c whole (drop n held)
@@ -13,30 +12,6 @@ moves_taken a b c whole held n m taken = record {
   parts = m.parts ∙ ap (λ l. m.moved ++ l) (sym (take-append-drop n held)) ∙ sym (append_assoc m.moved (take n held) (drop n held));
   appended = Appends-trans a b c m.moved (take n held) m.appended taken;
 }
-
--- what comes is what is held back and then more; of the first a part is written
-pub moves_more : (a b c : Option (List ℕ)) (whole held kept more : List ℕ) → MovesFront a b whole (held ++ more) → MovesFront b c held kept → MovesFront a c whole (kept ++ more)
-moves_more a b c whole held kept more first second = record {
-  moved = first.moved ++ second.moved;
-  parts = first.parts ∙ ap (λ l. first.moved ++ (l ++ more)) second.parts ∙ simp append_assoc;
-  appended = Appends-trans a b c first.moved second.moved first.appended second.appended;
-}
-
-pub front_more : (a b c : Option (List ℕ)) (whole held more : List ℕ) → MovesFront a b whole (held ++ more) → AppendsFront b c held → AppendsFront a c whole
-front_more a b c whole held more first second = record {
-  front = first.moved ++ second.front;
-  rest = second.rest ++ more;
-  parts = sym (first.parts ∙ ap (λ l. first.moved ++ (l ++ more)) (sym second.parts) ∙ simp append_assoc);
-  appended = Appends-trans a b c first.moved second.front first.appended second.appended;
-}
-
--- a line is answered: its answer is held back with the rest
-pub line_held : (held now : List ℕ) (s s' : State) (parts more : List (List ℕ)) (line : List ℕ)
-    → parts ≡ line ∷ more → s' ≡ state_after s line → now ≡ held ++ answer_to s line
-    → held ++ answers s parts ≡ now ++ answers s' more
-line_held held now s s' parts more line cut after text =
-    ap (λ l. held ++ answers s l) cut ∙ sym (append_assoc held (answer_to s line) (answers (state_after s line) more))
-    ∙ ap (λ l. l ++ answers (state_after s line) more) (sym text) ∙ ap (λ t. now ++ answers t more) (sym after)
 
 pub gathers_more : (a b c : Option (List ℕ)) (before after : List ℕ) → Consumes a b before → Gathers b c before after → Consumes a c after
 gathers_more a b c before after first second =
@@ -49,3 +24,7 @@ on_err (Err e) P p = p
 pub on_err_map : {T E : Type 0} (r : Result T E) (P Q : Type 0) → (P → Q) → OnErr r P → OnErr r Q
 on_err_map (Ok x) P Q f p = tt
 on_err_map (Err e) P Q f p = f p
+
+pub if_some : {A : Type 0} (o : Option A) (P : A → Type 0) → ((x : A) → P x) → IfSome o P
+if_some None P h = tt
+if_some (Some x) P h = h x

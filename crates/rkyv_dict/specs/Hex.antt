@@ -1,6 +1,8 @@
--- Bytes as two lower case digits each.
-use Rattle.std.specs.Prelude.{ℕ, ◌+◌, ◌/◌, ◌%◌, nat_lt, if◌then◌else◌, List, [], ◌∷◌}
+-- Bytes as two digits each.
+use Rattle.std.specs.Prelude.{ℕ, ◌+◌, ◌*◌, ◌/◌, ◌%◌, ◌&&◌, nat_lt, if◌then◌else◌, List, [], ◌∷◌, Option, Some, None}
+use Rattle.std.specs.Char.{digit_value, is_ascii_hexdigit}
 use Rattle.std.specs.List.{flat_map}
+use Rattle.std.specs.Option.{option_map}
 
 -- the digit of a number below 16
 abbrev pub lower_digit : ℕ → ℕ
@@ -13,3 +15,18 @@ hex_of_byte byte = lower_digit (byte / 16) ∷ lower_digit (byte % 16) ∷ []
 -- the digits of all bytes, in their order
 abbrev pub hex_of : List ℕ → List ℕ
 hex_of bytes = flat_map hex_of_byte bytes
+
+-- the byte that two digits of either case say
+unfoldable pub byte_said : ℕ → ℕ → Option ℕ
+byte_said high low = if is_ascii_hexdigit high && is_ascii_hexdigit low then Some (digit_value high * 16 + digit_value low) else None
+
+-- one byte more, in front
+abbrev pub behind : Option ℕ → Option (List ℕ) → Option (List ℕ)
+behind None more = None
+behind (Some byte) more = option_map (λ bytes. byte ∷ bytes) more
+
+-- the bytes that pairs of digits say
+abbrev pub bytes_said : List ℕ → Option (List ℕ)
+bytes_said [] = Some []
+bytes_said (digit ∷ []) = None
+bytes_said (high ∷ low ∷ more) = behind (byte_said high low) (bytes_said more)

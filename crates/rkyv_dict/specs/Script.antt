@@ -6,18 +6,28 @@ use Rattle.std.specs.Char.{is_ascii_digit}
 use Rattle.std.specs.Option.{option_map, option_copied}
 use Rattle.std.specs.Str.{is_utf8, bytes_eq}
 use Rattle.std.specs.Str.Parse.{digits_value}
-use Rattle.rkyv_dict.specs.declared.script.Kind.{Kind}
-use Rattle.rkyv_dict.specs.declared.script.Kind.TheVariants.{Num}
+use Rattle.rkyv_dict.specs.Hex.{bytes_said}
+use Rattle.rkyv_dict.specs.Forms.{Asked, asked_number, asked_text}
+use Rattle.rkyv_dict.specs.declared.form.Kind.{Kind}
+use Rattle.rkyv_dict.specs.declared.form.Kind.TheVariants.{Num, Text}
+use Rattle.rkyv_dict.specs.declared.form.Bits.{Bits}
+use Rattle.rkyv_dict.specs.declared.form.Bits.TheVariants.{Bits32, Bits64}
 
 -- what a line asks for
 pub data Request : Type 0 where
   set_kind : Kind → Request
+  set_width : Bits → Request
   set_load_factor : ℕ → ℕ → Request
-  put_pair : ℕ → ℕ → Request
+  put_numbers : ℕ → ℕ → Request
+  put_texts : List ℕ → List ℕ → Request
   build_archive : Request
+  check_archive : List ℕ → Request
   show_hex : Request
-  get_value : ℕ → Request
+  get_value : Asked → Request
   list_pairs : Request
+  count_misplaced : Request
+
+-- ---- lines and words
 
 -- the parts of some bytes, cut at each byte `at`; n such bytes give n + 1 parts
 abbrev pub parts_of : ℕ → List ℕ → List (List ℕ)
@@ -31,6 +41,17 @@ lines_of script = parts_of 10 script
 abbrev pub words_of : List ℕ → List (List ℕ)
 words_of line = parts_of 32 line
 
+-- the parts that are left after a first one
+abbrev pub parts_after : ℕ → Option (List ℕ) → List (List ℕ)
+parts_after at None = []
+parts_after at (Some rest) = parts_of at rest
+
+-- the words of what is left of a line
+abbrev pub words_left : Option (Bor (List ℕ)) → List (List ℕ)
+words_left rest = parts_after 32 (option_copied rest)
+
+-- ---- what one word says
+
 -- a digit and more digits, the first of them no 0 unless it stands alone
 abbrev pub is_numeral : List ℕ → Bool
 is_numeral word = nat_le 1 (length word) && (list_all is_ascii_digit word && (length word == 1 || not (slice_index word 0 == 48)))
@@ -39,66 +60,102 @@ is_numeral word = nat_le 1 (length word) && (list_all is_ascii_digit word && (le
 unfoldable pub number_of : ℕ → List ℕ → Option ℕ
 number_of most word = if is_numeral word && nat_le (digits_value 10 word) most then Some (digits_value 10 word) else None
 
+-- a text is a word of one byte or more
+abbrev pub text_of : List ℕ → Option (List ℕ)
+text_of [] = None
+text_of (b ∷ bs) = Some (b ∷ bs)
+
+-- the kind that a word names
+abbrev pub kind_of_word : List ℕ → Option Kind
+kind_of_word word = if bytes_eq word (codes "num") then Some Num else if bytes_eq word (codes "text") then Some Text else None
+
+-- the width that a word names
+abbrev pub bits_of_word : List ℕ → Option Bits
+bits_of_word word = if bytes_eq word (codes "32") then Some Bits32 else if bytes_eq word (codes "64") then Some Bits64 else None
+
+-- pairs of digits of either case, at least one
+abbrev pub hex_of_word : List ℕ → Option (List ℕ)
+hex_of_word [] = None
+hex_of_word (b ∷ bs) = bytes_said (b ∷ bs)
+
+-- ---- the arguments of a line
+
+-- the one word that stands there
+abbrev pub one_of : List (List ℕ) → Option (List ℕ)
+one_of [] = None
+one_of (word ∷ []) = Some word
+one_of (word ∷ next ∷ more) = None
+
+-- the two words that stand there
+abbrev pub two_of : List (List ℕ) → Option (List ℕ × List ℕ)
+two_of [] = None
+two_of (first ∷ []) = None
+two_of (first ∷ second ∷ []) = Some (first, second)
+two_of (first ∷ second ∷ next ∷ more) = None
+
+-- what the one word says
+abbrev pub said_by : {A : Type 0} → (List ℕ → Option A) → Option (List ℕ) → Option A
+said_by says None = None
+said_by says (Some word) = says word
+
 -- both, where both are there
-abbrev pub both_of : Option ℕ → Option ℕ → Option (ℕ × ℕ)
+abbrev pub both_of : {A : Type 0} → Option A → Option A → Option (A × A)
 both_of (Some a) (Some b) = Some (a, b)
 both_of (Some a) None = None
 both_of None b = None
 
--- the one number that is asked of the words
-abbrev pub one_number_of : ℕ → List (List ℕ) → Option ℕ
-one_number_of most [] = None
-one_number_of most (word ∷ []) = number_of most word
-one_number_of most (word ∷ next ∷ more) = None
-
--- the two numbers that are asked of the words
-abbrev pub two_numbers_of : ℕ → List (List ℕ) → Option (ℕ × ℕ)
-two_numbers_of most [] = None
-two_numbers_of most (first ∷ []) = None
-two_numbers_of most (first ∷ second ∷ []) = both_of (number_of most first) (number_of most second)
-two_numbers_of most (first ∷ second ∷ next ∷ more) = None
+-- what the two words say
+abbrev pub said_by_both : {A : Type 0} → (List ℕ → Option A) → Option (List ℕ × List ℕ) → Option (A × A)
+said_by_both says None = None
+said_by_both says (Some words) = both_of (says words.0) (says words.1)
 
 -- a request that stands alone
 abbrev pub bare_of : Request → List (List ℕ) → Option Request
 bare_of request [] = Some request
 bare_of request (next ∷ more) = None
 
--- the kind that a word names
-abbrev pub kind_of_word : List ℕ → Option Kind
-kind_of_word word = if bytes_eq word (codes "num") then Some Num else None
+-- ---- the requests
 
--- the one kind that the words name
-abbrev pub kind_of : List (List ℕ) → Option Kind
-kind_of [] = None
-kind_of (word ∷ []) = kind_of_word word
-kind_of (word ∷ next ∷ more) = None
+-- numbers of 32 bits
+abbrev pub most_number : ℕ
+most_number = 4_294_967_295
 
--- what `kind` asks for
 abbrev pub kind_asked : List (List ℕ) → Option Request
-kind_asked arguments = option_map (λ k. set_kind k) (kind_of arguments)
+kind_asked arguments = option_map (λ k. set_kind k) (said_by kind_of_word (one_of arguments))
 
--- what `lf` asks for: two numbers of 64 bits
+abbrev pub width_asked : List (List ℕ) → Option Request
+width_asked arguments = option_map (λ b. set_width b) (said_by bits_of_word (one_of arguments))
+
+-- two numbers of 64 bits
 abbrev pub load_factor_asked : List (List ℕ) → Option Request
-load_factor_asked arguments = option_map (λ p. set_load_factor p.0 p.1) (two_numbers_of 18_446_744_073_709_551_615 arguments)
+load_factor_asked arguments = option_map (λ p. set_load_factor p.0 p.1) (said_by_both (number_of 18_446_744_073_709_551_615) (two_of arguments))
 
--- what `put` asks for: a key and a value of this kind
+-- a key and a value of this kind
 abbrev pub put_asked : Kind → List (List ℕ) → Option Request
-put_asked Num arguments = option_map (λ p. put_pair p.0 p.1) (two_numbers_of 4_294_967_295 arguments)
+put_asked Num arguments = option_map (λ p. put_numbers p.0 p.1) (said_by_both (number_of most_number) (two_of arguments))
+put_asked Text arguments = option_map (λ p. put_texts p.0 p.1) (said_by_both text_of (two_of arguments))
 
--- what `get` asks for: a key of this kind
+-- a key of this kind
 abbrev pub get_asked : Kind → List (List ℕ) → Option Request
-get_asked Num arguments = option_map (λ k. get_value k) (one_number_of 4_294_967_295 arguments)
+get_asked Num arguments = option_map (λ k. get_value (asked_number k)) (said_by (number_of most_number) (one_of arguments))
+get_asked Text arguments = option_map (λ t. get_value (asked_text t)) (said_by text_of (one_of arguments))
+
+abbrev pub check_asked : List (List ℕ) → Option Request
+check_asked arguments = option_map (λ bytes. check_archive bytes) (said_by hex_of_word (one_of arguments))
 
 -- what a verb and its arguments ask for
 unfoldable pub request_by : Kind → List ℕ → List (List ℕ) → Option Request
 request_by kind verb arguments =
     if bytes_eq verb (codes "kind") then kind_asked arguments
+    else if bytes_eq verb (codes "width") then width_asked arguments
     else if bytes_eq verb (codes "lf") then load_factor_asked arguments
     else if bytes_eq verb (codes "put") then put_asked kind arguments
     else if bytes_eq verb (codes "build") then bare_of build_archive arguments
+    else if bytes_eq verb (codes "check") then check_asked arguments
     else if bytes_eq verb (codes "hex") then bare_of show_hex arguments
     else if bytes_eq verb (codes "get") then get_asked kind arguments
     else if bytes_eq verb (codes "list") then bare_of list_pairs arguments
+    else if bytes_eq verb (codes "audit") then bare_of count_misplaced arguments
     else None
 
 -- what the words of a line ask for; the first is the verb
@@ -109,12 +166,3 @@ request_of_words kind (verb ∷ arguments) = request_by kind verb arguments
 -- what a line asks for, where it is UTF-8 and reads as one of the requests; else it is a bad line
 unfoldable pub request_of : Kind → List ℕ → Option Request
 request_of kind line = if is_utf8 line then request_of_words kind (words_of line) else None
-
--- the parts that are left after a first one
-abbrev pub parts_after : ℕ → Option (List ℕ) → List (List ℕ)
-parts_after at None = []
-parts_after at (Some rest) = parts_of at rest
-
--- the words of what is left of a line
-abbrev pub words_left : Option (Bor (List ℕ)) → List (List ℕ)
-words_left rest = parts_after 32 (option_copied rest)

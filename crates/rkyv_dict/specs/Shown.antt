@@ -1,10 +1,15 @@
 -- What contracts see of a dictionary.
-use Rattle.std.specs.Prelude.{take}
 use Rattle.std.specs.Option.{option_map}
 use Rattle.rkyv_dict.specs.declared.dict.Dict.{Dict}
-use Rattle.rkyv_dict.specs.Output.{State}
-use Rattle.rkyv_dict.specs.Written.{archive_seen}
+use Rattle.rkyv_dict.specs.declared.dict.Stored.{Stored}
+use Rattle.rkyv_dict.specs.Counts.{take_pairs}
+use Rattle.rkyv_dict.specs.Forms.{Pairs, pairs_seen}
+use Rattle.rkyv_dict.specs.State.{Archived, State}
 
--- a dictionary as the state that a script has set; its archive was built of the first pairs of the list
+-- an archive that was built, was built of the first pairs of the list
+abbrev pub archived_seen : Pairs → Stored → Archived
+archived_seen pairs stored = record { bytes = stored.bytes.items; built_of = option_map (λ n. take_pairs n pairs) stored.handed }
+
+-- a dictionary as the state that a script has set
 abbrev pub state_seen : Dict → State
-state_seen dict = record { kind = dict.kind; load_factor = dict.load_factor; pairs = dict.pairs.items; archive = option_map (archive_seen (take dict.handed dict.pairs.items)) dict.archive }
+state_seen dict = record { bits = dict.bits; load_factor = dict.load_factor; pairs = pairs_seen dict.list; archive = option_map (archived_seen (pairs_seen dict.list)) dict.archive }

@@ -1,29 +1,42 @@
 //! The dictionary: its state, and what each command answers.
-ghost use Rattle.rkyv_dict.specs.Output.{answer_by, answer_to, build_answer, built, get_answer, hex_answer, line, list_answer, listing, pair_line, start, state_after, state_by, value_answer};
-ghost use Rattle.rkyv_dict.specs.Refusals.{cause_name, cause_number};
-ghost use Rattle.rkyv_dict.specs.Script.{build_archive};
-ghost use Rattle.rkyv_dict.specs.Written.{IsWritten};
-ghost use Rattle.std.specs.List.{flat_map};
+ghost use Rattle.rkyv_dict.specs.Answers.{Does, DoesLine};
+ghost use Rattle.rkyv_dict.specs.Archives.{line};
+ghost use Rattle.rkyv_dict.specs.Counts.{pair_count};
+ghost use Rattle.rkyv_dict.specs.Forms.{key_seen};
+ghost use Rattle.rkyv_dict.specs.Output.{answered, audit_line, error_line, get_line, hex_line, list_lines, refused_line};
+ghost use Rattle.rkyv_dict.specs.Run.{Adds};
+ghost use Rattle.rkyv_dict.specs.Script.{build_archive, check_archive};
+ghost use Rattle.rkyv_dict.specs.State.{IsSound, emptied, form_of, start};
 ghost use Rattle.std.specs.Option.{ForSome};
-ghost use Rattle.std.specs.Prelude.{◌≡◌, ◌≤◌, ◌++◌, OnOk, take, string_bytes, vec_len};
+ghost use Rattle.std.specs.Prelude.{◌≡◌, ◌≤◌, ◌++◌, OnOk, string_bytes};
 
+use crate::archives;
+use crate::errors::{cause_told, refusal_told, wants_memory};
+use crate::form::{Bits, Form, Key, Kind, PairList};
 use crate::hex::push_hex;
-use crate::map::{NumMap, Pairs};
-use crate::refusal::BuildError;
-use crate::script::{Command, Kind, read_command};
+use crate::pairs::{count_of, kind_of, no_pairs, put_numbers, put_texts};
+use crate::script::{Command, read_command};
+use rkyv_base::errors::{VerifyError, WriteError};
+use rkyv_base::writer::NoMemory;
 use std::alloc::{AllocError, Global};
 
-/// What a script has set so far.
+/// The bytes of an archive, and of how many pairs of the list they were built, unless they came by
+/// `check`.
 #[derive(Drop)]
-pub struct Dict {
-    kind: Kind,
+struct Stored {
+    bytes: Vec<u8>,
+    handed: Option<usize>,
+}
+
+/// What a script has set so far. Texts are lent from the script.
+#[derive(Drop)]
+pub struct Dict<'a> {
+    bits: Bits,
     load_factor: (usize, usize),
-    pairs: Vec<(u32, u32)>,
-    archive: Option<NumMap>,
-    handed: usize,
-    // The archive was built of the first pairs of the list.
-    ghost written: { ForSome archive (λ m. IsWritten m (take handed pairs.items)) },
-    ghost handed_in: { handed ≤ vec_len pairs },
+    list: PairList<'a>,
+    archive: Option<Stored>,
+    // What was handed in at the last build is there still.
+    ghost handed_in: { ForSome archive (λ a. ForSome a.handed (λ n. n ≤ pair_count list)) },
 }
 
 /// Appends a line.
@@ -33,151 +46,201 @@ fn push_line(out: &mut String, text: &str) -> Result<(), AllocError>
     write!(out, "{text}\n")
 }
 
-/// Appends the line of a pair.
-fn push_pair(out: &mut String, pair: (u32, u32)) -> Result<(), AllocError>
-    ensures { OnOk result (string_bytes out.new ≡ string_bytes out.old ++ pair_line pair) }
-{
-    let (key, value) = pair;
-    write!(out, "{key} {value}\n")
-}
-
-/// Appends the lines of the pairs.
-fn push_pairs(out: &mut String, pairs: Pairs<'_>) -> Result<(), AllocError>
+/// Appends why bytes are no archive.
+fn push_refusal(out: &mut String, error: &VerifyError) -> Result<(), AllocError>
     ensures { OnOk result
-        (string_bytes out.new ≡ string_bytes out.old ++ flat_map pair_line pairs.entry) }
+        (string_bytes out.new ≡ string_bytes out.old ++ refused_line error.now) }
 {
-    for pair in pairs {
-        push_pair(out, pair)?;
-    }
-    Ok(())
+    let told = refusal_told(error);
+    write!(out, "refused {told}\n")
 }
 
-/// Appends the value, or that there is none.
-fn push_value(out: &mut String, value: Option<u32>) -> Result<(), AllocError>
-    ensures { OnOk result (string_bytes out.new ≡ string_bytes out.old ++ value_answer value) }
+/// Appends why a list is not archived.
+fn push_cause(out: &mut String, cause: &WriteError<NoMemory>) -> Result<(), AllocError>
+    ensures { OnOk result (string_bytes out.new ≡ string_bytes out.old ++ error_line cause.now) }
 {
-    match value {
-        Some(value) => write!(out, "{value}\n"),
-        None => push_line(out, "none"),
-    }
+    let told = cause_told(cause);
+    write!(out, "error {told}\n")
 }
 
-impl Dict {
+impl<'a> Dict<'a> {
     ghost use Rattle.rkyv_dict.specs.Shown.{state_seen};
     ghost use Rattle.rkyv_dict.specs.Seen.{request_seen};
 
     /// The state before the first line.
-    pub fn new(alloc: Global) -> Dict
+    pub fn new(alloc: Global) -> Dict<'a>
         ensures { state_seen result ≡ start }
     {
         Dict {
-            kind: Kind::Num,
+            bits: Bits::Bits32,
             load_factor: (7, 8),
-            pairs: Vec::new(alloc),
+            list: no_pairs(alloc, Kind::Num),
             archive: None,
-            handed: 0,
+        }
+    }
+
+    /// The form of the archive.
+    fn form(&self) -> Form
+        ensures { result ≡ form_of (state_seen self.now) }
+    {
+        Form {
+            kind: kind_of(&self.list),
+            bits: self.bits,
         }
     }
 
     /// Appends what `hex` answers.
     fn push_hex(&self, out: &mut String) -> Result<(), AllocError>
         ensures { OnOk result (string_bytes out.new
-            ≡ string_bytes out.old ++ hex_answer (state_seen self.now).archive) }
+            ≡ string_bytes out.old ++ answered hex_line (state_seen self.now).archive) }
     {
-        let Some(map) = &self.archive else {
+        let Some(archive) = &self.archive else {
             return push_line(out, "error 11 NoArchive");
         };
-        push_hex(out, map.bytes())?;
+        push_hex(out, archive.bytes.as_slice())?;
         push_line(out, "")
     }
 
     /// Appends what `get` answers.
-    fn push_get(&self, key: u32, out: &mut String) -> Result<(), AllocError>
-        ensures { OnOk result (string_bytes out.new
-            ≡ string_bytes out.old ++ get_answer key (state_seen self.now).archive) }
+    fn push_get(&self, key: Key<'_>, out: &mut String) -> Result<(), AllocError>
+        requires { IsSound (state_seen self.now) }
+        ensures { let s = state_seen self.now in let key = key_seen key.entry in
+            OnOk result (string_bytes out.new
+            ≡ string_bytes out.old ++ answered (get_line (form_of s) key) s.archive) }
     {
-        let Some(map) = &self.archive else {
+        let Some(archive) = &self.archive else {
             return push_line(out, "error 11 NoArchive");
         };
-        push_value(out, map.get(key))
+        archives::push_value(self.form(), archive.bytes.as_slice(), key, out)
     }
 
     /// Appends what `list` answers.
     fn push_list(&self, out: &mut String) -> Result<(), AllocError>
-        ensures { OnOk result (string_bytes out.new
-            ≡ string_bytes out.old ++ list_answer (state_seen self.now).archive) }
+        requires { IsSound (state_seen self.now) }
+        ensures { let s = state_seen self.now in OnOk result (string_bytes out.new
+            ≡ string_bytes out.old ++ answered (list_lines (form_of s)) s.archive) }
     {
-        let Some(map) = &self.archive else {
+        let Some(archive) = &self.archive else {
             return push_line(out, "error 11 NoArchive");
         };
-        let count = map.len();
-        write!(out, "entries {count}\n")?;
-        push_pairs(out, map.pairs())
+        archives::push_pairs(self.form(), archive.bytes.as_slice(), out)
+    }
+
+    /// Appends what `audit` answers.
+    fn push_audit(&self, out: &mut String) -> Result<(), AllocError>
+        requires { IsSound (state_seen self.now) }
+        ensures { let s = state_seen self.now in OnOk result (string_bytes out.new
+            ≡ string_bytes out.old ++ answered (audit_line (form_of s)) s.archive) }
+    {
+        let Some(archive) = &self.archive else {
+            return push_line(out, "error 11 NoArchive");
+        };
+        let count = archives::misplaced(self.form(), archive.bytes.as_slice());
+        write!(out, "misplaced {count}\n")
     }
 
     /// Archives the list, and appends what that answers.
     fn build(&mut self, alloc: Global, out: &mut String) -> Result<(), AllocError>
-        ensures state { OnOk result
-            (state_seen self.new ≡ state_by (state_seen self.old) build_archive) }
-        ensures text { OnOk result (string_bytes out.new
-            ≡ string_bytes out.old ++ build_answer (built (state_seen self.old))) }
+        ensures { OnOk result (Adds (string_bytes out.old) (string_bytes out.new) (λ answer.
+            Does (state_seen self.old) build_archive answer (state_seen self.new))) }
     {
-        match NumMap::build(alloc, self.pairs.as_slice(), self.load_factor) {
-            Ok(map) => {
-                let len = map.bytes().len();
-                self.handed = self.pairs.len();
-                self.archive = Some(map);
+        match archives::build(alloc, self.bits, &self.list, self.load_factor) {
+            Ok(bytes) => {
+                let len = bytes.len();
+                let handed = Some(count_of(&self.list));
+                self.archive = Some(Stored { bytes, handed });
                 write!(out, "built {len}\n")
             }
-            Err(BuildError::Refused(refusal)) => {
+            Err(cause) => {
+                if wants_memory(&cause) {
+                    return Err(AllocError);
+                }
                 self.archive = None;
-                let number = refusal.number();
-                let name = refusal.name();
-                write!(out, "error {number} {name}\n")
+                push_cause(out, &cause)
             }
-            Err(BuildError::Memory) => Err(AllocError),
         }
     }
 
+    /// Takes the bytes as the archive, where they are one, and appends what that answers.
+    fn check(&mut self, bytes: Vec<u8>, out: &mut String) -> Result<(), AllocError>
+        ensures { OnOk result (Adds (string_bytes out.old) (string_bytes out.new) (λ answer.
+            Does (state_seen self.old) (check_archive bytes.items) answer (state_seen self.new))) }
+    {
+        match archives::check(self.form(), bytes.as_slice()) {
+            Ok(count) => {
+                self.archive = Some(Stored {
+                    bytes,
+                    handed: None,
+                });
+                write!(out, "ok {count}\n")
+            }
+            Err(error) => push_refusal(out, &error),
+        }
+    }
+
+    /// Empties the list and the archive, for a form.
+    fn empty(&mut self, alloc: Global, kind: Kind, bits: Bits)
+        ensures { state_seen self.new ≡ emptied kind bits (state_seen self.old) }
+    {
+        self.bits = bits;
+        self.archive = None;
+        self.list = no_pairs(alloc, kind);
+    }
+
     /// Does a command, and appends what it answers.
-    fn apply(&mut self, alloc: Global, command: Command, out: &mut String) -> Result<(), AllocError>
-        ensures state { OnOk result
-            (state_seen self.new ≡ state_by (state_seen self.old) (request_seen command)) }
-        ensures text { OnOk result (string_bytes out.new
-            ≡ string_bytes out.old ++ answer_by (state_seen self.old) (request_seen command)) }
+    fn apply(
+        &mut self,
+        alloc: Global,
+        command: Command<'a>,
+        out: &mut String,
+    ) -> Result<(), AllocError>
+        requires { IsSound (state_seen self.old) }
+        ensures { OnOk result (Adds (string_bytes out.old) (string_bytes out.new) (λ answer.
+            Does (state_seen self.old) (request_seen command.entry) answer (state_seen self.new))) }
     {
         match command {
             Command::SetKind(kind) => {
-                self.kind = kind;
-                self.archive = None;
-                self.handed = 0;
-                self.pairs.clear();
+                let bits = self.bits;
+                self.empty(alloc, kind, bits);
+                Ok(())
+            }
+            Command::SetWidth(bits) => {
+                let kind = self.form().kind;
+                self.empty(alloc, kind, bits);
+                Ok(())
             }
             Command::SetLoadFactor(numerator, denominator) => {
                 self.load_factor = (numerator as usize, denominator as usize);
+                Ok(())
             }
-            Command::Put(key, value) => self.pairs.push((key, value))?,
-            Command::Build => self.build(alloc, out)?,
-            Command::Hex => self.push_hex(out)?,
-            Command::Get(key) => self.push_get(key, out)?,
-            Command::ListPairs => self.push_list(out)?,
+            Command::PutNumbers(key, value) => put_numbers(&mut self.list, key, value),
+            Command::PutTexts(key, value) => put_texts(&mut self.list, key, value),
+            Command::Build => self.build(alloc, out),
+            Command::Check(bytes) => self.check(bytes, out),
+            Command::Hex => self.push_hex(out),
+            Command::Get(key) => self.push_get(key, out),
+            Command::ListPairs => self.push_list(out),
+            Command::Audit => self.push_audit(out),
         }
-        Ok(())
     }
 
     /// Does a line, and appends what it answers.
     ///
     /// Fails only by want of memory; the state is then unknown.
-    pub fn answer(&mut self, alloc: Global, line: &[u8], out: &mut String) -> Result<(), AllocError>
-        ensures state { OnOk result
-            (state_seen self.new ≡ state_after (state_seen self.old) line.now) }
-        ensures text { OnOk result (string_bytes out.new
-            ≡ string_bytes out.old ++ answer_to (state_seen self.old) line.now) }
+    pub fn answer(
+        &mut self,
+        alloc: Global,
+        line: &'a [u8],
+        out: &mut String,
+    ) -> Result<(), AllocError>
+        requires { IsSound (state_seen self.old) }
+        ensures { OnOk result (Adds (string_bytes out.old) (string_bytes out.new) (λ answer.
+            DoesLine (state_seen self.old) line.now answer (state_seen self.new))) }
     {
         if line.is_empty() {
             return Ok(());
         }
-        match read_command(self.kind, line) {
+        match read_command(alloc, self.form().kind, line)? {
             Some(command) => self.apply(alloc, command, out),
             None => push_line(out, "error 10 BadLine"),
         }

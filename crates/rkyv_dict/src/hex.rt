@@ -1,8 +1,10 @@
-//! Bytes as text.
-ghost use Rattle.rkyv_dict.specs.Hex.{hex_of, hex_of_byte};
-ghost use Rattle.std.specs.Prelude.{◌≡◌, ◌++◌, OnOk, string_bytes};
+//! Bytes as text, and back.
+ghost use Rattle.rkyv_dict.specs.Hex.{byte_said, bytes_said, hex_of, hex_of_byte};
+ghost use Rattle.std.specs.Char.{digit_value, is_ascii_hexdigit};
+ghost use Rattle.std.specs.Option.{option_map};
+ghost use Rattle.std.specs.Prelude.{◌≡◌, ◌<◌, ◌++◌, IfOk, IfSome, None, OnOk, Some, if◌then◌else◌, string_bytes};
 
-use std::alloc::AllocError;
+use std::alloc::{AllocError, Global};
 
 /// Appends the byte as two lower case digits.
 #[tactic(auto, using(std::proofs::lemmas::Fmt::hex_byte))]
@@ -22,4 +24,50 @@ pub fn push_hex(text: &mut String, bytes: &[u8]) -> Result<(), AllocError>
         push_byte(text, *byte)?;
     }
     Ok(())
+}
+
+/// The value of a digit of either case.
+fn digit(glyph: u8) -> Option<u8>
+    ensures value { result
+        ≡ (if is_ascii_hexdigit glyph then Some (digit_value glyph) else None) }
+    ensures small { IfSome result (λ d. d < 16) }
+{
+    match glyph {
+        b'0'..=b'9' => Some(glyph - b'0'),
+        b'a'..=b'f' => Some(glyph - b'a' + 10),
+        b'A'..=b'F' => Some(glyph - b'A' + 10),
+        _ => None,
+    }
+}
+
+/// The byte that two digits say.
+#[tactic(auto, unfolding(crate::specs::Hex::byte_said))]
+fn byte_of(high: u8, low: u8) -> Option<u8>
+    ensures { result ≡ byte_said high low }
+{
+    let high = digit(high)?;
+    let low = digit(low)?;
+    Some(high * 16 + low)
+}
+
+/// The bytes that pairs of digits of either case say; `None` where they aren't such pairs.
+///
+/// Fails only by want of memory.
+pub fn read_hex(alloc: Global, digits: &[u8]) -> Result<Option<Vec<u8>>, AllocError>
+    ensures { IfOk result (λ bytes. option_map (λ v. v.items) bytes ≡ bytes_said digits.now) }
+{
+    let mut bytes = Vec::with_capacity(alloc, digits.len() / 2)?;
+    let mut rest = digits;
+    while let [high, low, more @ ..] = rest {
+        let Some(byte) = byte_of(*high, *low) else {
+            return Ok(None);
+        };
+        bytes.push(byte)?;
+        rest = more;
+    }
+    if rest.is_empty() {
+        Ok(Some(bytes))
+    } else {
+        Ok(None)
+    }
 }

@@ -1,16 +1,19 @@
 //! Reads a script of commands on a dictionary from standard input, and writes its answers.
 #![tactic(auto)]
 
-pub mod buckets;
+pub mod archives;
 pub mod dict;
+pub mod errors;
+pub mod form;
 pub mod hex;
-pub mod layout;
-pub mod map;
-pub mod refusal;
+mod listed;
+pub mod pairs;
+pub mod parts;
 pub mod run;
 pub mod script;
 #[cfg(test)]
 mod tests;
+pub mod words;
 
 use run::{RunError, run};
 use std::process::ExitCode;

@@ -1,12 +1,11 @@
 //! Runs a script from a reader, and writes its answers to a writer.
-ghost use Rattle.rkyv_dict.specs.Output.{output_of};
-ghost use Rattle.rkyv_dict.specs.Run.{AppendsFront, Gathers, MovesFront};
+ghost use Rattle.rkyv_dict.specs.Run.{AppendsAnswers, AppendsBeginning, AppendsFront, Gathers, MovesFront};
 ghost use Rattle.rkyv_dict.specs.declared.run.RunError.TheVariants.{Memory};
 ghost use Rattle.std.specs.Io.KnownBytes.{Appends, IsAtEnd};
 ghost use Rattle.std.specs.Prelude.{◌≡◌, ◌≢◌, ◌<◌, IfErr, IfOk, IfSome, IsErrOf, IsTrue, OnErr, OnOk, length, string_bytes, vec_len};
 
 use crate::dict::Dict;
-use crate::script::cut;
+use crate::words::cut;
 use std::alloc::{AllocError, Global};
 use std::io::{Read, Write};
 use thiserror::Error;
@@ -122,9 +121,9 @@ fn write_much<W: Write>(writer: &mut W, held: &mut String) -> Result<(), RunErro
 /// Writes what the script answers.
 fn write_answers<W: Write>(alloc: Global, script: &[u8], writer: &mut W) -> Result<(), RunError>
     ensures ok { OnOk result
-        (Appends (W.contents writer.old) (W.contents writer.new) (output_of script.now)) }
+        (AppendsAnswers (W.contents writer.old) (W.contents writer.new) script.now) }
     ensures front { OnErr result
-        (AppendsFront (W.contents writer.old) (W.contents writer.new) (output_of script.now)) }
+        (AppendsBeginning (W.contents writer.old) (W.contents writer.new) script.now) }
     ensures causes { IfErr result (λ e. e ≢ RunError.Read) }
 {
     let mut dict = Dict::new(alloc);
@@ -143,15 +142,15 @@ fn write_answers<W: Write>(alloc: Global, script: &[u8], writer: &mut W) -> Resu
 ///
 /// Lines end with LF; the last may lack it. Empty lines are skipped.
 pub fn run<R: Read, W: Write>(alloc: Global, reader: &mut R, writer: &mut W) -> Result<(), RunError>
-    // What is written is the output of the script that is read, and all of it is read.
+    // What is written answers the script that is read, and all of it is read.
     ensures ok { OnOk result (IfSome (R.remaining reader.old) (λ script.
-        Appends (W.contents writer.old) (W.contents writer.new) (output_of script))) }
+        AppendsAnswers (W.contents writer.old) (W.contents writer.new) script)) }
     ensures end { OnOk result (IsAtEnd (R.remaining reader.new)) }
     // Where reading fails nothing is written.
     ensures read { IsErrOf result RunError.Read → writer.new ≡ writer.old }
-    // Any other failure comes after a beginning of the output.
+    // Any other failure comes after a beginning of what the script's first lines answer.
     ensures front { OnErr result (IfSome (R.remaining reader.old) (λ script.
-        AppendsFront (W.contents writer.old) (W.contents writer.new) (output_of script))) }
+        AppendsBeginning (W.contents writer.old) (W.contents writer.new) script)) }
 {
     let script = read_input(alloc, reader)?;
     write_answers(alloc, script.as_slice(), writer)

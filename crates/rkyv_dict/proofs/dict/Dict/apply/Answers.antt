@@ -1,26 +1,35 @@
-use Rattle.std.proofs.Common.{◌∙◌, ◌≤◌, length, sym, subst, ap, rules}
-use Rattle.std.specs.Prelude.{is_ok}
-use Rattle.rkyv_dict.specs.Output.{state_by}
-use Rattle.rkyv_dict.specs.Seen.{request_seen}
+use Rattle.std.proofs.Common.{refl, ap, ◌∙◌}
+use Rattle.rkyv_dict.specs.Forms.{pairs_seen}
+use Rattle.rkyv_dict.specs.State.{emptied}
+use Rattle.rkyv_dict.specs.declared.form.Form.{Form}
 use Rattle.rkyv_dict.specs.Shown.{state_seen}
-use Rattle.rkyv_dict.specs.Written.{IsWritten}
-use Rattle.rkyv_dict.proofs.Handed.{pushed, take_push}
+use Rattle.rkyv_dict.proofs.Adding.{adds_as, adds_none, on_ok_map}
+use Rattle.rkyv_dict.proofs.Putting.{pair_put}
 use Rattle.rkyv_dict.proofs.dict.Dict.apply.Goals as goal
 
-pub invariant_of-self-in-Put : goal.invariant_of-self-in-Put
-invariant_of-self-in-Put c =
-    let s = c.args.self.now in
-    let within : s.handed ≤ length s.pairs.items = search rules in
-    let same = take_push (is_ok c.push.result) s.handed s.pairs.items c.push.new.self.items (c.in-Put.key, c.in-Put.value) within c.push.ensures.items in
-    record {
-      written = λ x is. subst (IsWritten x) (sym same) (s.written x is);
-      handed_in = search rules;
-    }
+pub returns-in-SetKind : goal.returns-in-SetKind
+returns-in-SetKind c = adds_as _ _ (state_seen c.args.self.now) (state_seen c.empty.new.self) _ _ c.in-SetKind.is (adds_none _ _ (refl, c.empty.ensures))
 
-pub returns-in_ok-push-in-Put-clause-state : goal.returns-in_ok-push-in-Put-clause-state
-returns-in_ok-push-in-Put-clause-state c =
+pub returns-in-SetWidth : goal.returns-in-SetWidth
+returns-in-SetWidth c =
+    adds_as _ _ (state_seen c.args.self.now) (state_seen c.empty-in-SetWidth.new.self) _ _ c.in-SetWidth.is
+    (adds_none _ _ (refl, c.empty-in-SetWidth.ensures ∙ ap (λ (f : Form). emptied f.kind c.in-SetWidth.bits (state_seen c.args.self.now)) c.form-kind.ensures))
+
+pub returns-in-SetLoadFactor : goal.returns-in-SetLoadFactor
+returns-in-SetLoadFactor c = adds_as _ _ (state_seen c.args.self.now) _ _ _ c.in-SetLoadFactor.is (adds_none _ _ (refl, refl))
+
+pub returns-in-PutNumbers : goal.returns-in-PutNumbers
+returns-in-PutNumbers c =
     let s = c.args.self.now in
-    let within : s.handed ≤ length s.pairs.items = search rules in
-    let same = take_push (is_ok c.push.result) s.handed s.pairs.items c.push.new.self.items (c.in-Put.key, c.in-Put.value) within c.push.ensures.items in
-    let asked = ap (λ k. state_by (state_seen s) (request_seen k)) (sym c.in-Put.is) in
-    pushed s.kind s.load_factor s.handed s.pairs.items c.push.new.self.items (c.in-Put.key, c.in-Put.value) s.archive same c.in_ok-push-in-Put.ensures.items ∙ asked
+    on_ok_map c.put_numbers.result _ _
+    (λ e. adds_as _ _ (state_seen s) _ _ _ c.in-PutNumbers.is
+    (adds_none _ _ (refl, pair_put s.bits s.load_factor (pairs_seen s.list) (pairs_seen c.put_numbers.new.list) _ _ s.archive s.handed_in c.put_numbers.ensures.first e)))
+    c.put_numbers.ensures.added
+
+pub returns-in-PutTexts : goal.returns-in-PutTexts
+returns-in-PutTexts c =
+    let s = c.args.self.now in
+    on_ok_map c.put_texts.result _ _
+    (λ e. adds_as _ _ (state_seen s) _ _ _ c.in-PutTexts.is
+    (adds_none _ _ (refl, pair_put s.bits s.load_factor (pairs_seen s.list) (pairs_seen c.put_texts.new.list) _ _ s.archive s.handed_in c.put_texts.ensures.first e)))
+    c.put_texts.ensures.added

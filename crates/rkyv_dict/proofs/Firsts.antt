@@ -1,0 +1,82 @@
+-- The first pair whose key is accepted: by the places of a map that was written, and in the list of which it was.
+use Rattle.std.proofs.Common.{◌≡◌, ℕ, suc, ◌+◌, ◌==◌, refl, ap, sym, ◌∙◌, arith, inl, inr, Bool, List, [], ◌∷◌, length, slice_get, slice_index, Option, None, Some}
+use Rattle.std.specs.Int.{w32}
+use Rattle.std.specs.Option.{option_map}
+use Rattle.std.specs.List.{find}
+use Rattle.std.specs.Prelude.{decimal}
+use Rattle.std.proofs.lemmas.Bool.{cases_Bool}
+use Rattle.std.proofs.lemmas.List.{length-map}
+use Rattle.rkyv_base.specs.Bytes.{number_at}
+use Rattle.rkyv_base.specs.Entry.{value_offset}
+use Rattle.rkyv_base.specs.Numbers.{unsigned}
+use Rattle.rkyv_base.specs.Scalar.{ScalarStands}
+use Rattle.rkyv_base.specs.Text.{TextReads, text_at}
+use Rattle.rkyv_keys.specs.OfTexts.{same_bytes}
+use Rattle.rkyv_table.specs.Reading.{home_places}
+use Rattle.rkyv_dict.specs.Archives.{hash, pair_shape, root, value_text}
+use Rattle.rkyv_dict.specs.Built.{Holds, PairsStand, PairsStandAt}
+use Rattle.rkyv_dict.specs.First.{HasHomes, first_under, first_value}
+use Rattle.rkyv_dict.specs.Forms.{Pairs, asked_number, asked_text, numbers, texts, word_of}
+use Rattle.rkyv_dict.specs.Parts.{Parts, number_parts, text_parts}
+use Rattle.rkyv_dict.specs.declared.form.Bits.{Bits}
+use Rattle.rkyv_dict.specs.declared.form.Form.{Form}
+use Rattle.rkyv_dict.specs.declared.form.Kind.{Kind}
+use Rattle.rkyv_dict.specs.declared.form.Kind.TheVariants.{Num, Text}
+
+-- lists whose items answer alike have first accepted items that show alike
+firsts_alike : {Y U : Type 0} (fits : ℕ → Bool) (asks : Y → Bool) (shown : ℕ → U) (show : Y → U) (xs : List ℕ) (ys : List Y) → length xs ≡ length ys
+    → ((i : ℕ) (y : Y) → slice_get ys i ≡ Some y → (fits (slice_index xs i) ≡ asks y) × (shown (slice_index xs i) ≡ show y))
+    → option_map shown (find fits xs) ≡ option_map show (find asks ys)
+firsts_alike fits asks shown show [] [] n h = refl
+firsts_alike fits asks shown show [] (y ∷ ys) n h = absurd (omega (arith, n))
+firsts_alike fits asks shown show (x ∷ xs) [] n h = absurd (omega (arith, n))
+firsts_alike fits asks shown show (x ∷ xs) (y ∷ ys) n h =
+    let here = h 0 y refl in
+    let rest = firsts_alike fits asks shown show xs ys (omega (arith, n)) (λ i z e. h (suc i) z e) in
+    elim (cases_Bool (asks y)) [
+      | inl t ↦ rw (here.0, t) (ap Some here.1)
+      | inr f ↦ rw (here.0, f) rest
+    ]
+
+module _ (k : Parts) {A : Type 0} (stands : List ℕ → ℕ → A → Type 0) (factor : ℕ × ℕ) (b : List ℕ) (pairs : List (A × A))
+    (fits : ℕ → Bool) (asks : A → Bool) (show : A → List ℕ) (alike : (q : ℕ) (a : A) → stands b q a → fits q ≡ asks a) (reads : (q : ℕ) (a : A) → stands b q a → k.text b q ≡ show a) where
+  first_at : (h : PairsStandAt k factor stands b (root k b) pairs)
+      → option_map (value_text k b) (find fits (home_places k.word (pair_shape k).size b (root k b) h.homes)) ≡ option_map (λ pair. show pair.1) (find (λ pair. asks pair.0) pairs)
+  first_at h =
+      let places = home_places k.word (pair_shape k).size b (root k b) h.homes in
+      let count : length places ≡ length pairs = sym (length-map places (λ q. hash (k.calls b q))) ∙ sym h.written.count ∙ h.len in
+      firsts_alike fits (λ pair. asks pair.0) (value_text k b) (λ pair. show pair.1) places pairs count
+      (λ i pair e. let there = h.at i pair e in
+      (alike (slice_index places i) pair.0 there.0, reads (slice_index places i + value_offset k.shape k.shape) pair.1 there.1))
+
+  pub first_stands : PairsStand k factor stands pairs b
+      → (homes : List ℕ) × HasHomes k b homes × (first_under k b homes fits ≡ option_map (λ pair. show pair.1) (find (λ pair. asks pair.0) pairs))
+  unfolding PairsStand HasHomes first_under
+  first_stands h = (h.homes, h.written, first_at h)
+
+shown_first : {A B U : Type 0} (show : B → U) (o : Option (A × B)) → option_map (λ pair. show pair.1) o ≡ option_map show (option_map (λ pair. pair.1) o)
+shown_first show None = refl
+shown_first show (Some pair) = refl
+
+-- a form is its kind and its width
+pub form_is : (form : Form) (kind : Kind) (bits : Bits) → form.kind ≡ kind → form.bits ≡ bits → form ≡ record { kind = kind; bits = bits }
+form_is form kind bits e d = ap {B = Form} (λ k. record { kind = k; bits = form.bits }) e ∙ ap {B = Form} (λ b. record { kind = kind; bits = b }) d
+
+module _ (bits : Bits) (factor : ℕ × ℕ) (b : List ℕ) where
+  -- in a map of numbers, and in one of texts
+  pub first_number : (pairs : Pairs) (n : ℕ) → Holds (record { kind = Num; bits = bits }) factor b pairs
+      → (homes : List ℕ) × HasHomes (number_parts bits) b homes
+      × (first_under (number_parts bits) b homes (λ q. n == number_at w32 b q) ≡ first_value pairs (asked_number n))
+  first_number (numbers pairs) n h =
+      let there = first_stands (number_parts bits) (ScalarStands (unsigned w32)) factor b pairs
+      (λ q. n == number_at w32 b q) (λ key. n == key) decimal (λ q v st. ap (λ x. n == x) st) (λ q v st. ap decimal st) h in
+      (there.0, there.1, there.2 ∙ shown_first decimal (find (λ pair. n == pair.0) pairs))
+  first_number (texts pairs) n h = absurd h
+
+  pub first_text : (pairs : Pairs) (t : List ℕ) → Holds (record { kind = Text; bits = bits }) factor b pairs
+      → (homes : List ℕ) × HasHomes (text_parts bits) b homes
+      × (first_under (text_parts bits) b homes (λ q. same_bytes t (text_at (word_of bits) b q)) ≡ first_value pairs (asked_text t))
+  first_text (texts pairs) t h =
+      first_stands (text_parts bits) (TextReads (word_of bits)) factor b pairs
+      (λ q. same_bytes t (text_at (word_of bits) b q)) (λ key. same_bytes t key) (λ v. v) (λ q v st. ap (same_bytes t) st) (λ q v st. st) h
+  first_text (numbers pairs) t h = absurd h

@@ -1,0 +1,40 @@
+-- The lines of the pairs of a map, one after the other.
+use Rattle.std.proofs.Common.{◌≡◌, ℕ, ◌+◌, ap, sym, subst, ◌∙◌, append_assoc, List, ◌∷◌, ◌++◌, Result, Ok, Err, OnOk}
+use Rattle.std.specs.Borrow.{Bor}
+use Rattle.std.specs.List.{All, flat_map}
+use Rattle.std.specs.Prelude.{codes}
+use Rattle.std.proofs.lemmas.List.Elements.{All-tail}
+use Rattle.rkyv_base.specs.Entry.{entry_shape, value_offset}
+use Rattle.rkyv_base.specs.Shape.{Shape, Viewed}
+use Rattle.rkyv_base.specs.declared.view.View.{View}
+use Rattle.rkyv_keys.specs.Places.{at_view}
+use Rattle.rkyv_table.specs.RawItems.{AllStand, ItemsLeft}
+use Rattle.rkyv_collections.specs.Walking.{TakesFirst, ViewsAt}
+use Rattle.rkyv_dict.specs.Archives.{line, line_at}
+
+pub ok_map : {T E P Q : Type 0} (r : Result T E) → (P → Q) → OnOk r P → OnOk r Q
+ok_map (Ok x) f h = f h
+ok_map (Err e) f h = h
+
+module _ {K V : Type 0} (s : Shape) (text : List ℕ → ℕ → List ℕ) (archive : Bor (List ℕ)) (before after : ItemsLeft) (key : View K) (value : View V) (same : before.archive ≡ archive)
+    (takes : TakesFirst before key.pos after) (k : ViewsAt s before key.pos key) (v : ViewsAt s before (key.pos + value_offset s s) value) where
+  -- the line of the pair that is taken
+  taken_line : line (at_view text key ++ codes " " ++ at_view text value) ≡ line_at s text archive.now key.pos
+  unfolding line_at
+  taken_line =
+      ap (λ (a : Bor (List ℕ)). line (text a.now key.pos ++ codes " " ++ at_view text value)) (k.at.0 ∙ same)
+      ∙ ap (λ (a : Bor (List ℕ)). line (text archive.now key.pos ++ codes " " ++ text a.now value.pos)) (v.at.0 ∙ same)
+      ∙ ap (λ q. line (text archive.now key.pos ++ codes " " ++ text archive.now q)) v.at.1
+
+  pub stand_after : AllStand (entry_shape s s) before → AllStand (entry_shape s s) after
+  stand_after h =
+      let P = Viewed (entry_shape s s) before.archive.now in
+      let all : All P (key.pos ∷ after.places) = subst (All P) takes.first h in
+      subst (λ (a : Bor (List ℕ)). All (Viewed (entry_shape s s) a.now) after.places) (sym takes.archive) (All-tail P key.pos after.places all)
+
+  pub lines_after : (all old new : List ℕ) → all ≡ old ++ flat_map (line_at s text archive.now) before.places → new ≡ old ++ line (at_view text key ++ codes " " ++ at_view text value)
+      → all ≡ new ++ flat_map (line_at s text archive.now) after.places
+  lines_after all old new e n =
+      let lines : ℕ → List ℕ = line_at s text archive.now in
+      let rest : List ℕ = flat_map lines after.places in
+      e ∙ ap (λ places. old ++ flat_map lines places) takes.first ∙ sym (append_assoc old (lines key.pos) rest) ∙ ap (λ t. (old ++ t) ++ rest) (sym taken_line) ∙ ap (λ t. t ++ rest) (sym n)

@@ -1,0 +1,106 @@
+-- Lines are done one after the other, and what they answer is held back or written.
+use Rattle.std.proofs.Common.{◌≡◌, ℕ, List, [], ◌∷◌, ◌++◌, Option, refl, sym, ap, ◌∙◌, subst, append_assoc}
+use Rattle.std.specs.Io.KnownBytes.{Appends}
+use Rattle.std.proofs.KnownBytes.{Appends-nil, Appends-trans}
+use Rattle.std.proofs.lemmas.List.{append-nil}
+use Rattle.rkyv_dict.specs.Answers.{DoesLine, Runs}
+use Rattle.rkyv_dict.specs.Run.{Adds, AppendsAnswers, AppendsBeginning, AppendsFront, MovesFront, Progress}
+use Rattle.rkyv_dict.specs.Script.{lines_of}
+use Rattle.rkyv_dict.specs.State.{State, start}
+
+pub runs_none : (s : State) → Runs s [] [] s
+unfolding Runs
+runs_none s = (refl, refl)
+
+-- one line more
+pub runs_more : (ls : List (List ℕ)) (s : State) (output : List ℕ) (s' : State) (l answer : List ℕ) (s'' : State)
+    → Runs s ls output s' → DoesLine s' l answer s'' → Runs s (ls ++ l ∷ []) (output ++ answer) s''
+unfolding Runs
+runs_more [] s output s' l answer s'' runs does =
+    (answer, s'', [], subst (λ (t : State). DoesLine t l answer s'') runs.1 does, (refl, refl), ap (λ o. o ++ answer) runs.0 ∙ sym (append-nil answer))
+runs_more (x ∷ ls) s output s' l answer s'' runs does =
+    (runs.0, runs.1, runs.2 ++ answer, runs.3, runs_more ls runs.1 runs.2 s' l answer s'' runs.4 does, ap (λ o. o ++ answer) runs.5 ∙ append_assoc runs.0 runs.2 answer)
+
+pub progress_none : (now : Option (List ℕ)) (script held : List ℕ) (s : State) → s ≡ start → held ≡ [] → Progress now now script held (lines_of script) s
+progress_none now script held s is none = record {
+  done = [];
+  lines = refl;
+  output = [];
+  runs = subst (Runs start [] []) (sym is) (runs_none start);
+  moved = record { moved = []; parts = sym none; appended = Appends-nil now };
+}
+
+-- a line is done, and its answer is held back with the rest
+pub progress_line : (old now : Option (List ℕ)) (script held held' : List ℕ) (rest more : List (List ℕ)) (line : List ℕ) (s s' : State)
+    → Progress old now script held rest s → rest ≡ line ∷ more → Adds held held' (λ answer. DoesLine s line answer s') → Progress old now script held' more s'
+progress_line old now script held held' rest more line s s' p cut added = record {
+  done = p.done ++ line ∷ [];
+  lines = append_assoc p.done (line ∷ []) more ∙ ap (λ l. p.done ++ l) (sym cut) ∙ p.lines;
+  output = p.output ++ added.answer;
+  runs = runs_more p.done start p.output s line added.answer s' p.runs added.answered;
+  moved = record {
+    moved = p.moved.moved;
+    parts = ap (λ l. l ++ added.answer) p.moved.parts ∙ append_assoc p.moved.moved held added.answer ∙ ap (λ l. p.moved.moved ++ l) (sym added.added);
+    appended = p.moved.appended;
+  };
+}
+
+-- of what is held back a front is written
+pub progress_moved : (old now next : Option (List ℕ)) (script held kept : List ℕ) (rest : List (List ℕ)) (s : State)
+    → Progress old now script held rest s → MovesFront now next held kept → Progress old next script kept rest s
+progress_moved old now next script held kept rest s p m = record {
+  done = p.done;
+  lines = p.lines;
+  output = p.output;
+  runs = p.runs;
+  moved = record {
+    moved = p.moved.moved ++ m.moved;
+    parts = p.moved.parts ∙ ap (λ l. p.moved.moved ++ l) m.parts ∙ sym (append_assoc p.moved.moved m.moved kept);
+    appended = Appends-trans old now next p.moved.moved m.moved p.moved.appended m.appended;
+  };
+}
+
+-- it ends: what is held back is never written
+pub progress_stopped : (old now : Option (List ℕ)) (script held : List ℕ) (rest : List (List ℕ)) (s : State)
+    → Progress old now script held rest s → AppendsBeginning old now script
+progress_stopped old now script held rest s p = record {
+  done = p.done;
+  rest = rest;
+  lines = p.lines;
+  output = p.output;
+  last = s;
+  runs = p.runs;
+  front = record { front = p.moved.moved; rest = held; parts = sym p.moved.parts; appended = p.moved.appended };
+}
+
+-- a beginning of it is written
+pub progress_front : (old now next : Option (List ℕ)) (script held : List ℕ) (rest : List (List ℕ)) (s : State)
+    → Progress old now script held rest s → AppendsFront now next held → AppendsBeginning old next script
+progress_front old now next script held rest s p f = record {
+  done = p.done;
+  rest = rest;
+  lines = p.lines;
+  output = p.output;
+  last = s;
+  runs = p.runs;
+  front = record {
+    front = p.moved.moved ++ f.front;
+    rest = f.rest;
+    parts = append_assoc p.moved.moved f.front f.rest ∙ ap (λ l. p.moved.moved ++ l) f.parts ∙ sym p.moved.parts;
+    appended = Appends-trans old now next p.moved.moved f.front p.moved.appended f.appended;
+  };
+}
+
+-- all of it is written, and no line is left
+pub progress_whole : (old now next : Option (List ℕ)) (script held : List ℕ) (s : State)
+    → Progress old now script held [] s → Appends now next held → AppendsAnswers old next script
+progress_whole old now next script held s p a = record {
+  output = p.output;
+  last = s;
+  runs = subst (λ (ls : List (List ℕ)). Runs start ls p.output s) (sym (append-nil p.done) ∙ p.lines) p.runs;
+  appended = subst (Appends old next) (sym p.moved.parts) (Appends-trans old now next p.moved.moved held p.moved.appended a);
+}
+
+-- nothing is written
+pub nothing_written : (now : Option (List ℕ)) (script : List ℕ) → AppendsBeginning now now script
+nothing_written now script = progress_stopped now now script [] (lines_of script) start (progress_none now script [] start refl refl)

@@ -1,0 +1,123 @@
+-- An archive of pairs is that of what is seen in them.
+use Rattle.std.proofs.Common.{◌≡◌, ℕ, refl, ap, sym, subst, ◌∙◌, inl, inr, List, [], ◌∷◌, map, length, slice_get, slice_index, Result, Ok, Err, MatchResult}
+use Rattle.std.specs.Borrow.{Bor}
+use Rattle.std.proofs.lemmas.List.{length-map}
+use Rattle.std.proofs.lemmas.Option.{slice_get-map}
+use Rattle.rkyv_scan.specs.Hash.{HasherCall}
+use Rattle.rkyv_base.specs.Format.{Format}
+use Rattle.rkyv_base.specs.Pairs.{PairStands, pair_format, written_as}
+use Rattle.rkyv_base.specs.Root.{RootNext, RootRefuses, fresh}
+use Rattle.rkyv_base.specs.Text.{TextReads}
+use Rattle.rkyv_base.specs.TextWriting.{text_format}
+use Rattle.rkyv_base.specs.Writing.{Refusal}
+use Rattle.rkyv_base.specs.declared.pairs.EntryResolver.{EntryResolver}
+use Rattle.rkyv_base.specs.declared.errors.WriteError.{WriteError}
+use Rattle.rkyv_base.proofs.GivingUp.{told_after}
+use Rattle.rkyv_keys.specs.Calls.{text_calls}
+use Rattle.rkyv_table.specs.Numbers.{capacity}
+use Rattle.rkyv_table.specs.Reading.{home_places}
+use Rattle.rkyv_table.specs.TableFormat.{ItemRefuses, TableParts, TablePiece, TableResolver}
+use Rattle.rkyv_table.proofs.TableSteps.{none_appended}
+use Rattle.rkyv_collections.specs.Listed.{ListRefuses}
+use Rattle.rkyv_collections.specs.MapFormat.{keyed}
+use Rattle.rkyv_collections.proofs.SeenItems.{seen_pairs, seen_piece, seen_refusal, seen_table, was_seen}
+use Rattle.rkyv_dict.specs.Archives.{hash, header_shape, pair_shape, root}
+use Rattle.rkyv_dict.specs.Built.{BuildRefused, IsArchiveOf, IsBuilt, NoArchiveOf, PairsStandAt, form_of_pairs, pairs_format}
+use Rattle.rkyv_dict.specs.Forms.{buckets_of, text_pair, texts, word_of}
+use Rattle.rkyv_dict.specs.Parts.{Parts, text_parts}
+use Rattle.rkyv_dict.specs.declared.form.Bits.{Bits}
+
+module _ {A B : Type 0} (see : A → B) where
+  abbrev pub both : A × A → B × B
+  both pair = (see pair.0, see pair.1)
+
+  keyed_seen : (own : B → ℕ) (pairs : List (A × A)) → seen_pairs both (keyed (λ a. own (see a)) pairs) ≡ keyed own (map both pairs)
+  keyed_seen own [] = refl
+  keyed_seen own (x ∷ xs) = ap (λ (t : List (ℕ × (B × B))). (own (see x.0), both x) ∷ t) (keyed_seen own xs)
+
+  module _ (k : Parts) (stands : List ℕ → ℕ → B → Type 0) (factor : ℕ × ℕ) where
+    abbrev StandsSeen : List ℕ → ℕ → A → Type 0
+    StandsSeen b p a = stands b p (see a)
+
+    stands_seen : (b : List ℕ) (p : ℕ) (pairs : List (A × A)) → PairsStandAt k factor StandsSeen b p pairs → PairsStandAt k factor stands b p (map both pairs)
+    stands_seen b p pairs h =
+        let count : length (map both pairs) ≡ length pairs = length-map pairs both in
+        record {
+          homes = h.homes;
+          written = h.written;
+          len = h.len ∙ sym count;
+          cap = h.cap ∙ ap (λ n. capacity n factor) (sym count);
+          at = λ i y e.
+              let w = was_seen both (slice_get pairs i) y (sym (slice_get-map both pairs i) ∙ e) in
+              subst (PairStands k.shape k.shape stands stands b (slice_index (home_places k.word (pair_shape k).size b p h.homes) i)) w.2 (h.at i w.0 w.1);
+        }
+
+    module _ {R : Type 0} (most : ℕ) (format : Format B R) (calls : B → List HasherCall) (pairs : List (A × A)) where
+      abbrev Before : Format (List (A × A)) TableResolver
+      Before = pairs_format k factor most (written_as see format) (λ a. calls (see a))
+
+      abbrev After : Format (List (B × B)) TableResolver
+      After = pairs_format k factor most format calls
+
+      same_keyed : seen_pairs both (keyed (λ a. hash (calls (see a))) pairs) ≡ keyed (λ b. hash (calls b)) (map both pairs)
+      same_keyed = keyed_seen (λ b. hash (calls b)) pairs
+
+      abbrev items : Format (B × B) (EntryResolver R R)
+      items = pair_format k.shape k.shape format format
+
+      parts_seen : (p : ℕ) (part : List ℕ) (r : TableResolver) → Before.parts pairs p part r → After.parts (map both pairs) p part r
+      parts_seen p part r h =
+          subst (λ ps. TableParts k.word (pair_shape k) items factor ps p part r) same_keyed
+          (seen_table both items k.word (pair_shape k) factor (keyed (λ a. hash (calls (see a))) pairs) p part r h)
+
+      next_seen : (p : ℕ) (front piece : List ℕ) → Before.next pairs p front piece → After.next (map both pairs) p front piece
+      next_seen p front piece h =
+          subst (λ ps. TablePiece k.word (pair_shape k) items factor ps p front piece) same_keyed
+          (seen_piece both items k.word (pair_shape k) factor (keyed (λ a. hash (calls (see a))) pairs) p front piece h)
+
+      refuses_seen : (p : ℕ) (c : Refusal) → Before.refuses pairs p c → After.refuses (map both pairs) p c
+      refuses_seen p c (inl h) = inl (subst (λ n. ListRefuses most factor n c) (sym (length-map pairs both)) h)
+      refuses_seen p c (inr h) =
+          inr (subst (λ ps. ItemRefuses k.word (pair_shape k) items factor ps p c) same_keyed
+          (seen_refusal both items k.word (pair_shape k) factor (keyed (λ a. hash (calls (see a))) pairs) p c h))
+
+      pub archive_seen : (b : List ℕ) → IsArchiveOf k factor most (written_as see format) (λ a. calls (see a)) StandsSeen pairs b → IsArchiveOf k factor most format calls stands (map both pairs) b
+      unfolding IsArchiveOf
+      archive_seen b (accepted, there, (part, r, out, parts, image, at, is)) =
+          (accepted, stands_seen b (root k b) pairs there, (part, r, out, parts_seen 0 part r parts, image, at, is))
+
+      abbrev align : ℕ
+      align = (header_shape k).align
+
+      root_next : (p : ℕ) (front piece : List ℕ) → RootNext align Before pairs p front piece → RootNext align After (map both pairs) p front piece
+      root_next p front piece (inl h) = inl (next_seen p front piece h)
+      root_next p front piece (inr (inl h)) = inr (inl (h.0, h.1, parts_seen p h.0 h.1 h.2, h.3, h.4))
+      root_next p front piece (inr (inr h)) = inr (inr (h.0, h.1, parts_seen p h.0 h.1 h.2, h.3, h.4))
+
+      root_refuses : (p : ℕ) (c : Refusal) → RootRefuses align Before pairs p c → RootRefuses align After (map both pairs) p c
+      root_refuses p c (inl h) = inl (refuses_seen p c h)
+      root_refuses p c (inr (inl h)) = inr (inl h)
+      root_refuses p c (inr (inr h)) = inr (inr (h.0, h.1, h.2, parts_seen p h.1 h.2 h.3, h.4))
+
+      pub refused_seen : {F : Type 0} (e : WriteError F) → NoArchiveOf k factor most (written_as see format) (λ a. calls (see a)) pairs e → NoArchiveOf k factor most format calls (map both pairs) e
+      unfolding NoArchiveOf
+      refused_seen e h = (
+        h.0,
+        told_after k.limit (RootNext align After (map both pairs) 0) (RootNext align Before pairs 0) (RootRefuses align After (map both pairs) 0) (RootRefuses align Before pairs 0)
+            fresh fresh h.0 [] e (none_appended fresh) (λ front piece n. root_next 0 front piece n) (λ c n. root_refuses 0 c n) h.1,
+      )
+
+      pub result_seen : {F V : Type 0} (items_of : V → List ℕ) (result : Result V (WriteError F))
+          → MatchResult result (λ v. IsArchiveOf k factor most (written_as see format) (λ a. calls (see a)) StandsSeen pairs (items_of v)) (NoArchiveOf k factor most (written_as see format) (λ a. calls (see a)) pairs)
+          → MatchResult result (λ v. IsArchiveOf k factor most format calls stands (map both pairs) (items_of v)) (NoArchiveOf k factor most format calls (map both pairs))
+      result_seen items_of (Ok v) h = archive_seen (items_of v) h
+      result_seen items_of (Err e) h = refused_seen e h
+
+-- an archive of texts that are lent
+pub texts_built : {F V : Type 0} (items_of : V → List ℕ) (bits : Bits) (factor : ℕ × ℕ) (pairs : List (Bor (List ℕ) × Bor (List ℕ))) (result : Result V (WriteError F))
+    → MatchResult result
+    (λ v. IsArchiveOf (text_parts bits) factor (buckets_of bits) (written_as (λ t. t.now) (text_format (word_of bits))) (λ t. text_calls t.now) (λ b p t. TextReads (word_of bits) b p t.now) pairs (items_of v))
+    (NoArchiveOf (text_parts bits) factor (buckets_of bits) (written_as (λ t. t.now) (text_format (word_of bits))) (λ t. text_calls t.now) pairs)
+    → MatchResult result (λ v. IsBuilt (form_of_pairs bits (texts (map text_pair pairs))) factor (texts (map text_pair pairs)) (items_of v)) (BuildRefused (form_of_pairs bits (texts (map text_pair pairs))) factor (texts (map text_pair pairs)))
+texts_built items_of bits factor pairs result h =
+    result_seen (λ t. t.now) (text_parts bits) (TextReads (word_of bits)) factor (buckets_of bits) (text_format (word_of bits)) text_calls pairs items_of result h

@@ -1,0 +1,27 @@
+use Rattle.std.proofs.Common.{◌≡◌, List, ap, length, rules, ◌∙◌}
+use Rattle.std.specs.Borrow.{Bor}
+use Rattle.std.specs.Iterator.{Drains, YieldsFirstBy}
+use Rattle.std.specs.Slice.Iter.{iter_rest}
+use Rattle.rkyv_table.specs.Counting.{GaveOther}
+use Rattle.rkyv_collections.specs.Handing.{lent_pairs}
+use Rattle.rkyv_collections.specs.MapFormat.{map_format}
+use Rattle.rkyv_collections.proofs.Listing.{all_came, answers_listed, no_other_came}
+use Rattle.rkyv_dict.specs.Archives.{hash}
+use Rattle.rkyv_dict.specs.declared.listed.Halves.{Halves}
+use Rattle.rkyv_dict.proofs.listed.ListedSerialize.serialize.Goals as goal
+
+pub returns : goal.returns
+returns g c =
+    let values = c.args.self.now.pairs.now in
+    let factor = c.args.self.now.load_factor in
+    let halves : Halves g.row.A.Denot = record { pairs = c.iter.result } in
+    let view : Bor g.row.A.Denot × Bor g.row.A.Denot → g.row.A.Denot × g.row.A.Denot = λ halves. (halves.0.now, halves.1.now) in
+    let rest : Halves g.row.A.Denot → List (g.row.A.Denot × g.row.A.Denot) = λ s. iter_rest s.pairs in
+    let steps = YieldsFirstBy view rest in
+    let f = map_format g.W.Width.word g.A.Archived.Element.shape g.A.Archived.Element.shape g.A.Archive.format g.A.Archive.format (λ a. hash (g.A.KeyHash.calls a)) factor in
+    let all : iter_rest c.iter.result ≡ values = search rules in
+    let count : length values ≡ length values = search rules in
+    answers_listed (Drains steps halves) (GaveOther steps (length values) halves) (lent_pairs (λ k. k.now) (λ k. k.now)) values
+    (λ items d. all_came view rest items halves d ∙ all) (λ n h. no_other_came view rest (length values) halves (ap length all) n h)
+    (length values) count factor g.W.Width.MAX_CAPACITY g.W.Width.LIMIT f (g.S.Writer.output c.args.serializer.now) (g.S.Writer.output c.serialize_from_iter.new.serializer)
+    c.serialize_from_iter.result c.serialize_from_iter.ensures

@@ -1,0 +1,82 @@
+-- What the lines of a script answer, one after the other.
+use Rattle.std.specs.Prelude.{◌≡◌, ◌⊎◌, ℕ, false, List, [], ◌∷◌, ◌++◌, Option, Some, None}
+use Rattle.rkyv_base.specs.declared.errors.VerifyError.{VerifyError}
+use Rattle.rkyv_base.specs.declared.errors.WriteError.{WriteError}
+use Rattle.rkyv_base.specs.declared.writer.NoMemory.{NoMemory}
+use Rattle.rkyv_dict.specs.Archives.{IsArchive, IsRefused, entry_count}
+use Rattle.rkyv_dict.specs.Built.{BuildRefused, IsBuilt, kind_of_pairs}
+use Rattle.rkyv_dict.specs.Errors.{wants_memory}
+use Rattle.rkyv_dict.specs.Output.{answered, audit_line, bad_line, built_line, error_line, get_line, hex_line, list_lines, ok_line, refused_line}
+use Rattle.rkyv_dict.specs.Script.{Request, set_kind, set_width, set_load_factor, put_numbers, put_texts, build_archive, check_archive, show_hex, get_value, list_pairs, count_misplaced, request_of}
+use Rattle.rkyv_dict.specs.State.{State, emptied, form_of, with_numbers, with_texts}
+
+-- ---- the two requests whose outcome rests on the bytes
+
+-- a build archives the list
+pub record Builds (s : State) (answer : List ℕ) (s' : State) : Type 0 where
+  pub bytes : List ℕ
+  pub made : IsBuilt (form_of s) s.load_factor s.pairs bytes
+  pub answers : answer ≡ built_line bytes
+  pub after : s' ≡ record s { archive = Some (record { bytes = bytes; built_of = Some s.pairs }) }
+
+-- or is refused for a cause that stands and is no want of memory, and leaves no archive
+pub record RefusesBuild (s : State) (answer : List ℕ) (s' : State) : Type 0 where
+  pub cause : WriteError NoMemory
+  pub stands : BuildRefused (form_of s) s.load_factor s.pairs cause
+  pub told : wants_memory cause ≡ false
+  pub answers : answer ≡ error_line cause
+  pub after : s' ≡ record s { archive = None }
+
+-- a check takes bytes that are an archive
+pub record Takes (s : State) (bytes answer : List ℕ) (s' : State) : Type 0 where
+  pub accepted : IsArchive (form_of s) bytes
+  pub answers : answer ≡ ok_line (entry_count (form_of s) bytes)
+  pub after : s' ≡ record s { archive = Some (record { bytes = bytes; built_of = None }) }
+
+-- or refuses them at the first point that fails, and keeps the archive that was there
+pub record RefusesCheck (s : State) (bytes answer : List ℕ) (s' : State) : Type 0 where
+  pub error : VerifyError
+  pub stands : IsRefused (form_of s) bytes error
+  pub answers : answer ≡ refused_line error
+  pub after : s' ≡ s
+
+-- ---- all requests
+
+-- nothing is answered, and this is the state after it
+abbrev pub Sets : State → List ℕ → State → Type 0
+Sets after answer s' = (answer ≡ []) × (s' ≡ after)
+
+-- this is answered, and the state stays
+abbrev pub Shows : State → List ℕ → List ℕ → State → Type 0
+Shows s shown answer s' = (answer ≡ shown) × (s' ≡ s)
+
+-- what a request answers, and the state after it
+abbrev pub Does : State → Request → List ℕ → State → Type 0
+Does s (set_kind kind) answer s' = Sets (emptied kind s.bits s) answer s'
+Does s (set_width bits) answer s' = Sets (emptied (kind_of_pairs s.pairs) bits s) answer s'
+Does s (set_load_factor numerator denominator) answer s' = Sets (record s { load_factor = (numerator, denominator) }) answer s'
+Does s (put_numbers key value) answer s' = Sets (record s { pairs = with_numbers s.pairs key value }) answer s'
+Does s (put_texts key value) answer s' = Sets (record s { pairs = with_texts s.pairs key value }) answer s'
+Does s build_archive answer s' = Builds s answer s' ⊎ RefusesBuild s answer s'
+Does s (check_archive bytes) answer s' = Takes s bytes answer s' ⊎ RefusesCheck s bytes answer s'
+Does s show_hex answer s' = Shows s (answered hex_line s.archive) answer s'
+Does s (get_value key) answer s' = Shows s (answered (get_line (form_of s) key) s.archive) answer s'
+Does s list_pairs answer s' = Shows s (answered (list_lines (form_of s)) s.archive) answer s'
+Does s count_misplaced answer s' = Shows s (answered (audit_line (form_of s)) s.archive) answer s'
+
+-- ---- lines
+
+-- a bad line changes nothing
+abbrev pub DoesIf : State → Option Request → List ℕ → State → Type 0
+DoesIf s None answer s' = Shows s bad_line answer s'
+DoesIf s (Some request) answer s' = Does s request answer s'
+
+-- what a line answers; an empty line is skipped
+abbrev pub DoesLine : State → List ℕ → List ℕ → State → Type 0
+DoesLine s [] answer s' = Sets s answer s'
+DoesLine s (b ∷ bs) answer s' = DoesIf s (request_of (kind_of_pairs s.pairs) (b ∷ bs)) answer s'
+
+-- the lines, one after the other from a state on, answer this and lead to that state
+unfoldable pub Runs : State → List (List ℕ) → List ℕ → State → Type 0
+Runs s [] output s' = Sets s output s'
+Runs s (l ∷ ls) output s' = (answer : List ℕ) × (next : State) × (rest : List ℕ) × DoesLine s l answer next × Runs next ls rest s' × (output ≡ answer ++ rest)

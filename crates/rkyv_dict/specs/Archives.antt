@@ -1,0 +1,113 @@
+-- An archive of a form: when bytes are one, and what it answers.
+use Rattle.std.specs.Prelude.{ℕ, ◌==◌, ◌+◌, ◌-◌, Bool, List, [], ◌∷◌, ◌++◌, length, Option, Some, None, codes, decimal}
+use Rattle.std.specs.Int.{w32}
+use Rattle.std.specs.List.{flat_map}
+use Rattle.std.specs.Option.{option_map}
+use Rattle.rkyv_scan.specs.Groups.{generic_kind}
+use Rattle.rkyv_scan.specs.Hash.{HasherCall, fx_hash, low_halves}
+use Rattle.rkyv_base.specs.Access.{Accepted, AccessFails}
+use Rattle.rkyv_base.specs.Bytes.{number_at}
+use Rattle.rkyv_base.specs.Entry.{entry_shape, value_offset}
+use Rattle.rkyv_base.specs.Shape.{Shape}
+use Rattle.rkyv_base.specs.Text.{text_at}
+use Rattle.rkyv_base.specs.declared.errors.VerifyError.{VerifyError}
+use Rattle.rkyv_keys.specs.Calls.{text_calls}
+use Rattle.rkyv_keys.specs.OfTexts.{same_bytes}
+use Rattle.rkyv_table.specs.Header.{len_at}
+use Rattle.rkyv_table.specs.Reading.{item_places, place_found}
+use Rattle.rkyv_collections.specs.Map.{map_shape}
+use Rattle.rkyv_collections.specs.Misplaced.{map_misplaced}
+use Rattle.rkyv_dict.specs.declared.form.Bits.{Bits}
+use Rattle.rkyv_dict.specs.declared.form.Form.{Form}
+use Rattle.rkyv_dict.specs.declared.form.Kind.{Kind}
+use Rattle.rkyv_dict.specs.declared.form.Kind.TheVariants.{Num, Text}
+use Rattle.rkyv_dict.specs.Forms.{Asked, asked_number, asked_text, word_of}
+use Rattle.rkyv_dict.specs.Parts.{Parts, number_calls, number_parts, parts_of, text_parts}
+
+-- a line ends with LF
+abbrev pub line : List ℕ → List ℕ
+line text = text ++ 10 ∷ []
+
+-- the line of the text of a value, or that there is none
+abbrev pub value_line : Option (List ℕ) → List ℕ
+value_line None = line (codes "none")
+value_line (Some text) = line text
+
+-- the line of the pair at q: the text of its key, and that of the value behind it
+unfoldable pub line_at : Shape → (List ℕ → ℕ → List ℕ) → List ℕ → ℕ → List ℕ
+line_at s text b q = line (text b q ++ codes " " ++ text b (q + value_offset s s))
+
+-- the hash of a list of calls
+abbrev pub hash : List HasherCall → ℕ
+hash calls = fx_hash low_halves calls
+
+module _ (k : Parts) where
+  -- a pair, and the header of a map
+  abbrev pub pair_shape : Shape
+  pair_shape = entry_shape k.shape k.shape
+
+  abbrev pub header_shape : Shape
+  header_shape = map_shape k.word k.shape k.shape
+
+  module _ (b : List ℕ) where
+    -- the bytes are the archive of a map, whose header is the root at their end
+    unfoldable pub IsMapArchive : Type 0
+    IsMapArchive = Accepted k.limit header_shape b
+
+    -- the first point at which they are none
+    unfoldable pub MapArchiveFails : VerifyError → Type 0
+    MapArchiveFails e = AccessFails k.limit header_shape b e
+
+    abbrev pub root : ℕ
+    root = length b - header_shape.size
+
+    -- how many pairs the map has, and where they stand, by ascending bucket
+    unfoldable pub pair_count : ℕ
+    pair_count = len_at k.word b root
+
+    unfoldable pub pair_places : List ℕ
+    pair_places = item_places k.word pair_shape.size b root
+
+    -- the text of the value of the pair at q
+    abbrev pub value_text : ℕ → List ℕ
+    value_text q = k.text b (q + value_offset k.shape k.shape)
+
+    -- the number of pairs, then a line for each
+    unfoldable pub pair_lines : List ℕ
+    pair_lines = line (codes "entries " ++ decimal pair_count) ++ flat_map (line_at k.shape k.text b) pair_places
+
+    -- the text of the value that a lookup finds of a key with these calls, where accept tells of a key by its place
+    unfoldable pub value_under : List HasherCall → (ℕ → Bool) → Option (List ℕ)
+    value_under calls accept = option_map value_text (place_found generic_kind k.word pair_shape.size b root (hash calls) accept)
+
+    -- how many keys a lookup doesn't answer where they stand
+    unfoldable pub keys_misplaced : ℕ
+    keys_misplaced = map_misplaced k.word k.shape k.shape (λ c q. hash (k.calls c q)) k.same b root
+
+-- the bytes are an archive of the form
+abbrev pub IsArchive : Form → List ℕ → Type 0
+IsArchive form b = IsMapArchive (parts_of form) b
+
+-- the first point at which they are none
+abbrev pub IsRefused : Form → List ℕ → VerifyError → Type 0
+IsRefused form b e = MapArchiveFails (parts_of form) b e
+
+abbrev pub entry_count : Form → List ℕ → ℕ
+entry_count form b = pair_count (parts_of form) b
+
+-- the number of pairs, then a line for each, by ascending bucket
+abbrev pub listing : Form → List ℕ → List ℕ
+listing form b = pair_lines (parts_of form) b
+
+abbrev pub misplaced_count : Form → List ℕ → ℕ
+misplaced_count form b = keys_misplaced (parts_of form) b
+
+-- the text of the value that a lookup finds; a key of another kind is never found
+abbrev pub found_in : Kind → Bits → List ℕ → Asked → Option (List ℕ)
+found_in Num bits b (asked_number n) = value_under (number_parts bits) b (number_calls n) (λ q. n == number_at w32 b q)
+found_in Text bits b (asked_text t) = value_under (text_parts bits) b (text_calls t) (λ q. same_bytes t (text_at (word_of bits) b q))
+found_in Num bits b (asked_text t) = None
+found_in Text bits b (asked_number n) = None
+
+abbrev pub value_found : Form → List ℕ → Asked → Option (List ℕ)
+value_found form b key = found_in form.kind form.bits b key

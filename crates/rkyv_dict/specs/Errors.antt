@@ -1,0 +1,41 @@
+-- Errors as the answers tell them: the number and the name.
+use Rattle.std.specs.Prelude.{ℕ, Bool, true, false, List, codes}
+use Rattle.rkyv_base.specs.declared.errors.VerifyError.{VerifyError}
+use Rattle.rkyv_base.specs.declared.errors.VerifyError.TheVariants.{OutOfRange, Unaligned, InvalidLength, WrongNumberOfElements, UnwrappedControlByte, PlaceOutOfRange, InvalidValue, Refused}
+use Rattle.rkyv_base.specs.declared.errors.WriteError.{WriteError}
+use Rattle.rkyv_base.specs.declared.errors.WriteError.TheVariants.{InvalidLoadFactor, IteratorLengthMismatch, CapacityTooLarge, PositionTooLarge, DistanceTooLarge, TextTooLong, Writer, Memory, Refused as RefusedWrite}
+
+-- why bytes are no archive
+unfoldable pub refusal_told : VerifyError → List ℕ
+refusal_told (OutOfRange pos size) = codes "1 OutOfRange"
+refusal_told (Unaligned pos align) = codes "2 Unaligned"
+refusal_told (InvalidLength len cap) = codes "3 InvalidLength"
+refusal_told (WrongNumberOfElements expected actual) = codes "4 WrongNumberOfElements"
+refusal_told (UnwrappedControlByte index) = codes "5 UnwrappedControlByte"
+refusal_told (PlaceOutOfRange place len) = codes "6 PlaceOutOfRange"
+refusal_told (InvalidValue pos) = codes "7 InvalidValue"
+refusal_told (Refused reason) = codes "8 Refused"
+
+-- why a list is not archived
+unfoldable pub cause_told : {F : Type 0} → WriteError F → List ℕ
+cause_told (InvalidLoadFactor numerator denominator) = codes "1 InvalidLoadFactor"
+cause_told (IteratorLengthMismatch mismatch) = codes "2 IteratorLengthMismatch"
+cause_told (CapacityTooLarge len) = codes "3 CapacityTooLarge"
+cause_told PositionTooLarge = codes "4 PositionTooLarge"
+cause_told DistanceTooLarge = codes "5 DistanceTooLarge"
+cause_told TextTooLong = codes "6 TextTooLong"
+cause_told (Writer fault) = codes "7 Writer"
+cause_told Memory = codes "8 Memory"
+cause_told (RefusedWrite reason) = codes "9 Refused"
+
+-- want of memory: no line tells it
+unfoldable pub wants_memory : {F : Type 0} → WriteError F → Bool
+wants_memory (InvalidLoadFactor numerator denominator) = false
+wants_memory (IteratorLengthMismatch mismatch) = false
+wants_memory (CapacityTooLarge len) = false
+wants_memory PositionTooLarge = false
+wants_memory DistanceTooLarge = false
+wants_memory TextTooLong = false
+wants_memory (Writer fault) = true
+wants_memory Memory = true
+wants_memory (RefusedWrite reason) = false

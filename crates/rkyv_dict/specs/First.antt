@@ -1,0 +1,30 @@
+-- The value of the first pair whose key is the one that is asked for: of a list, and of a map that was written.
+use Rattle.std.specs.Prelude.{ℕ, ◌==◌, Bool, List, Option, None, decimal}
+use Rattle.std.specs.List.{find}
+use Rattle.std.specs.Option.{option_map}
+use Rattle.rkyv_keys.specs.OfTexts.{same_bytes}
+use Rattle.rkyv_table.specs.Reading.{home_places}
+use Rattle.rkyv_collections.specs.Map.{MapWrittenAt}
+use Rattle.rkyv_dict.specs.Archives.{hash, pair_shape, root, value_text}
+use Rattle.rkyv_dict.specs.Forms.{Asked, Pairs, asked_number, asked_text, numbers, texts}
+use Rattle.rkyv_dict.specs.Parts.{Parts}
+
+-- the value of the first pair whose key is accepted
+abbrev pub first_of : {A B : Type 0} → (A → Bool) → List (A × B) → Option B
+first_of accept pairs = option_map (λ pair. pair.1) (find (λ pair. accept pair.0) pairs)
+
+-- its text; a key of another kind is no key of the list
+abbrev pub first_value : Pairs → Asked → Option (List ℕ)
+first_value (numbers pairs) (asked_number n) = option_map decimal (first_of (λ key. n == key) pairs)
+first_value (texts pairs) (asked_text t) = first_of (λ key. same_bytes t key) pairs
+first_value (numbers pairs) (asked_text t) = None
+first_value (texts pairs) (asked_number n) = None
+
+module _ (k : Parts) (b : List ℕ) where
+  -- the map was written of pairs with these homes, in this order
+  unfoldable pub HasHomes : List ℕ → Type 0
+  HasHomes homes = MapWrittenAt k.word (pair_shape k) (λ c q. hash (k.calls c q)) b (root k b) homes
+
+  -- the text of the value of the first of them whose key is accepted, where accept tells of a key by its place
+  unfoldable pub first_under : List ℕ → (ℕ → Bool) → Option (List ℕ)
+  first_under homes accept = option_map (value_text k b) (find accept (home_places k.word (pair_shape k).size b (root k b) homes))

@@ -1,0 +1,47 @@
+-- What a form says, and what contracts see of keys and of lists of pairs.
+use Rattle.std.specs.Prelude.{ℕ, List, map}
+use Rattle.std.specs.Borrow.{Bor}
+use Rattle.std.specs.Int.{Width, w32, w64}
+use Rattle.rkyv_dict.specs.declared.form.Bits.{Bits}
+use Rattle.rkyv_dict.specs.declared.form.Bits.TheVariants.{Bits32, Bits64}
+use Rattle.rkyv_dict.specs.declared.form.Key.{Key}
+use Rattle.rkyv_dict.specs.declared.form.Key.TheVariants.{Number, Text}
+use Rattle.rkyv_dict.specs.declared.form.PairList.{PairList}
+use Rattle.rkyv_dict.specs.declared.form.PairList.TheVariants.{Numbers, Texts}
+
+-- pairs of keys and values, in their order
+pub data Pairs : Type 0 where
+  numbers : List (ℕ × ℕ) → Pairs
+  texts : List (List ℕ × List ℕ) → Pairs
+
+-- a key that is asked for
+pub data Asked : Type 0 where
+  asked_number : ℕ → Asked
+  asked_text : List ℕ → Asked
+
+-- a text is its bytes
+abbrev pub text_pair : Bor (List ℕ) × Bor (List ℕ) → List ℕ × List ℕ
+text_pair pair = (pair.0.now, pair.1.now)
+
+abbrev pub pairs_seen : PairList → Pairs
+pairs_seen (Numbers pairs) = numbers pairs.items
+pairs_seen (Texts pairs) = texts (map text_pair pairs.items)
+
+abbrev pub key_seen : Key → Asked
+key_seen (Number n) = asked_number n
+key_seen (Text t) = asked_text t.now
+
+-- the bytes of a count or a distance
+abbrev pub word_of : Bits → Width
+word_of Bits32 = w32
+word_of Bits64 = w64
+
+-- the greatest length of an archive
+abbrev pub limit_of : Bits → ℕ
+limit_of Bits32 = 4_294_967_295
+limit_of Bits64 = 9_223_372_036_854_775_807
+
+-- the greatest number of buckets
+abbrev pub buckets_of : Bits → ℕ
+buckets_of Bits32 = 4_294_967_295
+buckets_of Bits64 = 4_611_686_018_427_387_904

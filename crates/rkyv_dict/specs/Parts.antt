@@ -1,0 +1,58 @@
+-- What the keys and the values of a map are in an archive.
+use Rattle.std.specs.Prelude.{ℕ, ◌==◌, List, [], ◌∷◌, decimal}
+use Rattle.std.specs.Int.{Width, w32}
+use Rattle.rkyv_scan.specs.Hash.{HasherCall, U32}
+use Rattle.rkyv_base.specs.Bytes.{number_at}
+use Rattle.rkyv_base.specs.Numbers.{unsigned}
+use Rattle.rkyv_base.specs.Scalar.{scalar_shape}
+use Rattle.rkyv_base.specs.Shape.{Shape}
+use Rattle.rkyv_base.specs.Text.{text_at, text_shape}
+use Rattle.rkyv_keys.specs.Calls.{text_calls}
+use Rattle.rkyv_keys.specs.Equality.{Comparison}
+use Rattle.rkyv_keys.specs.OfTexts.{same_bytes}
+use Rattle.rkyv_dict.specs.declared.form.Bits.{Bits}
+use Rattle.rkyv_dict.specs.declared.form.Form.{Form}
+use Rattle.rkyv_dict.specs.declared.form.Kind.{Kind}
+use Rattle.rkyv_dict.specs.declared.form.Kind.TheVariants.{Num, Text}
+use Rattle.rkyv_dict.specs.Forms.{limit_of, word_of}
+
+-- The archives of maps whose keys and values are of one kind: the word of their width and their greatest length; what the
+-- bytes of a key or value are; the text that the one at a place prints as; when two are the same; its calls of a hasher.
+pub record Parts : Type 1 where
+  pub word : Width
+  pub limit : ℕ
+  pub shape : Shape
+  pub text : List ℕ → ℕ → List ℕ
+  pub same : Comparison
+  pub calls : List ℕ → ℕ → List HasherCall
+
+abbrev pub parts_by : Width → ℕ → Shape → (List ℕ → ℕ → List ℕ) → Comparison → (List ℕ → ℕ → List HasherCall) → Parts
+parts_by word limit shape text same calls = record { word = word; limit = limit; shape = shape; text = text; same = same; calls = calls }
+
+-- the number that stands at a place, as decimal digits
+abbrev pub number_text : List ℕ → ℕ → List ℕ
+number_text b p = decimal (number_at w32 b p)
+
+-- the calls of a number of 32 bits
+abbrev pub number_calls : ℕ → List HasherCall
+number_calls n = U32 n ∷ []
+
+-- numbers of 32 bits
+abbrev pub number_parts : Bits → Parts
+number_parts bits =
+    parts_by (word_of bits) (limit_of bits) (scalar_shape (unsigned w32)) number_text
+    (λ b p c q. number_at w32 b p == number_at w32 c q) (λ b p. number_calls (number_at w32 b p))
+
+-- texts
+abbrev pub text_parts : Bits → Parts
+text_parts bits =
+    let text_there = text_at (word_of bits) in
+    parts_by (word_of bits) (limit_of bits) (text_shape (word_of bits)) text_there
+    (λ b p c q. same_bytes (text_there b p) (text_there c q)) (λ b p. text_calls (text_there b p))
+
+abbrev pub parts_in : Kind → Bits → Parts
+parts_in Num bits = number_parts bits
+parts_in Text bits = text_parts bits
+
+abbrev pub parts_of : Form → Parts
+parts_of form = parts_in form.kind form.bits

@@ -1,0 +1,57 @@
+-- What a script has set so far.
+use Rattle.std.specs.Prelude.{ℕ, List, [], ◌∷◌, ◌++◌, Option, None}
+use Rattle.std.specs.Option.{ForSome}
+use Rattle.rkyv_dict.specs.declared.form.Bits.{Bits}
+use Rattle.rkyv_dict.specs.declared.form.Bits.TheVariants.{Bits32}
+use Rattle.rkyv_dict.specs.declared.form.Form.{Form}
+use Rattle.rkyv_dict.specs.declared.form.Kind.{Kind}
+use Rattle.rkyv_dict.specs.declared.form.Kind.TheVariants.{Num, Text}
+use Rattle.rkyv_dict.specs.Archives.{IsArchive}
+use Rattle.rkyv_dict.specs.Built.{Holds, form_of_pairs}
+use Rattle.rkyv_dict.specs.Forms.{Pairs, numbers, texts}
+
+-- an archive: its bytes, and the pairs that it was built of, unless it came by `check`
+pub record Archived : Type 0 where
+  pub bytes : List ℕ
+  pub built_of : Option Pairs
+
+-- the width, the load factor, the list of pairs, whose kind is the one that is set, and the archive, if there is one
+pub record State : Type 0 where
+  pub bits : Bits
+  pub load_factor : ℕ × ℕ
+  pub pairs : Pairs
+  pub archive : Option Archived
+
+abbrev pub no_pairs : Kind → Pairs
+no_pairs Num = numbers []
+no_pairs Text = texts []
+
+-- the form of its archive
+abbrev pub form_of : State → Form
+form_of s = form_of_pairs s.bits s.pairs
+
+-- before the first line
+abbrev pub start : State
+start = record { bits = Bits32; load_factor = (7, 8); pairs = no_pairs Num; archive = None }
+
+-- another form: the list and the archive are emptied, and the load factor is kept
+abbrev pub emptied : Kind → Bits → State → State
+emptied kind bits s = record { bits = bits; load_factor = s.load_factor; pairs = no_pairs kind; archive = None }
+
+-- a pair more at the end; a pair of the other kind is never put
+abbrev pub with_numbers : Pairs → ℕ → ℕ → Pairs
+with_numbers (numbers pairs) key value = numbers (pairs ++ (key, value) ∷ [])
+with_numbers (texts pairs) key value = texts pairs
+
+abbrev pub with_texts : Pairs → List ℕ → List ℕ → Pairs
+with_texts (numbers pairs) key value = numbers pairs
+with_texts (texts pairs) key value = texts (pairs ++ (key, value) ∷ [])
+
+-- an archive of this form; what was built holds the pairs that it was built of
+pub record IsSoundIn (form : Form) (archived : Archived) : Type 0 where
+  pub archive : IsArchive form archived.bytes
+  pub built : ForSome archived.built_of (λ pairs. (factor : ℕ × ℕ) × Holds form factor archived.bytes pairs)
+
+-- the archive of a state, if there is one, is one
+unfoldable pub IsSound : State → Type 0
+IsSound s = ForSome s.archive (IsSoundIn (form_of s))

@@ -1,0 +1,288 @@
+//! The archives of a dictionary: checking, looking up, listing, counting and building.
+
+ghost use Rattle.std.specs.Prelude.{ℕ, ◌≡◌, ◌++◌, IfSome, List, MatchResult, OnOk, codes, decimal, string_bytes};
+ghost use Rattle.std.specs.List.{flat_map};
+ghost use Rattle.std.specs.Option.{option_map};
+ghost use Rattle.rkyv_base.specs.View.{IsAt, IsView};
+ghost use Rattle.rkyv_keys.specs.Places.{at_view};
+ghost use Rattle.rkyv_collections.specs.Map.{IsMap, key_places, map_bytes};
+ghost use Rattle.rkyv_dict.specs.Archives.{IsArchive, IsMapArchive, IsRefused, MapArchiveFails, entry_count, keys_misplaced, line, line_at, listing, misplaced_count, pair_count, pair_lines, root, value_found, value_line, value_under};
+ghost use Rattle.rkyv_dict.specs.Built.{BuildRefused, Holds, IsArchiveOf, IsBuilt, NoArchiveOf, form_of_pairs};
+ghost use Rattle.rkyv_dict.specs.First.{HasHomes, first_under, first_value};
+ghost use Rattle.rkyv_dict.specs.Forms.{Pairs, key_seen, pairs_seen};
+ghost use Rattle.rkyv_dict.specs.Parts.{parts_by};
+
+#[cfg(test)]
+mod tests;
+
+use crate::form::{Bits, Form, Key, Kind, PairList};
+use crate::listed::Listed;
+use crate::parts::Part;
+use rkyv_base::access::{access_in, access_unchecked};
+use rkyv_base::archive::Serialize;
+use rkyv_base::errors::{VerifyError, WriteError};
+use rkyv_base::root::to_bytes_in;
+use rkyv_base::text::Text;
+use rkyv_base::view::View;
+use rkyv_base::width::{Narrow, Wide, Width};
+use rkyv_base::writer::{NoMemory, VecWriter};
+use rkyv_collections::map::{ArchivedHashMap, HashMapOf};
+use rkyv_keys::keys::{NativeKey, Query};
+use rkyv_scan::hash::FxHasher64;
+use std::alloc::{AllocError, Global};
+
+/// Appends a line.
+fn push_line(out: &mut String, text: &str) -> Result<(), AllocError>
+    ensures { OnOk result (string_bytes out.new ≡ string_bytes out.old ++ line text.now) }
+{
+    write!(out, "{text}\n")
+}
+
+/// Whether the bytes are the archive of a map: its length.
+fn check_map<P: Part, W: Width>(bytes: &[u8]) -> Result<usize, VerifyError>
+    ensures { let m = parts_by W.word W.LIMIT P.shape P.text P.same P.key_calls in MatchResult result
+        (λ n. IsMapArchive m bytes.now × (n ≡ pair_count m bytes.now))
+        (MapArchiveFails m bytes.now) }
+{
+    match access_in::<W, HashMapOf<P, P, FxHasher64, W>>(bytes) {
+        Ok(root) => Ok(ArchivedHashMap::of(root).len()),
+        Err(e) => Err(e),
+    }
+}
+
+/// The map of an archive.
+fn map_of<'a, P: Part, W: Width>(bytes: &'a [u8]) -> ArchivedHashMap<'a, P, P, FxHasher64, W>
+    requires { let m = parts_by W.word W.LIMIT P.shape P.text P.same P.key_calls in
+        IsMapArchive m bytes.now }
+    ensures at { let m = parts_by W.word W.LIMIT P.shape P.text P.same P.key_calls in
+        IsAt result.view bytes.entry (root m bytes.now) }
+    ensures map { IsMap W.word P.shape P.shape result }
+{
+    ArchivedHashMap::of(access_unchecked(bytes))
+}
+
+/// Appends the line of a value, or that there is none.
+fn push_text<P: Part>(value: Option<View<'_, P>>, out: &mut String) -> Result<(), AllocError>
+    requires { IfSome value (IsView P.shape) }
+    ensures { OnOk result (string_bytes out.new
+        ≡ string_bytes out.old ++ value_line (option_map (at_view P.text) value.entry)) }
+{
+    match value {
+        Some(value) => {
+            P::push(value, out)?;
+            push_line(out, "")
+        }
+        None => push_line(out, "none"),
+    }
+}
+
+/// Appends the line of the value that is found of a key, or that there is none.
+fn push_found<P: Part, W: Width, Q: Query<P>>(
+    bytes: &[u8],
+    key: &Q,
+    out: &mut String,
+) -> Result<(), AllocError>
+    requires archive { let m = parts_by W.word W.LIMIT P.shape P.text P.same P.key_calls in
+        IsMapArchive m bytes.now }
+    requires query { Q.can_read key.now }
+    ensures found { let m = parts_by W.word W.LIMIT P.shape P.text P.same P.key_calls in
+        let value = value_under m bytes.now (Q.calls key.now) (Q.fits key.now bytes.now) in
+        OnOk result (string_bytes out.new ≡ string_bytes out.old ++ value_line value) }
+    ensures first { let m = parts_by W.word W.LIMIT P.shape P.text P.same P.key_calls in
+        (homes : List ℕ) → HasHomes m bytes.now homes →
+        let value = first_under m bytes.now homes (Q.fits key.now bytes.now) in
+        OnOk result (string_bytes out.new ≡ string_bytes out.old ++ value_line value) }
+{
+    push_text(map_of::<P, W>(bytes).get(key), out)
+}
+
+/// Appends the line of a pair.
+fn push_pair<P: Part>(
+    key: View<'_, P>,
+    value: View<'_, P>,
+    out: &mut String,
+) -> Result<(), AllocError>
+    requires key { IsView P.shape key }
+    requires value { IsView P.shape value }
+    ensures { OnOk result (string_bytes out.new ≡ string_bytes out.old
+        ++ line (at_view P.text key.entry ++ codes " " ++ at_view P.text value.entry)) }
+{
+    P::push(key, out)?;
+    write!(out, " ")?;
+    P::push(value, out)?;
+    push_line(out, "")
+}
+
+/// Appends the line of the number of pairs.
+fn push_count(count: usize, out: &mut String) -> Result<(), AllocError>
+    ensures { OnOk result (string_bytes out.new
+        ≡ string_bytes out.old ++ line (codes "entries " ++ decimal count)) }
+{
+    write!(out, "entries {count}\n")
+}
+
+/// Appends a line for each pair, by ascending bucket.
+fn push_lines<P: Part, W: Width>(
+    map: ArchivedHashMap<'_, P, P, FxHasher64, W>,
+    out: &mut String,
+) -> Result<(), AllocError>
+    requires { IsMap W.word P.shape P.shape map }
+    ensures { let lines = flat_map (line_at P.shape P.text (map_bytes map.entry)) in
+        OnOk result (string_bytes out.new
+        ≡ string_bytes out.old ++ lines (key_places W.word P.shape P.shape map.entry)) }
+{
+    for (key, value) in map.iter() {
+        push_pair(key, value, out)?;
+    }
+    Ok(())
+}
+
+/// Appends the number of pairs, and a line for each.
+fn push_map<P: Part, W: Width>(bytes: &[u8], out: &mut String) -> Result<(), AllocError>
+    requires { let m = parts_by W.word W.LIMIT P.shape P.text P.same P.key_calls in
+        IsMapArchive m bytes.now }
+    ensures { let m = parts_by W.word W.LIMIT P.shape P.text P.same P.key_calls in
+        OnOk result (string_bytes out.new ≡ string_bytes out.old ++ pair_lines m bytes.now) }
+{
+    let map = map_of::<P, W>(bytes);
+    push_count(map.len(), out)?;
+    push_lines(map, out)
+}
+
+/// How many keys a lookup doesn't answer where they stand.
+fn count_misplaced<P: Part, W: Width>(bytes: &[u8]) -> usize
+    requires { let m = parts_by W.word W.LIMIT P.shape P.text P.same P.key_calls in
+        IsMapArchive m bytes.now }
+    ensures { let m = parts_by W.word W.LIMIT P.shape P.text P.same P.key_calls in
+        result ≡ keys_misplaced m bytes.now }
+{
+    map_of::<P, W>(bytes).misplaced()
+}
+
+/// The archive of the pairs.
+fn build_map<A: NativeKey<A::Archived> + Serialize<VecWriter, W>, W: Width>(
+    alloc: Global,
+    pairs: &[(A, A)],
+    load_factor: (usize, usize),
+) -> Result<Vec<u8>, WriteError<NoMemory>>
+where
+    A::Archived: Part,
+    ensures { let m = parts_by W.word W.LIMIT A.Archived.shape A.Archived.text A.Archived.same A.Archived.key_calls in
+        MatchResult result
+        (λ v. IsArchiveOf m load_factor W.MAX_CAPACITY A.format A.calls A.Archived.stands pairs.now v.items)
+        (NoArchiveOf m load_factor W.MAX_CAPACITY A.format A.calls pairs.now) }
+{
+    let list = Listed { pairs, load_factor };
+    to_bytes_in::<W, Listed<'_, A>>(alloc, &list)
+}
+
+/// Whether the bytes are an archive of the form: the length of its map.
+///
+/// # Errors
+/// The first point at which they are none.
+pub fn check(form: Form, bytes: &[u8]) -> Result<usize, VerifyError>
+    ensures { MatchResult result
+        (λ n. IsArchive form bytes.now × (n ≡ entry_count form bytes.now))
+        (IsRefused form bytes.now) }
+{
+    match (form.kind, form.bits) {
+        (Kind::Num, Bits::Bits32) => check_map::<u32, Narrow>(bytes),
+        (Kind::Num, Bits::Bits64) => check_map::<u32, Wide>(bytes),
+        (Kind::Text, Bits::Bits32) => check_map::<Text<Narrow>, Narrow>(bytes),
+        (Kind::Text, Bits::Bits64) => check_map::<Text<Wide>, Wide>(bytes),
+    }
+}
+
+/// Appends the line of the value that is found of a key, or that there is none; a key of another
+/// kind is never found.
+///
+/// # Errors
+/// Where a growth is refused.
+pub fn push_value(
+    form: Form,
+    bytes: &[u8],
+    key: Key<'_>,
+    out: &mut String,
+) -> Result<(), AllocError>
+    requires { IsArchive form bytes.now }
+    ensures found { OnOk result (string_bytes out.new
+        ≡ string_bytes out.old ++ value_line (value_found form bytes.now (key_seen key.entry))) }
+    ensures first { (pairs : Pairs) (factor : ℕ × ℕ) → Holds form factor bytes.now pairs
+        → OnOk result (string_bytes out.new
+        ≡ string_bytes out.old ++ value_line (first_value pairs (key_seen key.entry))) }
+{
+    match (form.kind, key) {
+        (Kind::Num, Key::Number(number)) => match form.bits {
+            Bits::Bits32 => push_found::<u32, Narrow, u32>(bytes, &number, out),
+            Bits::Bits64 => push_found::<u32, Wide, u32>(bytes, &number, out),
+        },
+        (Kind::Text, Key::Text(text)) => match form.bits {
+            Bits::Bits32 => push_found::<Text<Narrow>, Narrow, &str>(bytes, &text, out),
+            Bits::Bits64 => push_found::<Text<Wide>, Wide, &str>(bytes, &text, out),
+        },
+        _ => push_line(out, "none"),
+    }
+}
+
+/// Appends the number of pairs, and a line for each, its key and its value, by ascending bucket.
+///
+/// # Errors
+/// Where a growth is refused.
+pub fn push_pairs(form: Form, bytes: &[u8], out: &mut String) -> Result<(), AllocError>
+    requires { IsArchive form bytes.now }
+    ensures { OnOk result
+        (string_bytes out.new ≡ string_bytes out.old ++ listing form bytes.now) }
+{
+    match (form.kind, form.bits) {
+        (Kind::Num, Bits::Bits32) => push_map::<u32, Narrow>(bytes, out),
+        (Kind::Num, Bits::Bits64) => push_map::<u32, Wide>(bytes, out),
+        (Kind::Text, Bits::Bits32) => push_map::<Text<Narrow>, Narrow>(bytes, out),
+        (Kind::Text, Bits::Bits64) => push_map::<Text<Wide>, Wide>(bytes, out),
+    }
+}
+
+/// How many keys a lookup doesn't answer where they stand.
+pub fn misplaced(form: Form, bytes: &[u8]) -> usize
+    requires { IsArchive form bytes.now }
+    ensures { result ≡ misplaced_count form bytes.now }
+{
+    match (form.kind, form.bits) {
+        (Kind::Num, Bits::Bits32) => count_misplaced::<u32, Narrow>(bytes),
+        (Kind::Num, Bits::Bits64) => count_misplaced::<u32, Wide>(bytes),
+        (Kind::Text, Bits::Bits32) => count_misplaced::<Text<Narrow>, Narrow>(bytes),
+        (Kind::Text, Bits::Bits64) => count_misplaced::<Text<Wide>, Wide>(bytes),
+    }
+}
+
+/// The archive of the pairs, in their order, as a map under a load factor.
+///
+/// # Errors
+/// Those of a map's `serialize_from_iter`; `TextTooLong`; `PositionTooLarge` and
+/// `DistanceTooLarge`, where the archive would pass what its width can tell; and `Memory` and
+/// `Writer`, where a growth is refused.
+pub fn build(
+    alloc: Global,
+    bits: Bits,
+    list: &PairList<'_>,
+    load_factor: (usize, usize),
+) -> Result<Vec<u8>, WriteError<NoMemory>>
+    ensures { let pairs = pairs_seen list.now in let form = form_of_pairs bits pairs in
+        MatchResult result
+        (λ v. IsBuilt form load_factor pairs v.items)
+        (BuildRefused form load_factor pairs) }
+{
+    match (list, bits) {
+        (PairList::Numbers(pairs), Bits::Bits32) => {
+            build_map::<u32, Narrow>(alloc, pairs.as_slice(), load_factor)
+        }
+        (PairList::Numbers(pairs), Bits::Bits64) => {
+            build_map::<u32, Wide>(alloc, pairs.as_slice(), load_factor)
+        }
+        (PairList::Texts(pairs), Bits::Bits32) => {
+            build_map::<&str, Narrow>(alloc, pairs.as_slice(), load_factor)
+        }
+        (PairList::Texts(pairs), Bits::Bits64) => {
+            build_map::<&str, Wide>(alloc, pairs.as_slice(), load_factor)
+        }
+    }
+}

@@ -1,0 +1,49 @@
+//! Errors as the answers tell them.
+ghost use Rattle.rkyv_dict.specs.Errors.{cause_told, refusal_told, wants_memory};
+ghost use Rattle.std.specs.Prelude.{◌≡◌};
+
+use rkyv_base::errors::{VerifyError, WriteError};
+use rkyv_base::writer::NoMemory;
+
+/// The number and the name of what is wrong with bytes.
+#[tactic(auto, unfolding(crate::specs::Errors::refusal_told))]
+pub fn refusal_told(error: &VerifyError) -> &'static str
+    ensures { result.now ≡ refusal_told error.now }
+{
+    match error {
+        VerifyError::OutOfRange { .. } => "1 OutOfRange",
+        VerifyError::Unaligned { .. } => "2 Unaligned",
+        VerifyError::InvalidLength { .. } => "3 InvalidLength",
+        VerifyError::WrongNumberOfElements { .. } => "4 WrongNumberOfElements",
+        VerifyError::UnwrappedControlByte { .. } => "5 UnwrappedControlByte",
+        VerifyError::PlaceOutOfRange { .. } => "6 PlaceOutOfRange",
+        VerifyError::InvalidValue { .. } => "7 InvalidValue",
+        VerifyError::Refused(_) => "8 Refused",
+    }
+}
+
+/// The number and the name of why a list is not archived.
+#[tactic(auto, unfolding(crate::specs::Errors::cause_told))]
+pub fn cause_told(error: &WriteError<NoMemory>) -> &'static str
+    ensures { result.now ≡ cause_told error.now }
+{
+    match error {
+        WriteError::InvalidLoadFactor { .. } => "1 InvalidLoadFactor",
+        WriteError::IteratorLengthMismatch(_) => "2 IteratorLengthMismatch",
+        WriteError::CapacityTooLarge { .. } => "3 CapacityTooLarge",
+        WriteError::PositionTooLarge => "4 PositionTooLarge",
+        WriteError::DistanceTooLarge => "5 DistanceTooLarge",
+        WriteError::TextTooLong => "6 TextTooLong",
+        WriteError::Writer(_) => "7 Writer",
+        WriteError::Memory => "8 Memory",
+        WriteError::Refused(_) => "9 Refused",
+    }
+}
+
+/// Whether the list is not archived for want of memory.
+#[tactic(auto, unfolding(crate::specs::Errors::wants_memory))]
+pub fn wants_memory(error: &WriteError<NoMemory>) -> bool
+    ensures { result ≡ wants_memory error.now }
+{
+    matches!(error, WriteError::Writer(_) | WriteError::Memory)
+}

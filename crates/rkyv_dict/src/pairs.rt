@@ -1,0 +1,81 @@
+//! The list of pairs that a script puts.
+ghost use Rattle.rkyv_dict.specs.Built.{kind_of_pairs};
+ghost use Rattle.rkyv_dict.specs.Counts.{pair_count, take_pairs};
+ghost use Rattle.rkyv_dict.specs.Forms.{pairs_seen};
+ghost use Rattle.rkyv_dict.specs.State.{no_pairs, with_numbers, with_texts};
+ghost use Rattle.std.specs.Prelude.{◌≡◌, ◌≤◌, ℕ, OnOk};
+
+use crate::form::{Kind, PairList};
+use std::alloc::{AllocError, Global};
+
+/// The list of no pair of this kind.
+pub fn no_pairs<'a>(alloc: Global, kind: Kind) -> PairList<'a>
+    ensures { pairs_seen result ≡ no_pairs kind }
+{
+    match kind {
+        Kind::Num => PairList::Numbers(Vec::new(alloc)),
+        Kind::Text => PairList::Texts(Vec::new(alloc)),
+    }
+}
+
+/// What the pairs are.
+pub fn kind_of(list: &PairList<'_>) -> Kind
+    ensures { result ≡ kind_of_pairs (pairs_seen list.now) }
+{
+    match list {
+        PairList::Numbers(_) => Kind::Num,
+        PairList::Texts(_) => Kind::Text,
+    }
+}
+
+/// How many pairs there are.
+pub fn count_of(list: &PairList<'_>) -> usize
+    ensures { result ≡ pair_count list.now }
+{
+    match list {
+        PairList::Numbers(pairs) => pairs.len(),
+        PairList::Texts(pairs) => pairs.len(),
+    }
+}
+
+/// Adds a pair of numbers at the end of a list of numbers.
+///
+/// Fails only by want of memory; the pairs that were there stay.
+pub fn put_numbers(list: &mut PairList<'_>, key: u32, value: u32) -> Result<(), AllocError>
+    ensures added { OnOk result
+        (pairs_seen list.new ≡ with_numbers (pairs_seen list.old) key value) }
+    ensures kept { pair_count list.old ≤ pair_count list.new }
+    ensures first { (n : ℕ) → n ≤ pair_count list.old
+        → take_pairs n (pairs_seen list.new) ≡ take_pairs n (pairs_seen list.old) }
+{
+    match list {
+        PairList::Numbers(pairs) => {
+            pairs.push((key, value))?;
+            Ok(())
+        }
+        PairList::Texts(_) => Ok(()),
+    }
+}
+
+/// Adds a pair of texts at the end of a list of texts.
+///
+/// Fails only by want of memory; the pairs that were there stay.
+pub fn put_texts<'a>(
+    list: &mut PairList<'a>,
+    key: &'a str,
+    value: &'a str,
+) -> Result<(), AllocError>
+    ensures added { OnOk result
+        (pairs_seen list.new ≡ with_texts (pairs_seen list.old) key.now value.now) }
+    ensures kept { pair_count list.old ≤ pair_count list.new }
+    ensures first { (n : ℕ) → n ≤ pair_count list.old
+        → take_pairs n (pairs_seen list.new) ≡ take_pairs n (pairs_seen list.old) }
+{
+    match list {
+        PairList::Numbers(_) => Ok(()),
+        PairList::Texts(pairs) => {
+            pairs.push((key, value))?;
+            Ok(())
+        }
+    }
+}

@@ -1,0 +1,57 @@
+//! The keys and values of a dictionary's archives, and how they are printed.
+
+ghost use Rattle.std.specs.Prelude.{ℕ, ◌≡◌, ◌++◌, List, OnOk, string_bytes};
+ghost use Rattle.std.specs.Int.{w32};
+ghost use Rattle.rkyv_base.specs.Numbers.{unsigned};
+ghost use Rattle.rkyv_base.specs.Scalar.{scalar_shape};
+ghost use Rattle.rkyv_base.specs.Text.{text_at, text_shape};
+ghost use Rattle.rkyv_base.specs.View.{IsView};
+ghost use Rattle.rkyv_keys.specs.Places.{at_view};
+ghost use Rattle.rkyv_dict.specs.Parts.{number_text};
+
+use rkyv_base::text::Text;
+use rkyv_base::view::View;
+use rkyv_base::width::Width;
+use rkyv_keys::keys::KeyElement;
+use std::alloc::AllocError;
+
+/// What keys and values are in an archive.
+pub trait Part: KeyElement {
+    // The text that the one at a place prints as.
+    ghost text: { List ℕ → ℕ → List ℕ };
+
+    /// Appends the text.
+    ///
+    /// # Errors
+    /// Where a growth is refused.
+    fn push(view: View<'_, Self>, out: &mut String) -> Result<(), AllocError>
+        requires { IsView Self.shape view }
+        ensures { OnOk result
+            (string_bytes out.new ≡ string_bytes out.old ++ at_view text view.entry) };
+}
+
+impl Part for u32 {
+    ghost text = { number_text };
+
+    fn push(view: View<'_, u32>, out: &mut String) -> Result<(), AllocError>
+        requires { IsView (scalar_shape (unsigned w32)) view }
+        ensures { OnOk result
+            (string_bytes out.new ≡ string_bytes out.old ++ at_view number_text view.entry) }
+    {
+        let number = view.to_native();
+        write!(out, "{number}")
+    }
+}
+
+impl<W: Width> Part for Text<W> {
+    ghost text = { text_at W.word };
+
+    fn push(view: View<'_, Text<W>>, out: &mut String) -> Result<(), AllocError>
+        requires { IsView (text_shape W.word) view }
+        ensures { OnOk result
+            (string_bytes out.new ≡ string_bytes out.old ++ at_view (text_at W.word) view.entry) }
+    {
+        let text = view.as_str();
+        write!(out, "{text}")
+    }
+}

@@ -1,0 +1,185 @@
+//! The words of a line, and what each of them says.
+ghost use Rattle.rkyv_dict.specs.Script.{bits_of_word, is_numeral, kind_of_word, number_of, one_of, parts_after, parts_of, said_by, said_by_both, text_of, two_of, words_left, words_of};
+ghost use Rattle.std.specs.Char.{digit_value, is_ascii_digit};
+ghost use Rattle.std.specs.List.{list_all, position};
+ghost use Rattle.std.specs.Option.{option_copied, option_map};
+ghost use Rattle.std.specs.Prelude.{◌≡◌, ◌<◌, ◌≤◌, ◌==◌, ◌∷◌, IfSome, length, true};
+ghost use Rattle.std.specs.Str.{bytes_eq};
+
+use crate::form::{Bits, Kind};
+
+/// The place of the first `at`.
+fn place_of(bytes: &[u8], at: u8) -> Option<usize>
+    ensures { result ≡ position (λ b. b == at) bytes.now }
+{
+    bytes.iter().position(|b| *b == at)
+}
+
+/// The bytes before the first `at`, and those after it.
+pub fn cut(bytes: &[u8], at: u8) -> (&[u8], Option<&[u8]>)
+    ensures parts { parts_of at bytes.now
+        ≡ result.0.now ∷ parts_after at (option_copied result.1) }
+    ensures shorter { IfSome result.1 (λ rest. length rest.now < length bytes.now) }
+{
+    match place_of(bytes, at) {
+        Some(i) => (&bytes[..i], Some(&bytes[i + 1..])),
+        None => (bytes, None),
+    }
+}
+
+/// The text before the first space, and the text after it.
+pub fn cut_word(text: &str) -> (&str, Option<&str>)
+    ensures { words_of text.now ≡ result.0.now ∷ words_left result.1 }
+{
+    match text.split_once(' ') {
+        Some((word, rest)) => (word, Some(rest)),
+        None => (text, None),
+    }
+}
+
+/// The one word of the arguments.
+#[tactic(auto, using(crate::proofs::Cuts::one_of_more))]
+pub fn one_word(arguments: Option<&str>) -> Option<&str>
+    ensures { option_copied result ≡ one_of (words_left arguments.entry) }
+{
+    let (word, more) = cut_word(arguments?);
+    match more {
+        Some(_) => None,
+        None => Some(word),
+    }
+}
+
+/// The two words of the arguments.
+#[tactic(auto, using(crate::proofs::Cuts::two_of_more))]
+pub fn two_words(arguments: Option<&str>) -> Option<(&str, &str)>
+    ensures { option_map (λ p. (p.0.now, p.1.now)) result ≡ two_of (words_left arguments.entry) }
+{
+    let (first, more) = cut_word(arguments?);
+    let (second, more) = cut_word(more?);
+    match more {
+        Some(_) => None,
+        None => Some((first, second)),
+    }
+}
+
+/// Whether the word is this one.
+pub fn is_word(word: &str, name: &str) -> bool
+    ensures { result ≡ bytes_eq word.now name.now }
+{
+    word == name
+}
+
+/// Whether each byte is a decimal digit.
+fn all_digits(word: &[u8]) -> bool
+    ensures { result ≡ list_all is_ascii_digit word.now }
+{
+    word.iter().all(|b| b.is_ascii_digit())
+}
+
+/// Whether the word is a number in decimal digits without a leading zero.
+fn is_numeral(word: &[u8]) -> bool
+    ensures { result ≡ is_numeral word.now }
+{
+    if word.is_empty() || !all_digits(word) {
+        return false;
+    }
+    word.len() == 1 || word[0] != b'0'
+}
+
+/// The digit's value.
+fn digit(glyph: u8) -> u8
+    requires { is_ascii_digit glyph ≡ true }
+    ensures value { result ≡ digit_value glyph }
+    ensures small { result < 10 }
+{
+    glyph - b'0'
+}
+
+/// The number that the word says, where it is at most `most`.
+pub fn number(word: &[u8], most: u64) -> Option<u64>
+    ensures value { result ≡ number_of most word.now }
+    ensures small { IfSome result (λ n. n ≤ most) }
+{
+    if !is_numeral(word) {
+        return None;
+    }
+    let mut value: u64 = 0;
+    for glyph in word {
+        let next = u128::from(value) * 10 + u128::from(digit(*glyph));
+        if next > u128::from(most) {
+            return None;
+        }
+        value = next as u64;
+    }
+    Some(value)
+}
+
+/// The one number of the arguments.
+pub fn one_number(arguments: Option<&str>, most: u64) -> Option<u64>
+    ensures value { result ≡ said_by (number_of most) (one_of (words_left arguments.entry)) }
+    ensures small { IfSome result (λ n. n ≤ most) }
+{
+    number(one_word(arguments)?.as_bytes(), most)
+}
+
+/// The two numbers of the arguments.
+pub fn two_numbers(arguments: Option<&str>, most: u64) -> Option<(u64, u64)>
+    ensures value { result ≡ said_by_both (number_of most) (two_of (words_left arguments.entry)) }
+    ensures small { IfSome result (λ p. (p.0 ≤ most) × (p.1 ≤ most)) }
+{
+    let (first, second) = two_words(arguments)?;
+    let a = number(first.as_bytes(), most)?;
+    let b = number(second.as_bytes(), most)?;
+    Some((a, b))
+}
+
+/// The word, where it is a text.
+fn text(word: &str) -> Option<&str>
+    ensures { option_copied result ≡ text_of word.now }
+{
+    if word.is_empty() { None } else { Some(word) }
+}
+
+/// The one text of the arguments.
+pub fn one_text(arguments: Option<&str>) -> Option<&str>
+    ensures { option_copied result ≡ said_by text_of (one_of (words_left arguments.entry)) }
+{
+    text(one_word(arguments)?)
+}
+
+/// The two texts of the arguments.
+pub fn two_texts(arguments: Option<&str>) -> Option<(&str, &str)>
+    ensures { option_map (λ p. (p.0.now, p.1.now)) result
+        ≡ said_by_both text_of (two_of (words_left arguments.entry)) }
+{
+    let (first, second) = two_words(arguments)?;
+    let a = text(first)?;
+    let b = text(second)?;
+    Some((a, b))
+}
+
+/// The kind of this name.
+pub fn kind_by_name(word: &str) -> Option<Kind>
+    ensures { result ≡ kind_of_word word.now }
+{
+    if is_word(word, "num") {
+        Some(Kind::Num)
+    } else if is_word(word, "text") {
+        Some(Kind::Text)
+    } else {
+        None
+    }
+}
+
+/// The width of this name.
+pub fn bits_by_name(word: &str) -> Option<Bits>
+    ensures { result ≡ bits_of_word word.now }
+{
+    if is_word(word, "32") {
+        Some(Bits::Bits32)
+    } else if is_word(word, "64") {
+        Some(Bits::Bits64)
+    } else {
+        None
+    }
+}
