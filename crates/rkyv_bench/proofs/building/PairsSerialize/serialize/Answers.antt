@@ -11,6 +11,9 @@ use Rattle.rkyv_table.specs.Counting.{GaveOther}
 use Rattle.rkyv_bench.proofs.building.PairsSerialize.serialize.Goals as goal
 use Rattle.rkyv_bench.specs.declared.building.Both.{Both}
 
+zip_same : {A B : Type 0} (keys keys' : List A) (values values' : List B) → keys ≡ keys' → values ≡ values' → zip keys values ≡ zip keys' values'
+zip_same keys keys' values values' k v = ap (λ (those : List _). zip those values) k ∙ ap (λ (those : List _). zip keys' those) v
+
 pub returns : goal.returns
 returns g c =
     let values = zip c.args.self.now.keys.now c.args.self.now.values.now in
@@ -20,9 +23,7 @@ returns g c =
     let steps = YieldsFirstBy view rest in
     let hash = hash_of g.H.KeyHasher.initial g.H.KeyHasher.feed g.H.KeyHasher.finish g.A.KeyHash.calls in
     let f = map_format g.W.Width.word g.A.Archived.Element.shape g.B.Archived.Element.shape g.A.Archive.format g.B.Archive.format hash (7, 8) in
-    let all : rest both ≡ values =
-    ap (λ (keys : List g.row.A.Denot). zip keys (iter_rest c.iter-2.result)) c.iter.ensures.rest
-    ∙ ap (λ (those : List g.row.B.Denot). zip c.args.self.now.keys.now those) c.iter-2.ensures.rest in
+    let all : rest both ≡ values = zip_same (iter_rest c.iter.result) c.args.self.now.keys.now (iter_rest c.iter-2.result) c.args.self.now.values.now c.iter.ensures.rest c.iter-2.ensures.rest in
     let count : c.min-len.result ≡ length values = c.min-len.ensures ∙ sym (length-zip c.args.self.now.keys.now c.args.self.now.values.now) in
     answers_listed (Drains steps both) (GaveOther steps c.min-len.result both) (lent_pairs (λ k. k.now) (λ k. k.now)) values
     (λ items d. all_came view rest items both d ∙ all) (λ n h. no_other_came view rest c.min-len.result both (ap length all ∙ sym count) n h)
