@@ -7,6 +7,7 @@ mod random;
 use fx::BuildFx;
 use library::{Accepted, Keys, Numbers, Texts};
 use random::{XorShift32, XorShift64};
+use std::borrow::Borrow;
 use std::collections::HashMap;
 use std::hash::{BuildHasher, Hash, RandomState};
 use std::hint::black_box;
@@ -21,15 +22,18 @@ const KEYS_A_VALUE: usize = 1_000_000;
 enum Measure {
     Hash,
     Build,
+    // As `Build`, but std's map borrows its texts, where the archive has its own.
+    BuildBorrowed,
     Access,
     Hits,
     Misses,
     Walk,
 }
 
-const MEASURES: [Measure; 6] = [
+const MEASURES: [Measure; 7] = [
     Measure::Hash,
     Measure::Build,
+    Measure::BuildBorrowed,
     Measure::Access,
     Measure::Hits,
     Measure::Misses,
@@ -41,6 +45,7 @@ impl Measure {
         match self {
             Measure::Hash => "hash",
             Measure::Build => "build",
+            Measure::BuildBorrowed => "build, std of `&str`",
             Measure::Access => "access",
             Measure::Hits => "lookup, found",
             Measure::Misses => "lookup, not found",
@@ -58,20 +63,60 @@ enum Contestant {
 
 const CONTESTANTS: [Contestant; 3] = [Contestant::Ours, Contestant::Sip, Contestant::Fx];
 
-/// How a key of std's maps weighs in a walk.
-trait Weigh {
-    fn weight(&self) -> u64;
+/// A key by which std's maps are asked, and the key that they own.
+trait Key: Copy + Eq + Hash {
+    type Asked: ?Sized + Eq + Hash;
+
+    type Owned: Eq + Hash + Borrow<Self::Asked>;
+
+    /// Whether a map can borrow its keys.
+    const IS_BORROWED: bool;
+
+    fn asked(&self) -> &Self::Asked;
+
+    fn own(self) -> Self::Owned;
+
+    /// What a walk counts of it.
+    fn weight(key: &Self::Asked) -> u64;
 }
 
-impl Weigh for u32 {
-    fn weight(&self) -> u64 {
-        u64::from(*self)
+impl Key for u32 {
+    type Asked = u32;
+
+    type Owned = u32;
+
+    const IS_BORROWED: bool = false;
+
+    fn asked(&self) -> &u32 {
+        self
+    }
+
+    fn own(self) -> u32 {
+        self
+    }
+
+    fn weight(key: &u32) -> u64 {
+        u64::from(*key)
     }
 }
 
-impl Weigh for &str {
-    fn weight(&self) -> u64 {
-        self.len() as u64
+impl Key for &str {
+    type Asked = str;
+
+    type Owned = String;
+
+    const IS_BORROWED: bool = true;
+
+    fn asked(&self) -> &str {
+        self
+    }
+
+    fn own(self) -> String {
+        self.to_string()
+    }
+
+    fn weight(key: &str) -> u64 {
+        key.len() as u64
     }
 }
 
@@ -101,40 +146,55 @@ fn sum(terms: impl Iterator<Item = u64>) -> u64 {
     terms.fold(0, u64::wrapping_add)
 }
 
-fn build_std<Q: Copy + Eq + Hash, S: BuildHasher + Default>(
-    keys: &[Q],
+fn build_std<K: Eq + Hash, S: BuildHasher + Default>(
+    keys: impl ExactSizeIterator<Item = K>,
     values: &[u32],
-) -> HashMap<Q, u32, S> {
+) -> HashMap<K, u32, S> {
     let mut map = HashMap::with_capacity_and_hasher(keys.len(), S::default());
-    for (key, value) in keys.iter().zip(values) {
-        map.insert(*key, *value);
+    for (key, value) in keys.zip(values) {
+        map.insert(key, *value);
     }
     map
 }
 
-fn measure_std<Q: Copy + Eq + Hash + Weigh, K, S: BuildHasher + Default>(
+/// The time of one build. The maps are dropped outside of it.
+fn time_build<T>(times: usize, mut build: impl FnMut() -> T) -> Duration {
+    let mut maps = Vec::with_capacity(times);
+    time(times, || maps.push(build())).0
+}
+
+fn measure_std<Q: Key, K, S: BuildHasher + Default>(
     measure: Measure,
     times: usize,
     work: &Workload<'_, K, Q>,
-    map: &HashMap<Q, u32, S>,
+    map: &HashMap<Q::Owned, u32, S>,
 ) -> (Duration, u64) {
     let lookup = |list: &[Q]| {
         sum(list
             .iter()
-            .map(|key| map.get(key).map_or(MISS, |value| u64::from(*value))))
+            .map(|key| map.get(key.asked()).map_or(MISS, |value| u64::from(*value))))
     };
+    let count = work.values.len() as u64;
     match measure {
         Measure::Hash => time(times, || {
             let hasher = map.hasher();
-            sum(work.key_list.iter().map(|key| hasher.hash_one(key)))
+            sum(black_box(work.key_list)
+                .iter()
+                .map(|key| hasher.hash_one(key.asked())))
         }),
         Measure::Build => {
-            // The maps are dropped outside of the time that is measured.
-            let mut maps: Vec<HashMap<Q, u32, S>> = Vec::with_capacity(times);
-            let (duration, ()) = time(times, || {
-                maps.push(build_std(black_box(work.key_list), work.values));
-            });
-            (duration, maps[0].len() as u64)
+            let build = || {
+                let keys = black_box(work.key_list).iter().map(|key| key.own());
+                build_std::<Q::Owned, S>(keys, work.values)
+            };
+            (time_build(times, build), count)
+        }
+        Measure::BuildBorrowed => {
+            let build = || {
+                let keys = black_box(work.key_list).iter().copied();
+                build_std::<Q, S>(keys, work.values)
+            };
+            (time_build(times, build), count)
         }
         Measure::Access => unreachable!("it has no counterpart"),
         Measure::Hits => time(times, || lookup(black_box(work.hit_list))),
@@ -142,7 +202,7 @@ fn measure_std<Q: Copy + Eq + Hash + Weigh, K, S: BuildHasher + Default>(
         Measure::Walk => time(times, || {
             sum(black_box(map)
                 .iter()
-                .map(|(key, value)| key.weight().wrapping_add(u64::from(*value))))
+                .map(|(key, value)| Q::weight(key.borrow()).wrapping_add(u64::from(*value))))
         }),
     }
 }
@@ -157,7 +217,7 @@ fn measure_ours<Q, K: Keys>(
 ) -> (Duration, u64) {
     match measure {
         Measure::Hash => time(times, || black_box(work.keys).hash()),
-        Measure::Build => {
+        Measure::Build | Measure::BuildBorrowed => {
             let (duration, len) = time(times, || black_box(work.keys).build(work.values, out));
             assert!(out[..len] == *archive, "another archive was built");
             (duration, work.values.len() as u64)
@@ -174,18 +234,22 @@ fn median(mut times: Vec<Duration>) -> f64 {
     times[times.len() / 2].as_nanos() as f64
 }
 
-fn run<Q: Copy + Eq + Hash + Weigh, K: Keys>(kind: &str, work: &Workload<'_, K, Q>, rounds: usize) {
+fn run<Q: Key, K: Keys>(kind: &str, work: &Workload<'_, K, Q>, rounds: usize) {
     let count = work.values.len();
     let mut out = vec![0; 128 * count + 1024];
     let len = work.keys.build(work.values, &mut out);
     assert!(len > 0, "the archive was refused");
     let archive = out[..len].to_vec();
-    let accepted: Accepted<'_, K> = Accepted::new(&archive, count).expect("the archive is accepted");
-    let sip: HashMap<Q, u32, RandomState> = build_std(work.key_list, work.values);
-    let fx: HashMap<Q, u32, BuildFx> = build_std(work.key_list, work.values);
+    let accepted: Accepted<'_, K> =
+        Accepted::new(&archive, count).expect("the archive is accepted");
+    let owned = || work.key_list.iter().map(|key| key.own());
+    let sip: HashMap<Q::Owned, u32, RandomState> = build_std(owned(), work.values);
+    let fx: HashMap<Q::Owned, u32, BuildFx> = build_std(owned(), work.values);
 
+    let mut measures = MEASURES.to_vec();
+    measures.retain(|measure| Q::IS_BORROWED || *measure != Measure::BuildBorrowed);
     let mut tasks: Vec<(Measure, Contestant)> = Vec::new();
-    for measure in MEASURES {
+    for measure in measures.iter().copied() {
         for contestant in CONTESTANTS {
             if measure != Measure::Access || contestant == Contestant::Ours {
                 tasks.push((measure, contestant));
@@ -196,8 +260,12 @@ fn run<Q: Copy + Eq + Hash + Weigh, K: Keys>(kind: &str, work: &Workload<'_, K, 
     let mut random = XorShift64::new();
     let times = KEYS_A_VALUE.div_ceil(count);
     let hit_sum = sum(work.values.iter().map(|value| u64::from(*value)));
-    let walk_sum = hit_sum.wrapping_add(sum(work.key_list.iter().map(Weigh::weight)));
-    let hash_sum = sum(work.key_list.iter().map(|key| BuildFx::default().hash_one(key)));
+    let walk_sum =
+        hit_sum.wrapping_add(sum(work.key_list.iter().map(|key| Q::weight(key.asked()))));
+    let hash_sum = sum(work
+        .key_list
+        .iter()
+        .map(|key| BuildFx::default().hash_one(key.asked())));
     for _ in 0..rounds {
         random.shuffle(&mut tasks);
         for (measure, contestant) in &tasks {
@@ -211,7 +279,7 @@ fn run<Q: Copy + Eq + Hash + Weigh, K: Keys>(kind: &str, work: &Workload<'_, K, 
             let expected = match measure {
                 Measure::Hash if *contestant == Contestant::Sip => answer,
                 Measure::Hash => hash_sum,
-                Measure::Build => count as u64,
+                Measure::Build | Measure::BuildBorrowed => count as u64,
                 Measure::Access => count as u64 + 1,
                 Measure::Hits => hit_sum,
                 Measure::Misses => MISS * count as u64,
@@ -227,7 +295,7 @@ fn run<Q: Copy + Eq + Hash + Weigh, K: Keys>(kind: &str, work: &Workload<'_, K, 
             .filter(|(m, c, _)| (*m, *c) == (measure, contestant));
         median(of_task.map(|(_, _, duration)| *duration).collect())
     };
-    for measure in MEASURES {
+    for measure in measures {
         let ours = median_of(measure, Contestant::Ours);
         print!(
             "| {kind} | {count} | {} | {:.2} |",
@@ -276,7 +344,10 @@ fn load() -> String {
 
 fn main() {
     let cores = std::thread::available_parallelism().map_or(0, usize::from);
-    println!("Cores: {cores}. Load (1, 5, 15 minutes) before: {}.", load());
+    println!(
+        "Cores: {cores}. Load (1, 5, 15 minutes) before: {}.",
+        load()
+    );
     println!();
     println!("| keys | entries | measure | ours, ns | std SipHash, ns | std Fx, ns | ours / SipHash | ours / Fx | |");
     println!("|---|--:|---|--:|--:|--:|--:|--:|---|");
@@ -289,7 +360,9 @@ fn main() {
         XorShift64::new().shuffle(&mut hits);
         let of_texts = [&keys, &hits, &misses].map(|list| texts(list));
         let [key_texts, hit_texts, miss_texts] = &of_texts;
-        let lists = of_texts.each_ref().map(|list| list.iter().collect::<Vec<&str>>());
+        let lists = of_texts
+            .each_ref()
+            .map(|list| list.iter().collect::<Vec<&str>>());
         let of_numbers = [keys, hits, misses].map(Numbers);
         let [key_numbers, hit_numbers, miss_numbers] = &of_numbers;
         let work = Workload {
