@@ -1,9 +1,11 @@
 //! Measures archived hash maps against std's `HashMap`, and prints a table in Markdown.
 
+mod clock;
 mod fx;
 mod library;
 mod random;
 
+use clock::now;
 use fx::BuildFx;
 use library::{Accepted, Keys, Numbers, Texts};
 use random::{XorShift32, XorShift64};
@@ -11,7 +13,7 @@ use std::borrow::Borrow;
 use std::collections::HashMap;
 use std::hash::{BuildHasher, Hash, RandomState};
 use std::hint::black_box;
-use std::time::{Duration, Instant};
+use std::time::Duration;
 
 const MISS: u64 = 1 << 32;
 
@@ -135,11 +137,11 @@ struct Workload<'a, K, Q> {
 /// The time of one call, of several in a row, and what the last one answered.
 fn time<T>(times: usize, mut call: impl FnMut() -> T) -> (Duration, T) {
     let mut answer = None;
-    let begin = Instant::now();
+    let begin = now();
     for _ in 0..times {
         answer = Some(black_box(call()));
     }
-    (begin.elapsed() / times as u32, answer.unwrap())
+    ((now() - begin) / times as u32, answer.unwrap())
 }
 
 fn sum(terms: impl Iterator<Item = u64>) -> u64 {
