@@ -1,0 +1,26 @@
+//! Links the static library of `rkyv_bench`.
+//!
+//! It is taken from `RKYV_BENCH_LIB`, the path of `librkyv_bench.a`, or, where that isn't set, from
+//! where `rt lib` leaves it in the crate.
+
+use std::env;
+use std::path::PathBuf;
+
+fn main() {
+    println!("cargo::rerun-if-env-changed=RKYV_BENCH_LIB");
+    let library = match env::var_os("RKYV_BENCH_LIB") {
+        Some(path) => PathBuf::from(path),
+        None => PathBuf::from(env::var_os("CARGO_MANIFEST_DIR").unwrap())
+            .join("../crates/rkyv_bench/out/librkyv_bench.a"),
+    };
+    println!("cargo::rerun-if-changed={}", library.display());
+    let library = library.canonicalize().unwrap_or_else(|error| {
+        panic!(
+            "{}: {error}. `rt lib` in crates/rkyv_bench builds it; RKYV_BENCH_LIB may name another",
+            library.display()
+        )
+    });
+    let folder = library.parent().unwrap();
+    println!("cargo::rustc-link-search=native={}", folder.display());
+    println!("cargo::rustc-link-lib=static=rkyv_bench");
+}

@@ -1,0 +1,35 @@
+//! The clock by which calls are timed.
+
+use std::time::Duration;
+
+/// How long this thread has run. The turns of other programs on a busy machine don't count.
+#[cfg(target_os = "linux")]
+pub fn now() -> Duration {
+    #[repr(C)]
+    struct Time {
+        seconds: i64,
+        nanoseconds: i64,
+    }
+    unsafe extern "C" {
+        fn clock_gettime(clock: i32, time: *mut Time) -> i32;
+    }
+    const THREAD: i32 = 3;
+    let mut time = Time {
+        seconds: 0,
+        nanoseconds: 0,
+    };
+    // SAFETY: there is room for what is written.
+    let failed = unsafe { clock_gettime(THREAD, &mut time) };
+    assert_eq!(failed, 0, "the thread has no clock");
+    Duration::new(time.seconds as u64, time.nanoseconds as u32)
+}
+
+/// How long it is since the first call.
+#[cfg(not(target_os = "linux"))]
+pub fn now() -> Duration {
+    use std::sync::OnceLock;
+    use std::time::Instant;
+
+    static FIRST: OnceLock<Instant> = OnceLock::new();
+    FIRST.get_or_init(Instant::now).elapsed()
+}

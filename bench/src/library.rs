@@ -1,0 +1,258 @@
+//! Safe Rust over the static library `rkyv_bench`.
+//!
+//! Nothing checks a call from Rust against a contract. So each call here keeps what the contract
+//! requires: texts are made from `&str`s alone, and lookups and walks are given archives that were
+//! accepted.
+
+use std::ffi::c_void;
+
+// A slice crosses as a pointer and then a length. An allocator takes no bytes.
+unsafe extern "C" {
+    fn rkyv_bench_hash_u32(keys: *const u32, key_count: usize) -> u64;
+    fn rkyv_bench_hash_text(bytes: *const u8, len: usize, ends: *const u32, count: usize) -> u64;
+    fn rkyv_bench_build_u32(
+        keys: *const u32,
+        key_count: usize,
+        values: *const u32,
+        value_count: usize,
+        out: *mut u8,
+        room: usize,
+    ) -> usize;
+    fn rkyv_bench_build_text(
+        bytes: *const u8,
+        len: usize,
+        ends: *const u32,
+        count: usize,
+        values: *const u32,
+        value_count: usize,
+        out: *mut u8,
+        room: usize,
+    ) -> usize;
+    fn rkyv_bench_access_u32(archive: *const u8, len: usize) -> usize;
+    fn rkyv_bench_access_text(archive: *const u8, len: usize) -> usize;
+    fn rkyv_bench_lookup_u32(
+        archive: *const u8,
+        len: usize,
+        keys: *const u32,
+        key_count: usize,
+    ) -> u64;
+    fn rkyv_bench_lookup_text(
+        archive: *const u8,
+        archive_len: usize,
+        bytes: *const u8,
+        len: usize,
+        ends: *const u32,
+        count: usize,
+    ) -> u64;
+    fn rkyv_bench_walk_u32(archive: *const u8, len: usize) -> u64;
+    fn rkyv_bench_walk_text(archive: *const u8, len: usize) -> u64;
+
+    fn malloc(size: usize) -> *mut c_void;
+    fn realloc(block: *mut c_void, size: usize) -> *mut c_void;
+    fn free(block: *mut c_void);
+}
+
+/// What the library's allocator is answered: whether there is memory, and where.
+#[repr(C)]
+pub struct Tried {
+    is_there: bool,
+    block: *mut c_void,
+}
+
+fn tried(block: *mut c_void) -> Tried {
+    Tried {
+        is_there: !block.is_null(),
+        block,
+    }
+}
+
+// The three functions by which the library asks for memory: those of the C library. A block of no
+// bytes takes as many as its alignment.
+
+#[unsafe(no_mangle)]
+extern "C" fn rattle_alloc(size: usize, align: usize) -> Tried {
+    // SAFETY: `malloc` takes any size.
+    tried(unsafe { malloc(if size == 0 { align } else { size }) })
+}
+
+#[unsafe(no_mangle)]
+unsafe extern "C" fn rattle_realloc(
+    block: *mut c_void,
+    _kept: usize,
+    size: usize,
+    align: usize,
+) -> Tried {
+    // SAFETY: the library gives back what it was given here.
+    tried(unsafe { realloc(block, if size == 0 { align } else { size }) })
+}
+
+#[unsafe(no_mangle)]
+unsafe extern "C" fn rattle_dealloc(block: *mut c_void) {
+    // SAFETY: the library gives back what it was given here.
+    unsafe { free(block) }
+}
+
+/// Keys as the library takes them.
+pub trait Keys {
+    /// The sum of the keys' hashes.
+    fn hash(&self) -> u64;
+
+    /// Archives a map of them, and answers the archive's length, or 0.
+    fn build(&self, values: &[u32], out: &mut [u8]) -> usize;
+
+    /// The length of the archived map and one more, or 0.
+    fn access(archive: &[u8]) -> usize;
+
+    /// The sum of the values that are found, and of 2^32 for each key that isn't.
+    fn lookup(&self, archive: &Accepted<'_, Self>) -> u64;
+
+    /// The sum of all pairs of an archive.
+    fn walk(archive: &Accepted<'_, Self>) -> u64;
+}
+
+/// An archive of a map with such keys.
+pub struct Accepted<'a, K: ?Sized> {
+    archive: &'a [u8],
+    kind: std::marker::PhantomData<K>,
+}
+
+impl<'a, K: Keys> Accepted<'a, K> {
+    /// The archive, where it is one, of a map of this length.
+    pub fn new(archive: &'a [u8], len: usize) -> Option<Self> {
+        (K::access(archive) == len + 1).then_some(Accepted {
+            archive,
+            kind: std::marker::PhantomData,
+        })
+    }
+}
+
+/// Numbers.
+pub struct Numbers(pub Vec<u32>);
+
+impl Keys for Numbers {
+    fn hash(&self) -> u64 {
+        // SAFETY: pointer and length are those of one slice.
+        unsafe { rkyv_bench_hash_u32(self.0.as_ptr(), self.0.len()) }
+    }
+
+    fn build(&self, values: &[u32], out: &mut [u8]) -> usize {
+        // SAFETY: each pointer and the length behind it are those of one slice.
+        unsafe {
+            rkyv_bench_build_u32(
+                self.0.as_ptr(),
+                self.0.len(),
+                values.as_ptr(),
+                values.len(),
+                out.as_mut_ptr(),
+                out.len(),
+            )
+        }
+    }
+
+    fn access(archive: &[u8]) -> usize {
+        // SAFETY: pointer and length are those of one slice.
+        unsafe { rkyv_bench_access_u32(archive.as_ptr(), archive.len()) }
+    }
+
+    fn lookup(&self, archive: &Accepted<'_, Self>) -> u64 {
+        let archive = archive.archive;
+        // SAFETY: as above, and the archive was accepted.
+        unsafe {
+            rkyv_bench_lookup_u32(
+                archive.as_ptr(),
+                archive.len(),
+                self.0.as_ptr(),
+                self.0.len(),
+            )
+        }
+    }
+
+    fn walk(archive: &Accepted<'_, Self>) -> u64 {
+        // SAFETY: as above, and the archive was accepted.
+        unsafe { rkyv_bench_walk_u32(archive.archive.as_ptr(), archive.archive.len()) }
+    }
+}
+
+/// Texts, one behind the other, and where each ends.
+pub struct Texts {
+    bytes: String,
+    ends: Vec<u32>,
+}
+
+impl Texts {
+    pub fn new() -> Texts {
+        Texts {
+            bytes: String::new(),
+            ends: Vec::new(),
+        }
+    }
+
+    pub fn push(&mut self, text: &str) {
+        self.bytes.push_str(text);
+        self.ends.push(u32::try_from(self.bytes.len()).unwrap());
+    }
+
+    pub fn iter(&self) -> impl Iterator<Item = &str> {
+        let mut from = 0;
+        self.ends.iter().map(move |end| {
+            let text = &self.bytes[from..*end as usize];
+            from = *end as usize;
+            text
+        })
+    }
+}
+
+impl Keys for Texts {
+    fn hash(&self) -> u64 {
+        // SAFETY: each pointer and the length behind it are those of one slice; the texts are
+        // UTF-8, and lie in the bytes in order.
+        unsafe {
+            rkyv_bench_hash_text(
+                self.bytes.as_ptr(),
+                self.bytes.len(),
+                self.ends.as_ptr(),
+                self.ends.len(),
+            )
+        }
+    }
+
+    fn build(&self, values: &[u32], out: &mut [u8]) -> usize {
+        // SAFETY: as above.
+        unsafe {
+            rkyv_bench_build_text(
+                self.bytes.as_ptr(),
+                self.bytes.len(),
+                self.ends.as_ptr(),
+                self.ends.len(),
+                values.as_ptr(),
+                values.len(),
+                out.as_mut_ptr(),
+                out.len(),
+            )
+        }
+    }
+
+    fn access(archive: &[u8]) -> usize {
+        // SAFETY: pointer and length are those of one slice.
+        unsafe { rkyv_bench_access_text(archive.as_ptr(), archive.len()) }
+    }
+
+    fn lookup(&self, archive: &Accepted<'_, Self>) -> u64 {
+        // SAFETY: as above, and the archive was accepted.
+        unsafe {
+            rkyv_bench_lookup_text(
+                archive.archive.as_ptr(),
+                archive.archive.len(),
+                self.bytes.as_ptr(),
+                self.bytes.len(),
+                self.ends.as_ptr(),
+                self.ends.len(),
+            )
+        }
+    }
+
+    fn walk(archive: &Accepted<'_, Self>) -> u64 {
+        // SAFETY: as above, and the archive was accepted.
+        unsafe { rkyv_bench_walk_text(archive.archive.as_ptr(), archive.archive.len()) }
+    }
+}

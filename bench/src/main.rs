@@ -1,0 +1,393 @@
+//! Measures archived hash maps against std's `HashMap`, and prints a table in Markdown.
+
+mod clock;
+mod fx;
+mod library;
+mod random;
+
+use clock::now;
+use fx::BuildFx;
+use library::{Accepted, Keys, Numbers, Texts};
+use random::{XorShift32, XorShift64};
+use std::borrow::Borrow;
+use std::collections::HashMap;
+use std::hash::{BuildHasher, Hash, RandomState};
+use std::hint::black_box;
+use std::time::Duration;
+
+const MISS: u64 = 1 << 32;
+
+// Each measured value is the time of at least so many keys.
+const KEYS_A_VALUE: usize = 1_000_000;
+
+#[derive(Clone, Copy, PartialEq, Eq)]
+enum Measure {
+    Hash,
+    Build,
+    // As `Build`, but std's map borrows its texts, where the archive has its own.
+    BuildBorrowed,
+    Access,
+    Hits,
+    Misses,
+    Walk,
+}
+
+const MEASURES: [Measure; 7] = [
+    Measure::Hash,
+    Measure::Build,
+    Measure::BuildBorrowed,
+    Measure::Access,
+    Measure::Hits,
+    Measure::Misses,
+    Measure::Walk,
+];
+
+impl Measure {
+    fn name(self) -> &'static str {
+        match self {
+            Measure::Hash => "hash",
+            Measure::Build => "build",
+            Measure::BuildBorrowed => "build, std of `&str`",
+            Measure::Access => "access",
+            Measure::Hits => "lookup, found",
+            Measure::Misses => "lookup, not found",
+            Measure::Walk => "walk",
+        }
+    }
+}
+
+#[derive(Clone, Copy, PartialEq, Eq)]
+enum Contestant {
+    Ours,
+    Sip,
+    Fx,
+}
+
+const CONTESTANTS: [Contestant; 3] = [Contestant::Ours, Contestant::Sip, Contestant::Fx];
+
+/// A key by which std's maps are asked, and the key that they own.
+trait Key: Copy + Eq + Hash {
+    type Asked: ?Sized + Eq + Hash;
+
+    type Owned: Eq + Hash + Borrow<Self::Asked>;
+
+    /// Whether a map can borrow its keys.
+    const IS_BORROWED: bool;
+
+    fn asked(&self) -> &Self::Asked;
+
+    fn own(self) -> Self::Owned;
+
+    /// What a walk counts of it.
+    fn weight(key: &Self::Asked) -> u64;
+}
+
+impl Key for u32 {
+    type Asked = u32;
+
+    type Owned = u32;
+
+    const IS_BORROWED: bool = false;
+
+    fn asked(&self) -> &u32 {
+        self
+    }
+
+    fn own(self) -> u32 {
+        self
+    }
+
+    fn weight(key: &u32) -> u64 {
+        u64::from(*key)
+    }
+}
+
+impl Key for &str {
+    type Asked = str;
+
+    type Owned = String;
+
+    const IS_BORROWED: bool = true;
+
+    fn asked(&self) -> &str {
+        self
+    }
+
+    fn own(self) -> String {
+        self.to_string()
+    }
+
+    fn weight(key: &str) -> u64 {
+        key.len() as u64
+    }
+}
+
+/// Keys and values to be put into a map, keys to be asked for that are in it, in another order, and
+/// keys that aren't.
+struct Workload<'a, K, Q> {
+    keys: &'a K,
+    hits: &'a K,
+    misses: &'a K,
+    key_list: &'a [Q],
+    hit_list: &'a [Q],
+    miss_list: &'a [Q],
+    values: &'a [u32],
+}
+
+/// The time of one call, of several in a row, and what the last one answered.
+fn time<T>(times: usize, mut call: impl FnMut() -> T) -> (Duration, T) {
+    let mut answer = None;
+    let begin = now();
+    for _ in 0..times {
+        answer = Some(black_box(call()));
+    }
+    ((now() - begin) / times as u32, answer.unwrap())
+}
+
+fn sum(terms: impl Iterator<Item = u64>) -> u64 {
+    terms.fold(0, u64::wrapping_add)
+}
+
+fn build_std<K: Eq + Hash, S: BuildHasher + Default>(
+    keys: impl ExactSizeIterator<Item = K>,
+    values: &[u32],
+) -> HashMap<K, u32, S> {
+    let mut map = HashMap::with_capacity_and_hasher(keys.len(), S::default());
+    for (key, value) in keys.zip(values) {
+        map.insert(key, *value);
+    }
+    map
+}
+
+/// The time of one build. The maps are dropped outside of it.
+fn time_build<T>(times: usize, mut build: impl FnMut() -> T) -> Duration {
+    let mut maps = Vec::with_capacity(times);
+    time(times, || maps.push(build())).0
+}
+
+fn measure_std<Q: Key, K, S: BuildHasher + Default>(
+    measure: Measure,
+    times: usize,
+    work: &Workload<'_, K, Q>,
+    map: &HashMap<Q::Owned, u32, S>,
+) -> (Duration, u64) {
+    let lookup = |list: &[Q]| {
+        sum(list
+            .iter()
+            .map(|key| map.get(key.asked()).map_or(MISS, |value| u64::from(*value))))
+    };
+    let count = work.values.len() as u64;
+    match measure {
+        Measure::Hash => time(times, || {
+            let hasher = map.hasher();
+            sum(black_box(work.key_list)
+                .iter()
+                .map(|key| hasher.hash_one(key.asked())))
+        }),
+        Measure::Build => {
+            let build = || {
+                let keys = black_box(work.key_list).iter().map(|key| key.own());
+                build_std::<Q::Owned, S>(keys, work.values)
+            };
+            (time_build(times, build), count)
+        }
+        Measure::BuildBorrowed => {
+            let build = || {
+                let keys = black_box(work.key_list).iter().copied();
+                build_std::<Q, S>(keys, work.values)
+            };
+            (time_build(times, build), count)
+        }
+        Measure::Access => unreachable!("it has no counterpart"),
+        Measure::Hits => time(times, || lookup(black_box(work.hit_list))),
+        Measure::Misses => time(times, || lookup(black_box(work.miss_list))),
+        Measure::Walk => time(times, || {
+            sum(black_box(map)
+                .iter()
+                .map(|(key, value)| Q::weight(key.borrow()).wrapping_add(u64::from(*value))))
+        }),
+    }
+}
+
+fn measure_ours<Q, K: Keys>(
+    measure: Measure,
+    times: usize,
+    work: &Workload<'_, K, Q>,
+    archive: &[u8],
+    accepted: &Accepted<'_, K>,
+    out: &mut [u8],
+) -> (Duration, u64) {
+    match measure {
+        Measure::Hash => time(times, || black_box(work.keys).hash()),
+        Measure::Build | Measure::BuildBorrowed => {
+            let (duration, len) = time(times, || black_box(work.keys).build(work.values, out));
+            assert!(out[..len] == *archive, "another archive was built");
+            (duration, work.values.len() as u64)
+        }
+        Measure::Access => time(times, || K::access(black_box(archive)) as u64),
+        Measure::Hits => time(times, || black_box(work.hits).lookup(accepted)),
+        Measure::Misses => time(times, || black_box(work.misses).lookup(accepted)),
+        Measure::Walk => time(times, || K::walk(black_box(accepted))),
+    }
+}
+
+fn median(mut times: Vec<Duration>) -> f64 {
+    times.sort();
+    times[times.len() / 2].as_nanos() as f64
+}
+
+fn run<Q: Key, K: Keys>(kind: &str, work: &Workload<'_, K, Q>, rounds: usize) {
+    let count = work.values.len();
+    let mut out = vec![0; 128 * count + 1024];
+    let len = work.keys.build(work.values, &mut out);
+    assert!(len > 0, "the archive was refused");
+    let archive = out[..len].to_vec();
+    let accepted: Accepted<'_, K> =
+        Accepted::new(&archive, count).expect("the archive is accepted");
+    let owned = || work.key_list.iter().map(|key| key.own());
+    let sip: HashMap<Q::Owned, u32, RandomState> = build_std(owned(), work.values);
+    let fx: HashMap<Q::Owned, u32, BuildFx> = build_std(owned(), work.values);
+
+    let mut measures = MEASURES.to_vec();
+    measures.retain(|measure| Q::IS_BORROWED || *measure != Measure::BuildBorrowed);
+    let mut tasks: Vec<(Measure, Contestant)> = Vec::new();
+    for measure in measures.iter().copied() {
+        for contestant in CONTESTANTS {
+            if measure != Measure::Access || contestant == Contestant::Ours {
+                tasks.push((measure, contestant));
+            }
+        }
+    }
+    let mut taken: Vec<(Measure, Contestant, Duration)> = Vec::new();
+    let mut random = XorShift64::new();
+    let times = KEYS_A_VALUE.div_ceil(count);
+    let hit_sum = sum(work.values.iter().map(|value| u64::from(*value)));
+    let walk_sum =
+        hit_sum.wrapping_add(sum(work.key_list.iter().map(|key| Q::weight(key.asked()))));
+    let hash_sum = sum(work
+        .key_list
+        .iter()
+        .map(|key| BuildFx::default().hash_one(key.asked())));
+    for _ in 0..rounds {
+        random.shuffle(&mut tasks);
+        for (measure, contestant) in &tasks {
+            let (duration, answer) = match contestant {
+                Contestant::Ours => {
+                    measure_ours(*measure, times, work, &archive, &accepted, &mut out)
+                }
+                Contestant::Sip => measure_std(*measure, times, work, &sip),
+                Contestant::Fx => measure_std(*measure, times, work, &fx),
+            };
+            let expected = match measure {
+                Measure::Hash if *contestant == Contestant::Sip => answer,
+                Measure::Hash => hash_sum,
+                Measure::Build | Measure::BuildBorrowed => count as u64,
+                Measure::Access => count as u64 + 1,
+                Measure::Hits => hit_sum,
+                Measure::Misses => MISS * count as u64,
+                Measure::Walk => walk_sum,
+            };
+            assert_eq!(answer, expected, "{}: another answer", measure.name());
+            taken.push((*measure, *contestant, duration));
+        }
+    }
+    let median_of = |measure, contestant| {
+        let of_task = taken
+            .iter()
+            .filter(|(m, c, _)| (*m, *c) == (measure, contestant));
+        median(of_task.map(|(_, _, duration)| *duration).collect())
+    };
+    for measure in measures {
+        let ours = median_of(measure, Contestant::Ours);
+        print!(
+            "| {kind} | {count} | {} | {:.2} |",
+            measure.name(),
+            ours / count as f64
+        );
+        if measure == Measure::Access {
+            println!(" | | | | {:.3} a byte of {len} |", ours / len as f64);
+        } else {
+            let sip = median_of(measure, Contestant::Sip);
+            let fx = median_of(measure, Contestant::Fx);
+            println!(
+                " {:.2} | {:.2} | {:.2} | {:.2} | |",
+                sip / count as f64,
+                fx / count as f64,
+                ours / sip,
+                ours / fx
+            );
+        }
+    }
+}
+
+fn numbers(random: &mut XorShift32, count: usize) -> Vec<u32> {
+    (0..count).map(|_| random.next()).collect()
+}
+
+// Texts of 1 to 25 bytes: a number's digits, and up to 15 more bytes, by the number.
+fn text_of(number: u32) -> String {
+    format!("{number}{}", &"/path/of/a/file"[..number as usize % 16])
+}
+
+fn texts(numbers: &[u32]) -> Texts {
+    let mut texts = Texts::new();
+    for number in numbers {
+        texts.push(&text_of(*number));
+    }
+    texts
+}
+
+fn load() -> String {
+    match std::fs::read_to_string("/proc/loadavg") {
+        Ok(load) => load.split(' ').take(3).collect::<Vec<_>>().join(", "),
+        Err(_) => "unknown".to_string(),
+    }
+}
+
+fn main() {
+    let cores = std::thread::available_parallelism().map_or(0, usize::from);
+    println!(
+        "Cores: {cores}. Load (1, 5, 15 minutes) before: {}.",
+        load()
+    );
+    println!();
+    println!("| keys | entries | measure | ours, ns | std SipHash, ns | std Fx, ns | ours / SipHash | ours / Fx | |");
+    println!("|---|--:|---|--:|--:|--:|--:|--:|---|");
+    for (count, rounds) in [(1_000, 31), (100_000, 31), (1_000_000, 15)] {
+        let mut random = XorShift32::new();
+        let keys = numbers(&mut random, count);
+        let misses = numbers(&mut random, count);
+        let values = numbers(&mut random, count);
+        let mut hits = keys.clone();
+        XorShift64::new().shuffle(&mut hits);
+        let of_texts = [&keys, &hits, &misses].map(|list| texts(list));
+        let [key_texts, hit_texts, miss_texts] = &of_texts;
+        let lists = of_texts
+            .each_ref()
+            .map(|list| list.iter().collect::<Vec<&str>>());
+        let of_numbers = [keys, hits, misses].map(Numbers);
+        let [key_numbers, hit_numbers, miss_numbers] = &of_numbers;
+        let work = Workload {
+            keys: key_numbers,
+            hits: hit_numbers,
+            misses: miss_numbers,
+            key_list: &key_numbers.0,
+            hit_list: &hit_numbers.0,
+            miss_list: &miss_numbers.0,
+            values: &values,
+        };
+        run("u32", &work, rounds);
+        let work = Workload {
+            keys: key_texts,
+            hits: hit_texts,
+            misses: miss_texts,
+            key_list: &lists[0],
+            hit_list: &lists[1],
+            miss_list: &lists[2],
+            values: &values,
+        };
+        run("text", &work, rounds);
+    }
+    println!();
+    println!("Load after: {}.", load());
+}

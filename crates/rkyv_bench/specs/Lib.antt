@@ -1,0 +1,4 @@
+pub mod Archives
+pub mod Cuts
+pub mod Totals
+pub mod Building
