@@ -11,3 +11,6 @@ pub mod SetFormat
 pub mod Set
 pub mod SetSound
 pub mod Listed
+pub mod SealedMap
+pub mod SealedPairs
+pub mod ValueWrites
