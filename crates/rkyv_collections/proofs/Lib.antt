@@ -8,3 +8,4 @@ pub mod Lookups
 pub mod Matching
 pub mod WrittenPairs
 pub mod EqualMaps
+pub mod SealedMap

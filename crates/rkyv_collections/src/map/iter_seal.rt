@@ -133,7 +133,7 @@ impl<'a, K: Element, N: Scalar, H, W> IterMut<'a, K, N, H, W> {
             ≡ with_value N.encoding (cursor_bytes (entries_in self.old)) (value_place K.shape (scalar_shape N.encoding) pos) value }
         ensures kept { KeepsPairs K.shape (scalar_shape N.encoding) (entries_in self.old) pos (entries_in self.new) }
     {
-        self.entries.write_at(pos + value_offset::<K, N>() as u64, value);
+        self.entries.write_at(pos, value_offset::<K, N>(), value);
     }
 }
 
@@ -193,7 +193,7 @@ impl<'a, K: Element, N: Scalar, H, W> ValuesMut<'a, K, N, H, W> {
         ensures written { cursor_bytes (entries_of self.new) ≡ with_value N.encoding (cursor_bytes (entries_of self.old)) pos value }
         ensures kept { KeepsValues K.shape (scalar_shape N.encoding) (entries_of self.old) pos (entries_of self.new) }
     {
-        self.pairs.entries.write_at(pos, value);
+        self.pairs.entries.write_at(pos, 0, value);
     }
 }
 

@@ -1,7 +1,8 @@
 //! Writing the values of a map in place.
-ghost use Rattle.std.specs.Prelude.{Bool, IfSome, ℕ, ◌≡◌};
+ghost use Rattle.std.specs.Prelude.{Bool, IfSome, length, ℕ, ◌+◌, ◌≡◌, ◌≤◌};
 ghost use Rattle.rkyv_base.specs.Entry.{entry_shape};
-ghost use Rattle.rkyv_base.specs.Seal.{LiesIn, archive_in, pos_in};
+ghost use Rattle.rkyv_base.specs.Seal.{LiesIn, SealAt, archive_in, pos_in};
+ghost use Rattle.rkyv_base.specs.Sealing.{value_place};
 ghost use Rattle.rkyv_scan.specs.Hash.{hash_of_calls};
 ghost use Rattle.rkyv_collections.specs.Map.{AreUnderHashAt, FindsFirstKeyAt, FindsKeyAt, IsKeyPlaceAt, hash_at};
 ghost use Rattle.rkyv_collections.specs.SealedMap.{AnswersKeysAt, IsMapSeal, IsPairSeal, IsPairSealAt, IsValueSeal, IsValueSealAt, MayAskKeysAt};
@@ -16,6 +17,20 @@ use rkyv_base::width::Width;
 use rkyv_keys::hash::KeyHash;
 use rkyv_keys::keys::{KeyElement, Query};
 use rkyv_scan::hash::KeyHasher;
+
+/// The value behind the key at a position, to be written.
+#[inline]
+fn value_seal<'a, K: Element, V: Element, H, W>(
+    this: ArchiveSeal<'a, HashMapOf<K, V, H, W>>,
+    pos: u64,
+) -> Seal<'a, V>
+    requires { value_place K.shape V.shape pos + V.shape.size ≤ length (archive_in this) }
+    ensures at { SealAt result this.entry.archive (value_place K.shape V.shape pos) }
+    ensures inside { LiesIn V.shape result }
+{
+    let (archive, _) = this.into_parts();
+    Seal::over(archive, pos as usize + value_offset::<K, V>())
+}
 
 // Every sealed lookup is one of these two, which ask the map that is read where the seal is.
 impl<'a, K: KeyElement, V: Element, H: KeyHasher, W: Width> ArchivedHashMap<'a, K, V, H, W> {
@@ -140,7 +155,7 @@ impl<'a, K: KeyElement, V: Element, H: KeyHasher, W: Width> ArchivedHashMap<'a, 
             → FindsFirstKeyAt W.word K.shape V.shape (archive_in this.entry) (pos_in this.entry) key_hash accept (IsValueSealAt K.shape V.shape result) }
     {
         match Self::find_pos(&this, key, cmp) {
-            Some(pos) => Some(this.seal_at(pos + value_offset::<K, V>() as u64)),
+            Some(pos) => Some(value_seal::<K, V, H, W>(this, pos)),
             None => None,
         }
     }
@@ -161,7 +176,7 @@ impl<'a, K: KeyElement, V: Element, H: KeyHasher, W: Width> ArchivedHashMap<'a, 
             FindsFirstKeyAt W.word K.shape V.shape (archive_in this.entry) (pos_in this.entry) key_hash (Q.fits key.now (archive_in this.entry)) (IsValueSealAt K.shape V.shape result) }
     {
         match Self::find_key_pos(&this, key) {
-            Some(pos) => Some(this.seal_at(pos + value_offset::<K, V>() as u64)),
+            Some(pos) => Some(value_seal::<K, V, H, W>(this, pos)),
             None => None,
         }
     }

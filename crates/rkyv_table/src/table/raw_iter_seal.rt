@@ -168,17 +168,17 @@ impl<'a, T> RawIterSeal<'a, T> {
         &mut *self.archive
     }
 
-    /// Writes a scalar at a position of the archive.
+    /// Writes a scalar as many bytes behind a position of the archive as `offset` tells.
     #[inline]
-    pub fn write_at<N: Scalar>(&mut self, pos: u64, value: N)
-        requires { pos + byte_len N.encoding.word ≤ length (cursor_bytes self.old) }
+    pub fn write_at<N: Scalar>(&mut self, pos: u64, offset: usize, value: N)
+        requires { pos + offset + byte_len N.encoding.word ≤ length (cursor_bytes self.old) }
         ensures stays { StaysThere self.old self.new }
-        ensures written { cursor_bytes self.new ≡ with_value N.encoding (cursor_bytes self.old) pos value }
-        ensures sealed { Sealed (cursor_bytes self.old) pos (byte_len N.encoding.word) (cursor_bytes self.new) }
-        ensures holds { Keeps (scalar_shape N.encoding) (cursor_bytes self.old) (cursor_bytes self.new) pos }
+        ensures written { cursor_bytes self.new ≡ with_value N.encoding (cursor_bytes self.old) (pos + offset) value }
+        ensures sealed { Sealed (cursor_bytes self.old) (pos + offset) (byte_len N.encoding.word) (cursor_bytes self.new) }
+        ensures holds { Keeps (scalar_shape N.encoding) (cursor_bytes self.old) (cursor_bytes self.new) (pos + offset) }
     {
         let bytes = &mut *self.archive;
-        set_at(bytes, pos as usize, value);
+        set_at(bytes, pos as usize + offset, value);
     }
 }
 
@@ -191,7 +191,8 @@ impl<'a, N: Scalar> RawIterSeal<'a, N> {
         ensures written { cursor_bytes self.new ≡ with_value N.encoding (cursor_bytes self.old) pos value }
         ensures kept { KeepsCursor (scalar_shape N.encoding) self.old pos self.new }
     {
-        self.write_at(pos, value);
+        let bytes = &mut *self.archive;
+        set_at(bytes, pos as usize, value);
     }
 }
 
