@@ -9,3 +9,4 @@ pub mod Matching
 pub mod WrittenPairs
 pub mod EqualMaps
 pub mod SealedMap
+pub mod SealedPairs

@@ -62,6 +62,15 @@ fn pair_at<K: Element, V: Element>(
     Some((View::new(front, pos), Seal::over(back, 0)))
 }
 
+/// Where the value behind a key at a position stands, which lies in the bytes.
+#[inline]
+fn behind<K: Element, V: Element>(bytes: &[u8], pos: u64) -> u64
+    requires { value_place K.shape V.shape pos ≤ length bytes.now }
+    ensures { result ≡ value_place K.shape V.shape pos }
+{
+    pos + value_offset::<K, V>() as u64
+}
+
 /// The pairs of a map, by ascending bucket, each with its value to be written.
 ///
 /// It gives as many as `len` tells.
@@ -163,7 +172,7 @@ impl<'a, K: Element, V: Element, H, W> ValuesMut<'a, K, V, H, W> {
         ensures takes { TakesValuePlace K.shape V.shape (entries_of self.old) result (entries_of self.new) }
     {
         match self.pairs.next_pos() {
-            Some(key) => Some(key + value_offset::<K, V>() as u64),
+            Some(key) => Some(behind::<K, V>(self.pairs.entries.bytes(), key)),
             None => None,
         }
     }
