@@ -10,3 +10,4 @@ pub mod WrittenPairs
 pub mod EqualMaps
 pub mod SealedMap
 pub mod SealedPairs
+pub mod ValueWrites
