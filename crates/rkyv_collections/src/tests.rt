@@ -1,5 +1,6 @@
 //! Worked examples, and one call of each public function.
 mod lists;
 mod reading;
+mod sealed;
 mod sets;
 mod writing;
