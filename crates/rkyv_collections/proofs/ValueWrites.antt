@@ -12,9 +12,10 @@ use Rattle.rkyv_base.specs.Bytes.{Same, same_part}
 use Rattle.rkyv_base.specs.Entry.{entry_element, entry_shape, same_key, viewed_key}
 use Rattle.rkyv_base.specs.Format.{StandsNear}
 use Rattle.rkyv_base.specs.Pairs.{PairStands, pair_near}
-use Rattle.rkyv_base.specs.Sealing.{value_place}
+use Rattle.rkyv_base.specs.Sealing.{Keeps, Sealed, value_place}
 use Rattle.rkyv_base.specs.Shape.{IsElement, Shape, Viewed}
 use Rattle.rkyv_base.proofs.Sealing.{viewed_kept}
+use Rattle.rkyv_keys.specs.OfValues.{IsValueAt, value_fits}
 use Rattle.rkyv_table.specs.Finding.{found}
 use Rattle.rkyv_table.specs.Header.{cap_at, len_at}
 use Rattle.rkyv_table.specs.Numbers.{capacity}
@@ -26,7 +27,7 @@ use Rattle.rkyv_table.proofs.Misplaced.{found_agree}
 use Rattle.rkyv_table.proofs.SealedTable.{cap_kept, item_stays, len_kept, lookup_kept, value_kept, written_kept}
 use Rattle.rkyv_table.proofs.Walks.{walked_full}
 use Rattle.rkyv_table.proofs.WrittenAccepted.{homes_apart}
-use Rattle.rkyv_collections.specs.Map.{MapWrittenAt, map_shape}
+use Rattle.rkyv_collections.specs.Map.{IsKeyPlaceAt, MapWrittenAt, map_shape}
 use Rattle.rkyv_collections.specs.MapFormat.{MapStands}
 use Rattle.rkyv_collections.specs.MapLaws.{HashNear}
 use Rattle.rkyv_collections.specs.ValueWrites.{KeepsMap, RestsOnKey, WritesValue, entry_place}
@@ -131,6 +132,13 @@ module _ (k v : Shape) (kl : IsElement k) (vl : IsElement v) where
       written = written_same;
     }
 
+-- where the key stands at q, and the value at pos
+pub map_kept_at : (k v : Shape) (kl : IsElement k) (vl : IsElement v) (w : Width) (key_hash : List ℕ → ℕ → ℕ) → HashNear k key_hash → (b c : List ℕ) (p q pos : ℕ) → Viewed (map_shape w k v) b p
+    → (at : IsKeyPlaceAt w k v b p q) → pos ≡ value_place k v q → Sealed b pos v.size c → Keeps v b c pos → KeepsMap w k v key_hash b c p at.0
+map_kept_at k v kl vl w key_hash near b c p q pos view at is sealed keeps =
+    let there : pos ≡ value_place k v (entry_place w k v b p at.0) = is ∙ ap (value_place k v) at.2 in
+    map_kept k v kl vl w key_hash near b c p at.0 view at.1 (record { sealed = subst (λ n. Sealed b n v.size c) there sealed; keeps = subst (Keeps v b c) there keeps })
+
 module _ (k v : Shape) (kl : IsElement k) (vl : IsElement v) (w : Width) (key_hash : List ℕ → ℕ → ℕ) (near : HashNear k key_hash) {A B : Type 0} (key : List ℕ → ℕ → A → Type 0) (value : List ℕ → ℕ → B → Type 0)
     (kn : StandsNear k key) (vn : StandsNear v value) (b c : List ℕ) (p n : ℕ) (factor : ℕ × ℕ) (pairs : List (A × B)) (pair : A × B) (new : B) (view : Viewed (map_shape w k v) b p)
     (st : MapStands w k v key value key_hash factor b p pairs) (at_n : slice_get pairs n ≡ Some pair) where
@@ -223,3 +231,8 @@ module _ (k v : Shape) (kl : IsElement k) (vl : IsElement v) (w : Width) (key_ha
                     other_stands j x (slice_get-get_or pairs j x h ∙ ap Some one) ne
               ]);
         }
+
+-- whether a value that stands as a whole is equal to one that is asked for rests on the bytes on which it rests that it stands
+pub value_rests : {V Q : Type 0} (k : Shape) (at : List ℕ → ℕ → V) → StandsNear k (IsValueAt at (λ v. v)) → (equal : V → V → Bool) (seen : Q → V) (asked : Q) → RestsOnKey k (value_fits at equal seen asked)
+value_rests k at near equal seen asked b c q stands same =
+    ap (equal (seen asked)) (near (at b q) b c q 0 q stands.0 (omega arith) stands.1 same.fixed (same.parts stands.0 stands.1) refl)

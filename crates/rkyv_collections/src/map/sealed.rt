@@ -75,7 +75,7 @@ impl<'a, K: KeyElement, V: Element, H: KeyHasher, W: Width> ArchivedHashMap<'a, 
             FindsFirstKeyAt W.word K.shape V.shape (archive_in this.now) (pos_in this.now) key_hash (Q.fits key.now (archive_in this.now)) (λ place. result ≡ place) }
     {
         match ArchivedHashMap::of(this.as_view()).find_key(key) {
-            Some(entry) => Some(entry.pos()),
+            Some(found) => Some(found.pos()),
             None => None,
         }
     }
@@ -128,7 +128,7 @@ impl<'a, K: KeyElement, V: Element, H: KeyHasher, W: Width> ArchivedHashMap<'a, 
             FindsFirstKeyAt W.word K.shape V.shape (archive_in this.entry) (pos_in this.entry) key_hash (Q.fits key.now (archive_in this.entry)) (IsPairSealAt result) }
     {
         match Self::find_key_pos(&this, key) {
-            Some(pos) => Some(this.split_value(pos)),
+            Some(place) => Some(this.split_value(place)),
             None => None,
         }
     }
@@ -176,7 +176,7 @@ impl<'a, K: KeyElement, V: Element, H: KeyHasher, W: Width> ArchivedHashMap<'a, 
             FindsFirstKeyAt W.word K.shape V.shape (archive_in this.entry) (pos_in this.entry) key_hash (Q.fits key.now (archive_in this.entry)) (IsValueSealAt K.shape V.shape result) }
     {
         match Self::find_key_pos(&this, key) {
-            Some(pos) => Some(value_seal::<K, V, H, W>(this, pos)),
+            Some(place) => Some(value_seal::<K, V, H, W>(this, place)),
             None => None,
         }
     }

@@ -1,18 +1,33 @@
 //! Values of maps that are written in place.
+ghost use Rattle.std.specs.Prelude.{IfSome, ℕ, ◌≡◌};
+ghost use Rattle.std.specs.Int.{w32};
+ghost use Rattle.std.specs.Option.{option_map};
 ghost use Rattle.rkyv_base.specs.Entry.{entry_shape};
+ghost use Rattle.rkyv_base.specs.Numbers.{unsigned};
+ghost use Rattle.rkyv_base.specs.Scalar.{scalar_shape};
+ghost use Rattle.rkyv_base.specs.Sealing.{value_place};
+ghost use Rattle.rkyv_base.specs.Shape.{Viewed};
 ghost use Rattle.rkyv_base.specs.Text.{text_shape};
 ghost use Rattle.rkyv_base.specs.View.{IsView};
-ghost use Rattle.std.specs.Int.{w32};
+ghost use Rattle.rkyv_scan.specs.Hash.{hash_of_calls};
+ghost use Rattle.rkyv_collections.specs.Map.{FindsKeyAt, IsKeyPlaceAt, map_shape};
+ghost use Rattle.rkyv_collections.specs.ValueWrites.{RestsOnKey};
 
 use crate::map::{ArchivedHashMap, HashMapOf};
 use crate::tests::lists::Pairs;
 use crate::tests::reading::four_pairs;
 use rkyv_base::access::{access, access_mut};
+use rkyv_base::element::Element;
 use rkyv_base::entry::Entry;
 use rkyv_base::root::to_bytes;
+use rkyv_base::scalars::Scalar;
+use rkyv_base::seal::set_at;
 use rkyv_base::text::Text;
 use rkyv_base::view::View;
-use rkyv_scan::hash::FxHasher64;
+use rkyv_base::width::{Narrow, Width};
+use rkyv_keys::hash::hash_value;
+use rkyv_keys::keys::{KeyElement, Query};
+use rkyv_scan::hash::{FxHasher64, KeyHasher};
 use std::alloc::Global;
 use std::marker::PhantomData;
 use std::test::Fail;
@@ -38,6 +53,69 @@ fn texts(alloc: Global, values: [&str; 3]) -> Result<Vec<u8>, Fail> {
     let pairs = vec![in alloc; ("hello", values[0]), ("foo", values[1]), ("baz", values[2])]?;
     let list: Pairs<&str, &str, FxHasher64> = Pairs(pairs, PhantomData);
     Ok(to_bytes(alloc, &list)?)
+}
+
+// Where the value of a key stands, by a plain lookup in the map at `root`.
+fn value_pos<K: KeyElement, V: Element, H: KeyHasher, W: Width, Q: Query<K>>(
+    bytes: &[u8],
+    root: u64,
+    key: &Q,
+) -> Option<u64>
+    requires map { Viewed (map_shape W.word K.shape V.shape) bytes.now root }
+    requires query { Q.can_read key.now }
+    ensures walked { IfSome result (λ pos. (place : ℕ) × IsKeyPlaceAt W.word K.shape V.shape bytes.now root place × (pos ≡ value_place K.shape V.shape place)) }
+    ensures answer { let hash = hash_of_calls H.initial H.feed H.finish (Q.calls key.now) in
+        FindsKeyAt W.word K.shape V.shape bytes.now root hash (Q.fits key.now bytes.now) (λ place. result ≡ option_map (value_place K.shape V.shape) place) }
+{
+    let map = ArchivedHashMap::<K, V, H, W>::of(View::new(bytes, root));
+    match map.get(key) {
+        Some(value) => Some(value.pos()),
+        None => None,
+    }
+}
+
+// Writes the value of a key in place, where the key is found, and looks it up again: the answer is
+// the new value.
+fn stored<K: KeyElement, N: Scalar, H: KeyHasher, W: Width, Q: Query<K>>(
+    bytes: &mut [u8],
+    root: u64,
+    key: &Q,
+    value: N,
+) -> Option<N>
+    requires map { Viewed (map_shape W.word K.shape (scalar_shape N.encoding)) bytes.old root }
+    requires query { Q.can_read key.now }
+    requires key { RestsOnKey K.shape (Q.fits key.now) }
+    ensures { let hash = hash_of_calls H.initial H.feed H.finish (Q.calls key.now) in
+        FindsKeyAt W.word K.shape (scalar_shape N.encoding) bytes.old root hash (Q.fits key.now bytes.old) (λ place. result ≡ option_map (λ _. value) place) }
+{
+    // A hash of 64 bits, as the law on lookups wants.
+    let _hash: u64 = hash_value::<Q, H>(key);
+    let pos = match value_pos::<K, N, H, W, Q>(&*bytes, root, key) {
+        Some(pos) => pos,
+        None => return None,
+    };
+    set_at(bytes, pos as usize, value);
+    match value_pos::<K, N, H, W, Q>(&*bytes, root, key) {
+        Some(found) => Some(View::<N>::new(&*bytes, found).to_native()),
+        None => None,
+    }
+}
+
+// As `stored`, of a number under the Fx hasher.
+fn number_stored(bytes: &mut [u8], root: u64, key: u32, value: u32) -> Option<u32>
+    requires { Viewed (map_shape w32 (scalar_shape (unsigned w32)) (scalar_shape (unsigned w32))) bytes.old root }
+    ensures { IfSome result (λ found. found ≡ value) }
+{
+    stored::<u32, u32, FxHasher64, Narrow, u32>(bytes, root, &key, value)
+}
+
+#[test]
+fn a_stored_value_is_looked_up(rt: HostRuntime) -> Result<(), Fail> {
+    let mut bytes = one_number();
+    let root = access::<Numbers>(&bytes)?.pos();
+    assert_eq!(rt; number_stored(&mut bytes, root, 1, 7), Some(7));
+    assert_eq!(rt; number_stored(&mut bytes, root, 2, 7), None);
+    Ok(())
 }
 
 #[test]

@@ -16,7 +16,7 @@ returns-in-Some-clause-walked g c =
     let b = archive_in c.args.this.now in
     let p = pos_in c.args.this.now in
     let at = IsKeyPlaceAt g.W.Width.word g.K.Element.shape g.V.Element.shape in
-    subst (at b p) (sym c.pos.ensures) (as_read c.of.result b p bytes place (λ d r. at d r c.in-Some.entry.pos) c.in-Some.ensures.walked.2)
+    subst (at b p) (sym c.pos.ensures) (as_read c.of.result b p bytes place (λ d r. at d r c.in-Some.found.pos) c.in-Some.ensures.walked.2)
 
 pub returns-in-Some-clause-answer : goal.returns-in-Some-clause-answer
 returns-in-Some-clause-answer g c =
@@ -26,7 +26,7 @@ returns-in-Some-clause-answer g c =
     let size = (entry_shape g.K.Element.shape g.V.Element.shape).size in
     ap Some c.pos.ensures
     ∙ as_read c.of.result (archive_in c.args.this.now) (pos_in c.args.this.now) bytes place
-    (λ d r. Some c.in-Some.entry.pos ≡ place_found generic_kind g.W.Width.word size d r hash (g.Q.Query.fits c.args.key.now d)) c.in-Some.ensures.answer
+    (λ d r. Some c.in-Some.found.pos ≡ place_found generic_kind g.W.Width.word size d r hash (g.Q.Query.fits c.args.key.now d)) c.in-Some.ensures.answer
 
 pub returns-in-Some-clause-first : goal.returns-in-Some-clause-first
 returns-in-Some-clause-first g c = λ homes written.
@@ -35,5 +35,5 @@ returns-in-Some-clause-first g c = λ homes written.
     let key_hash = hash_at g.H.KeyHasher.initial g.H.KeyHasher.feed g.H.KeyHasher.finish g.K.KeyElement.key_calls in
     ap Some c.pos.ensures
     ∙ as_read c.of.result (archive_in c.args.this.now) (pos_in c.args.this.now) bytes place
-    (λ d r. FindsFirstKeyAt g.W.Width.word g.K.Element.shape g.V.Element.shape d r key_hash (g.Q.Query.fits c.args.key.now d) (λ found. Some c.in-Some.entry.pos ≡ found))
+    (λ d r. FindsFirstKeyAt g.W.Width.word g.K.Element.shape g.V.Element.shape d r key_hash (g.Q.Query.fits c.args.key.now d) (λ found. Some c.in-Some.found.pos ≡ found))
     c.in-Some.ensures.first homes written

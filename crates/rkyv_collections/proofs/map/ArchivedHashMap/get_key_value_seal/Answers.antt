@@ -5,7 +5,7 @@ use Rattle.rkyv_collections.proofs.map.ArchivedHashMap.get_key_value_seal.Goals 
 
 pub split_value-requires : goal.split_value-requires
 split_value-requires g c =
-    entry_viewed g.W.Width.word g.K.Element.shape g.V.Element.shape g.met.K.Element.laws g.met.V.Element.laws (archive_in c.args.this) (pos_in c.args.this) c.requires.map c.in-Some.pos c.in-Some.ensures.walked
+    entry_viewed g.W.Width.word g.K.Element.shape g.V.Element.shape g.met.K.Element.laws g.met.V.Element.laws (archive_in c.args.this) (pos_in c.args.this) c.requires.map c.in-Some.place c.in-Some.ensures.walked
 
 pub returns-in-Some-clause-walked : goal.returns-in-Some-clause-walked
 returns-in-Some-clause-walked g c =
@@ -17,7 +17,7 @@ returns-in-Some-clause-walked g c =
     let walked = c.in-Some.ensures.walked in
     let e = c.split_value.ensures in (
       walked.0,
-      pair_lent w k v b p walked.0 c.in-Some.pos c.split_value.result (pair_place w k v g.met.K.Element.laws g.met.V.Element.laws b p c.requires.map c.in-Some.pos walked)
+      pair_lent w k v b p walked.0 c.in-Some.place c.split_value.result (pair_place w k v g.met.K.Element.laws g.met.V.Element.laws b p c.requires.map c.in-Some.place walked)
           e.key_place e.viewed e.key e.value e.value_place,
     )
 

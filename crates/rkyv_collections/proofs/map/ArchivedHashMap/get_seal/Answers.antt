@@ -7,7 +7,7 @@ use Rattle.rkyv_collections.proofs.map.ArchivedHashMap.get_seal.Goals as goal
 
 pub value_seal-requires : goal.value_seal-requires
 value_seal-requires g c =
-    let at = pair_place g.W.Width.word g.K.Element.shape g.V.Element.shape g.met.K.Element.laws g.met.V.Element.laws (archive_in c.args.this) (pos_in c.args.this) c.requires.map c.in-Some.pos c.in-Some.ensures.walked in
+    let at = pair_place g.W.Width.word g.K.Element.shape g.V.Element.shape g.met.K.Element.laws g.met.V.Element.laws (archive_in c.args.this) (pos_in c.args.this) c.requires.map c.in-Some.place c.in-Some.ensures.walked in
     at.value.inside
 
 pub returns-in-Some-clause-walked : goal.returns-in-Some-clause-walked
@@ -16,8 +16,8 @@ returns-in-Some-clause-walked g c =
     let e = c.value_seal.ensures.at in (
       walked.0,
       record {
-        key = c.in-Some.pos;
-        at = pair_place g.W.Width.word g.K.Element.shape g.V.Element.shape g.met.K.Element.laws g.met.V.Element.laws (archive_in c.args.this) (pos_in c.args.this) c.requires.map c.in-Some.pos walked;
+        key = c.in-Some.place;
+        at = pair_place g.W.Width.word g.K.Element.shape g.V.Element.shape g.met.K.Element.laws g.met.V.Element.laws (archive_in c.args.this) (pos_in c.args.this) c.requires.map c.in-Some.place walked;
         bytes = e.bytes;
         place = e.place;
       },
