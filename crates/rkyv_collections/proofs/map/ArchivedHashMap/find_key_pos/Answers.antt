@@ -1,11 +1,10 @@
-use Rattle.std.proofs.Common.{◌≡◌, ℕ, ◌∙◌, Some, ap, subst, sym, List}
-use Rattle.std.specs.List.{find}
+use Rattle.std.proofs.Common.{◌≡◌, ◌∙◌, Some, ap, subst, sym}
 use Rattle.rkyv_scan.specs.Groups.{generic_kind}
 use Rattle.rkyv_scan.specs.Hash.{hash_of_calls}
 use Rattle.rkyv_base.specs.Entry.{entry_shape}
 use Rattle.rkyv_base.specs.Seal.{archive_in, pos_in}
-use Rattle.rkyv_table.specs.Reading.{home_places, place_found}
-use Rattle.rkyv_collections.specs.Map.{FindsFirstKeyAt, IsKeyPlaceAt, hash_at, map_bytes, map_place}
+use Rattle.rkyv_table.specs.Reading.{place_found}
+use Rattle.rkyv_collections.specs.Map.{FindsFirstKeyAt, IsKeyPlaceAt, hash_at}
 use Rattle.rkyv_collections.proofs.SealedMap.{as_read}
 use Rattle.rkyv_collections.proofs.map.ArchivedHashMap.find_key_pos.Goals as goal
 

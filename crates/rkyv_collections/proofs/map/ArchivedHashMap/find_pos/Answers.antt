@@ -1,4 +1,4 @@
-use Rattle.std.proofs.Common.{◌≡◌, ℕ, ◌∙◌, Some, None, Option, ap, List}
+use Rattle.std.proofs.Common.{◌≡◌, ℕ, ◌∙◌, Some, None, Option, ap}
 use Rattle.rkyv_scan.specs.Groups.{generic_kind}
 use Rattle.rkyv_scan.specs.Hash.{hash_of_calls}
 use Rattle.rkyv_base.specs.Entry.{entry_shape}

@@ -4,11 +4,9 @@ use Rattle.std.specs.Option.{option_map}
 use Rattle.std.proofs.lemmas.Option.{none-some, same_Some}
 use Rattle.rkyv_scan.specs.Hash.{hash_of_calls}
 use Rattle.rkyv_base.specs.Scalar.{ScalarStands, scalar_element, scalar_shape}
-use Rattle.rkyv_base.specs.Sealing.{Keeps, Sealed, value_place}
+use Rattle.rkyv_base.specs.Sealing.{value_place}
 use Rattle.rkyv_base.specs.Shape.{IsElement, Shape, Viewed}
 use Rattle.rkyv_collections.specs.Map.{IsKeyPlaceAt, hash_at, map_shape}
-use Rattle.rkyv_collections.specs.MapLaws.{HashNear}
-use Rattle.rkyv_collections.specs.ValueWrites.{KeepsMap}
 use Rattle.rkyv_collections.proofs.SealedMap.{pair_place}
 use Rattle.rkyv_collections.proofs.ValueWrites.{map_kept_at}
 use Rattle.rkyv_collections.proofs.tests.sealed.stored.Goals as goal
