@@ -11,3 +11,4 @@ pub mod EqualMaps
 pub mod SealedMap
 pub mod SealedPairs
 pub mod ValueWrites
+pub mod MisplacedKeys

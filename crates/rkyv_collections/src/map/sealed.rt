@@ -1,8 +1,10 @@
 //! Writing the values of a map in place.
 ghost use Rattle.std.specs.Prelude.{Bool, IfSome, length, ℕ, ◌+◌, ◌≡◌, ◌≤◌};
 ghost use Rattle.rkyv_base.specs.Entry.{entry_shape};
-ghost use Rattle.rkyv_base.specs.Seal.{LiesIn, SealAt, archive_in, pos_in};
+ghost use Rattle.rkyv_base.specs.Seal.{LiesIn, SealAt, archive_in, bytes_in, place_in, pos_in};
 ghost use Rattle.rkyv_base.specs.Sealing.{value_place};
+ghost use Rattle.rkyv_base.specs.Shape.{Viewed};
+ghost use Rattle.rkyv_base.specs.View.{IsView};
 ghost use Rattle.rkyv_scan.specs.Hash.{hash_of_calls};
 ghost use Rattle.rkyv_collections.specs.Map.{AreUnderHashAt, FindsFirstKeyAt, FindsKeyAt, IsKeyPlaceAt, hash_at};
 ghost use Rattle.rkyv_collections.specs.SealedMap.{AnswersKeysAt, IsMapSeal, IsPairSeal, IsPairSealAt, IsValueSeal, IsValueSealAt, MayAskKeysAt};
@@ -96,6 +98,7 @@ impl<'a, K: KeyElement, V: Element, H: KeyHasher, W: Width> ArchivedHashMap<'a, 
         requires query { Q.can_read key.now }
         requires callable { MayAskKeysAt W.word K.shape V.shape (archive_in this) (pos_in this) (F.pre cmp key) }
         ensures inside { IfSome result (λ pair. LiesIn V.shape pair.1) }
+        ensures viewed { IfSome result (λ pair. IsView K.shape pair.0) }
         ensures walked { IfSome result (IsPairSeal W.word K.shape V.shape this.entry) }
         ensures answer { let hash = hash_of_calls H.initial H.feed H.finish (Q.calls key.now) in
             (accept : ℕ → Bool) → AnswersKeysAt W.word K.shape V.shape (archive_in this.entry) (pos_in this.entry) (F.post cmp key.entry) accept
@@ -121,6 +124,7 @@ impl<'a, K: KeyElement, V: Element, H: KeyHasher, W: Width> ArchivedHashMap<'a, 
         requires map { IsMapSeal W.word K.shape V.shape this }
         requires query { Q.can_read key.now }
         ensures inside { IfSome result (λ pair. LiesIn V.shape pair.1) }
+        ensures viewed { IfSome result (λ pair. IsView K.shape pair.0) }
         ensures walked { IfSome result (IsPairSeal W.word K.shape V.shape this.entry) }
         ensures answer { let hash = hash_of_calls H.initial H.feed H.finish (Q.calls key.now) in
             FindsKeyAt W.word K.shape V.shape (archive_in this.entry) (pos_in this.entry) hash (Q.fits key.now (archive_in this.entry)) (IsPairSealAt result) }
@@ -144,6 +148,7 @@ impl<'a, K: KeyElement, V: Element, H: KeyHasher, W: Width> ArchivedHashMap<'a, 
         requires query { Q.can_read key.now }
         requires callable { MayAskKeysAt W.word K.shape V.shape (archive_in this) (pos_in this) (F.pre cmp key) }
         ensures inside { IfSome result (LiesIn V.shape) }
+        ensures viewed { IfSome result (λ value. Viewed V.shape (bytes_in value) (place_in value)) }
         ensures walked { IfSome result (IsValueSeal W.word K.shape V.shape this.entry) }
         ensures answer { let hash = hash_of_calls H.initial H.feed H.finish (Q.calls key.now) in
             (accept : ℕ → Bool) → AnswersKeysAt W.word K.shape V.shape (archive_in this.entry) (pos_in this.entry) (F.post cmp key.entry) accept
@@ -169,6 +174,7 @@ impl<'a, K: KeyElement, V: Element, H: KeyHasher, W: Width> ArchivedHashMap<'a, 
         requires map { IsMapSeal W.word K.shape V.shape this }
         requires query { Q.can_read key.now }
         ensures inside { IfSome result (LiesIn V.shape) }
+        ensures viewed { IfSome result (λ value. Viewed V.shape (bytes_in value) (place_in value)) }
         ensures walked { IfSome result (IsValueSeal W.word K.shape V.shape this.entry) }
         ensures answer { let hash = hash_of_calls H.initial H.feed H.finish (Q.calls key.now) in
             FindsKeyAt W.word K.shape V.shape (archive_in this.entry) (pos_in this.entry) hash (Q.fits key.now (archive_in this.entry)) (IsValueSealAt K.shape V.shape result) }

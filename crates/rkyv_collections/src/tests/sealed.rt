@@ -1,5 +1,5 @@
 //! Values of maps that are written in place.
-ghost use Rattle.std.specs.Prelude.{IfSome, ℕ, ◌≡◌};
+ghost use Rattle.std.specs.Prelude.{IfOk, IfSome, ℕ, ◌≡◌};
 ghost use Rattle.std.specs.Int.{w32};
 ghost use Rattle.std.specs.Option.{option_map};
 ghost use Rattle.rkyv_base.specs.Entry.{entry_shape};
@@ -16,9 +16,10 @@ ghost use Rattle.rkyv_collections.specs.ValueWrites.{RestsOnKey};
 use crate::map::{ArchivedHashMap, HashMapOf};
 use crate::tests::lists::Pairs;
 use crate::tests::reading::four_pairs;
-use rkyv_base::access::{access, access_mut};
+use rkyv_base::access::{access, access_in, access_mut};
 use rkyv_base::element::Element;
 use rkyv_base::entry::Entry;
+use rkyv_base::errors::VerifyError;
 use rkyv_base::root::to_bytes;
 use rkyv_base::scalars::Scalar;
 use rkyv_base::seal::set_at;
@@ -50,7 +51,11 @@ fn one_number() -> [u8; 60] {
 
 // The archive of a map of texts, under these values.
 fn texts(alloc: Global, values: [&str; 3]) -> Result<Vec<u8>, Fail> {
-    let pairs = vec![in alloc; ("hello", values[0]), ("foo", values[1]), ("baz", values[2])]?;
+    let pairs = vec![in alloc;
+        ("hello", values[0]),
+        ("foo", values[1]),
+        ("baz", values[2]),
+    ]?;
     let list: Pairs<&str, &str, FxHasher64> = Pairs(pairs, PhantomData);
     Ok(to_bytes(alloc, &list)?)
 }
@@ -101,20 +106,36 @@ fn stored<K: KeyElement, N: Scalar, H: KeyHasher, W: Width, Q: Query<K>>(
     }
 }
 
-// As `stored`, of a number under the Fx hasher.
-fn number_stored(bytes: &mut [u8], root: u64, key: u32, value: u32) -> Option<u32>
-    requires { Viewed (map_shape w32 (scalar_shape (unsigned w32)) (scalar_shape (unsigned w32))) bytes.old root }
-    ensures { IfSome result (λ found. found ≡ value) }
+// As `stored`, in an archive that is checked first.
+fn stored_in<K: KeyElement, N: Scalar, H: KeyHasher, W: Width, Q: Query<K>>(
+    bytes: &mut [u8],
+    key: &Q,
+    value: N,
+) -> Result<Option<N>, VerifyError>
+    requires query { Q.can_read key.now }
+    requires key { RestsOnKey K.shape (Q.fits key.now) }
+    ensures { IfOk result (λ found. IfSome found (λ n. n ≡ value)) }
 {
-    stored::<u32, u32, FxHasher64, Narrow, u32>(bytes, root, &key, value)
+    let root = match access_in::<W, HashMapOf<K, N, H, W>>(&*bytes) {
+        Ok(map) => map.pos(),
+        Err(e) => return Err(e),
+    };
+    Ok(stored::<K, N, H, W, Q>(bytes, root, key, value))
+}
+
+// As `stored_in`, of numbers.
+fn number_stored(bytes: &mut [u8], key: u32, value: u32) -> Result<Option<u32>, VerifyError>
+    ensures { IfOk result (λ found. IfSome found (λ n. n ≡ value)) }
+{
+    stored_in::<u32, u32, FxHasher64, Narrow, u32>(bytes, &key, value)
 }
 
 #[test]
 fn a_stored_value_is_looked_up(rt: HostRuntime) -> Result<(), Fail> {
     let mut bytes = one_number();
-    let root = access::<Numbers>(&bytes)?.pos();
-    assert_eq!(rt; number_stored(&mut bytes, root, 1, 7), Some(7));
-    assert_eq!(rt; number_stored(&mut bytes, root, 2, 7), None);
+    assert_eq!(rt; number_stored(&mut bytes, 1, 7)?, Some(7));
+    assert_eq!(rt; number_stored(&mut bytes, 2, 7)?, None);
+    assert_eq!(rt; bytes[4], 7);
     Ok(())
 }
 
@@ -282,6 +303,19 @@ fn pairs_are_written_by_position(rt: HostRuntime) -> Result<(), Fail> {
 }
 
 #[test]
+#[tactic(auto, using(rkyv_base::proofs::SealedText::viewed_sealed))]
+fn a_text_is_read_in_place(rt: HostRuntime) -> Result<(), Fail> {
+    let alloc = rt.alloc();
+    let mut bytes = texts(alloc, ["world", "bar", "bat"])?;
+    let whole = access_mut::<Texts>(bytes.as_mut_slice())?;
+    match ArchivedHashMap::get_seal(whole, &"hello") {
+        Some(seal) => assert!(rt; seal.as_str() == Some("world")),
+        None => assert!(rt; false, "the key is there"),
+    }
+    Ok(())
+}
+
+#[test]
 fn a_text_is_raised_in_place(rt: HostRuntime) -> Result<(), Fail> {
     let alloc = rt.alloc();
     let mut bytes = texts(alloc, ["world", "bar", "bat"])?;
@@ -345,9 +379,7 @@ fn a_key_of_two_texts_is_compared(rt: HostRuntime) -> Result<(), Fail> {
     let pairs = vec![in alloc; (("my", "key"), "value"), (("wrong", "key"), "wrong value")]?;
     let list: Pairs<(&str, &str), &str, FxHasher64> = Pairs(pairs, PhantomData);
     let bytes = to_bytes(alloc, &list)?;
-    let map = ArchivedHashMap::of(access::<HashMapOf<Entry<Text, Text>, Text>>(
-        bytes.as_slice(),
-    )?);
+    let map = ArchivedHashMap::of(access::<HashMapOf<Entry<Text, Text>, Text>>(bytes.as_slice())?);
     let found = map.get_with(
         &("my", "key"),
         |asked: &(&str, &str), key: View<'_, Entry<Text, Text>>|

@@ -29,3 +29,8 @@ returns-in-Some-clause-answer g c = λ accept answers. ap Some c.value_seal.ensu
 pub returns-in-Some-clause-first : goal.returns-in-Some-clause-first
 returns-in-Some-clause-first g c = λ accept answers under homes written.
     ap Some c.value_seal.ensures.at.place ∙ ap (option_map (value_place g.K.Element.shape g.V.Element.shape)) (c.in-Some.ensures.first accept answers under homes written)
+
+pub returns-in-Some-clause-viewed : goal.returns-in-Some-clause-viewed
+returns-in-Some-clause-viewed g c =
+    let at = pair_place g.W.Width.word g.K.Element.shape g.V.Element.shape g.met.K.Element.laws g.met.V.Element.laws (archive_in c.args.this) (pos_in c.args.this) c.requires.map c.in-Some.pos c.in-Some.ensures.walked in
+    rw (c.value_seal.ensures.at.bytes, c.value_seal.ensures.at.place) at.value
