@@ -303,7 +303,6 @@ fn pairs_are_written_by_position(rt: HostRuntime) -> Result<(), Fail> {
 }
 
 #[test]
-#[tactic(auto, using(rkyv_base::proofs::SealedText::viewed_sealed))]
 fn a_text_is_read_in_place(rt: HostRuntime) -> Result<(), Fail> {
     let alloc = rt.alloc();
     let mut bytes = texts(alloc, ["world", "bar", "bat"])?;
