@@ -2,7 +2,7 @@
 
 ghost use Rattle.std.specs.Prelude.{◌≡◌, ◌-◌, length, IfOk, IsOk, MatchResult};
 ghost use Rattle.rkyv_base.specs.Access.{Accepted, AccessFails};
-ghost use Rattle.rkyv_base.specs.Seal.{ArchiveAt};
+ghost use Rattle.rkyv_base.specs.Seal.{ArchiveAt, archive_in, pos_in};
 ghost use Rattle.rkyv_base.specs.Shape.{Viewed};
 ghost use Rattle.rkyv_base.specs.View.{IsAt, IsView};
 
@@ -83,6 +83,7 @@ pub fn access_mut_in<'a, W: Width, T: Element>(
         × ArchiveAt s bytes.entry (length bytes.old - T.shape.size))
         (AccessFails W.LIMIT T.shape bytes.old) }
     ensures accepts { Accepted W.LIMIT T.shape bytes.old → IsOk result }
+    ensures viewed { IfOk result (λ s. Viewed T.shape (archive_in s) (pos_in s)) }
 {
     let pos = match access_in::<W, T>(&*bytes) {
         Ok(root) => root.pos(),
@@ -103,6 +104,7 @@ pub fn access_mut<'a, T: Element>(bytes: &'a mut [u8]) -> Result<ArchiveSeal<'a,
         × ArchiveAt s bytes.entry (length bytes.old - T.shape.size))
         (AccessFails 4294967295 T.shape bytes.old) }
     ensures accepts { Accepted 4294967295 T.shape bytes.old → IsOk result }
+    ensures viewed { IfOk result (λ s. Viewed T.shape (archive_in s) (pos_in s)) }
 {
     access_mut_in::<Narrow, T>(bytes)
 }

@@ -7,4 +7,7 @@ pub mod Lookups
 pub mod Matching
 pub mod WrittenPairs
 pub mod EqualMaps
+pub mod SealedMap
+pub mod SealedPairs
+pub mod ValueWrites
 pub mod MisplacedKeys

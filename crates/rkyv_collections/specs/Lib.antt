@@ -10,3 +10,6 @@ pub mod SetFormat
 pub mod Set
 pub mod SetSound
 pub mod Listed
+pub mod SealedMap
+pub mod SealedPairs
+pub mod ValueWrites

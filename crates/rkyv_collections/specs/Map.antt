@@ -20,6 +20,10 @@ use Rattle.rkyv_collections.specs.declared.map.ArchivedHashMap.{ArchivedHashMap}
 abbrev pub map_shape : Width → Shape → Shape → Shape
 map_shape w k v = table_shape w (entry_shape k v)
 
+-- a key of the map at p stands at q
+abbrev pub IsKeyPlaceAt : Width → Shape → Shape → List ℕ → ℕ → ℕ → Type 0
+IsKeyPlaceAt w k v b p q = (i : ℕ) × IsWalked w b p i × (q ≡ item_at w (entry_shape k v).size b p i)
+
 module _ {K V H W : Type 0} where
   -- the header of a map stands where the map is
   abbrev pub IsMap : Width → Shape → Shape → ArchivedHashMap K V H W → Type 0
@@ -48,7 +52,7 @@ module _ {K V H W : Type 0} where
 
   -- a key of the map stands at the position
   abbrev pub IsKeyPlace : Width → Shape → Shape → ArchivedHashMap K V H W → ℕ → Type 0
-  IsKeyPlace w k v m q = (i : ℕ) × IsWalked w (map_bytes m) (map_place m) i × (q ≡ item_at w (entry_shape k v).size (map_bytes m) (map_place m) i)
+  IsKeyPlace w k v m q = IsKeyPlaceAt w k v (map_bytes m) (map_place m) q
 
   -- the view is that of a key of the map
   pub record IsKeyIn (w : Width) (k v : Shape) (m : ArchivedHashMap K V H W) (key : View K) : Type 0 where
@@ -77,6 +81,20 @@ hash_at initial feed finish calls b q = hash_of_calls initial feed finish (calls
 abbrev pub MapWrittenAt : Width → Shape → (List ℕ → ℕ → ℕ) → List ℕ → ℕ → List ℕ → Type 0
 MapWrittenAt w s hash b p homes = WrittenAt w b p (map (hash b) (home_places w s.size b p homes)) homes
 
+module _ (w : Width) (k v : Shape) (b : List ℕ) (p : ℕ) where
+  -- only keys under the hash are accepted, in the map at p
+  abbrev pub AreUnderHashAt : ℕ → (List ℕ → ℕ → ℕ) → (ℕ → Bool) → Type 0
+  AreUnderHashAt hash key_hash accept = (q : ℕ) → IsKeyPlaceAt w k v b p q → accept q ≡ true → key_hash b q ≡ hash
+
+  -- what is told is told of the position of the key that a lookup under the hash finds, on any accepted map
+  abbrev pub FindsKeyAt : ℕ → (ℕ → Bool) → (Option ℕ → Type 0) → Type 0
+  FindsKeyAt hash accept Told = Told (place_found generic_kind w (entry_shape k v).size b p hash accept)
+
+  -- and on a written one: of the position of the first accepted key in the order handed in
+  abbrev pub FindsFirstKeyAt : (List ℕ → ℕ → ℕ) → (ℕ → Bool) → (Option ℕ → Type 0) → Type 0
+  FindsFirstKeyAt key_hash accept Told =
+      (homes : List ℕ) → MapWrittenAt w (entry_shape k v) key_hash b p homes → Told (find accept (home_places w (entry_shape k v).size b p homes))
+
 module _ {K V H W : Type 0} (w : Width) (k v : Shape) (m : ArchivedHashMap K V H W) where
   -- the comparison may be asked of each key
   abbrev pub MayAskKeys : (View K → Type 0) → Type 0
@@ -86,19 +104,15 @@ module _ {K V H W : Type 0} (w : Width) (k v : Shape) (m : ArchivedHashMap K V H
   abbrev pub AnswersKeys : (View K → Bool → Type 0) → (ℕ → Bool) → Type 0
   AnswersKeys post accept = (key : View K) (r : Bool) → IsKeyIn w k v m key → post key r → r ≡ accept key.pos
 
-  -- only keys under the hash are accepted
+  -- the same of the map that is read
   abbrev pub AreUnderHash : ℕ → (List ℕ → ℕ → ℕ) → (ℕ → Bool) → Type 0
-  AreUnderHash hash key_hash accept = (q : ℕ) → IsKeyPlace w k v m q → accept q ≡ true → key_hash (map_bytes m) q ≡ hash
+  AreUnderHash hash key_hash accept = AreUnderHashAt w k v (map_bytes m) (map_place m) hash key_hash accept
 
-  -- what is told is told of the position of the key that a lookup under the hash finds, on any accepted map
   abbrev pub FindsKey : ℕ → (ℕ → Bool) → (Option ℕ → Type 0) → Type 0
-  FindsKey hash accept Told = Told (place_found generic_kind w (entry_shape k v).size (map_bytes m) (map_place m) hash accept)
+  FindsKey hash accept Told = FindsKeyAt w k v (map_bytes m) (map_place m) hash accept Told
 
-  -- and on a written one: of the position of the first accepted key in the order handed in
   abbrev pub FindsFirstKey : (List ℕ → ℕ → ℕ) → (ℕ → Bool) → (Option ℕ → Type 0) → Type 0
-  FindsFirstKey key_hash accept Told =
-      (homes : List ℕ) → MapWrittenAt w (entry_shape k v) key_hash (map_bytes m) (map_place m) homes
-      → Told (find accept (home_places w (entry_shape k v).size (map_bytes m) (map_place m) homes))
+  FindsFirstKey key_hash accept Told = FindsFirstKeyAt w k v (map_bytes m) (map_place m) key_hash accept Told
 
 -- the view is that of an entry of the map
 abbrev pub IsEntryIn : {K V H W : Type 0} → Width → Shape → Shape → ArchivedHashMap K V H W → View (Entry K V) → Type 0

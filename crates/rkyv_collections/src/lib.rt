@@ -7,6 +7,7 @@ pub mod set;
 mod tests;
 
 pub use map::iter::{Iter, Keys, Values};
+pub use map::iter_seal::{IterMut, ValuesMut};
 pub use map::writing::HashMapResolver;
 pub use map::{ArchivedHashMap, HashMapOf};
 pub use set::writing::HashSetResolver;

@@ -5,10 +5,12 @@ mod element;
 mod equality;
 mod hashing;
 pub mod iter;
+pub mod iter_seal;
 pub mod laws;
 mod lookup;
 mod misplaced;
 mod reading;
+pub mod sealed;
 pub mod writing;
 pub mod written;
 

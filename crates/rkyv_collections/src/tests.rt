@@ -2,5 +2,6 @@
 mod lists;
 mod nested;
 mod reading;
+mod sealed;
 mod sets;
 mod writing;

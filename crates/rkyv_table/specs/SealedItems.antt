@@ -8,7 +8,6 @@ use Rattle.rkyv_table.specs.Header.{cap_at}
 use Rattle.rkyv_table.specs.Reading.{IsWalked, controls_place, item_at, table_controls}
 use Rattle.rkyv_base.specs.declared.seal.ArchiveSeal.{ArchiveSeal}
 use Rattle.rkyv_table.specs.SealedTable.{KeepsTable, KeptByWrites}
-use Rattle.rkyv_table.specs.declared.table.TableOf.{TableOf}
 use Rattle.rkyv_table.specs.Table.{table_shape}
 use Rattle.rkyv_table.specs.Walking.{full_from}
 use Rattle.rkyv_table.specs.declared.table.raw_iter_seal.Place.{Place}
@@ -76,7 +75,7 @@ FindsFirstLeft s r result =
     (λ f. (buckets_left w p r ≡ f.bucket ∷ full_from (table_controls w r.archive.now p) r.cap (f.bucket + 1)) × IsItemAt w s r.archive.now p f.bucket f.at)
 
 -- the cursor lends what the seal lent
-pub record LendsArchive {T W : Type 0} (a : ArchiveSeal (TableOf T W)) (r : RawIterSeal T) : Type 0 where
+pub record LendsArchive {T U : Type 0} (a : ArchiveSeal U) (r : RawIterSeal T) : Type 0 where
   pub reference : r.archive.ghost_name ≡ a.archive.ghost_name
   pub bytes : r.archive.now ≡ a.archive.now
 

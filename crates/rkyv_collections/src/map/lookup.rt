@@ -39,7 +39,7 @@ use rkyv_scan::hash::KeyHasher;
 impl<'a, K: KeyElement, V: Element, H: KeyHasher, W: Width> ArchivedHashMap<'a, K, V, H, W> {
     /// Finds the entry of a key under the hash of `key` that the comparison accepts.
     #[inline]
-    fn find<Q: KeyHash, F: Fn(&Q, View<'a, K>) -> bool>(
+    pub(crate) fn find<Q: KeyHash, F: Fn(&Q, View<'a, K>) -> bool>(
         self,
         key: &Q,
         cmp: F,
@@ -129,7 +129,7 @@ impl<'a, K: KeyElement, V: Element, H: KeyHasher, W: Width> ArchivedHashMap<'a, 
 
     /// Finds the entry of the key that is asked for.
     #[inline]
-    fn find_key<Q: Query<K>>(self, key: &Q) -> Option<View<'a, Entry<K, V>>>
+    pub(crate) fn find_key<Q: Query<K>>(self, key: &Q) -> Option<View<'a, Entry<K, V>>>
         requires map { IsMap W.word K.shape V.shape self }
         requires query { Q.can_read key.now }
         ensures walked { IfSome result (IsEntryIn W.word K.shape V.shape self.entry) }

@@ -24,7 +24,7 @@ fn one_pair() -> [u8; 48] {
 }
 
 // The map of 1 to 2, 3 to 4, 5 to 6 and 7 to 8, handed in in this order.
-fn four_pairs() -> [u8; 56] {
+pub(crate) fn four_pairs() -> [u8; 56] {
     let mut bytes = [0xff; 56];
     bytes[..10].copy_from_slice(&[3, 4, 1, 2, 0, 0, 7, 8, 5, 6]);
     bytes[10..20].copy_from_slice(&[0x4b, 0x1d, 0xff, 0x28, 0x7a, 0x4b, 0x1d, 0xff, 0x28, 0x7a]);

@@ -3,7 +3,7 @@ ghost use Rattle.std.specs.Prelude.{IfSome, MatchOption, [], length, slice_index
 ghost use Rattle.std.specs.Int.{byte_len};
 ghost use Rattle.rkyv_base.specs.Scalar.{scalar_shape};
 ghost use Rattle.rkyv_base.specs.Seal.{LiesIn, archive_in, bytes_in, pos_in};
-ghost use Rattle.rkyv_base.specs.Sealing.{with_value};
+ghost use Rattle.rkyv_base.specs.Sealing.{Keeps, Sealed, with_value};
 ghost use Rattle.rkyv_table.specs.Header.{cap_at, len_at};
 ghost use Rattle.rkyv_table.specs.Placing.{walk};
 ghost use Rattle.rkyv_table.specs.Reading.{table_controls};
@@ -148,6 +148,37 @@ impl<'a, T: Element> RawIterSeal<'a, T> {
             }
             None => None,
         }
+    }
+}
+
+impl<'a, T> RawIterSeal<'a, T> {
+    /// The bytes of the archive, to be read.
+    #[inline]
+    pub fn bytes(&self) -> &[u8]
+        ensures { result.now ≡ cursor_bytes self.now }
+    {
+        &*self.archive
+    }
+
+    /// The bytes of the archive, to be written.
+    #[inline]
+    pub fn bytes_mut(&mut self) -> &mut [u8]
+        ensures { result.now ≡ cursor_bytes self.old }
+    {
+        &mut *self.archive
+    }
+
+    /// Writes a scalar as many bytes behind a position of the archive as `offset` tells.
+    #[inline]
+    pub fn write_at<N: Scalar>(&mut self, pos: u64, offset: usize, value: N)
+        requires { pos + offset + byte_len N.encoding.word ≤ length (cursor_bytes self.old) }
+        ensures stays { StaysThere self.old self.new }
+        ensures written { cursor_bytes self.new ≡ with_value N.encoding (cursor_bytes self.old) (pos + offset) value }
+        ensures sealed { Sealed (cursor_bytes self.old) (pos + offset) (byte_len N.encoding.word) (cursor_bytes self.new) }
+        ensures holds { Keeps (scalar_shape N.encoding) (cursor_bytes self.old) (cursor_bytes self.new) (pos + offset) }
+    {
+        let bytes = &mut *self.archive;
+        set_at(bytes, pos as usize + offset, value);
     }
 }
 

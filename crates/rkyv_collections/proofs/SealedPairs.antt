@@ -1,0 +1,93 @@
+-- The steps of a cursor over the pairs of a map that lends values to be written.
+use Rattle.std.proofs.Common.{◌≡◌, ℕ, zero, suc, ◌+◌, ◌<◌, ◌≤◌, ◌∙◌, inl, inr, sym, ap, subst, arith, List, [], ◌∷◌, Option, Some, None, slice_index, take, drop}
+use Rattle.std.specs.Prelude.{IfSome, IsSome, MatchOption}
+use Rattle.std.specs.Int.{Width}
+use Rattle.std.proofs.lemmas.Bool.{cases_lt, true≢false}
+use Rattle.rkyv_base.specs.Entry.{entry_element, entry_shape, parts_inside, size_of_small, whole_size}
+use Rattle.rkyv_base.specs.Sealing.{Keeps, Sealed, value_place}
+use Rattle.rkyv_base.specs.Shape.{IsElement, Shape, Viewed}
+use Rattle.rkyv_base.specs.Seal.{bytes_in, place_in}
+use Rattle.rkyv_base.specs.View.{IsView, bytes_of, place_of}
+use Rattle.rkyv_base.specs.declared.entry.Entry.{Entry}
+use Rattle.rkyv_base.specs.declared.seal.Seal.{Seal}
+use Rattle.rkyv_base.specs.declared.view.View.{View}
+use Rattle.rkyv_base.proofs.Sealing.{entry_kept, sealed_wider}
+use Rattle.rkyv_table.specs.SealedItems.{StaysThere, TakesPosition, buckets_left, cursor_bytes}
+use Rattle.rkyv_table.specs.Reading.{table_controls}
+use Rattle.rkyv_table.specs.SealedTable.{SameValue}
+use Rattle.rkyv_table.specs.Walking.{full_from}
+use Rattle.rkyv_table.specs.declared.table.raw_iter_seal.RawIterSeal.{RawIterSeal}
+use Rattle.rkyv_table.proofs.Items.{item_viewed}
+use Rattle.rkyv_table.proofs.SealedItems.{cursor_kept, full_end, full_skipped}
+use Rattle.rkyv_table.proofs.SealedTable.{table_kept}
+use Rattle.rkyv_collections.specs.SealedMap.{LendsPair}
+use Rattle.rkyv_collections.specs.SealedPairs.{IsPairIter, KeepsPairs, TakesKeyPlace, TakesPairAt}
+use Rattle.rkyv_collections.proofs.SealedMap.{pair_lent, pair_place}
+
+-- where no control is full, no bucket is left
+none_full : (controls : List ℕ) (cap : ℕ) → ((i : ℕ) → i < cap → slice_index controls i < 128 → ⊥) → (n from : ℕ) → cap ≤ from + n → full_from controls cap from ≡ []
+none_full controls cap none_at zero from h = full_end controls cap from (omega arith)
+none_full controls cap none_at (suc n) from h = elim (cases_lt from cap) [
+  | inr past ↦ full_end controls cap from past
+  | inl below ↦ elim (cases_lt (slice_index controls from) 128) [
+    | inl full ↦ absurd (none_at from below full)
+    | inr empty ↦ full_skipped controls cap from below empty ∙ none_full controls cap none_at n (from + 1) (omega arith)
+  ]
+]
+
+module _ {K V : Type 0} (k v : Shape) (kl : IsElement k) (vl : IsElement v) where
+  -- a map of entries that are too large has none
+  pub none_large : (w : Width) (p : ℕ) (r : RawIterSeal (Entry K V)) → 1073741824 < whole_size k v → IsPairIter k v w p r → buckets_left w p r ≡ []
+  none_large w p r large is =
+      let b = r.archive.now in
+      none_full (table_controls w b p) r.cap
+      (λ i below full.
+      let item = item_viewed w (entry_shape k v) (entry_element k v kl vl) b p is.table i (subst (λ n. i < n) is.cap below, full) in
+      let small = item.stands.1.0 in
+      omega (arith, small, large))
+      r.cap r.next (omega arith)
+
+  -- a step over the entries is one over the keys
+  pub takes_key : (before after : RawIterSeal (Entry K V)) (result : Option ℕ) → TakesPosition (entry_shape k v) before result after → TakesKeyPlace k v before result after
+  takes_key before after None h w p is = let d = h w p is in record { none = d.0; still = d.1; iter = d.2 }
+  takes_key before after (Some q) h w p is =
+      let t = h w p is in
+      record {
+        bucket = t.bucket;
+        first = t.first;
+        pair = pair_place w k v kl vl before.archive.now p is.table q (t.bucket, t.item.walked, t.item.place);
+        iter = t.iter;
+      }
+
+  -- what is lent where the first key was found
+  pub lends_first : (w : Width) (p q : ℕ) (before after : RawIterSeal (Entry K V)) (archive : List ℕ) → archive ≡ cursor_bytes before → TakesPairAt k v w p before after q
+      → (result : Option (View K × Seal V)) → IfSome result (λ (pair : View K × Seal V). IsView k pair.0)
+      → IfSome result (λ (pair : View K × Seal V). (place_of pair.0 ≡ q) × (bytes_of pair.0 ≡ take (value_place k v q) archive))
+      → IfSome result (λ (pair : View K × Seal V). (place_in pair.1 ≡ 0) × (bytes_in pair.1 ≡ drop (value_place k v q) archive))
+      → (Viewed k archive q → IsSome result)
+      → MatchOption result (buckets_left w p before ≡ [])
+      (λ (pair : View K × Seal V). (i : ℕ) × (rest : List ℕ) × (buckets_left w p before ≡ i ∷ rest) × LendsPair w k v (cursor_bytes before) p i pair)
+  lends_first w p q before after archive same t None view key value found = absurd (true≢false (sym (found (subst (λ b. Viewed k b q) (sym same) t.pair.key))))
+  lends_first w p q before after archive same t (Some pair) view key value found = (
+    t.bucket,
+    buckets_left w p after,
+    t.first,
+    pair_lent w k v before.archive.now p t.bucket q pair t.pair key.0 view (key.1 ∙ ap (take (value_place k v q)) same) (value.1 ∙ ap (drop (value_place k v q)) same) value.0,
+  )
+
+  -- a write of one value keeps the map and the cursor
+  pub pairs_kept : (before after : RawIterSeal (Entry K V)) (q : ℕ) → StaysThere before after → Sealed (cursor_bytes before) (value_place k v q) v.size (cursor_bytes after)
+      → Keeps v (cursor_bytes before) (cursor_bytes after) (value_place k v q) → KeepsPairs k v before q after
+  pairs_kept before after q there sealed keeps w p i is at =
+      let b = before.archive.now in
+      let c = after.archive.now in
+      let s = entry_shape k v in
+      let law = entry_element k v kl vl in
+      let item = item_viewed w s law b p is.table i at.walked in
+      let small = size_of_small (whole_size k v) item.stands.1.0 in
+      let inside = parts_inside k v in
+      let kept = at.kept c (subst (λ n. Sealed b (value_place k v n) v.size c) at.place sealed) (subst (λ n. Keeps v b c (value_place k v n)) at.place keeps) in
+      let cursor = cursor_kept w s p i q before after is
+      (record { walked = at.walked; place = at.place; viewed = subst (λ n. Viewed s b n) (sym at.place) item; kept = λ d x y. table_kept w s law b p i is.table at.walked d x y })
+      there (sealed_wider b c (value_place k v q) v.size q s.size (omega arith) (omega (arith, small, inside.1)) sealed) (entry_kept k v kl vl b c q sealed keeps) in
+      (kept.0, subst (λ n. SameValue k b c n) (sym at.place) kept.1, cursor.1, cursor.2)

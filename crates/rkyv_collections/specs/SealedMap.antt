@@ -1,0 +1,77 @@
+-- What a lookup in a map answers that lends the value to be written.
+use Rattle.std.specs.Prelude.{◌≡◌, ℕ, List, Bool, Option, take, drop}
+use Rattle.std.specs.Int.{Width}
+use Rattle.std.specs.Option.{option_map}
+use Rattle.rkyv_base.specs.Entry.{entry_shape}
+use Rattle.rkyv_base.specs.Seal.{archive_in, bytes_in, place_in, pos_in}
+use Rattle.rkyv_base.specs.Sealing.{value_place}
+use Rattle.rkyv_base.specs.Shape.{Shape, Viewed}
+use Rattle.rkyv_base.specs.View.{IsView, bytes_of, place_of}
+use Rattle.rkyv_base.specs.declared.seal.ArchiveSeal.{ArchiveSeal}
+use Rattle.rkyv_base.specs.declared.seal.Seal.{Seal}
+use Rattle.rkyv_base.specs.declared.view.View.{View}
+use Rattle.rkyv_table.specs.Reading.{IsWalked, item_at}
+use Rattle.rkyv_table.specs.SealedLookup.{place_of_seal}
+use Rattle.rkyv_table.specs.SealedTable.{KeptByValueWrites}
+use Rattle.rkyv_collections.specs.Map.{IsKeyPlaceAt, map_shape}
+use Rattle.rkyv_collections.specs.declared.map.HashMapOf.{HashMapOf}
+
+-- the header of a map stands where the seal is
+abbrev pub IsMapSeal : {K V H W : Type 0} → Width → Shape → Shape → ArchiveSeal (HashMapOf K V H W) → Type 0
+IsMapSeal w k v a = Viewed (map_shape w k v) (archive_in a) (pos_in a)
+
+-- the view is that of a key of the map at p, in the same bytes
+pub record IsKeyAt {K : Type 0} (w : Width) (k v : Shape) (b : List ℕ) (p : ℕ) (key : View K) : Type 0 where
+  pub bytes : bytes_of key ≡ b
+  pub viewed : IsView k key
+  pub place : IsKeyPlaceAt w k v b p (place_of key)
+
+module _ {K : Type 0} (w : Width) (k v : Shape) (b : List ℕ) (p : ℕ) where
+  -- the comparison may be asked of each key
+  abbrev pub MayAskKeysAt : (View K → Type 0) → Type 0
+  MayAskKeysAt pre = (key : View K) → IsKeyAt w k v b p key → pre key
+
+  -- of each key the comparison answers what accept tells of its position
+  abbrev pub AnswersKeysAt : (View K → Bool → Type 0) → (ℕ → Bool) → Type 0
+  AnswersKeysAt post accept = (key : View K) (r : Bool) → IsKeyAt w k v b p key → post key r → r ≡ accept (place_of key)
+
+-- The key of the pair in bucket i of the map at p stands at q, and the value behind it. Every write of the value alone that
+-- keeps the value keeps the map: its header, its controls, all keys and all other values.
+pub record IsPairPlace (w : Width) (k v : Shape) (b : List ℕ) (p i q : ℕ) : Type 0 where
+  pub walked : IsWalked w b p i
+  pub place : q ≡ item_at w (entry_shape k v).size b p i
+  pub key : Viewed k b q
+  pub value : Viewed v b (value_place k v q)
+  pub kept : KeptByValueWrites w k v b p i
+
+-- the bytes are cut at the begin of the pair's value: the key is viewed in the front, and the seal is at the begin of the back
+pub record LendsPair {K V : Type 0} (w : Width) (k v : Shape) (b : List ℕ) (p i : ℕ) (pair : View K × Seal V) : Type 0 where
+  pub at : IsPairPlace w k v b p i (place_of pair.0)
+  pub key : IsView k pair.0
+  pub front : bytes_of pair.0 ≡ take (value_place k v (place_of pair.0)) b
+  pub back : bytes_in pair.1 ≡ drop (value_place k v (place_of pair.0)) b
+  pub begin : place_in pair.1 ≡ 0
+
+-- the seal is at the pair's value, in the same bytes
+pub record LendsValue {V : Type 0} (w : Width) (k v : Shape) (b : List ℕ) (p i : ℕ) (value : Seal V) : Type 0 where
+  pub key : ℕ
+  pub at : IsPairPlace w k v b p i key
+  pub bytes : bytes_in value ≡ b
+  pub place : place_in value ≡ value_place k v key
+
+module _ {K V H W : Type 0} (w : Width) (k v : Shape) (a : ArchiveSeal (HashMapOf K V H W)) where
+  -- what is lent is a pair of the map
+  abbrev pub IsPairSeal : View K × Seal V → Type 0
+  IsPairSeal pair = (i : ℕ) × LendsPair w k v (archive_in a) (pos_in a) i pair
+
+  -- what is lent is a value of the map
+  abbrev pub IsValueSeal : Seal V → Type 0
+  IsValueSeal value = (i : ℕ) × LendsValue w k v (archive_in a) (pos_in a) i value
+
+-- the key that was found stands at the position, or none was found
+abbrev pub IsPairSealAt : {K V : Type 0} → Option (View K × Seal V) → Option ℕ → Type 0
+IsPairSealAt {K} {V} result place = option_map (λ (pair : View K × Seal V). place_of pair.0) result ≡ place
+
+-- the value that was found stands behind the key at the position, or none was found
+abbrev pub IsValueSealAt : {V : Type 0} → Shape → Shape → Option (Seal V) → Option ℕ → Type 0
+IsValueSealAt k v result place = place_of_seal result ≡ option_map (value_place k v) place

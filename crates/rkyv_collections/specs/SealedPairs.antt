@@ -1,0 +1,76 @@
+-- What a cursor over the pairs of a map has left, which lends each value to be written.
+use Rattle.std.specs.Prelude.{◌≡◌, ℕ, List, [], ◌∷◌, Option, MatchOption}
+use Rattle.std.specs.Int.{Width}
+use Rattle.rkyv_base.specs.Entry.{entry_shape}
+use Rattle.rkyv_base.specs.Sealing.{value_place}
+use Rattle.rkyv_base.specs.Shape.{Shape}
+use Rattle.rkyv_base.specs.declared.entry.Entry.{Entry}
+use Rattle.rkyv_base.specs.declared.seal.Seal.{Seal}
+use Rattle.rkyv_base.specs.declared.view.View.{View}
+use Rattle.rkyv_table.specs.SealedItems.{IsSealIter, buckets_left, cursor_bytes}
+use Rattle.rkyv_table.specs.SealedTable.{KeepsTable, SameValue}
+use Rattle.rkyv_table.specs.declared.table.raw_iter_seal.RawIterSeal.{RawIterSeal}
+use Rattle.rkyv_collections.specs.SealedMap.{IsPairPlace, LendsPair, LendsValue}
+use Rattle.rkyv_collections.specs.declared.map.iter_seal.IterMut.{IterMut}
+use Rattle.rkyv_collections.specs.declared.map.iter_seal.ValuesMut.{ValuesMut}
+
+module _ {K V H W : Type 0} where
+  -- the cursor over the entries of the map's table
+  abbrev pub entries_in : IterMut K V H W → RawIterSeal (Entry K V)
+  entries_in pairs = pairs.entries
+
+  abbrev pub entries_of : ValuesMut K V H W → RawIterSeal (Entry K V)
+  entries_of values = values.pairs.entries
+
+module _ {K V : Type 0} (k v : Shape) where
+  -- a map stands at p in the bytes of the cursor, whose numbers are those of the map
+  abbrev pub IsPairIter : Width → ℕ → RawIterSeal (Entry K V) → Type 0
+  IsPairIter w p r = IsSealIter w (entry_shape k v) p r
+
+  -- the first of the pairs that are left is taken, and its key stands at q
+  pub record TakesPairAt (w : Width) (p : ℕ) (before after : RawIterSeal (Entry K V)) (q : ℕ) : Type 0 where
+    pub bucket : ℕ
+    pub first : buckets_left w p before ≡ bucket ∷ buckets_left w p after
+    pub pair : IsPairPlace w k v (cursor_bytes before) p bucket q
+    pub iter : IsPairIter w p after
+
+  -- none is left, and the cursor is as before
+  pub record IsDone (w : Width) (p : ℕ) (before after : RawIterSeal (Entry K V)) : Type 0 where
+    pub none : buckets_left w p before ≡ []
+    pub still : buckets_left w p after ≡ []
+    pub iter : IsPairIter w p after
+
+  -- a step over the positions of a map's keys; of its values
+  abbrev pub TakesKeyPlace : RawIterSeal (Entry K V) → Option ℕ → RawIterSeal (Entry K V) → Type 0
+  TakesKeyPlace before result after =
+      (w : Width) (p : ℕ) → IsPairIter w p before → MatchOption result (IsDone w p before after) (TakesPairAt w p before after)
+
+  abbrev pub TakesValuePlace : RawIterSeal (Entry K V) → Option ℕ → RawIterSeal (Entry K V) → Type 0
+  TakesValuePlace before result after =
+      (w : Width) (p : ℕ) → IsPairIter w p before
+      → MatchOption result (IsDone w p before after) (λ q. (key : ℕ) × (q ≡ value_place k v key) × TakesPairAt w p before after key)
+
+  -- the first pair that a cursor over a map has left is lent; none is where none is left
+  abbrev pub LendsFirstPair : RawIterSeal (Entry K V) → Option (View K × Seal V) → Type 0
+  LendsFirstPair before result =
+      (w : Width) (p : ℕ) → IsPairIter w p before
+      → MatchOption result (buckets_left w p before ≡ [])
+      (λ pair. (i : ℕ) × (rest : List ℕ) × (buckets_left w p before ≡ i ∷ rest) × LendsPair w k v (cursor_bytes before) p i pair)
+
+  -- the value of the first pair
+  abbrev pub LendsFirstValue : RawIterSeal (Entry K V) → Option (Seal V) → Type 0
+  LendsFirstValue before result =
+      (w : Width) (p : ℕ) → IsPairIter w p before
+      → MatchOption result (buckets_left w p before ≡ [])
+      (λ value. (i : ℕ) × (rest : List ℕ) × (buckets_left w p before ≡ i ∷ rest) × LendsValue w k v (cursor_bytes before) p i value)
+
+  -- a cursor over a map of which the value behind the key at q was written is one over the map, which is kept, with the same pairs left
+  abbrev pub KeepsPairs : RawIterSeal (Entry K V) → ℕ → RawIterSeal (Entry K V) → Type 0
+  KeepsPairs before q after =
+      (w : Width) (p i : ℕ) → IsPairIter w p before → IsPairPlace w k v (cursor_bytes before) p i q
+      → KeepsTable w (entry_shape k v) (cursor_bytes before) (cursor_bytes after) p i × SameValue k (cursor_bytes before) (cursor_bytes after) q
+      × IsPairIter w p after × (buckets_left w p after ≡ buckets_left w p before)
+
+  -- of which the value at q was written
+  abbrev pub KeepsValues : RawIterSeal (Entry K V) → ℕ → RawIterSeal (Entry K V) → Type 0
+  KeepsValues before q after = (key : ℕ) → q ≡ value_place k v key → KeepsPairs before key after

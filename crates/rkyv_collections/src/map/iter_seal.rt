@@ -1,0 +1,243 @@
+//! Walking over the pairs of a map to write their values.
+ghost use Rattle.std.specs.Prelude.{IfSome, IsSome, IsTrue, drop, length, take, ◌+◌, ◌↔◌, ◌≡◌, ◌≤◌};
+ghost use Rattle.std.specs.Int.{byte_len};
+ghost use Rattle.rkyv_base.specs.Entry.{entry_shape};
+ghost use Rattle.rkyv_base.specs.Scalar.{scalar_shape};
+ghost use Rattle.rkyv_base.specs.Seal.{LiesIn, archive_in, bytes_in, place_in, pos_in};
+ghost use Rattle.rkyv_base.specs.Sealing.{value_place, with_value};
+ghost use Rattle.rkyv_base.specs.Shape.{Viewed};
+ghost use Rattle.rkyv_base.specs.View.{IsView, bytes_of, place_of};
+ghost use Rattle.rkyv_table.specs.Header.{cap_at, len_at};
+ghost use Rattle.rkyv_table.specs.Placing.{walk};
+ghost use Rattle.rkyv_table.specs.Reading.{table_controls};
+ghost use Rattle.rkyv_table.specs.SealedItems.{CountsDown, LendsArchive, SameArchive, StaysThere, buckets_left, cursor_bytes, items_left};
+ghost use Rattle.rkyv_collections.specs.SealedMap.{IsMapSeal};
+ghost use Rattle.rkyv_collections.specs.SealedPairs.{IsPairIter, KeepsPairs, KeepsValues, LendsFirstPair, LendsFirstValue, TakesKeyPlace, TakesValuePlace, entries_in, entries_of};
+
+use crate::map::{ArchivedHashMap, HashMapOf};
+use rkyv_base::element::{Element, PartRange};
+use rkyv_base::entry::{Entry, LARGEST, value_offset, whole_size};
+use rkyv_base::scalars::Scalar;
+use rkyv_base::seal::{ArchiveSeal, Seal};
+use rkyv_base::view::View;
+use rkyv_base::width::{Narrow, Width};
+use rkyv_scan::hash::FxHasher64;
+use rkyv_table::table::raw_iter_seal::RawIterSeal;
+use rkyv_table::table::{ArchivedHashTable, TableOf};
+use std::marker::PhantomData;
+
+/// Whether a value stands at a position of some bytes.
+#[inline]
+fn stands<T: Element>(bytes: &[u8], pos: u64) -> bool
+    requires { pos + T.shape.size ≤ length bytes.now }
+    ensures { IsTrue result ↔ Viewed T.shape bytes.now pos }
+{
+    if pos % T::align() as u64 != 0 {
+        return false;
+    }
+    match T::check(bytes, pos, PartRange { lo: 0, hi: pos }) {
+        Ok(_) => true,
+        Err(_) => false,
+    }
+}
+
+/// The key at a position, where it stands, and the value behind it.
+#[inline]
+fn pair_at<K: Element, V: Element>(
+    archive: &mut [u8],
+    pos: u64,
+) -> Option<(View<'_, K>, Seal<'_, V>)>
+    requires { value_place K.shape V.shape pos + V.shape.size ≤ length archive.old }
+    ensures inside { IfSome result (λ pair. LiesIn V.shape pair.1) }
+    ensures viewed { IfSome result (λ pair. IsView K.shape pair.0) }
+    ensures key { IfSome result (λ pair. (place_of pair.0 ≡ pos) × (bytes_of pair.0 ≡ take (value_place K.shape V.shape pos) archive.old)) }
+    ensures value { IfSome result (λ pair. (place_in pair.1 ≡ 0) × (bytes_in pair.1 ≡ drop (value_place K.shape V.shape pos) archive.old)) }
+    ensures found { Viewed K.shape archive.old pos → IsSome result }
+{
+    let begin = pos as usize + value_offset::<K, V>();
+    let (front, back) = archive.split_at_mut(begin);
+    if !stands::<K>(&*front, pos) {
+        return None;
+    }
+    Some((View::new(front, pos), Seal::over(back, 0)))
+}
+
+/// Where the value behind a key at a position stands, which lies in the bytes.
+#[inline]
+fn behind<K: Element, V: Element>(bytes: &[u8], pos: u64) -> u64
+    requires { value_place K.shape V.shape pos ≤ length bytes.now }
+    ensures { result ≡ value_place K.shape V.shape pos }
+{
+    pos + value_offset::<K, V>() as u64
+}
+
+/// The pairs of a map, by ascending bucket, each with its value to be written.
+///
+/// It gives as many as `len` tells.
+#[derive(Drop)]
+pub struct IterMut<'a, K, V, H = FxHasher64, W = Narrow> {
+    entries: RawIterSeal<'a, Entry<K, V>>,
+    hasher: PhantomData<H>,
+    width: PhantomData<W>,
+}
+
+impl<'a, K: Element, V: Element, H, W> IterMut<'a, K, V, H, W> {
+    /// How many pairs are left.
+    #[inline]
+    pub fn len(&self) -> usize
+        ensures { result ≡ items_left (entries_in self.now) }
+    {
+        self.entries.len()
+    }
+
+    /// Where the key of the next pair stands.
+    #[inline]
+    pub fn next_pos(&mut self) -> Option<u64>
+        ensures archive { SameArchive (entries_in self.old) (entries_in self.new) }
+        ensures counts { CountsDown (entries_in self.old) result (entries_in self.new) }
+        ensures inside { IfSome result (λ q. value_place K.shape V.shape q + V.shape.size ≤ length (cursor_bytes (entries_in self.old))) }
+        ensures takes { TakesKeyPlace K.shape V.shape (entries_in self.old) result (entries_in self.new) }
+    {
+        if whole_size::<K, V>() > LARGEST {
+            return None;
+        }
+        self.entries.next_pos()
+    }
+
+    /// The key at a position.
+    #[inline]
+    pub fn key_at(&self, pos: u64) -> View<'_, K>
+        requires { Viewed K.shape (cursor_bytes (entries_in self.now)) pos }
+        ensures bytes { bytes_of result ≡ cursor_bytes (entries_in self.now) }
+        ensures place { place_of result ≡ pos }
+        ensures viewed { IsView K.shape result }
+    {
+        View::new(self.entries.bytes(), pos)
+    }
+
+    /// The key of the next pair, and its value to be written.
+    ///
+    /// The bytes are cut in two at the value's begin, as by `get_key_value_seal`. The key is looked
+    /// at again, since the bytes were lent before: where it stands no more, the answer is `None`.
+    #[inline]
+    pub fn next_seal(&mut self) -> Option<(View<'_, K>, Seal<'_, V>)>
+        ensures inside { IfSome result (λ pair. LiesIn V.shape pair.1) }
+        ensures viewed { IfSome result (λ pair. IsView K.shape pair.0) }
+        ensures first { LendsFirstPair K.shape V.shape (entries_in self.old) result }
+    {
+        match self.next_pos() {
+            Some(pos) => pair_at::<K, V>(self.entries.bytes_mut(), pos),
+            None => None,
+        }
+    }
+}
+
+impl<'a, K: Element, N: Scalar, H, W> IterMut<'a, K, N, H, W> {
+    /// Writes the value behind the key at a position.
+    #[inline]
+    pub fn set_at(&mut self, pos: u64, value: N)
+        requires { value_place K.shape (scalar_shape N.encoding) pos + byte_len N.encoding.word ≤ length (cursor_bytes (entries_in self.old)) }
+        ensures stays { StaysThere (entries_in self.old) (entries_in self.new) }
+        ensures written { cursor_bytes (entries_in self.new)
+            ≡ with_value N.encoding (cursor_bytes (entries_in self.old)) (value_place K.shape (scalar_shape N.encoding) pos) value }
+        ensures kept { KeepsPairs K.shape (scalar_shape N.encoding) (entries_in self.old) pos (entries_in self.new) }
+    {
+        self.entries.write_at(pos, value_offset::<K, N>(), value);
+    }
+}
+
+/// The values of a map, by ascending bucket, each of which is lent to be written.
+///
+/// It gives as many as `len` tells.
+#[derive(Drop)]
+pub struct ValuesMut<'a, K, V, H = FxHasher64, W = Narrow> {
+    pairs: IterMut<'a, K, V, H, W>,
+}
+
+impl<'a, K: Element, V: Element, H, W> ValuesMut<'a, K, V, H, W> {
+    /// How many values are left.
+    #[inline]
+    pub fn len(&self) -> usize
+        ensures { result ≡ items_left (entries_of self.now) }
+    {
+        self.pairs.len()
+    }
+
+    /// Where the next value stands.
+    #[inline]
+    pub fn next_pos(&mut self) -> Option<u64>
+        ensures archive { SameArchive (entries_of self.old) (entries_of self.new) }
+        ensures counts { CountsDown (entries_of self.old) result (entries_of self.new) }
+        ensures inside { IfSome result (λ q. q + V.shape.size ≤ length (cursor_bytes (entries_of self.old))) }
+        ensures takes { TakesValuePlace K.shape V.shape (entries_of self.old) result (entries_of self.new) }
+    {
+        match self.pairs.next_pos() {
+            Some(key) => Some(behind::<K, V>(self.pairs.entries.bytes(), key)),
+            None => None,
+        }
+    }
+
+    /// The next value, to be written.
+    #[inline]
+    pub fn next_seal(&mut self) -> Option<Seal<'_, V>>
+        ensures inside { IfSome result (LiesIn V.shape) }
+        ensures first { LendsFirstValue K.shape V.shape (entries_of self.old) result }
+    {
+        match self.next_pos() {
+            Some(pos) => {
+                let bytes = self.pairs.entries.bytes_mut();
+                Some(Seal::over(bytes, pos as usize))
+            }
+            None => None,
+        }
+    }
+}
+
+impl<'a, K: Element, N: Scalar, H, W> ValuesMut<'a, K, N, H, W> {
+    /// Writes the value at a position.
+    #[inline]
+    pub fn set_at(&mut self, pos: u64, value: N)
+        requires { pos + byte_len N.encoding.word ≤ length (cursor_bytes (entries_of self.old)) }
+        ensures stays { StaysThere (entries_of self.old) (entries_of self.new) }
+        ensures written { cursor_bytes (entries_of self.new) ≡ with_value N.encoding (cursor_bytes (entries_of self.old)) pos value }
+        ensures kept { KeepsValues K.shape (scalar_shape N.encoding) (entries_of self.old) pos (entries_of self.new) }
+    {
+        self.pairs.entries.write_at(pos, 0, value);
+    }
+}
+
+impl<'a, K: Element, V: Element, H, W: Width> ArchivedHashMap<'a, K, V, H, W> {
+    /// Its pairs, by ascending bucket, each with its value to be written.
+    #[inline]
+    pub fn iter_seal(this: ArchiveSeal<'a, HashMapOf<K, V, H, W>>) -> IterMut<'a, K, V, H, W>
+        requires map { IsMapSeal W.word K.shape V.shape this }
+        ensures archive { LendsArchive this.entry (entries_in result) }
+        ensures iter { IsPairIter K.shape V.shape W.word (pos_in this.entry) (entries_in result) }
+        ensures buckets { buckets_left W.word (pos_in this.entry) (entries_in result)
+            ≡ walk (table_controls W.word (archive_in this.entry) (pos_in this.entry)) (cap_at W.word (archive_in this.entry) (pos_in this.entry)) }
+        ensures count { items_left (entries_in result) ≡ len_at W.word (archive_in this.entry) (pos_in this.entry) }
+    {
+        let (archive, pos) = this.into_parts();
+        let table = ArchiveSeal::<TableOf<Entry<K, V>, W>>::new(archive, pos);
+        IterMut {
+            entries: ArchivedHashTable::raw_iter_seal(table),
+            hasher: PhantomData,
+            width: PhantomData,
+        }
+    }
+
+    /// Its values, by ascending bucket, to be written.
+    #[inline]
+    pub fn values_seal(this: ArchiveSeal<'a, HashMapOf<K, V, H, W>>) -> ValuesMut<'a, K, V, H, W>
+        requires map { IsMapSeal W.word K.shape V.shape this }
+        ensures archive { LendsArchive this.entry (entries_of result) }
+        ensures iter { IsPairIter K.shape V.shape W.word (pos_in this.entry) (entries_of result) }
+        ensures buckets { buckets_left W.word (pos_in this.entry) (entries_of result)
+            ≡ walk (table_controls W.word (archive_in this.entry) (pos_in this.entry)) (cap_at W.word (archive_in this.entry) (pos_in this.entry)) }
+        ensures count { items_left (entries_of result) ≡ len_at W.word (archive_in this.entry) (pos_in this.entry) }
+    {
+        ValuesMut {
+            pairs: Self::iter_seal(this),
+        }
+    }
+}
