@@ -24,14 +24,15 @@ use Rattle.rkyv_table.specs.Reading.{IsWalked, WrittenAt, bucket_found, home_pla
 use Rattle.rkyv_table.specs.SealedTable.{KeepsTable, SameValue}
 use Rattle.rkyv_table.proofs.Items.{controls_accepted, item_viewed, some_cap}
 use Rattle.rkyv_table.proofs.Misplaced.{found_agree}
-use Rattle.rkyv_table.proofs.SealedTable.{cap_kept, item_stays, len_kept, lookup_kept, value_kept, written_kept}
+use Rattle.rkyv_table.specs.SameHeader.{cap_same, len_same}
+use Rattle.rkyv_table.proofs.SealedTable.{item_stays, lookup_kept, value_kept, written_kept}
 use Rattle.rkyv_table.proofs.Walks.{walked_full}
 use Rattle.rkyv_table.proofs.WrittenAccepted.{homes_apart}
 use Rattle.rkyv_collections.specs.Map.{IsKeyPlaceAt, MapWrittenAt, map_shape}
 use Rattle.rkyv_collections.specs.MapFormat.{MapStands}
 use Rattle.rkyv_collections.specs.MapLaws.{HashNear}
 use Rattle.rkyv_collections.specs.ValueWrites.{KeepsMap, RestsOnKey, WritesValue, entry_place}
-use Rattle.rkyv_collections.proofs.Homes.{home_count, home_place, home_walked}
+use Rattle.rkyv_table.proofs.WrittenTables.{home_count, home_place, home_walked}
 
 map_of_found : (f g : ℕ → ℕ) → ((i : ℕ) → f i ≡ g i) → (o : Option ℕ) → option_map f o ≡ option_map g o
 map_of_found f g same None = refl
@@ -110,7 +111,7 @@ module _ (k v : Shape) (kl : IsElement k) (vl : IsElement v) where
         let n : length hashes ≡ length hb = length-map hb (key_hash b) in
         ext_get_or 0 hashes (map (key_hash c) hc) (n ∙ nb ∙ sym nc ∙ sym (length-map hc (key_hash c)))
         (λ j below.
-        let there = home_walked w b p hashes homes written j below in
+        let there = home_walked w b p hashes homes written j (omega (arith, below, n, nb)) in
         let atb : slice_index hb j ≡ item_at w S.size b p (slice_index homes j) = get_or-map (item_at w S.size b p) homes j 0 0 (omega arith) in
         let atc : slice_index hc j ≡ item_at w S.size c p (slice_index homes j) = get_or-map (item_at w S.size c p) homes j 0 0 (omega arith) in
         get_or-map (key_hash b) hb j 0 0 (omega arith) ∙ ap (key_hash b) atb ∙ sym (hash_there (slice_index homes j) there)
@@ -154,19 +155,19 @@ module _ (k v : Shape) (kl : IsElement k) (vl : IsElement v) (w : Width) (key_ha
   counted : length st.homes ≡ length pairs
   counted = home_count w b p hashes st.homes st.written ∙ sym st.written.count ∙ st.len
 
-  hashed : (j : ℕ) → j < length pairs → j < length hashes
-  hashed j h = omega (arith, counted, home_count w b p hashes st.homes st.written)
+  has_home : (j : ℕ) → j < length pairs → j < length st.homes
+  has_home j h = omega (arith, counted)
 
   home : ℕ → ℕ
   home j = slice_index st.homes j
 
   walked_home : (j : ℕ) → j < length pairs → IsWalked w b p (home j)
   unfolding home
-  walked_home j h = home_walked w b p hashes st.homes st.written j (hashed j h)
+  walked_home j h = home_walked w b p hashes st.homes st.written j (has_home j h)
 
   place_home : (j : ℕ) → j < length pairs → slice_index (places b) j ≡ item_at w size b p (home j)
   unfolding home
-  place_home j h = home_place w b p hashes st.homes st.written size j (hashed j h)
+  place_home j h = home_place w size b p st.homes j (has_home j h)
 
   inside : n < length pairs
   inside = slice_get_within pairs n pair at_n
@@ -217,8 +218,8 @@ module _ (k v : Shape) (kl : IsElement k) (vl : IsElement v) (w : Width) (key_ha
         record {
           homes = st.homes;
           written = kept_there.written st.homes st.written;
-          len = len_kept w b c p kept_there.table.header ∙ st.len ∙ sym same_count;
-          cap = cap_kept w b c p kept_there.table.header ∙ st.cap ∙ ap (λ m. capacity m factor) (sym same_count);
+          len = sym (len_same w b c p kept_there.table.header) ∙ st.len ∙ sym same_count;
+          cap = sym (cap_same w b c p kept_there.table.header) ∙ st.cap ∙ ap (λ m. capacity m factor) (sym same_count);
           at = λ j x e.
               let h : j < length pairs = omega (arith, slice_get_within (slice_set pairs n y) j x e, same_count) in
               let is : get_or (slice_set pairs n y) j x ≡ x = get_or_from_slice_get (slice_set pairs n y) j x x e in
