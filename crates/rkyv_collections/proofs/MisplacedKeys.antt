@@ -1,5 +1,5 @@
 -- What it means of a map that keys are misplaced.
-use Rattle.std.proofs.Common.{◌≡◌, ℕ, ◌+◌, ◌<◌, ◌^◌, ◌∙◌, inl, inr, refl, sym, ap, subst, arith, List, [], ◌∷◌, Bool, true, false, length, filter, map, take, Option, Some, None, slice_index}
+use Rattle.std.proofs.Common.{◌≡◌, ℕ, ◌<◌, ◌^◌, ◌∙◌, inl, inr, refl, sym, ap, subst, arith, List, [], ◌∷◌, Bool, true, length, filter, map, take, Option, Some, None, slice_index}
 use Rattle.std.specs.Prelude.{MatchOption}
 use Rattle.std.specs.Int.{Width}
 use Rattle.std.specs.List.{Contains, list_any, range_with_len}
@@ -14,12 +14,12 @@ use Rattle.rkyv_keys.specs.Equality.{Comparison, IsEquivalence}
 use Rattle.rkyv_table.specs.Header.{cap_at, len_at}
 use Rattle.rkyv_table.specs.Misplaced.{AloneAccepted, AsksForOne, IsSameness, NoneAccepted, is_misplaced, misplaced, repeated, repeats_earlier}
 use Rattle.rkyv_table.specs.Placing.{walk}
-use Rattle.rkyv_table.specs.Reading.{IsWalked, WrittenAt, bucket_found, home_places, item_at, place_found, table_controls}
+use Rattle.rkyv_table.specs.Reading.{IsWalked, bucket_found, home_places, item_at, place_found, table_controls}
 use Rattle.rkyv_table.proofs.Items.{controls_accepted, item_viewed, some_cap}
 use Rattle.rkyv_table.proofs.Misplaced.{complete, repeated_misplaced}
 use Rattle.rkyv_table.proofs.RawWalks.{walk_count}
 use Rattle.rkyv_table.proofs.Walks.{filter_agree_range, full_walked, walked_full}
-use Rattle.rkyv_collections.specs.Map.{IsKeyPlaceAt, MapWrittenAt, map_shape}
+use Rattle.rkyv_collections.specs.Map.{MapWrittenAt, map_shape}
 use Rattle.rkyv_collections.specs.Misplaced.{AloneFits, NoneFits, map_misplaced}
 use Rattle.rkyv_collections.proofs.Homes.{home_count, home_walked}
 
