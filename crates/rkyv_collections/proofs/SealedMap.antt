@@ -1,9 +1,9 @@
 -- What a lookup tells of the map that is read tells of the seal.
-use Rattle.std.proofs.Common.{◌≡◌, ℕ, ◌∙◌, sym, ap, subst, Bool, true, List, take, drop}
+use Rattle.std.proofs.Common.{◌≡◌, ℕ, ◌∙◌, sym, ap, subst, Bool, List, take, drop}
 use Rattle.std.specs.Borrow.{Bor}
 use Rattle.std.specs.Int.{Width}
 use Rattle.rkyv_base.specs.Entry.{entry_element, entry_shape, viewed_key, viewed_value}
-use Rattle.rkyv_base.specs.Seal.{archive_in, bytes_in, place_in}
+use Rattle.rkyv_base.specs.Seal.{bytes_in, place_in}
 use Rattle.rkyv_base.specs.Sealing.{value_place}
 use Rattle.rkyv_base.specs.Shape.{IsElement, Shape, Viewed}
 use Rattle.rkyv_base.specs.View.{IsView, bytes_of, place_of}

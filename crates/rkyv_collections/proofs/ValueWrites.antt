@@ -1,5 +1,5 @@
 -- A write of one value in place keeps the map, and the list that it stands for but for that value.
-use Rattle.std.proofs.Common.{◌≡◌, ◌≢◌, ℕ, ◌+◌, ◌<◌, ◌≤◌, ◌^◌, ◌∙◌, inl, inr, refl, sym, ap, subst, arith, Bool, List, length, map, Option, Some, None, slice_index, get_or, set}
+use Rattle.std.proofs.Common.{◌≡◌, ◌≢◌, ℕ, ◌<◌, ◌^◌, ◌∙◌, inl, inr, refl, sym, ap, subst, arith, Bool, List, length, map, Option, Some, None, slice_index, get_or}
 use Rattle.std.specs.Prelude.{slice_get, slice_set}
 use Rattle.std.specs.Int.{Width}
 use Rattle.std.specs.Option.{option_map}
@@ -8,7 +8,7 @@ use Rattle.std.proofs.lemmas.List.{ext_get_or, get_or-map, get_or-set_other, get
 use Rattle.std.proofs.lemmas.Option.{get_or_from_slice_get, slice_get-get_or, slice_get_within}
 use Rattle.rkyv_scan.specs.Groups.{generic_kind}
 use Rattle.rkyv_scan.specs.KindLaws.{word_lawful}
-use Rattle.rkyv_base.specs.Bytes.{Same, same_part}
+use Rattle.rkyv_base.specs.Bytes.{same_part}
 use Rattle.rkyv_base.specs.Entry.{entry_element, entry_shape, same_key, viewed_key}
 use Rattle.rkyv_base.specs.Format.{StandsNear}
 use Rattle.rkyv_base.specs.Pairs.{PairStands, pair_near}
@@ -16,10 +16,8 @@ use Rattle.rkyv_base.specs.Sealing.{Keeps, Sealed, value_place}
 use Rattle.rkyv_base.specs.Shape.{IsElement, Shape, Viewed}
 use Rattle.rkyv_base.proofs.Sealing.{viewed_kept}
 use Rattle.rkyv_keys.specs.OfValues.{IsValueAt, value_fits}
-use Rattle.rkyv_table.specs.Finding.{found}
 use Rattle.rkyv_table.specs.Header.{cap_at, len_at}
 use Rattle.rkyv_table.specs.Numbers.{capacity}
-use Rattle.rkyv_table.specs.Placing.{walk}
 use Rattle.rkyv_table.specs.Reading.{IsWalked, WrittenAt, bucket_found, home_places, item_at, place_found, table_controls}
 use Rattle.rkyv_table.specs.SealedTable.{KeepsTable, SameValue}
 use Rattle.rkyv_table.proofs.Items.{controls_accepted, item_viewed, some_cap}

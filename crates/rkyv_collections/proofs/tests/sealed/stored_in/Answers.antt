@@ -3,7 +3,6 @@ use Rattle.std.specs.Prelude.{IfSome}
 use Rattle.std.specs.Option.{option_map}
 use Rattle.rkyv_base.specs.Scalar.{scalar_shape}
 use Rattle.rkyv_base.specs.Shape.{Viewed}
-use Rattle.rkyv_scan.specs.Groups.{generic_kind}
 use Rattle.rkyv_collections.specs.Map.{map_shape}
 use Rattle.rkyv_collections.proofs.tests.sealed.stored_in.Goals as goal
 
