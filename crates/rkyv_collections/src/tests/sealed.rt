@@ -5,13 +5,13 @@ ghost use Rattle.std.specs.Option.{option_map};
 ghost use Rattle.rkyv_base.specs.Entry.{entry_shape};
 ghost use Rattle.rkyv_base.specs.Numbers.{unsigned};
 ghost use Rattle.rkyv_base.specs.Scalar.{scalar_shape};
-ghost use Rattle.rkyv_base.specs.Sealing.{value_place};
+ghost use Rattle.rkyv_base.specs.Sealing.{value_at, value_place};
 ghost use Rattle.rkyv_base.specs.Shape.{Viewed};
 ghost use Rattle.rkyv_base.specs.Text.{text_shape};
 ghost use Rattle.rkyv_base.specs.View.{IsView};
 ghost use Rattle.rkyv_scan.specs.Hash.{hash_of_calls};
-ghost use Rattle.rkyv_collections.specs.Map.{FindsKeyAt, IsKeyPlaceAt, map_shape};
-ghost use Rattle.rkyv_collections.specs.ValueWrites.{RestsOnKey};
+ghost use Rattle.rkyv_collections.specs.Map.{FindsKeyAt, IsKeyPlaceAt, hash_at, map_shape};
+ghost use Rattle.rkyv_collections.specs.ValueWrites.{KeepsMap, RestsOnKey};
 
 use crate::map::{ArchivedHashMap, HashMapOf};
 use crate::tests::lists::Pairs;
@@ -79,6 +79,22 @@ fn value_pos<K: KeyElement, V: Element, H: KeyHasher, W: Width, Q: Query<K>>(
     }
 }
 
+// Writes the value of a map that stands at `pos`, over the bare bytes.
+fn write_value<K: KeyElement, N: Scalar, H: KeyHasher, W: Width>(
+    bytes: &mut [u8],
+    root: u64,
+    pos: u64,
+    value: N,
+)
+    requires map { Viewed (map_shape W.word K.shape (scalar_shape N.encoding)) bytes.old root }
+    requires place { (place : ℕ) × IsKeyPlaceAt W.word K.shape (scalar_shape N.encoding) bytes.old root place × (pos ≡ value_place K.shape (scalar_shape N.encoding) place) }
+    ensures kept { let key_hash = hash_at H.initial H.feed H.finish K.key_calls in
+        (i : ℕ) × KeepsMap W.word K.shape (scalar_shape N.encoding) key_hash bytes.old bytes.new root i }
+    ensures reads { value_at N.encoding bytes.new pos ≡ value }
+{
+    set_at(bytes, pos as usize, value);
+}
+
 // Writes the value of a key in place, where the key is found, and looks it up again: the answer is
 // the new value.
 fn stored<K: KeyElement, N: Scalar, H: KeyHasher, W: Width, Q: Query<K>>(
@@ -99,7 +115,7 @@ fn stored<K: KeyElement, N: Scalar, H: KeyHasher, W: Width, Q: Query<K>>(
         Some(pos) => pos,
         None => return None,
     };
-    set_at(bytes, pos as usize, value);
+    write_value::<K, N, H, W>(bytes, root, pos, value);
     match value_pos::<K, N, H, W, Q>(&*bytes, root, key) {
         Some(found) => Some(View::<N>::new(&*bytes, found).to_native()),
         None => None,
