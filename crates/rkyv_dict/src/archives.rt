@@ -27,8 +27,7 @@ use rkyv_base::view::View;
 use rkyv_base::width::{Narrow, Wide, Width};
 use rkyv_base::writer::{NoMemory, VecWriter};
 use rkyv_collections::map::{ArchivedHashMap, HashMapOf};
-use rkyv_keys::keys::{NativeKey, Query};
-use rkyv_scan::hash::FxHasher64;
+use rkyv_collections::{FxHasher64, NativeKey, Query};
 use std::alloc::{AllocError, Global};
 
 /// Appends a line.

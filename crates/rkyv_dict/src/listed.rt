@@ -20,8 +20,7 @@ use rkyv_base::width::Width;
 use rkyv_base::writer::Writer;
 use rkyv_collections::map::writing::HashMapResolver;
 use rkyv_collections::map::{ArchivedHashMap, HashMapOf};
-use rkyv_keys::keys::{KeyElement, NativeKey};
-use rkyv_scan::hash::FxHasher64;
+use rkyv_collections::{FxHasher64, KeyElement, NativeKey};
 use std::alloc::Global;
 
 /// Pairs that are archived as a map under a load factor.

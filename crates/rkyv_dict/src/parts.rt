@@ -12,7 +12,7 @@ ghost use Rattle.rkyv_dict.specs.Parts.{number_text};
 use rkyv_base::text::Text;
 use rkyv_base::view::View;
 use rkyv_base::width::Width;
-use rkyv_keys::keys::KeyElement;
+use rkyv_collections::KeyElement;
 use std::alloc::AllocError;
 
 /// What keys and values are in an archive.

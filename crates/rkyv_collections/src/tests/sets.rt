@@ -1,8 +1,11 @@
 //! Sets of given bytes, read in place.
 
+use crate::map::{ArchivedHashMap, HashMapOf};
 use crate::set::{ArchivedHashSet, HashSetOf};
-use rkyv_base::access::access;
+use rkyv_base::access::{access, access_in};
+use rkyv_base::width::Wide;
 use rkyv_keys::equality::ElementEq;
+use rkyv_scan::hash::FxHasher64Wide;
 use std::test::Fail;
 
 // The set of 1, 2 and 3: buckets from 0 on, controls from 4 on, header at 36.
@@ -66,5 +69,42 @@ fn a_key_that_was_handed_in_twice_is_misplaced_once(rt: HostRuntime) -> Result<(
     assert_eq!(rt; set.len(), 2);
     assert!(rt; set.contains(&()));
     assert_eq!(rt; set.misplaced(), 1);
+    Ok(())
+}
+
+// The wide map of 1 to the set of 1, under the hasher that feeds all bits: the set's bucket from 0 on
+// and its controls from 2 on, the map's buckets from 40 on, its controls from 104 on, header at 136.
+fn a_set_in_a_map() -> [u8; 160] {
+    let mut bytes = [0xff; 160];
+    bytes[..6].copy_from_slice(&[1, 0, 0xff, 0x28, 0xff, 0x28]);
+    bytes[33..48].copy_from_slice(&[0, 0, 0, 0, 0, 0, 0, 1, 0, 0, 0, 0, 0, 0, 0]);
+    bytes[48] = 0xd2;
+    bytes[56..72].copy_from_slice(&[1, 0, 0, 0, 0, 0, 0, 0, 2, 0, 0, 0, 0, 0, 0, 0]);
+    bytes[72..104].copy_from_slice(&[0; 32]);
+    bytes[105] = 0x28;
+    bytes[107] = 0x28;
+    bytes[135] = 0;
+    bytes[136] = 0xe0;
+    bytes[144..].copy_from_slice(&[1, 0, 0, 0, 0, 0, 0, 0, 2, 0, 0, 0, 0, 0, 0, 0]);
+    bytes
+}
+
+#[test]
+fn a_set_is_the_value_of_a_map(rt: HostRuntime) -> Result<(), Fail> {
+    type Inner = HashSetOf<i8, FxHasher64Wide, Wide>;
+    let bytes = a_set_in_a_map();
+    let root = access_in::<Wide, HashMapOf<i8, Inner, FxHasher64Wide, Wide>>(&bytes)?;
+    let map = ArchivedHashMap::of(root);
+    match map.get(&1i8) {
+        Some(value) => {
+            let set = ArchivedHashSet::of(value);
+            assert_eq!(rt; set.len(), 1);
+            assert!(rt; set.contains(&1i8));
+            assert!(rt; !set.contains(&2i8));
+        }
+        None => assert!(rt; false),
+    }
+    assert!(rt; map.eq_map(map));
+    assert_eq!(rt; format!(in rt.alloc(); "{map:?}")?.as_str(), "{1: {1}}");
     Ok(())
 }
