@@ -1,56 +1,81 @@
 -- Writes in a row: what is appended, and what a later one tells when it gives up.
-use Rattle.std.specs.Prelude.{◌≡◌, ℕ, ◌+◌, ◌≤◌, List, ◌++◌, length, take}
-use Rattle.std.proofs.Common.{arith, sym, ◌∙◌, ap, inl, inr, append_assoc, length-append}
+use Rattle.std.specs.Prelude.{◌≡◌, ℕ, ◌+◌, ◌^◌, ◌-◌, min, List, [], ◌++◌, length, take}
+use Rattle.std.proofs.Common.{arith, refl, subst, sym, ◌∙◌, ap, inl, inr, append_assoc, append-nil, length-append}
 use Rattle.rkyv_base.specs.declared.errors.WriteError.{WriteError}
 use Rattle.rkyv_base.specs.declared.errors.WriteError.TheVariants.{InvalidLoadFactor, IteratorLengthMismatch, CapacityTooLarge, PositionTooLarge, DistanceTooLarge, TextTooLong, Writer, Memory, Refused}
-use Rattle.rkyv_base.specs.Writing.{Output, end_of, Appends, Told, CauseStands, EndsIn, HasFailed, Refusal}
+use Rattle.rkyv_base.specs.Writing.{Output, end_of, Appends, Grows, Told, CauseStands, FellIn, Reached, Step, Within, piece}
+
+-- what was appended stands behind what stood before
+pub grows : (o o1 : Output) (p : List ℕ) → Appends o o1 p → Grows o o1 p
+grows o o1 p a = record { start = a.start; bytes = a.bytes }
 
 -- two parts in a row are one
-pub appends_after : (o o1 o2 : Output) (p q : List ℕ) → Appends o o1 p → Appends o1 o2 q → Appends o o2 (p ++ q)
-appends_after o o1 o2 p q a b = record {
+pub grows_after : (o o1 o2 : Output) (p q : List ℕ) → Grows o o1 p → Grows o1 o2 q → Grows o o2 (p ++ q)
+grows_after o o1 o2 p q a b = record {
   start = b.start ∙ a.start;
   bytes = b.bytes ∙ ap (λ (x : List ℕ). x ++ q) a.bytes ∙ append_assoc o.bytes p q;
-  failures = omega (arith, a.failures, b.failures);
 }
+
+pub appends_after : (o o1 o2 : Output) (p q : List ℕ) → Appends o o1 p → Appends o1 o2 q → Appends o o2 (p ++ q)
+appends_after o o1 o2 p q a b =
+    let g = grows_after o o1 o2 p q (grows o o1 p a) (grows o1 o2 q b) in
+    record { start = g.start; bytes = g.bytes; failures = b.failures ∙ a.failures }
 
 -- the end moves by the part
+pub end-grows : (o o1 : Output) (a : List ℕ) → Grows o o1 a → end_of o1 ≡ end_of o + length a
+end-grows o o1 a h = omega (arith, h.start, ap length h.bytes, length-append o.bytes a)
+
 pub end-appends : (o o1 : Output) (a : List ℕ) → Appends o o1 a → end_of o1 ≡ end_of o + length a
-end-appends o o1 a h = omega (arith, h.start, ap length h.bytes, length-append o.bytes a)
+end-appends o o1 a h = end-grows o o1 a (grows o o1 a h)
 
-ends_in-after : (limit n m : ℕ) (next next' : List ℕ → List ℕ → Type 0) (p : List ℕ) → m ≡ n + length p
-    → ((f piece : List ℕ) → next' f piece → next (p ++ f) piece) → (f : List ℕ) → EndsIn limit m next' f → EndsIn limit n next (p ++ f)
-ends_in-after limit n m next next' p at hn f h = record {
-  before = p ++ h.before;
-  piece = h.piece;
-  comes = hn h.before h.piece h.comes;
-  fits = omega (arith, at, h.fits, length-append p h.before);
-  taken = h.taken;
-  is = ap (λ (x : List ℕ). p ++ x) h.is ∙ sym (append_assoc p h.before (take h.taken h.piece));
-}
+-- two parts in a row that end within the limit do so together
+pub within_after : (limit : ℕ) (o1 o2 : Output) (p q : List ℕ) → Grows o1 o2 q → Within limit o1 p → Within limit o2 q → Within limit o2 (p ++ q)
+within_after limit o1 o2 p q g a (inr b) = inr b
+within_after limit o1 o2 p q g (inl a) (inl b) = inl (ap (λ (x : List ℕ). x ++ q) a ∙ b)
+within_after limit o1 o2 p q g (inr a) (inl b) = inr (omega (arith, end-grows o1 o2 q g, ap length b, a))
 
-failed_after : (o o1 o2 : Output) → o.failures ≤ o1.failures → HasFailed o1 o2 → HasFailed o o2
-failed_after o o1 o2 before (inl h) = inl (omega arith)
-failed_after o o1 o2 before (inr h) = inr h
+module _ (limit : ℕ) (next next' : List ℕ → Step → Type 0) (o o1 o2 : Output) (p : List ℕ)
+    (a : Appends o o1 p) (inside : Within limit o1 p) (hn : (f : List ℕ) (step : Step) → next' f step → next (p ++ f) step) where
+  reached_after : (f : List ℕ) (step : Step) → Grows o1 o2 f → Reached limit next' o1 o2 f step → Reached limit next o o2 (p ++ f) step
+  reached_after f step g r = (within_after limit o1 o2 p f g inside r.0, r.1 ∙ a.failures, hn f step r.2)
 
-module _ {F : Type 0} (limit : ℕ) (next next' : List ℕ → List ℕ → Type 0) (refuses refuses' : Refusal → Type 0) (o o1 o2 : Output) (p : List ℕ)
-    (before : o.failures ≤ o1.failures) (at : end_of o1 ≡ end_of o + length p) (hn : (f piece : List ℕ) → next' f piece → next (p ++ f) piece) (hr : (c : Refusal) → refuses' c → refuses c) where
-  cause_after : (e : WriteError F) (f : List ℕ) → CauseStands limit next' refuses' o1 o2 f e → CauseStands limit next refuses o o2 (p ++ f) e
-  cause_after (InvalidLoadFactor n d) f c = hr _ c
-  cause_after (IteratorLengthMismatch m) f c = hr _ c
-  cause_after (CapacityTooLarge n) f c = hr _ c
-  cause_after PositionTooLarge f c = (c.0, hn f c.0 c.1, c.2)
-  cause_after DistanceTooLarge f c = hr _ c
-  cause_after TextTooLong f c = hr _ c
-  cause_after (Writer x) f c = (failed_after o o1 o2 before c.0, ends_in-after limit (end_of o) (end_of o1) next next' p at hn f c.1)
-  cause_after Memory f c = hr _ c
-  cause_after (Refused n) f c = hr _ c
+  fell_after : (f : List ℕ) → FellIn limit next' o1 o2 f → FellIn limit next o o2 (p ++ f)
+  fell_after f h = record {
+    before = p ++ h.before;
+    bytes = h.bytes;
+    comes = hn h.before (piece h.bytes) h.comes;
+    fits = omega (arith, end-appends o o1 p a, h.fits, length-append p h.before);
+    taken = h.taken;
+    is = ap (λ (x : List ℕ). p ++ x) h.is ∙ sym (append_assoc p h.before (take h.taken h.bytes));
+    counted = subst (λ n. o2.failures ≡ min (n + 1) (2 ^ 64 - 1)) a.failures h.counted;
+  }
+
+  cause_after : {F : Type 0} (e : WriteError F) (f : List ℕ) → Grows o1 o2 f → CauseStands limit next' o1 o2 f e → CauseStands limit next o o2 (p ++ f) e
+  cause_after (InvalidLoadFactor n d) f g c = reached_after f _ g c
+  cause_after (IteratorLengthMismatch m) f g c = reached_after f _ g c
+  cause_after (CapacityTooLarge n) f g c = reached_after f _ g c
+  cause_after PositionTooLarge f g c = (c.0, reached_after f _ g c.1, c.2)
+  cause_after DistanceTooLarge f g c = reached_after f _ g c
+  cause_after TextTooLong f g c = reached_after f _ g c
+  cause_after (Writer x) f g c = fell_after f c
+  cause_after Memory f g c = reached_after f _ g c
+  cause_after (Refused n) f g c = reached_after f _ g c
 
 -- what a later part tells stands for the whole
-pub told_after : {F : Type 0} (limit : ℕ) (next next' : List ℕ → List ℕ → Type 0) (refuses refuses' : Refusal → Type 0) (o o1 o2 : Output) (p : List ℕ) (e : WriteError F)
-    → Appends o o1 p → ((f piece : List ℕ) → next' f piece → next (p ++ f) piece) → ((c : Refusal) → refuses' c → refuses c)
-    → Told limit next' refuses' o1 o2 e → Told limit next refuses o o2 e
-told_after limit next next' refuses refuses' o o1 o2 p e a hn hr t = record {
+pub told_after : {F : Type 0} (limit : ℕ) (next next' : List ℕ → Step → Type 0) (o o1 o2 : Output) (p : List ℕ) (e : WriteError F)
+    → Appends o o1 p → Within limit o1 p → ((f : List ℕ) (step : Step) → next' f step → next (p ++ f) step)
+    → Told limit next' o1 o2 e → Told limit next o o2 e
+told_after limit next next' o o1 o2 p e a inside hn t = record {
   front = p ++ t.front;
-  kept = appends_after o o1 o2 p t.front a t.kept;
-  cause = cause_after limit next next' refuses refuses' o o1 o2 p a.failures (end-appends o o1 p a) hn hr e t.front t.cause;
+  kept = grows_after o o1 o2 p t.front (grows o o1 p a) t.kept;
+  cause = cause_after limit next next' o o1 o2 p a inside hn e t.front t.kept t.cause;
 }
+
+-- nothing was appended
+pub none_appended : (o : Output) → Appends o o []
+none_appended o = record { start = refl; bytes = sym (append-nil o.bytes); failures = refl }
+
+-- what comes next in one way comes next in another
+pub told_as : {F : Type 0} (limit : ℕ) (next next' : List ℕ → Step → Type 0) (o o' : Output) (e : WriteError F)
+    → ((f : List ℕ) (step : Step) → next' f step → next f step) → Told limit next' o o' e → Told limit next o o' e
+told_as limit next next' o o' e hn t = told_after limit next next' o o o' [] e (none_appended o) (inl refl) hn t

@@ -1,19 +1,31 @@
--- What the value of a pair tells stands for the pair.
-use Rattle.std.specs.Prelude.{◌≡◌, ℕ, ◌+◌, List, length}
+-- Writing a pair: what its parts tell stands for the pair.
+use Rattle.std.specs.Prelude.{◌≡◌, ℕ, ◌+◌, List, ◌++◌, length}
 use Rattle.std.proofs.Common.{refl, subst, inr}
 use Rattle.rkyv_base.specs.declared.errors.WriteError.{WriteError}
+use Rattle.rkyv_base.specs.declared.pairs.EntryResolver.{EntryResolver}
 use Rattle.rkyv_base.specs.Shape.{Shape}
 use Rattle.rkyv_base.specs.Entry.{IsSmall}
-use Rattle.rkyv_base.specs.Format.{Format, GaveUp}
-use Rattle.rkyv_base.specs.Pairs.{pair_format, PairNext, PairRefuses}
-use Rattle.rkyv_base.specs.Writing.{Output, end_of, Appends}
-use Rattle.rkyv_base.proofs.GivingUp.{end-appends, told_after}
+use Rattle.rkyv_base.specs.Format.{Format, GaveUp, Serialized}
+use Rattle.rkyv_base.specs.Pairs.{pair_format, PairNext}
+use Rattle.rkyv_base.specs.Writing.{Output, end_of, Appends, Within}
+use Rattle.rkyv_base.proofs.GivingUp.{appends_after, end-appends, grows, told_after, within_after}
 
+-- what the value tells
 pub value_gave_up : {F V W R Q : Type 0} (limit : ℕ) (k v : Shape) (kf : Format V R) (vf : Format W Q) (pair : V × W) (o o1 o2 : Output) (a : List ℕ) (r : R) (e : WriteError F)
-    → IsSmall k v → Appends o o1 a → kf.parts pair.0 (end_of o) a r → GaveUp limit vf pair.1 o1 o2 e → GaveUp limit (pair_format k v kf vf) pair o o2 e
-value_gave_up limit k v kf vf pair o o1 o2 a r e small h good t =
+    → IsSmall k v → Appends o o1 a → kf.parts pair.0 (end_of o) a r → Within limit o1 a → GaveUp limit vf pair.1 o1 o2 e → GaveUp limit (pair_format k v kf vf) pair o o2 e
+value_gave_up limit k v kf vf pair o o1 o2 a r e small h good inside t =
     let at : end_of o1 ≡ end_of o + length a = end-appends o o1 a h in
-    told_after limit (PairNext k v kf vf pair (end_of o)) (vf.next pair.1 (end_of o1)) (PairRefuses k v kf vf pair (end_of o)) (vf.refuses pair.1 (end_of o1)) o o1 o2 a e h
-    (λ f piece n. (small, inr (a, r, f, good, subst (λ p. vf.next pair.1 p f piece) at n, refl)))
-    (λ c n. inr (small, inr (a, r, good, subst (λ p. vf.refuses pair.1 p c) at n)))
+    told_after limit (PairNext k v kf vf pair (end_of o)) (vf.next pair.1 (end_of o1)) o o1 o2 a e h inside
+    (λ f step n. inr (small, inr (a, r, f, good, subst (λ p. vf.next pair.1 p f step) at n, refl)))
     t
+
+-- both were serialized
+pub pair_serialized : {V W R Q : Type 0} (limit : ℕ) (k v : Shape) (kf : Format V R) (vf : Format W Q) (pair : V × W) (o o1 o2 : Output) (r : EntryResolver R Q)
+    → IsSmall k v → Serialized limit kf pair.0 o o1 r.key → Serialized limit vf pair.1 o1 o2 r.value → Serialized limit (pair_format k v kf vf) pair o o2 r
+pair_serialized limit k v kf vf pair o o1 o2 r small x y =
+    let at : end_of o1 ≡ end_of o + length x.0 = end-appends o o1 x.0 x.1 in (
+      x.0 ++ y.0,
+      appends_after o o1 o2 x.0 y.0 x.1 y.1,
+      (small, x.0, y.0, x.2, subst (λ p. vf.parts pair.1 p y.0 r.value) at y.2, refl),
+      within_after limit o1 o2 x.0 y.0 (grows o1 o2 y.0 y.1) x.3 y.3,
+    )

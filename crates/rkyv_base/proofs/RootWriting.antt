@@ -1,20 +1,20 @@
 -- Writing a root, step by step: the parts, the zeros, the value.
-use Rattle.std.specs.Prelude.{◌≡◌, ℕ, ◌+◌, ◌-◌, ◌%◌, ◌≤◌, List, ◌++◌, length}
+use Rattle.std.specs.Prelude.{◌≡◌, ℕ, ◌+◌, ◌-◌, ◌%◌, ◌≤◌, List, [], ◌++◌, length}
 use Rattle.std.proofs.Common.{refl, arith, subst, sym, ◌∙◌, ap, inl, inr, length-append, append_assoc}
 use Rattle.std.proofs.lemmas.List.{length-replicate, take_all, append-nil}
 use Rattle.rkyv_base.specs.declared.errors.WriteError.{WriteError}
 use Rattle.rkyv_base.specs.declared.errors.WriteError.TheVariants.{DistanceTooLarge}
 use Rattle.rkyv_base.specs.Bytes.{Sits, sits_front, sits_back}
-use Rattle.rkyv_base.specs.Writing.{Output, end_of, Appends, Told, OnePiece, NoRefusal, padding, zeros}
+use Rattle.rkyv_base.specs.Writing.{Only, Output, end_of, Appends, Told, Within, padding, piece, zeros}
 use Rattle.rkyv_base.specs.Shape.{Shape, IsElement, Standing, standing}
 use Rattle.rkyv_base.specs.Entry.{round_up, round_up-multiple}
 use Rattle.rkyv_base.specs.Access.{Accepted}
 use Rattle.rkyv_base.specs.Format.{Format, IsFormat}
-use Rattle.rkyv_base.specs.Root.{RootBytes, RootNext, RootRefuses, WroteRoot, RootGaveUp, ArchiveOf, fresh}
-use Rattle.rkyv_base.proofs.GivingUp.{appends_after, end-appends, told_after}
+use Rattle.rkyv_base.specs.Root.{RootBytes, RootNext, WroteRoot, RootGaveUp, ArchiveOf, fresh}
+use Rattle.rkyv_base.proofs.GivingUp.{appends_after, end-appends, grows, told_after}
 
 module _ (F : Type 0) {V R : Type 0} (limit align : ℕ) (f : Format V R) (v : V) (o o1 o2 o3 : Output)
-    (part : List ℕ) (r : R) (a : Appends o o1 part) (made : f.parts v (end_of o) part r) where
+    (part : List ℕ) (r : R) (a : Appends o o1 part) (made : f.parts v (end_of o) part r) (inside : Within limit o1 part) where
   root_at : Appends o1 o2 (zeros (padding align (end_of o1))) → end_of o2 ≡ round_up (end_of o + length part) align
   root_at b =
       let e1 : end_of o1 ≡ end_of o + length part = end-appends o o1 part a in
@@ -26,32 +26,37 @@ module _ (F : Type 0) {V R : Type 0} (limit align : ℕ) (f : Format V R) (v : V
   same_zeros : zeros (padding align (end_of o1)) ≡ zeros (padding align (end_of o + length part))
   same_zeros = ap (λ (n : ℕ). zeros (padding align n)) (end-appends o o1 part a)
 
-  pub root_told_align : (e : WriteError F) → Told limit (OnePiece (zeros (padding align (end_of o1)))) NoRefusal o1 o2 e → RootGaveUp limit align f v o o2 e
+  -- what was appended before the value
+  abbrev before : List ℕ
+  before = part ++ zeros (padding align (end_of o1))
+
+  abbrev Aligns : Type 0
+  Aligns = Appends o1 o2 (zeros (padding align (end_of o1))) × (end_of o2 ≤ limit)
+
+  front_is : (x : List ℕ) → x ≡ [] → before ++ x ≡ part ++ zeros (padding align (end_of o + length part))
+  front_is x e = ap (λ (y : List ℕ). before ++ y) e ∙ append-nil before ∙ ap (λ (y : List ℕ). part ++ y) same_zeros
+
+  pub root_told_align : (e : WriteError F) → Told limit (Only (piece (zeros (padding align (end_of o1))))) o1 o2 e → RootGaveUp limit align f v o o2 e
   root_told_align e t =
-      told_after limit (RootNext align f v (end_of o)) (OnePiece (zeros (padding align (end_of o1)))) (RootRefuses align f v (end_of o)) NoRefusal o o1 o2 part e a
-      (λ front piece h. inr (inl (part, r, made, ap (λ (x : List ℕ). part ++ x) h.0 ∙ append-nil part, h.1 ∙ same_zeros)))
-      (λ c x. absurd x) t
+      told_after limit (RootNext align f v (end_of o)) (Only (piece (zeros (padding align (end_of o1))))) o o1 o2 part e a inside
+      (λ front step h.
+      let k : part ++ front ≡ part = ap (λ (x : List ℕ). part ++ x) h.0 ∙ append-nil part in
+      rw k (inr (inr (inl (r, made, h.1 ∙ ap piece same_zeros))))) t
 
-  pub root_told_append : (out : List ℕ) (e : WriteError F) → Appends o1 o2 (zeros (padding align (end_of o1))) → f.image v r (end_of o2) out
-      → Told limit (OnePiece out) NoRefusal o2 o3 e → RootGaveUp limit align f v o o3 e
+  pub root_told_append : (out : List ℕ) (e : WriteError F) → Aligns → f.image v r (end_of o2) out
+      → Told limit (Only (piece out)) o2 o3 e → RootGaveUp limit align f v o o3 e
   root_told_append out e b i t =
-      let z : List ℕ = zeros (padding align (end_of o1)) in
-      told_after limit (RootNext align f v (end_of o)) (OnePiece out) (RootRefuses align f v (end_of o)) NoRefusal o o2 o3 (part ++ z) e (appends_after o o1 o2 part z a b)
-      (λ front piece h. inr (inr (
-        part,
-        r,
-        made,
-        subst (λ x. f.image v r (round_up (end_of o + length part) align) x) (sym h.1) (subst (λ n. f.image v r n out) (root_at b) i),
-        ap (λ (x : List ℕ). (part ++ z) ++ x) h.0 ∙ append-nil (part ++ z) ∙ ap (λ (x : List ℕ). part ++ x) same_zeros,
-      )))
-      (λ c x. absurd x) t
+      told_after limit (RootNext align f v (end_of o)) (Only (piece out)) o o2 o3 before e (appends_after o o1 o2 part _ a b.0) (inr b.1)
+      (λ front step h. inr (inr (inr (part, r, made, front_is front h.0, inl (out, subst (λ n. f.image v r n out) (root_at b.0) i, h.1))))) t
 
-  pub root_told_far : Appends o1 o2 (zeros (padding align (end_of o1))) → f.far v r (end_of o2) → RootGaveUp {F = F} limit align f v o o2 DistanceTooLarge
-  root_told_far b far = record {
-    front = part ++ zeros (padding align (end_of o1));
-    kept = appends_after o o1 o2 part (zeros (padding align (end_of o1))) a b;
-    cause = inr (inr (refl, part, r, made, subst (λ n. f.far v r n) (root_at b) far));
-  }
+  pub root_told_far : Aligns → f.far v r (end_of o2) → RootGaveUp {F = F} limit align f v o o2 DistanceTooLarge
+  root_told_far b far =
+      let all : Appends o o2 before = appends_after o o1 o2 part _ a b.0 in
+      record {
+        front = before;
+        kept = grows o o2 before all;
+        cause = (inr b.1, all.failures, inr (inr (inr (part, r, made, ap (λ (x : List ℕ). part ++ x) same_zeros, inr (subst (λ n. f.far v r n) (root_at b.0) far, refl)))));
+      }
 
   pub root_wrote : (out : List ℕ) → Appends o1 o2 (zeros (padding align (end_of o1))) → f.image v r (end_of o2) out → Appends o2 o3 out → end_of o3 ≤ limit
       → WroteRoot limit align f v o o3 (end_of o2)

@@ -4,7 +4,7 @@ use Rattle.std.proofs.Common.{arith, ap, subst, ◌∙◌}
 use Rattle.std.proofs.lemmas.List.{take-replicate}
 use Rattle.rkyv_base.specs.declared.errors.WriteError.{WriteError}
 use Rattle.rkyv_base.specs.Shape.{IsAlign, align_small}
-use Rattle.rkyv_base.specs.Writing.{NoRefusal, OnePiece, Output, Told, padding, zeros}
+use Rattle.rkyv_base.specs.Writing.{Only, Output, Told, padding, piece, zeros}
 
 -- as many zeros as an alignment wants are the front of eight
 zeros-cut : (a p n : ℕ) → IsAlign a → n ≡ padding a p → take n (replicate 8 0) ≡ zeros (padding a p)
@@ -15,6 +15,6 @@ zeros-cut a p n al e =
 
 -- what the cut tells is what the zeros tell
 pub told_of_zeros : {F : Type 0} (limit a p n : ℕ) (o o' : Output) (e : WriteError F) → IsAlign a → n ≡ padding a p
-    → Told limit (OnePiece (take n (replicate 8 0))) NoRefusal o o' e → Told limit (OnePiece (zeros (padding a p))) NoRefusal o o' e
+    → Told limit (Only (piece (take n (replicate 8 0)))) o o' e → Told limit (Only (piece (zeros (padding a p)))) o o' e
 told_of_zeros limit a p n o o' e al same told =
-    subst (λ (x : List ℕ). Told limit (OnePiece x) NoRefusal o o' e) (zeros-cut a p n al same) told
+    subst (λ (x : List ℕ). Told limit (Only (piece x)) o o' e) (zeros-cut a p n al same) told

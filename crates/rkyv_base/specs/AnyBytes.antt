@@ -15,6 +15,7 @@ any_bytes-element size align is_align whole small = record {
   between = λ b p lo hi l o h. (omega (arith, h), omega (arith, h));
   one = λ b p lo hi l l' h h'. h ∙ sym h';
   clear = λ b p lo hi l e h f. f;
+  one_failure = λ b p lo hi e e' f f'. absurd f;
   higher = λ b p lo hi hi' l o h. h;
   lower = λ b p lo lo' hi l o o' h. (lo', refl, omega (arith, h));
   near = λ b c p lo hi l o same part h. h;

@@ -3,7 +3,7 @@ use Rattle.std.specs.Prelude.{◌≡◌, ℕ, List, [], length}
 use Rattle.std.proofs.Common.{refl, arith, inl, ap}
 use Rattle.rkyv_base.specs.Shape.{Shape, IsElement}
 use Rattle.rkyv_base.specs.AnyBytes.{any_bytes, any_bytes-element}
-use Rattle.rkyv_base.specs.Format.{Format, IsFormat, StandsNear, nothing_next, nothing_refused, nothing_far}
+use Rattle.rkyv_base.specs.Format.{Format, IsFormat, StandsNear, nothing_next, nothing_far}
 
 abbrev pub unit_shape : Shape
 unit_shape = any_bytes 0 1
@@ -15,7 +15,6 @@ abbrev pub unit_format : Format (Unit {0}) (Unit {0})
 unit_format = record {
   parts = λ v p part r. part ≡ [];
   next = nothing_next;
-  refuses = nothing_refused;
   image = λ v r p out. out ≡ [];
   far = nothing_far;
 }
@@ -29,5 +28,6 @@ unit_near v b c p lo hi l o h same part st = st
 pub unit_is_format : IsFormat unit_shape unit_stands unit_format
 unit_is_format = record {
   whole = λ v r p out i. ap length i;
+  clear = λ v r p out i f. f;
   sound = λ v r c p0 p part out h i s t o al. (p0, refl, tt);
 }

@@ -2,7 +2,7 @@
 use Rattle.std.specs.Prelude.{◌≡◌, ℕ, ◌+◌, ◌%◌, ◌<◌, ◌≤◌, ◌⊎◌, max, nat_le, if◌then◌else◌, List}
 use Rattle.std.proofs.lemmas.Bool.{cases_lt}
 use Rattle.std.proofs.lemmas.Bool.Decides.{nat_tests}
-use Rattle.std.proofs.Common.{refl, arith, inl, inr, subst}
+use Rattle.std.proofs.Common.{refl, arith, inl, inr, subst, sym, ◌∙◌}
 use Rattle.rkyv_base.specs.declared.errors.VerifyError.{VerifyError}
 use Rattle.rkyv_base.specs.declared.errors.VerifyError.TheVariants.{Refused}
 use Rattle.rkyv_base.specs.Bytes.{Same, same_part}
@@ -84,6 +84,17 @@ module _ (k v : Shape) (kl : IsElement k) (vl : IsElement v) where
       let q : g.0 ≡ h.1 = kl.one b p lo hi g.0 h.1 g.1 h.2 in
       vl.clear b (p + value_offset k v) h.1 hi l e h.3 (subst (λ m. v.fails b (p + value_offset k v) m hi e) q g.2)
 
+  entry_one_failure : (b : List ℕ) (p lo hi : ℕ) (e e' : VerifyError) → EntryFails k v b p lo hi e → EntryFails k v b p lo hi e' → e ≡ e'
+  entry_one_failure b p lo hi e e' (inl f) (inl g) = f.1 ∙ sym g.1
+  entry_one_failure b p lo hi e e' (inl f) (inr g) = absurd (omega (arith, f.0, g.0))
+  entry_one_failure b p lo hi e e' (inr f) (inl g) = absurd (omega (arith, f.0, g.0))
+  entry_one_failure b p lo hi e e' (inr (small, inl f)) (inr (small', inl g)) = kl.one_failure b p lo hi e e' f g
+  entry_one_failure b p lo hi e e' (inr (small, inl f)) (inr (small', inr g)) = absurd (kl.clear b p lo hi g.0 e g.1 f)
+  entry_one_failure b p lo hi e e' (inr (small, inr f)) (inr (small', inl g)) = absurd (kl.clear b p lo hi f.0 e' f.1 g)
+  entry_one_failure b p lo hi e e' (inr (small, inr f)) (inr (small', inr g)) =
+      let q : g.0 ≡ f.0 = kl.one b p lo hi g.0 f.0 g.1 f.1 in
+      vl.one_failure b (p + value_offset k v) f.0 hi e e' f.2 (subst (λ m. v.fails b (p + value_offset k v) m hi e') q g.2)
+
   -- what is the same in an entry is the same in its key and its value
   pub same_key : (b c : List ℕ) (p : ℕ) → IsSmall k v → Same b c p (p + size_of_whole (whole_size k v)) → Same b c p (p + k.size)
   same_key b c p small fixed =
@@ -129,6 +140,7 @@ module _ (k v : Shape) (kl : IsElement k) (vl : IsElement v) where
         between = entry_between;
         one = entry_one;
         clear = entry_clear;
+        one_failure = entry_one_failure;
         higher = λ b p lo hi hi' l o h. (h.0, h.1, kl.higher b p lo hi hi' h.1 o h.2, vl.higher b (p + value_offset k v) h.1 hi hi' l o h.3);
         lower = entry_lower;
         near = entry_near;

@@ -16,7 +16,7 @@ Counts output w w' = w'.left + length (output w'.inner).bytes ≡ w.left + lengt
 -- the inner writer took the bytes, and neither writer counts a failure
 abbrev pub InnerTook : {W : Type 0} → (W → Output) → LimitWriter W → LimitWriter W → List ℕ → Type 0
 InnerTook output w w' bytes =
-    Appends (output w.inner) (output w'.inner) bytes × ((output w'.inner).failures ≡ (output w.inner).failures) × (w'.failures ≡ w.failures)
+    Appends (output w.inner) (output w'.inner) bytes × (w'.failures ≡ w.failures)
 
 -- the inner writer fell on the bytes, both count it, and it is told
 abbrev pub InnerFell : {W F : Type 0} → (W → Output) → LimitWriter W → LimitWriter W → List ℕ → LimitFault F → Type 0
@@ -27,6 +27,6 @@ InnerFell output w w' bytes (Inner fault) = Fell (output w.inner) (output w'.inn
 -- front that fits, and failed.
 abbrev pub LimitTold : {W F : Type 0} → (W → Output) → LimitWriter W → LimitWriter W → List ℕ → LimitFault F → Type 0
 LimitTold output w w' bytes Full =
-    (w.left < length bytes) × Appends (output w.inner) (output w'.inner) (take w.left bytes) × ((output w'.inner).failures ≡ (output w.inner).failures)
+    (w.left < length bytes) × Appends (output w.inner) (output w'.inner) (take w.left bytes)
 LimitTold output w w' bytes (Inner fault) =
     ((0 < w.left) ⊎ (length bytes ≡ 0)) × Fell (output w.inner) (output w'.inner) (take w.left bytes)

@@ -4,7 +4,7 @@ use Rattle.std.proofs.Common.{arith, subst, sym, ◌∙◌, ap, inl, inr, length
 use Rattle.std.proofs.lemmas.List.{length-replicate}
 use Rattle.rkyv_base.specs.declared.pairs.EntryResolver.{EntryResolver}
 use Rattle.rkyv_base.specs.Bytes.{Same, Sits, same_part, sits_front, sits_back, sits_third}
-use Rattle.rkyv_base.specs.Writing.{Refusal, refused, zeros}
+use Rattle.rkyv_base.specs.Writing.{Step, refusal, refused, zeros}
 use Rattle.rkyv_base.specs.Shape.{Shape, IsElement, multiple_of_max, sum_multiple}
 use Rattle.rkyv_base.specs.Entry.{value_offset, whole_size, size_of_whole, size_of_small, size_of_large, IsSmall, EntryHolds, entry_shape, round_up-multiple, parts_inside, same_key, same_value}
 use Rattle.rkyv_base.specs.Format.{Format, IsFormat, StandsNear}
@@ -26,15 +26,11 @@ module _ {V W R Q : Type 0} (k v : Shape) (kf : Format V R) (vf : Format W Q) wh
   PairParts pair p part r =
       IsSmall k v × (a : List ℕ) × (b : List ℕ) × kf.parts pair.0 p a r.key × vf.parts pair.1 (p + length a) b r.value × (part ≡ a ++ b)
 
-  abbrev pub PairNext : V × W → ℕ → List ℕ → List ℕ → Type 0
-  PairNext pair p front piece =
-      IsSmall k v × (kf.next pair.0 p front piece
-      ⊎ ((a : List ℕ) × (r : R) × (rest : List ℕ) × kf.parts pair.0 p a r × vf.next pair.1 (p + length a) rest piece × (front ≡ a ++ rest)))
-
-  abbrev pub PairRefuses : V × W → ℕ → Refusal → Type 0
-  PairRefuses pair p c =
-      ((1073741824 < whole_size k v) × (c ≡ refused 0))
-      ⊎ (IsSmall k v × (kf.refuses pair.0 p c ⊎ ((a : List ℕ) × (r : R) × kf.parts pair.0 p a r × vf.refuses pair.1 (p + length a) c)))
+  abbrev pub PairNext : V × W → ℕ → List ℕ → Step → Type 0
+  PairNext pair p front step =
+      ((1073741824 < whole_size k v) × (front ≡ []) × (step ≡ refusal (refused 0)))
+      ⊎ (IsSmall k v × (kf.next pair.0 p front step
+      ⊎ ((a : List ℕ) × (r : R) × (rest : List ℕ) × kf.parts pair.0 p a r × vf.next pair.1 (p + length a) rest step × (front ≡ a ++ rest))))
 
   abbrev pub PairImage : V × W → EntryResolver R Q → ℕ → List ℕ → Type 0
   PairImage pair r p out =
@@ -43,17 +39,16 @@ module _ {V W R Q : Type 0} (k v : Shape) (kf : Format V R) (vf : Format W Q) wh
       × (out ≡ pair_bytes (value_offset k v) (whole_size k v) a b))
 
   abbrev pub PairFar : V × W → EntryResolver R Q → ℕ → Type 0
-  PairFar pair r p = kf.far pair.0 r.key p ⊎ vf.far pair.1 r.value (p + value_offset k v)
+  PairFar pair r p = IsSmall k v × (kf.far pair.0 r.key p ⊎ vf.far pair.1 r.value (p + value_offset k v))
 
   abbrev pub pair_format : Format (V × W) (EntryResolver R Q)
-  pair_format = record { parts = PairParts; next = PairNext; refuses = PairRefuses; image = PairImage; far = PairFar }
+  pair_format = record { parts = PairParts; next = PairNext; image = PairImage; far = PairFar }
 
 -- how values of another type are written that are seen as these
 abbrev pub written_as : {X V R : Type 0} → (X → V) → Format V R → Format X R
 written_as seen f = record {
   parts = λ x. f.parts (seen x);
   next = λ x. f.next (seen x);
-  refuses = λ x. f.refuses (seen x);
   image = λ x. f.image (seen x);
   far = λ x. f.far (seen x);
 }
@@ -62,6 +57,7 @@ pub written_as-format : {X V R : Type 0} (seen : X → V) (s : Shape) (stands : 
     → IsFormat s stands f → IsFormat s (λ b p x. stands b p (seen x)) (written_as seen f)
 written_as-format seen s stands f laws = record {
   whole = λ x. laws.whole (seen x);
+  clear = λ x. laws.clear (seen x);
   sound = λ x. laws.sound (seen x);
 }
 
@@ -88,6 +84,11 @@ module _ {V W R Q : Type 0} (k v : Shape) (kl : IsElement k) (vl : IsElement v) 
       let na : length h.1 ≡ k.size = kw.whole pair.0 r.key p h.1 h.3 in
       let nb : length h.2 ≡ v.size = vw.whole pair.1 r.value (p + value_offset k v) h.2 h.4 in
       ap length h.5 ∙ length_pair (value_offset k v) (whole_size k v) h.1 h.2 (omega (arith, na, i.0)) (omega (arith, nb, i.1)) ∙ sym (size_of_small (whole_size k v) h.0)
+
+  pair_clear : (pair : V × W) (r : EntryResolver R Q) (p : ℕ) (out : List ℕ) → PairImage k v kf vf pair r p out → PairFar k v kf vf pair r p → ⊥
+  pair_clear pair r p out (inl h) f = omega (arith, h.0, f.0)
+  pair_clear pair r p out (inr h) (small, inl f) = kw.clear pair.0 r.key p h.1 h.3 f
+  pair_clear pair r p out (inr h) (small, inr f) = vw.clear pair.1 r.value (p + value_offset k v) h.2 h.4 f
 
   pair_sound : (pair : V × W) (r : EntryResolver R Q) (c : List ℕ) (p0 p : ℕ) (part out : List ℕ)
       → PairParts k v kf vf pair p0 part r → PairImage k v kf vf pair r p out
@@ -117,4 +118,4 @@ module _ {V W R Q : Type 0} (k v : Shape) (kl : IsElement k) (vl : IsElement v) 
       (lv.0, (h.0, dk.0, hk, lv.1), (dk.2, dv.2))
 
   pub pair_is_format : IsFormat (entry_shape k v) (PairStands k v key value) (pair_format k v kf vf)
-  pair_is_format = record { whole = pair_whole; sound = pair_sound }
+  pair_is_format = record { whole = pair_whole; clear = pair_clear; sound = pair_sound }

@@ -1,6 +1,6 @@
 -- Where the parts of a value may lie.
 use Rattle.std.specs.Prelude.{◌≡◌, ◌≢◌, ℕ, ◌+◌, ◌%◌, ◌≤◌, ◌⊎◌, ℤ, pos, ◌+ℤ◌, ◌<ℤ◌}
-use Rattle.std.proofs.Common.{arith, inl, inr, subst}
+use Rattle.std.proofs.Common.{arith, ap, inl, inr, subst, sym, ◌∙◌}
 use Rattle.std.proofs.lemmas.Int.{ints}
 use Rattle.rkyv_base.specs.declared.errors.VerifyError.{VerifyError}
 use Rattle.rkyv_base.specs.declared.errors.VerifyError.TheVariants.{OutOfRange, Unaligned}
@@ -29,6 +29,17 @@ part_clear begin size align lo hi at e p (inl (inr h, q)) = omega (arith, ints, 
 part_clear begin size align lo hi at e p (inr (k, begins, above, below, unaligned, q)) =
     let same : at ≡ k = omega (arith, ints, p.begins, begins) in
     unaligned (subst (λ n. n % align ≡ 0) same p.aligned)
+
+-- a part fails by one error alone
+pub part_one_failure : (begin : ℤ) (size align lo hi : ℕ) (e e' : VerifyError) → PartFails begin size align lo hi e → PartFails begin size align lo hi e' → e ≡ e'
+part_one_failure begin size align lo hi e e' (inl h) (inl k) = h.1 ∙ sym k.1
+part_one_failure begin size align lo hi e e' (inl (inl h, q)) (inr (at, begins, above, below, unaligned, q')) = absurd (omega (arith, ints, begins, above, h))
+part_one_failure begin size align lo hi e e' (inl (inr h, q)) (inr (at, begins, above, below, unaligned, q')) = absurd (omega (arith, ints, begins, below, h))
+part_one_failure begin size align lo hi e e' (inr (at, begins, above, below, unaligned, q)) (inl (inl h, q')) = absurd (omega (arith, ints, begins, above, h))
+part_one_failure begin size align lo hi e e' (inr (at, begins, above, below, unaligned, q)) (inl (inr h, q')) = absurd (omega (arith, ints, begins, below, h))
+part_one_failure begin size align lo hi e e' (inr (at, begins, above, below, unaligned, q)) (inr (at', begins', above', below', unaligned', q')) =
+    let same : at ≡ at' = omega (arith, ints, begins, begins') in
+    q ∙ ap (λ n. Unaligned n align) same ∙ sym q'
 
 -- a wider range keeps a part
 pub part_wider : (begin : ℤ) (size align lo lo' hi hi' at : ℕ) → lo' ≤ lo → hi ≤ hi' → PartIn begin size align lo hi at → PartIn begin size align lo' hi' at

@@ -1,7 +1,7 @@
 -- A value written as the root of an archive: its parts, zeros up to its alignment, the value.
 use Rattle.std.specs.Prelude.{◌≡◌, ℕ, ◌+◌, ◌-◌, ◌≤◌, ◌⊎◌, List, [], ◌++◌, length}
 use Rattle.rkyv_base.specs.declared.errors.WriteError.{WriteError}
-use Rattle.rkyv_base.specs.Writing.{Output, end_of, Appends, Told, Refusal, distance, no_memory, padding, zeros}
+use Rattle.rkyv_base.specs.Writing.{Only, Output, end_of, Appends, Step, Told, distance, no_memory, padding, piece, refusal, zeros}
 use Rattle.rkyv_base.specs.Shape.{Shape}
 use Rattle.rkyv_base.specs.Entry.{round_up}
 use Rattle.rkyv_base.specs.Access.{Accepted}
@@ -14,17 +14,20 @@ module _ {V R : Type 0} (align : ℕ) (f : Format V R) (v : V) (p : ℕ) where
       (part : List ℕ) × (r : R) × (out : List ℕ) × f.parts v p part r × f.image v r root out
       × (root ≡ round_up (p + length part) align) × (bytes ≡ part ++ (zeros (padding align (p + length part)) ++ out))
 
-  -- after front, piece comes next: one of the value's parts, or the zeros, or the value
-  abbrev pub RootNext : List ℕ → List ℕ → Type 0
-  RootNext front piece =
-      f.next v p front piece
-      ⊎ ((part : List ℕ) × (r : R) × f.parts v p part r × (front ≡ part) × (piece ≡ zeros (padding align (p + length part))))
-      ⊎ ((part : List ℕ) × (r : R) × f.parts v p part r × f.image v r (round_up (p + length part) align) piece × (front ≡ part ++ zeros (padding align (p + length part))))
+  -- the value's bytes, or that a distance from it is too large
+  abbrev pub ValueStep : List ℕ → R → Step → Type 0
+  ValueStep part r step =
+      ((out : List ℕ) × f.image v r (round_up (p + length part) align) out × (step ≡ piece out))
+      ⊎ (f.far v r (round_up (p + length part) align) × (step ≡ refusal distance))
 
-  -- the value is refused, or there is no memory for its bytes, or a distance from the root is too large
-  abbrev pub RootRefuses : Refusal → Type 0
-  RootRefuses c =
-      f.refuses v p c ⊎ (c ≡ no_memory) ⊎ ((c ≡ distance) × (part : List ℕ) × (r : R) × f.parts v p part r × f.far v r (round_up (p + length part) align))
+  -- after front, step comes next: that there is no memory for the value's bytes; one of its parts, or a refusal of it; the
+  -- zeros; the value
+  abbrev pub RootNext : List ℕ → Step → Type 0
+  RootNext front step =
+      Only (refusal no_memory) front step
+      ⊎ f.next v p front step
+      ⊎ ((r : R) × f.parts v p front r × (step ≡ piece (zeros (padding align (p + length front)))))
+      ⊎ ((part : List ℕ) × (r : R) × f.parts v p part r × (front ≡ part ++ zeros (padding align (p + length part))) × ValueStep part r step)
 
 -- a root was appended
 abbrev pub WroteRoot : {V R : Type 0} → ℕ → ℕ → Format V R → V → Output → Output → ℕ → Type 0
@@ -33,7 +36,7 @@ WroteRoot limit align f v o o' root =
 
 -- writing a root gave up: what stood before is kept, and the cause stands
 abbrev pub RootGaveUp : {F V R : Type 0} → ℕ → ℕ → Format V R → V → Output → Output → WriteError F → Type 0
-RootGaveUp limit align f v o o' e = Told limit (RootNext align f v (end_of o)) (RootRefuses align f v (end_of o)) o o' e
+RootGaveUp limit align f v o o' e = Told limit (RootNext align f v (end_of o)) o o' e
 
 -- what a new writer into memory holds
 abbrev pub fresh : Output

@@ -8,7 +8,7 @@ use Rattle.rkyv_base.specs.declared.errors.VerifyError.{VerifyError}
 use Rattle.rkyv_base.specs.declared.errors.VerifyError.TheVariants.{InvalidValue}
 use Rattle.rkyv_base.specs.Bytes.{Same, Sits, number_at}
 use Rattle.rkyv_base.specs.Shape.{Shape, IsAlign, IsElement}
-use Rattle.rkyv_base.specs.Format.{Format, IsFormat, nothing_next, nothing_refused, nothing_far}
+use Rattle.rkyv_base.specs.Format.{Format, IsFormat, nothing_next, nothing_far}
 
 -- how the values V are written: as many bytes as the word has, the number of a value, the value of a number, and which
 -- numbers are those of values
@@ -48,7 +48,6 @@ abbrev pub scalar_format : {V : Type 0} → Encoding V → Format V Unit
 scalar_format e = record {
   parts = λ v p part r. part ≡ [];
   next = nothing_next;
-  refuses = nothing_refused;
   image = λ v r p out. Encodes e v out;
   far = nothing_far;
 }
@@ -89,6 +88,7 @@ module _ {V : Type 0} (e : Encoding V) (word : IsWord e.word) where
     between = λ b p lo hi l o h. (omega (arith, h.0), omega (arith, h.0));
     one = λ b p lo hi l l' h h'. h.0 ∙ sym h'.0;
     clear = λ b p lo hi l error h f. f.1 h.1;
+    one_failure = λ b p lo hi error error' f f'. f.0 ∙ sym f'.0;
     higher = λ b p lo hi hi' l o h. h;
     lower = λ b p lo lo' hi l o o' h. (lo', (refl, h.1), omega (arith, h.0));
     near = λ b c p lo hi l o same part h. (h.0, subst (λ s. e.IsCode (from_le_bytes e.word s)) same h.1);
@@ -107,6 +107,7 @@ module _ {V : Type 0} (e : Encoding V) (word : IsWord e.word) where
   pub scalar_is_format : IsFormat (scalar_shape e) (ScalarStands e) (scalar_format e)
   scalar_is_format = record {
     whole = λ v r p out i. ap length i.bytes ∙ word_bytes e.word word (e.code v);
+    clear = λ v r p out i f. f;
     sound = λ v r c p0 p part out h i s t o al.
         let n : number_at e.word c p ≡ e.code v = number_sits v out c p i t in (
           p0,

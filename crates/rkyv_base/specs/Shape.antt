@@ -17,7 +17,7 @@ abbrev pub IsAlign : ℕ → Type 0
 IsAlign a = (a ≡ 1) ⊎ (a ≡ 2) ⊎ (a ≡ 4) ⊎ (a ≡ 8)
 
 -- What every element keeps: its size is a multiple of its alignment; the new lower end lies in the range, and there is
--- one alone; no bytes hold and fail; a greater upper end changes nothing, and neither does a lesser lower one but for
+-- one alone; no bytes hold and fail, and what fails fails by one error alone; a greater upper end changes nothing, and neither does a lesser lower one but for
 -- the new lower end, which isn't greater; what holds rests on the fixed bytes and those up to the new lower end alone.
 pub record IsElement (s : Shape) : Type 0 where
   pub align_is : IsAlign s.align
@@ -26,6 +26,7 @@ pub record IsElement (s : Shape) : Type 0 where
   pub between : (b : List ℕ) (p lo hi l : ℕ) → lo ≤ hi → s.holds b p lo hi l → (lo ≤ l) × (l ≤ hi)
   pub one : (b : List ℕ) (p lo hi l l' : ℕ) → s.holds b p lo hi l → s.holds b p lo hi l' → l ≡ l'
   pub clear : (b : List ℕ) (p lo hi l : ℕ) (e : VerifyError) → s.holds b p lo hi l → s.fails b p lo hi e → ⊥
+  pub one_failure : (b : List ℕ) (p lo hi : ℕ) (e e' : VerifyError) → s.fails b p lo hi e → s.fails b p lo hi e' → e ≡ e'
   pub higher : (b : List ℕ) (p lo hi hi' l : ℕ) → hi ≤ hi' → s.holds b p lo hi l → s.holds b p lo hi' l
   pub lower : (b : List ℕ) (p lo lo' hi l : ℕ) → lo' ≤ lo → lo ≤ hi → s.holds b p lo hi l → (l' : ℕ) × s.holds b p lo' hi l' × (l' ≤ l)
   pub near : (b c : List ℕ) (p lo hi l : ℕ) → lo ≤ hi → Same b c p (p + s.size) → Same b c lo l → s.holds b p lo hi l → s.holds c p lo hi l

@@ -9,7 +9,7 @@ use Rattle.rkyv_base.specs.declared.errors.VerifyError.TheVariants.{InvalidValue
 use Rattle.rkyv_base.specs.Bytes.{Same, number_at, signed_at, same_part}
 use Rattle.rkyv_base.specs.Shape.{Shape, IsAlign, IsElement, Viewed}
 use Rattle.rkyv_base.specs.Format.{StandsNear}
-use Rattle.rkyv_base.specs.Parts.{PartIn, PartFails, part_one, part_clear, part_wider}
+use Rattle.rkyv_base.specs.Parts.{PartIn, PartFails, part_one, part_clear, part_one_failure, part_wider}
 
 -- how many fixed bytes a text has, with words of this width
 abbrev pub text_size : Width → ℕ
@@ -123,6 +123,23 @@ module _ (w : Width) where
       let same : at ≡ at' = part_one (far_begin w s p) (far_length w s) 1 lo hi at at' part part' in
       none (subst (λ k. IsUtf8 (slice_range b k (k + far_length w s))) same u)
 
+  far_one_failure : (s b : List ℕ) (p lo hi : ℕ) (e e' : VerifyError) → FarFails w s b p lo hi e → FarFails w s b p lo hi e' → e ≡ e'
+  far_one_failure s b p lo hi e e' (inl f) (inl g) = f.1 ∙ sym g.1
+  far_one_failure s b p lo hi e e' (inl f) (inr (inl g)) = absurd (omega (arith, f.0, g.0))
+  far_one_failure s b p lo hi e e' (inl f) (inr (inr g)) = absurd (omega (arith, f.0, g.0))
+  far_one_failure s b p lo hi e e' (inr (inl f)) (inl g) = absurd (omega (arith, f.0, g.0))
+  far_one_failure s b p lo hi e e' (inr (inr f)) (inl g) = absurd (omega (arith, f.0, g.0))
+  far_one_failure s b p lo hi e e' (inr (inl f)) (inr (inl g)) = part_one_failure (far_begin w s p) (far_length w s) 1 lo hi e e' f.1 g.1
+  far_one_failure s b p lo hi e e' (inr (inl f)) (inr (inr g)) = absurd (part_clear (far_begin w s p) (far_length w s) 1 lo hi g.1 e g.2 f.1)
+  far_one_failure s b p lo hi e e' (inr (inr f)) (inr (inl g)) = absurd (part_clear (far_begin w s p) (far_length w s) 1 lo hi f.1 e' f.2 g.1)
+  far_one_failure s b p lo hi e e' (inr (inr f)) (inr (inr g)) = f.4 ∙ sym g.4
+
+  fixed_one_failure : (s b : List ℕ) (p lo hi : ℕ) (e e' : VerifyError) → FixedFails w s b p lo hi e → FixedFails w s b p lo hi e' → e ≡ e'
+  fixed_one_failure s b p lo hi e e' (inl f) (inl g) = f.2 ∙ sym g.2
+  fixed_one_failure s b p lo hi e e' (inl f) (inr g) = cc (f.0, g.0)
+  fixed_one_failure s b p lo hi e e' (inr f) (inl g) = cc (f.0, g.0)
+  fixed_one_failure s b p lo hi e e' (inr f) (inr g) = far_one_failure s b p lo hi e e' f.1 g.1
+
   holds_wider : (s b : List ℕ) (p lo lo' hi hi' l : ℕ) → lo' ≤ lo → hi ≤ hi' → FarHolds w s b p lo hi l → FarHolds w s b p lo' hi' l
   holds_wider s b p lo lo' hi hi' l low high (f, n, at, part, u, q) =
       (f, n, at, part_wider (far_begin w s p) (far_length w s) 1 lo lo' hi hi' at low high part, u, q)
@@ -193,6 +210,7 @@ module _ (w : Width) (kind : IsArchiveWord w) where
     between = λ b p lo hi l o h. holds_between w (fixed_bytes w b p) b p lo hi l o h;
     one = λ b p lo hi l l' h h'. holds_one w (fixed_bytes w b p) b p lo hi l l' h h';
     clear = λ b p lo hi l e h f. holds_clear w (fixed_bytes w b p) b p lo hi l e h f;
+    one_failure = λ b p lo hi e e' f g. fixed_one_failure w (fixed_bytes w b p) b p lo hi e e' f g;
     higher = λ b p lo hi hi' l o h. holds_higher w (fixed_bytes w b p) b p lo hi hi' l o h;
     lower = λ b p lo lo' hi l o o' h. holds_lower w (fixed_bytes w b p) b p lo lo' hi l o h;
     near = λ b c p lo hi l o fixed part h. holds_near w (fixed_bytes w c p) b c p lo hi l part (subst (λ s. FixedHolds w s b p lo hi l) fixed h);

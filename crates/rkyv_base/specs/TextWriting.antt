@@ -1,13 +1,12 @@
 -- How text is written: up to as many bytes as its fixed bytes inline, filled up with ff; else in one piece elsewhere.
-use Rattle.std.specs.Prelude.{MatchResult, Result, ◌≡◌, ℕ, ◌+◌, ◌-◌, ◌*◌, ◌/◌, ◌%◌, ◌^◌, ◌<◌, ◌≤◌, ◌⊎◌, ⊤, ◌==◌, ◌&&◌, ℤ, pos, ◌+ℤ◌, ◌-ℤ◌, FitsSigned, List, [], ◌∷◌, ◌++◌, length, replicate, slice_range, slice_index, get_or, take, nat_le, nat_lt, true, false}
+use Rattle.std.specs.Prelude.{MatchResult, Result, ◌≡◌, ℕ, ◌+◌, ◌-◌, ◌*◌, ◌/◌, ◌%◌, ◌^◌, ◌<◌, ◌≤◌, ◌⊎◌, ◌==◌, ◌&&◌, ℤ, pos, ◌+ℤ◌, ◌-ℤ◌, FitsSigned, List, [], ◌∷◌, ◌++◌, length, replicate, slice_range, slice_index, get_or, take, nat_le, nat_lt, true, false}
 use Rattle.std.specs.List.{position_or_len}
 use Rattle.std.specs.Int.{Width, byte_len, to_le_bytes, from_le_bytes, cast_unsigned, cast_signed}
 use Rattle.std.specs.Str.{IsUtf8}
 use mir.Val.{bits}
 use Rattle.rkyv_base.specs.declared.strings.TextResolver.{TextResolver}
 use Rattle.rkyv_base.specs.declared.errors.WriteError.{WriteError}
-use Rattle.rkyv_base.specs.declared.errors.WriteError.TheVariants.{TextTooLong}
-use Rattle.rkyv_base.specs.Writing.{Appends, Output, Refusal, long_text, OnePiece}
+use Rattle.rkyv_base.specs.Writing.{Only, Output, Step, long_text, piece, refusal}
 use Rattle.rkyv_base.specs.Format.{Format, IsFormat, Serialized, GaveUp}
 use Rattle.rkyv_base.specs.Pairs.{written_as, written_as-format}
 use Rattle.rkyv_base.specs.Text.{FixedHolds, IsArchiveWord, TextReads, by_archive_word, far_begin, far_length, far_reads, fixed_bytes, inline_reads, inline_text, is_far, text_shape, text_size, told_length}
@@ -57,11 +56,8 @@ abbrev pub TextParts : Width → List ℕ → ℕ → List ℕ → TextResolver 
 TextParts w t p part r =
     IsUtf8 t × ((IsShort w t × (part ≡ []) × (r.pos ≡ 0)) ⊎ (IsLong w t × (part ≡ t) × (r.pos ≡ p)))
 
-abbrev pub TextNext : Width → List ℕ → ℕ → List ℕ → List ℕ → Type 0
-TextNext w t p front piece = IsLong w t × OnePiece t front piece
-
-abbrev pub TextRefuses : Width → List ℕ → ℕ → Refusal → Type 0
-TextRefuses w t p c = IsTooLong w t × (c ≡ long_text)
+abbrev pub TextNext : Width → List ℕ → ℕ → List ℕ → Step → Type 0
+TextNext w t p front step = (IsLong w t × Only (piece t) front step) ⊎ (IsTooLong w t × Only (refusal long_text) front step)
 
 -- text that is too long is never serialized: then the bytes may be any
 abbrev pub TextImage : Width → List ℕ → TextResolver → ℕ → List ℕ → Type 0
@@ -74,16 +70,11 @@ abbrev pub TextFar : Width → List ℕ → TextResolver → ℕ → Type 0
 TextFar w t r p = IsLong w t × (FitsSigned w (pos r.pos -ℤ pos p) → ⊥)
 
 abbrev pub text_format : Width → Format (List ℕ) TextResolver
-text_format w = record { parts = TextParts w; next = TextNext w; refuses = TextRefuses w; image = TextImage w; far = TextFar w }
+text_format w = record { parts = TextParts w; next = TextNext w; image = TextImage w; far = TextFar w }
 
 -- what serializing a text answers
 abbrev pub TextWritten : {F : Type 0} → ℕ → Width → List ℕ → Output → Output → Result TextResolver (WriteError F) → Type 0
-TextWritten limit w t o o' result = MatchResult result (Serialized (text_format w) t o o') (GaveUp limit (text_format w) t o o')
-
--- text that is too long is refused before a byte is written
-abbrev pub IsRefusedFirst : {F : Type 0} → Output → Output → WriteError F → Type 0
-IsRefusedFirst o o' TextTooLong = Appends o o' []
-IsRefusedFirst o o' _ = ⊤
+TextWritten limit w t o o' result = MatchResult result (Serialized limit (text_format w) t o o') (GaveUp limit (text_format w) t o o')
 
 -- the bytes that sit at a text's position are its fixed bytes
 fixed_sits : (w : Width) (c out : List ℕ) (p : ℕ) → length out ≡ text_size w → Sits c p out → fixed_bytes w c p ≡ out
@@ -196,6 +187,11 @@ module _ (w : Width) (kind : IsArchiveWord w) where
         far_reads w s c p p0 far begins ∙ text,
       )
 
+  text_clear : (t : List ℕ) (r : TextResolver) (p : ℕ) (out : List ℕ) → TextImage w t r p out → TextFar w t r p → ⊥
+  text_clear t r p out (inl i) f = omega (arith, i.0, f.0.0)
+  text_clear t r p out (inr (inl i)) f = f.1 i.1
+  text_clear t r p out (inr (inr i)) f = omega (arith, i.0, f.0.1)
+
   text_sound : (t : List ℕ) (r : TextResolver) (c : List ℕ) (p0 p : ℕ) (part out : List ℕ) → TextParts w t p0 part r → TextImage w t r p out
       → Sits c p0 part → fixed_bytes w c p ≡ out
       → (l : ℕ) × FixedHolds w (fixed_bytes w c p) c p p0 (p0 + length part) l × TextReads w c p t
@@ -213,6 +209,7 @@ module _ (w : Width) (kind : IsArchiveWord w) where
   pub text_is_format : IsFormat (text_shape w) (TextReads w) (text_format w)
   text_is_format = record {
     whole = text_whole;
+    clear = text_clear;
     sound = λ t r c p0 p part out h i s q o al. text_sound t r c p0 p part out h i s (fixed_sits w c out p (text_whole t r p out i) q);
   }
 

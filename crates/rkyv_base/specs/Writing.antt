@@ -16,17 +16,26 @@ end_of o = o.start + length o.bytes
 abbrev pub held : List ℕ × ℕ → Output
 held w = record { start = 0; bytes = w.0; failures = w.1 }
 
--- part was appended
+-- part stands behind what stood before
+pub record Grows (o o' : Output) (part : List ℕ) : Type 0 where
+  pub start : o'.start ≡ o.start
+  pub bytes : o'.bytes ≡ o.bytes ++ part
+
+-- part was appended, and no write failed
 pub record Appends (o o' : Output) (part : List ℕ) : Type 0 where
   pub start : o'.start ≡ o.start
   pub bytes : o'.bytes ≡ o.bytes ++ part
-  pub failures : o.failures ≤ o'.failures
+  pub failures : o'.failures ≡ o.failures
+
+-- one failure more is counted, up to the greatest count
+abbrev pub FailedOnce : Output → Output → Type 0
+FailedOnce o o' = o'.failures ≡ min (o.failures + 1) (2 ^ 64 - 1)
 
 -- after a fault: a front of the bytes was appended, and one more failure is counted
 pub record Fell (o o' : Output) (bytes : List ℕ) : Type 0 where
   pub front : ℕ
-  pub appended : Appends o o' (take front bytes)
-  pub counted : o'.failures ≡ min (o.failures + 1) (2 ^ 64 - 1)
+  pub appended : Grows o o' (take front bytes)
+  pub counted : FailedOnce o o'
 
 -- why a value can't be written where it is; for want of memory where writing it takes some
 pub data Refusal : Type 0 where
@@ -38,52 +47,59 @@ pub data Refusal : Type 0 where
   no_memory : Refusal
   refused : ℕ → Refusal
 
--- a writer counts one more failure, or as many as it can
-abbrev pub HasFailed : Output → Output → Type 0
-HasFailed o o' = (o.failures < o'.failures) ⊎ (o'.failures ≡ 2 ^ 64 - 1)
+-- what comes next in a write: a piece to be appended, or a refusal
+pub data Step : Type 0 where
+  piece : List ℕ → Step
+  refusal : Refusal → Step
 
--- front ends in a front of the piece that came next, which fits in the limit behind position p and what came before it
-pub record EndsIn (limit p : ℕ) (next : List ℕ → List ℕ → Type 0) (front : List ℕ) : Type 0 where
+-- nothing was appended, or it ends within the limit
+abbrev pub Within : ℕ → Output → List ℕ → Type 0
+Within limit o' part = (part ≡ []) ⊎ (end_of o' ≤ limit)
+
+-- front was appended within the limit, no write failed, and step comes next
+abbrev pub Reached : ℕ → (List ℕ → Step → Type 0) → Output → Output → List ℕ → Step → Type 0
+Reached limit next o o' front step = Within limit o' front × (o'.failures ≡ o.failures) × next front step
+
+-- one write failed, of a piece that comes next after a front and fits in the limit behind it; and front ends in a front of
+-- that piece
+pub record FellIn (limit : ℕ) (next : List ℕ → Step → Type 0) (o o' : Output) (front : List ℕ) : Type 0 where
   pub before : List ℕ
-  pub piece : List ℕ
-  pub comes : next before piece
-  pub fits : p + length before + length piece ≤ limit
+  pub bytes : List ℕ
+  pub comes : next before (piece bytes)
+  pub fits : end_of o + length before + length bytes ≤ limit
   pub taken : ℕ
-  pub is : front ≡ before ++ take taken piece
+  pub is : front ≡ before ++ take taken bytes
+  pub counted : FailedOnce o o'
 
--- the cause that an error names stands, after front was appended. `next front piece` says that piece is what is
--- to be appended after front, and `refuses` which refusals the value allows.
-abbrev pub CauseStands : {F : Type 0} → ℕ → (List ℕ → List ℕ → Type 0) → (Refusal → Type 0) → Output → Output → List ℕ → WriteError F → Type 0
-CauseStands limit next refuses o o' front (InvalidLoadFactor n d) = refuses (load_factor n d)
-CauseStands limit next refuses o o' front (IteratorLengthMismatch m) = refuses (mismatch m.expected m.actual)
-CauseStands limit next refuses o o' front (CapacityTooLarge n) = refuses (capacity n)
-CauseStands limit next refuses o o' front PositionTooLarge = (piece : List ℕ) × next front piece × (limit < end_of o' + length piece)
-CauseStands limit next refuses o o' front DistanceTooLarge = refuses distance
-CauseStands limit next refuses o o' front TextTooLong = refuses long_text
-CauseStands limit next refuses o o' front (Writer f) = HasFailed o o' × EndsIn limit (end_of o) next front
-CauseStands limit next refuses o o' front Memory = refuses no_memory
-CauseStands limit next refuses o o' front (Refused n) = refuses (refused n)
+-- the cause that an error names stands, after front was appended. `next front step` says that step comes next after front.
+abbrev pub CauseStands : {F : Type 0} → ℕ → (List ℕ → Step → Type 0) → Output → Output → List ℕ → WriteError F → Type 0
+CauseStands limit next o o' front (InvalidLoadFactor n d) = Reached limit next o o' front (refusal (load_factor n d))
+CauseStands limit next o o' front (IteratorLengthMismatch m) = Reached limit next o o' front (refusal (mismatch m.expected m.actual))
+CauseStands limit next o o' front (CapacityTooLarge n) = Reached limit next o o' front (refusal (capacity n))
+CauseStands limit next o o' front PositionTooLarge = (bytes : List ℕ) × Reached limit next o o' front (piece bytes) × (limit < end_of o' + length bytes)
+CauseStands limit next o o' front DistanceTooLarge = Reached limit next o o' front (refusal distance)
+CauseStands limit next o o' front TextTooLong = Reached limit next o o' front (refusal long_text)
+CauseStands limit next o o' front (Writer f) = FellIn limit next o o' front
+CauseStands limit next o o' front Memory = Reached limit next o o' front (refusal no_memory)
+CauseStands limit next o o' front (Refused n) = Reached limit next o o' front (refusal (refused n))
 
--- a write that gave up kept what stood before, and tells a cause that stands
-pub record Told {F : Type 0} (limit : ℕ) (next : List ℕ → List ℕ → Type 0) (refuses : Refusal → Type 0) (o o' : Output) (e : WriteError F) : Type 0 where
+-- a write that gave up kept what stood before and appended front, and tells the cause that stands there
+pub record Told {F : Type 0} (limit : ℕ) (next : List ℕ → Step → Type 0) (o o' : Output) (e : WriteError F) : Type 0 where
   pub front : List ℕ
-  pub kept : Appends o o' front
-  pub cause : CauseStands limit next refuses o o' front e
+  pub kept : Grows o o' front
+  pub cause : CauseStands limit next o o' front e
 
--- the piece alone comes next
-abbrev pub OnePiece : List ℕ → List ℕ → List ℕ → Type 0
-OnePiece bytes front piece = (front ≡ []) × (piece ≡ bytes)
-
-abbrev pub NoRefusal : Refusal → Type 0
-NoRefusal r = ⊥
+-- the step alone comes next
+abbrev pub Only : Step → List ℕ → Step → Type 0
+Only one front step = (front ≡ []) × (step ≡ one)
 
 -- one piece was appended within the limit
 abbrev pub Appended : ℕ → List ℕ → Output → Output → Type 0
-Appended limit piece o o' = Appends o o' piece × (end_of o' ≤ limit)
+Appended limit bytes o o' = Appends o o' bytes × (end_of o' ≤ limit)
 
 -- appending one piece gave up
 abbrev pub PieceGaveUp : {F : Type 0} → ℕ → List ℕ → Output → Output → WriteError F → Type 0
-PieceGaveUp limit piece o o' e = Told limit (OnePiece piece) NoRefusal o o' e
+PieceGaveUp limit bytes o o' e = Told limit (Only (piece bytes)) o o' e
 
 -- how many zeros lie from position p to the next multiple of a
 abbrev pub padding : ℕ → ℕ → ℕ

@@ -121,8 +121,6 @@ impl<W: Writer> Writer for LimitWriter<W> {
         requires { end_of (limited W.output self.old) + length bytes.now < 2 ^ 64 }
         ensures appends { let o = limited W.output self.old in let o' = limited W.output self.new in
             OnOk result (Appends o o' bytes.now) }
-        ensures counts { let o = limited W.output self.old in let o' = limited W.output self.new in
-            OnOk result (o'.failures ≡ o.failures) }
         ensures fell { let o = limited W.output self.old in let o' = limited W.output self.new in
             OnErr result (Fell o o' bytes.now) }
         ensures limit { Counts W.output self.old self.new }

@@ -80,15 +80,17 @@ pub(crate) fn serialize_entry<S: Writer, W: Width, A: Serialize<S, W>, B: Serial
     serializer: &mut S,
 ) -> Result<EntryResolver<A::Resolver, B::Resolver>, WriteError<S::Fault>>
     ensures { let f = pair_format A.Archived.shape B.Archived.shape A.format B.format in MatchResult result
-        (Serialized f (key.now, value.now) (S.output serializer.old) (S.output serializer.new))
+        (Serialized W.LIMIT f (key.now, value.now) (S.output serializer.old) (S.output serializer.new))
         (GaveUp W.LIMIT f (key.now, value.now) (S.output serializer.old) (S.output serializer.new)) }
 {
     if whole_size::<A::Archived, B::Archived>() > LARGEST {
         return Err(WriteError::Refused(0));
     }
-    let key = key.serialize(alloc, serializer)?;
-    match value.serialize(alloc, serializer) {
-        Ok(value) => Ok(EntryResolver { key, value }),
+    match key.serialize(alloc, serializer) {
+        Ok(key) => match value.serialize(alloc, serializer) {
+            Ok(value) => Ok(EntryResolver { key, value }),
+            Err(e) => Err(e),
+        },
         Err(e) => Err(e),
     }
 }

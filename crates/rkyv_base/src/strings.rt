@@ -12,13 +12,11 @@ ghost use Rattle.std.specs.Prelude.{
   replicate,
   string_bytes,
   FitsSigned,
-  IfErr,
   MatchResult,
 };
 ghost use Rattle.rkyv_base.specs.Pairs.{written_as};
 ghost use Rattle.rkyv_base.specs.Text.{text_size};
 ghost use Rattle.rkyv_base.specs.TextWriting.{
-  IsRefusedFirst,
   TextWritten,
   far_bytes,
   inline_bytes,
@@ -110,10 +108,8 @@ fn serialize_text<S: Writer, W: Width>(
     text: &str,
     serializer: &mut S,
 ) -> Result<TextResolver, WriteError<S::Fault>>
-    ensures written { TextWritten W.LIMIT W.word text.now
+    ensures { TextWritten W.LIMIT W.word text.now
         (S.output serializer.old) (S.output serializer.new) result }
-    ensures first { IfErr result
-        (IsRefusedFirst (S.output serializer.old) (S.output serializer.new)) }
 {
     if text.len() <= W::TEXT_SIZE {
         return Ok(TextResolver { pos: 0 });
@@ -175,10 +171,8 @@ impl<'t, S: Writer, W: Width> Serialize<S, W> for &'t str {
         _alloc: Global,
         serializer: &mut S,
     ) -> Result<TextResolver, WriteError<S::Fault>>
-        ensures written { TextWritten W.LIMIT W.word self.now.now
+        ensures { TextWritten W.LIMIT W.word self.now.now
             (S.output serializer.old) (S.output serializer.new) result }
-        ensures first { IfErr result
-            (IsRefusedFirst (S.output serializer.old) (S.output serializer.new)) }
     {
         serialize_text::<S, W>(self, serializer)
     }
@@ -191,10 +185,8 @@ impl<S: Writer, W: Width> Serialize<S, W> for String {
         _alloc: Global,
         serializer: &mut S,
     ) -> Result<TextResolver, WriteError<S::Fault>>
-        ensures written { TextWritten W.LIMIT W.word (string_bytes self.now)
+        ensures { TextWritten W.LIMIT W.word (string_bytes self.now)
             (S.output serializer.old) (S.output serializer.new) result }
-        ensures first { IfErr result
-            (IsRefusedFirst (S.output serializer.old) (S.output serializer.new)) }
     {
         serialize_text::<S, W>(self.as_str(), serializer)
     }

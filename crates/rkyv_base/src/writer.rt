@@ -58,7 +58,6 @@ pub trait Writer {
     fn write(&mut self, bytes: &[u8]) -> Result<(), Self::Fault>
         requires { end_of (output self.old) + length bytes.now < 2 ^ 64 }
         ensures appends { OnOk result (Appends (output self.old) (output self.new) bytes.now) }
-        ensures counts { OnOk result ((output self.new).failures ≡ (output self.old).failures) }
         ensures fell { OnErr result (Fell (output self.old) (output self.new) bytes.now) };
 }
 
@@ -128,7 +127,6 @@ impl Writer for VecWriter {
     fn write(&mut self, bytes: &[u8]) -> Result<(), NoMemory>
         requires { length self.old.0 + length bytes.now < 2 ^ 64 }
         ensures appends { OnOk result (Appends (held self.old) (held self.new) bytes.now) }
-        ensures counts { OnOk result (self.new.1 ≡ self.old.1) }
         ensures fell { OnErr result (Fell (held self.old) (held self.new) bytes.now) }
         ensures kept { OnErr result (self.new.0 ≡ self.old.0) }
     {

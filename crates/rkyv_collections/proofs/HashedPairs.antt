@@ -53,7 +53,7 @@ module _ {T S BK BV A B : Type 0} (inner : T → S) (steps : S → Option (BK ×
       ap (λ n. (n, (key x.1.key, value x.1.value)) ∷ seen_pairs (pair_of key value) xs) h.0
       ∙ ap (λ (t : List (ℕ × (A × B))). (hash (key x.1.key), (key x.1.key, value x.1.value)) ∷ t) (seen_keyed xs h.1)
 
-  module _ {R Q : Type 0} (len : ℕ) (factor : ℕ × ℕ) (max : ℕ) (w : Width) (k v : Shape) (kf : Format A R) (vf : Format B Q) (o o' : Output) (s : T) where
+  module _ {R Q : Type 0} (len : ℕ) (factor : ℕ × ℕ) (max : ℕ) (w : Width) (k v : Shape) (kf : Format A R) (vf : Format B Q) (o o' : Output) (s : T) (limit : ℕ) where
     abbrev TableOf : Format (List (ℕ × EntryAdapter BK BV A B)) TableResolver
     TableOf = table_format w (entry_shape k v) (written_as (pair_of key value) (pair_format k v kf vf)) factor
 
@@ -66,20 +66,20 @@ module _ {T S BK BV A B : Type 0} (inner : T → S) (steps : S → Option (BK ×
     abbrev Given : T → Option (ℕ × EntryAdapter BK BV A B) → T → Type 0
     Given = Steps inner steps (λ q. hash (key q))
 
-    wrote_map : (r : TableResolver) → WroteTable (Drains Given s) len factor max TableOf o o' r → WroteItems (Drains steps (inner s)) len factor max MapOf o o' r
+    wrote_map : (r : TableResolver) → WroteTable (Drains Given s) len factor max TableOf o o' limit r → WroteItems (Drains steps (inner s)) len factor max MapOf o o' limit r
     wrote_map r h =
         let xs = h.1.0 in
         let d = drained inner steps (λ q. hash (key q)) xs s h.1.1.0 in (
           h.0,
           items_in inner steps (λ q. hash (key q)) xs,
           (d.0, count xs h.1.1.1),
-          subst (λ ps. Serialized (table_format w (entry_shape k v) (pair_format k v kf vf) factor) ps o o' r) (seen_keyed xs d.1)
-              (seen_serialized (pair_of key value) (pair_format k v kf vf) w (entry_shape k v) factor xs o o' r h.1.2),
+          subst (λ ps. Serialized limit (table_format w (entry_shape k v) (pair_format k v kf vf) factor) ps o o' r) (seen_keyed xs d.1)
+              (seen_serialized (pair_of key value) (pair_format k v kf vf) w (entry_shape k v) factor xs o o' limit r h.1.2),
         )
 
-    module _ {F : Type 0} (limit : ℕ) where
-      no_map : (e : WriteError F) → NoTable (Drains Given s) len factor max TableOf o o' (GaveOther Given len s) limit e
-          → NoItems (Drains steps (inner s)) len factor max MapOf o o' (GaveOther steps len (inner s)) limit e
+    module _ {F : Type 0} where
+      no_map : (e : WriteError F) → NoTable (Drains Given s) len factor max TableOf o o' limit (GaveOther Given len s) e
+          → NoItems (Drains steps (inner s)) len factor max MapOf o o' limit (GaveOther steps len (inner s)) e
       no_map e (inl h) =
           inl (own_counted len factor max (GaveOther Given len s) (GaveOther steps len (inner s)) (gave_other inner steps (λ q. hash (key q)) len s) e h.0, h.1)
       no_map e (inr h) =
@@ -95,7 +95,7 @@ module _ {T S BK BV A B : Type 0} (inner : T → S) (steps : S → Option (BK ×
 
       -- what writing the table of the hashed pairs answers, as what writing the map does
       pub answers_map : (result : Result TableResolver (WriteError F))
-          → MatchResult result (WroteTable (Drains Given s) len factor max TableOf o o') (NoTable (Drains Given s) len factor max TableOf o o' (GaveOther Given len s) limit)
-          → MatchResult result (WroteItems (Drains steps (inner s)) len factor max MapOf o o') (NoItems (Drains steps (inner s)) len factor max MapOf o o' (GaveOther steps len (inner s)) limit)
+          → MatchResult result (WroteTable (Drains Given s) len factor max TableOf o o' limit) (NoTable (Drains Given s) len factor max TableOf o o' limit (GaveOther Given len s))
+          → MatchResult result (WroteItems (Drains steps (inner s)) len factor max MapOf o o' limit) (NoItems (Drains steps (inner s)) len factor max MapOf o o' limit (GaveOther steps len (inner s)))
       answers_map (Ok r) h = wrote_map r h
       answers_map (Err e) h = no_map e h

@@ -4,15 +4,14 @@ use Rattle.std.specs.Iterator.{Drains, Yields, YieldsFirstBy}
 use Rattle.std.proofs.lemmas.List.{append-nil, length-map}
 use Rattle.rkyv_base.specs.Format.{Format, GaveUp, Serialized}
 use Rattle.rkyv_base.specs.Pairs.{written_as}
-use Rattle.rkyv_base.specs.Writing.{Appends, CauseStands, Output, end_of}
-use Rattle.rkyv_base.proofs.GivingUp.{told_after}
+use Rattle.rkyv_base.specs.Writing.{CauseStands, Output, end_of, capacity as too_large, load_factor, no_memory}
+use Rattle.rkyv_base.proofs.GivingUp.{grows, none_appended, told_as}
 use Rattle.rkyv_base.specs.declared.errors.WriteError.{WriteError}
 use Rattle.rkyv_base.specs.declared.errors.WriteError.TheVariants.{InvalidLoadFactor, IteratorLengthMismatch, CapacityTooLarge, PositionTooLarge, DistanceTooLarge, TextTooLong, Writer, Memory, Refused}
 use Rattle.rkyv_table.specs.Counting.{GaveOther}
 use Rattle.rkyv_table.specs.Numbers.{capacity}
-use Rattle.rkyv_table.specs.Serializing.{OwnCause}
+use Rattle.rkyv_table.specs.Serializing.{HasCapacity, OwnCause}
 use Rattle.rkyv_table.specs.TableFormat.{TableResolver}
-use Rattle.rkyv_table.proofs.TableSteps.{none_appended}
 use Rattle.rkyv_collections.specs.Handing.{NoItems, WroteItems}
 use Rattle.rkyv_collections.specs.Listed.{listed}
 
@@ -44,10 +43,13 @@ module _ {X V : Type 0} (gave : List X → Type 0) (other : ℕ → Type 0) (see
   abbrev Whole : Format (List V) TableResolver
   Whole = listed max factor f
 
-  own_stands : {F : Type 0} (e : WriteError F) → OwnCause len factor max other e → CauseStands limit (Whole.next values (end_of o)) (Whole.refuses values (end_of o)) o o' [] e
-  own_stands (InvalidLoadFactor n d) h = inl (inl (cc, h.1))
-  own_stands (CapacityTooLarge l) h = inl (inr (inl (cc, h.1, subst (λ n. max < capacity n factor) count h.2)))
-  own_stands Memory h = inl (inr (inr (refl, omega (arith, h.1, count))))
+  has : HasCapacity len factor max → HasCapacity (length values) factor max
+  has h = subst (λ n. HasCapacity n factor max) count h
+
+  own_stands : {F : Type 0} (e : WriteError F) → OwnCause len factor max other e → CauseStands limit (Whole.next values (end_of o)) o o [] e
+  own_stands (InvalidLoadFactor n d) h = (inl refl, refl, inl (load_factor n d, inl (cc, h.1), (refl, refl)))
+  own_stands (CapacityTooLarge l) h = (inl refl, refl, inl (too_large l, inr (inl (cc, h.1, subst (λ n. max < capacity n factor) count h.2)), (refl, refl)))
+  own_stands Memory h = (inl refl, refl, inl (no_memory, inr (inr (refl, has h.0, omega (arith, h.1, count))), (refl, refl)))
   own_stands (IteratorLengthMismatch m) h = absurd (none m.actual h.2)
   own_stands PositionTooLarge h = absurd h
   own_stands DistanceTooLarge h = absurd h
@@ -56,15 +58,13 @@ module _ {X V : Type 0} (gave : List X → Type 0) (other : ℕ → Type 0) (see
   own_stands (Refused c) h = absurd h
 
   pub answers_listed : {F : Type 0} (result : Result TableResolver (WriteError F))
-      → MatchResult result (WroteItems gave len factor max (written_as seen f) o o') (NoItems gave len factor max (written_as seen f) o o' other limit)
-      → MatchResult result (Serialized Whole values o o') (GaveUp limit Whole values o o')
-  answers_listed (Ok r) h = subst (λ (vs : List V). Serialized f vs o o' r) (all h.1 h.2.0) h.3
-  answers_listed (Err e) (inl h) = record {
-    front = [];
-    kept = subst (λ x. Appends o x []) (sym h.1) (none_appended o);
-    cause = own_stands e h.0;
-  }
+      → MatchResult result (WroteItems gave len factor max (written_as seen f) o o' limit) (NoItems gave len factor max (written_as seen f) o o' limit other)
+      → MatchResult result (Serialized limit Whole values o o') (GaveUp limit Whole values o o')
+  answers_listed (Ok r) h =
+      let x = subst (λ (vs : List V). Serialized limit f vs o o' r) (all h.1 h.2.0) h.3 in
+      (x.0, x.1, (has h.0, x.2), x.3)
+  answers_listed (Err e) (inl h) =
+      subst (λ x. GaveUp limit Whole values o x e) (sym h.1) (record { front = []; kept = grows o o [] (none_appended o); cause = own_stands e h.0 })
   answers_listed (Err e) (inr h) =
-      let told = subst (λ (vs : List V). GaveUp limit f vs o o' e) (all h.1 h.2.0) h.3 in
-      told_after limit (f.next values (end_of o)) (f.next values (end_of o)) (Whole.refuses values (end_of o)) (f.refuses values (end_of o))
-      o o o' [] e (none_appended o) (λ front piece n. n) (λ c n. inr n) told
+      told_as limit (Whole.next values (end_of o)) (f.next values (end_of o)) o o' e (λ front step n. inr (has h.0, n))
+      (subst (λ (vs : List V). GaveUp limit f vs o o' e) (all h.1 h.2.0) h.3)

@@ -10,15 +10,14 @@ use Rattle.rkyv_base.specs.Entry.{round_up}
 use Rattle.rkyv_base.specs.Format.{Format, GaveUp, Serialized}
 use Rattle.rkyv_base.specs.Pairs.{written_as}
 use Rattle.rkyv_base.specs.Shape.{Shape}
-use Rattle.rkyv_base.specs.Writing.{Output, Refusal, end_of}
-use Rattle.rkyv_base.proofs.GivingUp.{told_after}
+use Rattle.rkyv_base.specs.Writing.{Output, Step, end_of}
+use Rattle.rkyv_base.proofs.GivingUp.{told_as}
 use Rattle.rkyv_table.specs.Laws.{AreHashes}
 use Rattle.rkyv_table.specs.Numbers.{capacity}
 use Rattle.rkyv_table.specs.Placing.{Written}
-use Rattle.rkyv_table.specs.Slots.{Above, BeforeBuckets, BucketFar, BucketNext, Filled, PartsNext, PartsRefuse, SlotImages, SlotParts, TableBytes, TableNext, TableRefuses, TooFar, filled}
-use Rattle.rkyv_table.specs.TableFormat.{InBuckets, ItemRefuses, TableParts, TablePiece, TableResolver, TableWritten, table_format}
+use Rattle.rkyv_table.specs.Slots.{Above, BeforeBuckets, BucketNext, BucketStep, Filled, PartsNext, SlotImages, SlotParts, TableBytes, TableNext, TooFar, filled}
+use Rattle.rkyv_table.specs.TableFormat.{InBuckets, PairsNext, TableParts, TableResolver, TableWritten, table_format}
 use Rattle.rkyv_table.specs.Taking.{Placed, Slotted, hashes_of, items_of}
-use Rattle.rkyv_table.proofs.TableSteps.{none_appended}
 
 -- what is seen in each item, under the item's hash
 abbrev pub seen_pairs : {X Y : Type 0} → (X → Y) → List (ℕ × X) → List (ℕ × Y)
@@ -88,12 +87,9 @@ module _ {X Y R : Type 0} (seen : X → Y) (f : Format Y R) where
       subst (λ (t : List (Option Y)). SlotParts f t p part rs) (sym (take-map (option_map seen) i slots)) (seen_parts (take i slots) p part rs h)
 
   module _ (slots : List (Option X)) (p : ℕ) where
-    parts_next : (front piece : List ℕ) → PartsNext (written_as seen f) slots p front piece → PartsNext f (seen_slots seen slots) p front piece
-    parts_next front piece h =
+    parts_next : (front : List ℕ) (step : Step) → PartsNext (written_as seen f) slots p front step → PartsNext f (seen_slots seen slots) p front step
+    parts_next front step h =
         (h.0, seen h.1, h.2, h.3, h.4, seen_at seen slots h.0 (Some h.1) h.5, front_parts slots h.0 p h.2 h.3 h.6, h.7, h.8)
-
-    parts_refuse : (c : Refusal) → PartsRefuse (written_as seen f) slots p c → PartsRefuse f (seen_slots seen slots) p c
-    parts_refuse c h = (h.0, seen h.1, h.2, h.3, seen_at seen slots h.0 (Some h.1) h.4, front_parts slots h.0 p h.2 h.3 h.5, h.6)
 
   module _ (size : ℕ) where
     seen_images : (slots : List (Option X)) (rs : List R) (z : ℕ) (out : List ℕ) → SlotImages size (written_as seen f) slots rs z out
@@ -111,6 +107,11 @@ module _ {X Y R : Type 0} (seen : X → Y) (f : Format Y R) where
     seen_far None left p h = h
     seen_far (Some x) left p h = h
 
+    seen_step : (s : Option X) (left : List R) (p : ℕ) (step : Step) → BucketStep size (written_as seen f) s left p step
+        → BucketStep size f (option_map seen s) left p step
+    seen_step s left p step (inl h) = inl (h.0, h.1, seen_bucket s left h.0 p h.1 h.2, h.3)
+    seen_step s left p step (inr h) = inr (seen_far s left p h.0, h.1)
+
     module _ (slots : List (Option X)) (rs : List R) (p : ℕ) where
       seen_above : (i : ℕ) (left : List R) (front : List ℕ) → Above size (written_as seen f) slots rs p i left front
           → Above size f (seen_slots seen slots) rs p i left front
@@ -121,13 +122,9 @@ module _ {X Y R : Type 0} (seen : X → Y) (f : Format Y R) where
             (seen_images (drop (i + 1) slots) h.0 (p + length front) front h.2),
       )
 
-      bucket_next : (front piece : List ℕ) → BucketNext size (written_as seen f) slots rs p front piece → BucketNext size f (seen_slots seen slots) rs p front piece
-      bucket_next front piece h =
-          (h.0, h.1, seen_above h.0 h.1 front h.2, option_map seen h.3, h.4, seen_at seen slots h.0 h.3 h.5, seen_bucket h.3 h.1 h.4 (p + length front) piece h.6)
-
-      bucket_far : (c : Refusal) → BucketFar size (written_as seen f) slots rs p c → BucketFar size f (seen_slots seen slots) rs p c
-      bucket_far c h =
-          (h.0, h.1, h.2, h.3, seen_above h.1 h.2 h.3 h.4, option_map seen h.5, seen_at seen slots h.1 h.5 h.6, seen_far h.5 h.2 (p + length h.3) h.7)
+      bucket_next : (front : List ℕ) (step : Step) → BucketNext size (written_as seen f) slots rs p front step → BucketNext size f (seen_slots seen slots) rs p front step
+      bucket_next front step h =
+          (h.0, h.1, seen_above h.0 h.1 front h.2, option_map seen h.3, seen_at seen slots h.0 h.3 h.4, seen_step h.3 h.1 (p + length front) step h.5)
 
   module _ (s : Shape) (slots : List (Option X)) (controls : List ℕ) (p : ℕ) where
     seen_bytes : (z : ℕ) (bytes : List ℕ) → TableBytes s (written_as seen f) slots controls p z bytes → TableBytes s f (seen_slots seen slots) controls p z bytes
@@ -145,17 +142,13 @@ module _ {X Y R : Type 0} (seen : X → Y) (f : Format Y R) where
         → BeforeBuckets s f (seen_slots seen slots) controls p a rs front
     seen_before a rs front h = (seen_parts slots p a rs h.0, h.1)
 
-    seen_next : (front piece : List ℕ) → TableNext s (written_as seen f) slots controls p front piece → TableNext s f (seen_slots seen slots) controls p front piece
-    seen_next front piece (inl h) = inl (parts_next slots p front piece h)
-    seen_next front piece (inr (inl h)) = inr (inl (h.0, seen_parts slots p front h.0 h.1, h.2))
-    seen_next front piece (inr (inr (inl h))) =
-        inr (inr (inl (h.0, h.1, h.2, h.3, seen_before h.0 h.1 h.2 h.4, bucket_next s.size slots h.1 (p + length h.2) h.3 piece h.5, h.6)))
-    seen_next front piece (inr (inr (inr h))) =
+    seen_next : (front : List ℕ) (step : Step) → TableNext s (written_as seen f) slots controls p front step → TableNext s f (seen_slots seen slots) controls p front step
+    seen_next front step (inl h) = inl (parts_next slots p front step h)
+    seen_next front step (inr (inl h)) = inr (inl (h.0, seen_parts slots p front h.0 h.1, h.2))
+    seen_next front step (inr (inr (inl h))) =
+        inr (inr (inl (h.0, h.1, h.2, h.3, seen_before h.0 h.1 h.2 h.4, bucket_next s.size slots h.1 (p + length h.2) h.3 step h.5, h.6)))
+    seen_next front step (inr (inr (inr h))) =
         inr (inr (inr (h.0, h.1, h.2, h.3, seen_before h.0 h.1 h.2 h.4, seen_images s.size slots h.1 (p + length front) h.3 h.5, h.6, h.7)))
-
-    seen_refuses : (c : Refusal) → TableRefuses s (written_as seen f) slots controls p c → TableRefuses s f (seen_slots seen slots) controls p c
-    seen_refuses c (inl h) = inl (parts_refuse slots p c h)
-    seen_refuses c (inr h) = inr (h.0, h.1, h.2, seen_before h.0 h.1 h.2 h.3, bucket_far s.size slots h.1 (p + length h.2) c h.4)
 
   module _ (w : Width) (s : Shape) (factor : ℕ × ℕ) (pairs : List (ℕ × X)) (p : ℕ) where
     seen_written : (z : ℕ) (part : List ℕ) → TableWritten w s (written_as seen f) factor pairs p z part → TableWritten w s f factor (seen_pairs seen pairs) p z part
@@ -170,20 +163,16 @@ module _ {X Y R : Type 0} (seen : X → Y) (f : Format Y R) where
       written = seen_written r.pos part h.written;
     }
 
-    pub seen_piece : (front piece : List ℕ) → TablePiece w s (written_as seen f) factor pairs p front piece → TablePiece w s f factor (seen_pairs seen pairs) p front piece
-    seen_piece front piece h = (seen_slots seen h.0, h.1, seen_inside seen factor pairs h.0 h.1 h.2, seen_next s h.0 h.1 p front piece h.3)
+    pub seen_pairs_next : (front : List ℕ) (step : Step) → PairsNext w s (written_as seen f) factor pairs p front step → PairsNext w s f factor (seen_pairs seen pairs) p front step
+    seen_pairs_next front step h = (seen_slots seen h.0, h.1, seen_inside seen factor pairs h.0 h.1 h.2, seen_next s h.0 h.1 p front step h.3)
 
-    pub seen_refusal : (c : Refusal) → ItemRefuses w s (written_as seen f) factor pairs p c → ItemRefuses w s f factor (seen_pairs seen pairs) p c
-    seen_refusal c h = (seen_slots seen h.0, h.1, seen_inside seen factor pairs h.0 h.1 h.2, seen_refuses s h.0 h.1 p c h.3)
+  module _ (w : Width) (s : Shape) (factor : ℕ × ℕ) (pairs : List (ℕ × X)) (o o' : Output) (limit : ℕ) where
+    pub seen_serialized : (r : TableResolver) → Serialized limit (table_format w s (written_as seen f) factor) pairs o o' r
+        → Serialized limit (table_format w s f factor) (seen_pairs seen pairs) o o' r
+    seen_serialized r h = (h.0, h.1, seen_table w s factor pairs (end_of o) h.0 r h.2, h.3)
 
-  module _ (w : Width) (s : Shape) (factor : ℕ × ℕ) (pairs : List (ℕ × X)) (o o' : Output) where
-    pub seen_serialized : (r : TableResolver) → Serialized (table_format w s (written_as seen f) factor) pairs o o' r
-        → Serialized (table_format w s f factor) (seen_pairs seen pairs) o o' r
-    seen_serialized r h = (h.0, h.1, seen_table w s factor pairs (end_of o) h.0 r h.2)
-
-    pub seen_gave_up : {F : Type 0} (limit : ℕ) (e : WriteError F) → GaveUp limit (table_format w s (written_as seen f) factor) pairs o o' e
+    pub seen_gave_up : {F : Type 0} (e : WriteError F) → GaveUp limit (table_format w s (written_as seen f) factor) pairs o o' e
         → GaveUp limit (table_format w s f factor) (seen_pairs seen pairs) o o' e
-    seen_gave_up limit e h =
-        told_after limit (TablePiece w s f factor (seen_pairs seen pairs) (end_of o)) (TablePiece w s (written_as seen f) factor pairs (end_of o))
-        (ItemRefuses w s f factor (seen_pairs seen pairs) (end_of o)) (ItemRefuses w s (written_as seen f) factor pairs (end_of o))
-        o o o' [] e (none_appended o) (λ front piece n. seen_piece w s factor pairs (end_of o) front piece n) (λ c n. seen_refusal w s factor pairs (end_of o) c n) h
+    seen_gave_up e h =
+        told_as limit (PairsNext w s f factor (seen_pairs seen pairs) (end_of o)) (PairsNext w s (written_as seen f) factor pairs (end_of o)) o o' e
+        (λ front step n. seen_pairs_next w s factor pairs (end_of o) front step n) h

@@ -32,8 +32,8 @@ module _ {T S BK : Type 0} (inner : T → S) (steps : S → Option BK → S → 
 
     -- what writing the map of the keys answers, as what writing the set does
     pub answers_set : {F : Type 0} (limit : ℕ) (result : Result TableResolver (WriteError F))
-        → MatchResult result (WroteItems (Drains UnitSteps s) len factor max AsPairs o o') (NoItems (Drains UnitSteps s) len factor max AsPairs o o' (GaveOther UnitSteps len s) limit)
-        → MatchResult result (WroteItems (Drains steps (inner s)) len factor max AsKeys o o') (NoItems (Drains steps (inner s)) len factor max AsKeys o o' (GaveOther steps len (inner s)) limit)
+        → MatchResult result (WroteItems (Drains UnitSteps s) len factor max AsPairs o o' limit) (NoItems (Drains UnitSteps s) len factor max AsPairs o o' limit (GaveOther UnitSteps len s))
+        → MatchResult result (WroteItems (Drains steps (inner s)) len factor max AsKeys o o' limit) (NoItems (Drains steps (inner s)) len factor max AsKeys o o' limit (GaveOther steps len (inner s)))
     answers_set limit result =
         answers_through (λ x. x.0) (Drains UnitSteps s) (Drains steps (inner s)) (GaveOther UnitSteps len s) (GaveOther steps len (inner s))
         (λ xs d. drains_through inner UnitSteps steps (λ x. x.0) (λ s' t' h. h) (λ s' t' x h. h) xs s d)

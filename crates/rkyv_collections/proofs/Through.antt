@@ -54,10 +54,10 @@ module _ {F X Y V : Type 0} (seen : X → Y) (gave : List X → Type 0) (gave' :
     (counted : (n : ℕ) → other n → other' n) (of_outer : List X → V) (of_inner : List Y → V) (same : (xs : List X) → of_outer xs ≡ of_inner (map seen xs))
     (base : Format V TableResolver) (len : ℕ) (factor : ℕ × ℕ) (max limit : ℕ) (o o' : Output) where
   pub answers_through : (result : Result TableResolver (WriteError F))
-      → MatchResult result (WroteItems gave len factor max (written_as of_outer base) o o') (NoItems gave len factor max (written_as of_outer base) o o' other limit)
-      → MatchResult result (WroteItems gave' len factor max (written_as of_inner base) o o') (NoItems gave' len factor max (written_as of_inner base) o o' other' limit)
+      → MatchResult result (WroteItems gave len factor max (written_as of_outer base) o o' limit) (NoItems gave len factor max (written_as of_outer base) o o' limit other)
+      → MatchResult result (WroteItems gave' len factor max (written_as of_inner base) o o' limit) (NoItems gave' len factor max (written_as of_inner base) o o' limit other')
   answers_through (Ok r) h =
-      (h.0, map seen h.1, (came h.1 h.2.0, length-map h.1 seen ∙ h.2.1), subst (λ v. Serialized base v o o' r) (same h.1) h.3)
+      (h.0, map seen h.1, (came h.1 h.2.0, length-map h.1 seen ∙ h.2.1), subst (λ v. Serialized limit base v o o' r) (same h.1) h.3)
   answers_through (Err e) (inl h) = inl (own_counted len factor max other other' counted e h.0, h.1)
   answers_through (Err e) (inr h) =
       inr (h.0, map seen h.1, (came h.1 h.2.0, length-map h.1 seen ∙ h.2.1), subst (λ v. GaveUp limit base v o o' e) (same h.1) h.3)

@@ -15,14 +15,14 @@ lent_pairs key value items = map (λ item. (key item.0, value item.1)) items
 abbrev pub AllCame : {X : Type 0} → (List X → Type 0) → ℕ → List X → Type 0
 AllCame gave len items = gave items × (length items ≡ len)
 
-module _ {X : Type 0} (gave : List X → Type 0) (len : ℕ) (load_factor : ℕ × ℕ) (max : ℕ) (f : Format (List X) TableResolver) (o o' : Output) where
+module _ {X : Type 0} (gave : List X → Type 0) (len : ℕ) (load_factor : ℕ × ℕ) (max : ℕ) (f : Format (List X) TableResolver) (o o' : Output) (limit : ℕ) where
   -- the items that came were written
   abbrev pub WroteItems : TableResolver → Type 0
-  WroteItems r = HasCapacity len load_factor max × (items : List X) × AllCame gave len items × Serialized f items o o' r
+  WroteItems r = HasCapacity len load_factor max × (items : List X) × AllCame gave len items × Serialized limit f items o o' r
 
   -- a cause of the call's own, and nothing was written; or else writing the items that came gave up
-  abbrev pub NoItems : {F : Type 0} → (ℕ → Type 0) → ℕ → WriteError F → Type 0
-  NoItems other limit e = (OwnCause len load_factor max other e × (o' ≡ o))
+  abbrev pub NoItems : {F : Type 0} → (ℕ → Type 0) → WriteError F → Type 0
+  NoItems other e = (OwnCause len load_factor max other e × (o' ≡ o))
       ⊎ (HasCapacity len load_factor max × (items : List X) × AllCame gave len items × GaveUp limit f items o o' e)
 
 -- one step of an iterator of pairs, with the hash of the pair's key

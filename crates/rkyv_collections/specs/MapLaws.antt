@@ -225,6 +225,7 @@ module _ (k v : Shape) (kl : IsElement k) (vl : IsElement v) (w : Width) where
             let table = table_is_format w kind S law (PairStands k v key value) (pair_format k v kf vf) (pair_is_format k v kl vl key value kf vf kw vw) factor in
             record {
               whole = λ pairs r p out i. table.whole (keyed own pairs) r p out i;
+              clear = λ pairs r p out i f. table.clear (keyed own pairs) r p out i f;
               sound = λ pairs r c p0 p part out h i s t o al.
                   let d = table.sound (keyed own pairs) r c p0 p part out h i s t o al in
                   (d.0, d.1, pairs_stand pairs c p p0 (p0 + length part) d.0 d.1 d.2);

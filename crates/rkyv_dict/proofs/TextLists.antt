@@ -6,21 +6,21 @@ use Rattle.std.proofs.lemmas.Option.{slice_get-map}
 use Rattle.rkyv_scan.specs.Hash.{HasherCall}
 use Rattle.rkyv_base.specs.Format.{Format}
 use Rattle.rkyv_base.specs.Pairs.{PairStands, pair_format, written_as}
-use Rattle.rkyv_base.specs.Root.{RootNext, RootRefuses, fresh}
+use Rattle.rkyv_base.specs.Root.{RootNext, fresh}
 use Rattle.rkyv_base.specs.Text.{TextReads}
 use Rattle.rkyv_base.specs.TextWriting.{text_format}
-use Rattle.rkyv_base.specs.Writing.{Refusal}
+use Rattle.rkyv_base.specs.Writing.{Step}
 use Rattle.rkyv_base.specs.declared.pairs.EntryResolver.{EntryResolver}
 use Rattle.rkyv_base.specs.declared.errors.WriteError.{WriteError}
-use Rattle.rkyv_base.proofs.GivingUp.{told_after}
+use Rattle.rkyv_base.proofs.GivingUp.{told_as}
 use Rattle.rkyv_keys.specs.Calls.{text_calls}
 use Rattle.rkyv_table.specs.Numbers.{capacity}
+use Rattle.rkyv_table.specs.Serializing.{HasCapacity}
 use Rattle.rkyv_table.specs.Reading.{home_places}
-use Rattle.rkyv_table.specs.TableFormat.{ItemRefuses, TableParts, TablePiece, TableResolver}
-use Rattle.rkyv_table.proofs.TableSteps.{none_appended}
+use Rattle.rkyv_table.specs.TableFormat.{PairsNext, TableParts, TableResolver}
 use Rattle.rkyv_collections.specs.Listed.{ListRefuses}
 use Rattle.rkyv_collections.specs.MapFormat.{keyed}
-use Rattle.rkyv_collections.proofs.SeenItems.{seen_pairs, seen_piece, seen_refusal, seen_table, was_seen}
+use Rattle.rkyv_collections.proofs.SeenItems.{seen_pairs, seen_pairs_next, seen_table, was_seen}
 use Rattle.rkyv_dict.specs.Archives.{hash, header_shape, pair_shape, root}
 use Rattle.rkyv_dict.specs.Built.{BuildRefused, IsArchiveOf, IsBuilt, NoArchiveOf, PairsStandAt, form_of_pairs, pairs_format}
 use Rattle.rkyv_dict.specs.Forms.{buckets_of, text_pair, texts, word_of}
@@ -65,21 +65,26 @@ module _ {A B : Type 0} (see : A → B) where
       abbrev items : Format (B × B) (EntryResolver R R)
       items = pair_format k.shape k.shape format format
 
+      count_seen : length pairs ≡ length (map both pairs)
+      count_seen = sym (length-map pairs both)
+
+      cap_seen : HasCapacity (length pairs) factor most → HasCapacity (length (map both pairs)) factor most
+      cap_seen h = subst (λ n. HasCapacity n factor most) count_seen h
+
       parts_seen : (p : ℕ) (part : List ℕ) (r : TableResolver) → Before.parts pairs p part r → After.parts (map both pairs) p part r
-      parts_seen p part r h =
-          subst (λ ps. TableParts k.word (pair_shape k) items factor ps p part r) same_keyed
-          (seen_table both items k.word (pair_shape k) factor (keyed (λ a. hash (calls (see a))) pairs) p part r h)
+      parts_seen p part r h = (
+        cap_seen h.0,
+        subst (λ ps. TableParts k.word (pair_shape k) items factor ps p part r) same_keyed
+            (seen_table both items k.word (pair_shape k) factor (keyed (λ a. hash (calls (see a))) pairs) p part r h.1),
+      )
 
-      next_seen : (p : ℕ) (front piece : List ℕ) → Before.next pairs p front piece → After.next (map both pairs) p front piece
-      next_seen p front piece h =
-          subst (λ ps. TablePiece k.word (pair_shape k) items factor ps p front piece) same_keyed
-          (seen_piece both items k.word (pair_shape k) factor (keyed (λ a. hash (calls (see a))) pairs) p front piece h)
-
-      refuses_seen : (p : ℕ) (c : Refusal) → Before.refuses pairs p c → After.refuses (map both pairs) p c
-      refuses_seen p c (inl h) = inl (subst (λ n. ListRefuses most factor n c) (sym (length-map pairs both)) h)
-      refuses_seen p c (inr h) =
-          inr (subst (λ ps. ItemRefuses k.word (pair_shape k) items factor ps p c) same_keyed
-          (seen_refusal both items k.word (pair_shape k) factor (keyed (λ a. hash (calls (see a))) pairs) p c h))
+      next_seen : (p : ℕ) (front : List ℕ) (step : Step) → Before.next pairs p front step → After.next (map both pairs) p front step
+      next_seen p front step (inl h) = inl (h.0, subst (λ n. ListRefuses most factor n h.0) count_seen h.1, h.2)
+      next_seen p front step (inr h) = inr (
+        cap_seen h.0,
+        subst (λ ps. PairsNext k.word (pair_shape k) items factor ps p front step) same_keyed
+            (seen_pairs_next both items k.word (pair_shape k) factor (keyed (λ a. hash (calls (see a))) pairs) p front step h.1),
+      )
 
       pub archive_seen : (b : List ℕ) → IsArchiveOf k factor most (written_as see format) (λ a. calls (see a)) StandsSeen pairs b → IsArchiveOf k factor most format calls stands (map both pairs) b
       unfolding IsArchiveOf
@@ -89,22 +94,17 @@ module _ {A B : Type 0} (see : A → B) where
       abbrev align : ℕ
       align = (header_shape k).align
 
-      root_next : (p : ℕ) (front piece : List ℕ) → RootNext align Before pairs p front piece → RootNext align After (map both pairs) p front piece
-      root_next p front piece (inl h) = inl (next_seen p front piece h)
-      root_next p front piece (inr (inl h)) = inr (inl (h.0, h.1, parts_seen p h.0 h.1 h.2, h.3, h.4))
-      root_next p front piece (inr (inr h)) = inr (inr (h.0, h.1, parts_seen p h.0 h.1 h.2, h.3, h.4))
-
-      root_refuses : (p : ℕ) (c : Refusal) → RootRefuses align Before pairs p c → RootRefuses align After (map both pairs) p c
-      root_refuses p c (inl h) = inl (refuses_seen p c h)
-      root_refuses p c (inr (inl h)) = inr (inl h)
-      root_refuses p c (inr (inr h)) = inr (inr (h.0, h.1, h.2, parts_seen p h.1 h.2 h.3, h.4))
+      root_next : (p : ℕ) (front : List ℕ) (step : Step) → RootNext align Before pairs p front step → RootNext align After (map both pairs) p front step
+      root_next p front step (inl h) = inl h
+      root_next p front step (inr (inl h)) = inr (inl (next_seen p front step h))
+      root_next p front step (inr (inr (inl h))) = inr (inr (inl (h.0, parts_seen p front h.0 h.1, h.2)))
+      root_next p front step (inr (inr (inr h))) = inr (inr (inr (h.0, h.1, parts_seen p h.0 h.1 h.2, h.3, h.4)))
 
       pub refused_seen : {F : Type 0} (e : WriteError F) → NoArchiveOf k factor most (written_as see format) (λ a. calls (see a)) pairs e → NoArchiveOf k factor most format calls (map both pairs) e
       unfolding NoArchiveOf
       refused_seen e h = (
         h.0,
-        told_after k.limit (RootNext align After (map both pairs) 0) (RootNext align Before pairs 0) (RootRefuses align After (map both pairs) 0) (RootRefuses align Before pairs 0)
-            fresh fresh h.0 [] e (none_appended fresh) (λ front piece n. root_next 0 front piece n) (λ c n. root_refuses 0 c n) h.1,
+        told_as k.limit (RootNext align After (map both pairs) 0) (RootNext align Before pairs 0) fresh h.0 e (λ front step n. root_next 0 front step n) h.1,
       )
 
       pub result_seen : {F V : Type 0} (items_of : V → List ℕ) (result : Result V (WriteError F))

@@ -8,7 +8,6 @@ abbrev pub written_under : {X V R : Type 0} → (X → V) → (X → Format V R)
 written_under seen f = record {
   parts = λ x. (f x).parts (seen x);
   next = λ x. (f x).next (seen x);
-  refuses = λ x. (f x).refuses (seen x);
   image = λ x. (f x).image (seen x);
   far = λ x. (f x).far (seen x);
 }
@@ -17,5 +16,6 @@ pub written_under-format : {X V R : Type 0} (seen : X → V) (s : Shape) (stands
     → ((x : X) → IsFormat s (stands x) (f x)) → IsFormat s (λ b p x. stands x b p (seen x)) (written_under seen f)
 written_under-format seen s stands f laws = record {
   whole = λ x. (laws x).whole (seen x);
+  clear = λ x. (laws x).clear (seen x);
   sound = λ x. (laws x).sound (seen x);
 }

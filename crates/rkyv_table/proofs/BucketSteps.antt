@@ -1,15 +1,15 @@
 -- One bucket more written.
-use Rattle.std.proofs.Common.{◌≡◌, ℕ, ◌+◌, ◌-◌, ◌<◌, ◌≤◌, refl, sym, ap, ◌∙◌, subst, arith, List, [], ◌∷◌, ◌++◌, length, get_or, take, drop, Option, Some, None, add-one, append-nil, append_assoc}
+use Rattle.std.proofs.Common.{◌≡◌, ℕ, ◌+◌, ◌-◌, ◌<◌, ◌≤◌, refl, sym, ap, ◌∙◌, subst, arith, inl, inr, List, [], ◌∷◌, ◌++◌, length, get_or, take, drop, Option, Some, None, add-one, append-nil, append_assoc}
 use Rattle.std.specs.Prelude.{slice_get, IfSome}
 use Rattle.std.proofs.lemmas.List.{take_more, length_push, get_or_default, length-replicate, take_all, drop_all}
 use Rattle.std.proofs.Math.Seq.{drop-cons}
 use Rattle.std.proofs.lemmas.Option.{slice_get-get_or}
 use Rattle.rkyv_base.specs.declared.errors.WriteError.{WriteError}
 use Rattle.rkyv_base.specs.declared.errors.WriteError.TheVariants.{DistanceTooLarge}
-use Rattle.rkyv_base.specs.Writing.{Output, end_of, Appends, Told, OnePiece, NoRefusal, zeros}
+use Rattle.rkyv_base.specs.Writing.{Only, Output, end_of, Appends, Told, piece, zeros}
 use Rattle.rkyv_base.specs.Format.{Format}
-use Rattle.rkyv_base.proofs.GivingUp.{appends_after, end-appends, told_after}
-use Rattle.rkyv_table.specs.Slots.{SlotImages, BucketNext, BucketFar, filled, WroteBuckets, Filled, TooFar}
+use Rattle.rkyv_base.proofs.GivingUp.{appends_after, end-appends, grows, none_appended, told_after}
+use Rattle.rkyv_table.specs.Slots.{SlotImages, BucketNext, filled, WroteBuckets, Filled, TooFar}
 use Rattle.rkyv_table.proofs.PartSteps.{filled-append}
 
 drop_at : {A : Type 0} (xs : List A) (i : ℕ) (d : A) → i < length xs → drop i xs ≡ get_or xs i d ∷ drop (i + 1) xs
@@ -108,24 +108,22 @@ module _ {X R : Type 0} (size limit : ℕ) (f : Format X R) (slots : List (Optio
 
     module _ {F : Type 0} (s : Option X) (e : get_or slots i None ≡ s) where
       abbrev BucketsTold : Output → WriteError F → Type 0
-      BucketsTold o' err = Told limit (BucketNext size f slots rs (end_of o)) (BucketFar size f slots rs (end_of o)) o o' err
+      BucketsTold o' err = Told limit (BucketNext size f slots rs (end_of o)) o o' err
 
       pub told_bucket : (more : List R) (one : List ℕ) (err : WriteError F) → Filled size f s left more (end_of o1) one
-          → Told limit (OnePiece one) NoRefusal o1 o2 err → BucketsTold o2 err
+          → Told limit (Only (piece one)) o1 o2 err → BucketsTold o2 err
       told_bucket more one err im t =
-          told_after limit (BucketNext size f slots rs (end_of o)) (OnePiece one) (BucketFar size f slots rs (end_of o)) NoRefusal
-          o o1 o2 d.out err d.appended
-          (λ g piece h.
+          told_after limit (BucketNext size f slots rs (end_of o)) (Only (piece one)) o o1 o2 d.out err d.appended (inr d.within)
+          (λ g step h.
           let k : d.out ++ g ≡ d.out = ap (λ (y : List ℕ). d.out ++ y) h.0 ∙ append-nil d.out in
-          rw (k, h.1) (i, left, (d.done, d.all, shown_here), s, more, read_at s e, subst (λ n. Filled size f s left more n one) here im))
-          (λ c h. absurd h)
+          rw k (i, left, (d.done, d.all, shown_here), s, read_at s e, inl (more, one, subst (λ n. Filled size f s left more n one) here im, h.1)))
           t
 
       pub told_far : TooFar size f s left (end_of o1) → BucketsTold o1 DistanceTooLarge
       told_far h = record {
         front = d.out;
-        kept = d.appended;
-        cause = (refl, i, left, d.out, (d.done, d.all, shown_here), s, read_at s e, subst (λ n. TooFar size f s left n) here h);
+        kept = grows o o1 d.out d.appended;
+        cause = (inr d.within, d.appended.failures, (i, left, (d.done, d.all, shown_here), s, read_at s e, inr (subst (λ n. TooFar size f s left n) here h, refl)));
       }
 
   pub down_init : length rs ≡ filled slots → end_of o ≤ limit → Down (length slots) rs o
@@ -133,7 +131,7 @@ module _ {X R : Type 0} (size limit : ℕ) (f : Format X R) (slots : List (Optio
     out = [];
     done = [];
     inside = omega arith;
-    appended = record { start = refl; bytes = sym (append-nil o.bytes); failures = omega arith };
+    appended = none_appended o;
     shown = rw (drop_all (length slots) slots (omega arith)) (refl, refl);
     all = sym (append-nil rs);
     count = rw (take_all (length slots) slots (omega arith)) c;

@@ -5,37 +5,36 @@ use Rattle.std.specs.Int.{Width}
 use mir.Val.{bits}
 use Rattle.rkyv_base.specs.declared.errors.WriteError.{WriteError}
 use Rattle.rkyv_base.specs.declared.errors.WriteError.TheVariants.{InvalidLoadFactor, IteratorLengthMismatch, CapacityTooLarge, PositionTooLarge, DistanceTooLarge, TextTooLong, Writer, Memory, Refused}
-use Rattle.rkyv_base.proofs.GivingUp.{told_after}
+use Rattle.rkyv_base.proofs.GivingUp.{none_appended, told_as}
 use Rattle.rkyv_base.specs.Format.{Format}
 use Rattle.rkyv_base.specs.Shape.{Shape}
 use Rattle.rkyv_base.specs.Writing.{Output, end_of}
-use Rattle.rkyv_table.proofs.TableSteps.{none_appended}
 use Rattle.rkyv_table.specs.Numbers.{capacity}
 use Rattle.rkyv_table.specs.Serializing.{HasCapacity, NoFilled, NoTable, NotPlaced, OwnCause, WroteFilled, WroteTable}
-use Rattle.rkyv_table.specs.Slots.{TableNext, TableRefuses}
-use Rattle.rkyv_table.specs.TableFormat.{InBuckets, ItemRefuses, TablePiece, table_format}
+use Rattle.rkyv_table.specs.Slots.{TableNext}
+use Rattle.rkyv_table.specs.TableFormat.{InBuckets, PairsNext, table_format}
 use Rattle.rkyv_table.specs.Taking.{Placed}
 
 no_pairs : {X : Type 0} (xs : List X) → length xs ≡ 0 → xs ≡ []
 no_pairs [] e = refl
 no_pairs (x ∷ xs) e = absurd (omega (arith, e))
 
-module _ {X R : Type 0} (gave : List (ℕ × X) → Type 0) (len : ℕ) (load_factor : ℕ × ℕ) (max : ℕ) (w : Width) (s : Shape) (f : Format X R) (o o' : Output)
+module _ {X R : Type 0} (gave : List (ℕ × X) → Type 0) (len : ℕ) (load_factor : ℕ × ℕ) (max : ℕ) (w : Width) (s : Shape) (f : Format X R) (o o' : Output) (limit : ℕ)
     (has : HasCapacity len load_factor max) where
   -- nothing was written of no pairs
-  pub wrote_none : len ≡ 0 → gave [] → o' ≡ o → capacity len load_factor < 2 ^ bits w → WroteTable gave len load_factor max (table_format w s f load_factor) o o' (record { pos = 0; len = len; load_factor = load_factor })
+  pub wrote_none : len ≡ 0 → gave [] → o' ≡ o → capacity len load_factor < 2 ^ bits w → WroteTable gave len load_factor max (table_format w s f load_factor) o o' limit (record { pos = 0; len = len; load_factor = load_factor })
   wrote_none none g same fits = (
     has,
     (
       [],
       (g, sym none),
-      ([], rw same (none_appended o), record { len = none; factor = refl; fits = fits; written = inl (refl, refl, refl) }),
+      ([], rw same (none_appended o), record { len = none; factor = refl; fits = fits; written = inl (refl, refl, refl) }, inl refl),
     ),
   )
 
   module _ (some : 0 < len) where
-    pub wrote_some : (z : ℕ) → capacity len load_factor < 2 ^ bits w → WroteFilled gave len (capacity len load_factor) s f o o' z
-        → WroteTable gave len load_factor max (table_format w s f load_factor) o o' (record { pos = z; len = len; load_factor = load_factor })
+    pub wrote_some : (z : ℕ) → capacity len load_factor < 2 ^ bits w → WroteFilled gave len (capacity len load_factor) s f o o' limit z
+        → WroteTable gave len load_factor max (table_format w s f load_factor) o o' limit (record { pos = z; len = len; load_factor = load_factor })
     wrote_some z fits (pairs, slots, controls, taken, bytes, appended, is) =
         let n : length pairs ≡ len = taken.came.1 in
         let placed : Placed (capacity (length pairs) load_factor) pairs slots controls = rw n taken.placed in (
@@ -43,11 +42,11 @@ module _ {X R : Type 0} (gave : List (ℕ × X) → Type 0) (len : ℕ) (load_fa
           (
             pairs,
             taken.came,
-            (bytes, appended, record { len = sym n; factor = refl; fits = fits; written = inr (slots, controls, (omega (arith, n, some), placed), is) }),
+            (bytes, appended.0, record { len = sym n; factor = refl; fits = fits; written = inr (slots, controls, (omega (arith, n, some), placed), is) }, inr appended.1),
           ),
         )
 
-    module _ {F : Type 0} (other : ℕ → Type 0) (limit : ℕ) where
+    module _ {F : Type 0} (other : ℕ → Type 0) where
       own_of : (e : WriteError F) → NotPlaced len other e → OwnCause len load_factor max other e
       own_of (InvalidLoadFactor n d) h = absurd h
       own_of (CapacityTooLarge l) h = absurd h
@@ -59,8 +58,8 @@ module _ {X R : Type 0} (gave : List (ℕ × X) → Type 0) (len : ℕ) (load_fa
       own_of (Writer fault) h = absurd h
       own_of (Refused c) h = absurd h
 
-      pub gave_up_some : (e : WriteError F) → NoFilled gave len (capacity len load_factor) s f o o' other limit e
-          → NoTable gave len load_factor max (table_format w s f load_factor) o o' other limit e
+      pub gave_up_some : (e : WriteError F) → NoFilled gave len (capacity len load_factor) s f o o' limit other e
+          → NoTable gave len load_factor max (table_format w s f load_factor) o o' limit other e
       gave_up_some e (inl h) = inl (own_of e h.0, h.1)
       gave_up_some e (inr (pairs, slots, controls, taken, told)) =
           let n : length pairs ≡ len = taken.came.1 in
@@ -71,7 +70,6 @@ module _ {X R : Type 0} (gave : List (ℕ × X) → Type 0) (len : ℕ) (load_fa
             (
               pairs,
               taken.came,
-              told_after limit (TablePiece w s f load_factor pairs (end_of o)) (TableNext s f slots controls (end_of o)) (ItemRefuses w s f load_factor pairs (end_of o)) (TableRefuses s f slots controls (end_of o))
-                  o o o' [] e (none_appended o) (λ g piece h. (slots, controls, inside, h)) (λ c h. (slots, controls, inside, h)) told,
+              told_as limit (PairsNext w s f load_factor pairs (end_of o)) (TableNext s f slots controls (end_of o)) o o' e (λ g step h. (slots, controls, inside, h)) told,
             ),
           )

@@ -1,5 +1,5 @@
 -- What an accepted table gives to its readers.
-use Rattle.std.proofs.Common.{◌≡◌, ℕ, ◌+◌, ◌-◌, ◌*◌, ◌%◌, ◌<◌, ◌≤◌, inl, inr, refl, sym, subst, ◌∙◌, arith, List, Bool, length, ℤ, pos, ◌+ℤ◌}
+use Rattle.std.proofs.Common.{◌≡◌, ℕ, ◌+◌, ◌*◌, ◌%◌, ◌<◌, ◌≤◌, inl, inr, refl, sym, subst, ◌∙◌, arith, List, Bool, length, pos, ◌+ℤ◌}
 use Rattle.std.specs.Int.{Width}
 use Rattle.std.proofs.lemmas.Int.{ints}
 use Rattle.std.proofs.lemmas.Bool.{cases_eq}

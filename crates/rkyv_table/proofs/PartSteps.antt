@@ -4,10 +4,10 @@ use Rattle.std.specs.Prelude.{slice_get}
 use Rattle.std.proofs.lemmas.List.{take_more, take-append-drop}
 use Rattle.std.proofs.lemmas.Option.{slice_get-get_or}
 use Rattle.rkyv_base.specs.declared.errors.WriteError.{WriteError}
-use Rattle.rkyv_base.specs.Writing.{Output, end_of, Appends, Told}
+use Rattle.rkyv_base.specs.Writing.{Output, end_of, Appends, Told, Within}
 use Rattle.rkyv_base.specs.Format.{Format}
 use Rattle.rkyv_base.proofs.GivingUp.{end-appends, told_after}
-use Rattle.rkyv_table.specs.Slots.{SlotParts, PartsNext, PartsRefuse, filled}
+use Rattle.rkyv_table.specs.Slots.{SlotParts, PartsNext, filled}
 
 zero_plus : (n : ℕ) → 0 + n ≡ n
 zero_plus n = omega arith
@@ -73,14 +73,11 @@ module _ {X R : Type 0} (f : Format X R) where
           let up = filled_front slots (i + 1) in
           omega arith
 
-      pub step_told : {F : Type 0} (limit : ℕ) (o2 : Output) (err : WriteError F)
-          → Told limit (f.next x (end_of o1)) (f.refuses x (end_of o1)) o1 o2 err
-          → Told limit (PartsNext f slots (end_of o)) (PartsRefuse f slots (end_of o)) o o2 err
-      step_told limit o2 err t =
+      pub step_told : {F : Type 0} (limit : ℕ) (o2 : Output) (err : WriteError F) → Within limit o1 part
+          → Told limit (f.next x (end_of o1)) o1 o2 err → Told limit (PartsNext f slots (end_of o)) o o2 err
+      step_told limit o2 err within t =
           let at : end_of o1 ≡ end_of o + length part = end-appends o o1 part a1 in
           let s : slice_get slots i ≡ Some (Some x) = slice_get-get_or slots i None inside ∙ ap Some e in
-          told_after limit (PartsNext f slots (end_of o)) (f.next x (end_of o1)) (PartsRefuse f slots (end_of o)) (f.refuses x (end_of o1))
-          o o1 o2 part err a1
-          (λ g piece n. (i, x, part, rs, g, s, h, subst (λ k. f.next x k g piece) at n, refl))
-          (λ c n. (i, x, part, rs, s, h, subst (λ k. f.refuses x k c) at n))
+          told_after limit (PartsNext f slots (end_of o)) (f.next x (end_of o1)) o o1 o2 part err a1 within
+          (λ g step n. (i, x, part, rs, g, s, h, subst (λ k. f.next x k g step) at n, refl))
           t

@@ -1,86 +1,78 @@
 -- The parts of a table, one after the other.
-use Rattle.std.proofs.Common.{◌≡◌, ℕ, ◌+◌, ◌*◌, refl, sym, ap, ◌∙◌, subst, arith, List, [], ◌++◌, length, Option, append-nil, append_assoc, inl, inr}
+use Rattle.std.proofs.Common.{◌≡◌, ℕ, ◌+◌, ◌*◌, refl, ap, ◌∙◌, subst, arith, List, ◌++◌, length, Option, append-nil, append_assoc, inl, inr}
 use Rattle.std.proofs.lemmas.List.{length-replicate}
 use Rattle.rkyv_base.specs.declared.errors.WriteError.{WriteError}
-use Rattle.rkyv_base.specs.Writing.{Output, end_of, Appends, Told, Refusal, OnePiece, NoRefusal, zeros, padding}
+use Rattle.rkyv_base.specs.Writing.{Appended, Only, Output, end_of, Appends, Step, Told, Within, padding, piece, zeros}
 use Rattle.rkyv_base.specs.Format.{Format}
 use Rattle.rkyv_base.specs.Shape.{Shape}
-use Rattle.rkyv_base.proofs.GivingUp.{appends_after, end-appends, told_after}
+use Rattle.rkyv_base.proofs.GivingUp.{appends_after, end-appends, told_after, told_as}
 use Rattle.rkyv_table.specs.Buckets.{images_length}
-use Rattle.rkyv_table.specs.Slots.{SlotParts, SlotImages, PartsNext, PartsRefuse, BucketNext, BucketFar, TableNext, TableRefuses, TableBytes, WroteBuckets}
-
--- nothing was appended
-pub none_appended : (o : Output) → Appends o o []
-none_appended o = record { start = refl; bytes = sym (append-nil o.bytes); failures = omega arith }
+use Rattle.rkyv_table.specs.Slots.{SlotParts, SlotImages, PartsNext, BucketNext, TableNext, TableBytes, WroteBuckets}
 
 module _ (F : Type 0) {X R : Type 0} (s : Shape) (limit : ℕ) (f : Format X R) (sized : (x : X) (r : R) (p : ℕ) (out : List ℕ) → f.image x r p out → length out ≡ s.size)
     (slots : List (Option X)) (controls : List ℕ) (o : Output) where
-  abbrev Next : List ℕ → List ℕ → Type 0
+  abbrev Next : List ℕ → Step → Type 0
   Next = TableNext s f slots controls (end_of o)
 
-  abbrev Refuses : Refusal → Type 0
-  Refuses = TableRefuses s f slots controls (end_of o)
-
   abbrev Stopped : Output → WriteError F → Type 0
-  Stopped o' e = Told limit Next Refuses o o' e
+  Stopped o' e = Told limit Next o o' e
 
-  pub stopped_parts : (o1 : Output) (e : WriteError F) → Told limit (PartsNext f slots (end_of o)) (PartsRefuse f slots (end_of o)) o o1 e → Stopped o1 e
-  stopped_parts o1 e t = told_after limit Next (PartsNext f slots (end_of o)) Refuses (PartsRefuse f slots (end_of o)) o o o1 [] e (none_appended o) (λ g piece h. inl h) (λ c h. inl h) t
+  pub stopped_parts : (o1 : Output) (e : WriteError F) → Told limit (PartsNext f slots (end_of o)) o o1 e → Stopped o1 e
+  stopped_parts o1 e t = told_as limit Next (PartsNext f slots (end_of o)) o o1 e (λ g step h. inl h) t
 
-  module _ (o1 : Output) (a : List ℕ) (rs : List R) (aa : Appends o o1 a) (made : SlotParts f slots (end_of o) a rs) where
+  module _ (o1 : Output) (a : List ℕ) (rs : List R) (aa : Appends o o1 a) (made : SlotParts f slots (end_of o) a rs) (inside : Within limit o1 a) where
     abbrev pad : List ℕ
     pad = zeros (padding s.align (end_of o1))
 
     same_zeros : pad ≡ zeros (padding s.align (end_of o + length a))
     same_zeros = ap (λ (n : ℕ). zeros (padding s.align n)) (end-appends o o1 a aa)
 
-    pub stopped_zeros : (o2 : Output) (e : WriteError F) → Told limit (OnePiece pad) NoRefusal o1 o2 e → Stopped o2 e
+    pub stopped_zeros : (o2 : Output) (e : WriteError F) → Told limit (Only (piece pad)) o1 o2 e → Stopped o2 e
     stopped_zeros o2 e t =
-        told_after limit Next (OnePiece pad) Refuses NoRefusal o o1 o2 a e aa
-        (λ g piece h.
+        told_after limit Next (Only (piece pad)) o o1 o2 a e aa inside
+        (λ g step h.
         let k : a ++ g ≡ a = ap (λ (y : List ℕ). a ++ y) h.0 ∙ append-nil a in
-        rw k (inr (inl (rs, made, h.1 ∙ same_zeros))))
-        (λ c h. absurd h) t
+        rw k (inr (inl (rs, made, h.1 ∙ ap piece same_zeros))))
+        t
 
-    module _ (o2 : Output) (bb : Appends o1 o2 pad) where
+    module _ (o2 : Output) (bb : Appended limit pad o1 o2) where
       abbrev front : List ℕ
       front = a ++ pad
 
       table_front : Appends o o2 front
-      table_front = appends_after o o1 o2 a pad aa bb
+      table_front = appends_after o o1 o2 a pad aa bb.0
 
       front_is : front ≡ a ++ zeros (padding s.align (end_of o + length a))
       front_is = ap (λ (y : List ℕ). a ++ y) same_zeros
 
-      pub stopped_buckets : (o3 : Output) (e : WriteError F) → Told limit (BucketNext s.size f slots rs (end_of o2)) (BucketFar s.size f slots rs (end_of o2)) o2 o3 e → Stopped o3 e
+      pub stopped_buckets : (o3 : Output) (e : WriteError F) → Told limit (BucketNext s.size f slots rs (end_of o2)) o2 o3 e → Stopped o3 e
       stopped_buckets o3 e t =
           let at : end_of o2 ≡ end_of o + length front = end-appends o o2 front table_front in
-          told_after limit Next (BucketNext s.size f slots rs (end_of o2)) Refuses (BucketFar s.size f slots rs (end_of o2)) o o2 o3 front e table_front
-          (λ g piece h. inr (inr (inl (a, rs, front, g, (made, front_is), subst (λ n. BucketNext s.size f slots rs n g piece) at h, refl))))
-          (λ c h. inr (a, rs, front, (made, front_is), subst (λ n. BucketFar s.size f slots rs n c) at h))
+          told_after limit Next (BucketNext s.size f slots rs (end_of o2)) o o2 o3 front e table_front (inr bb.1)
+          (λ g step h. inr (inr (inl (a, rs, front, g, (made, front_is), subst (λ n. BucketNext s.size f slots rs n g step) at h, refl))))
           t
 
       module _ (o3 : Output) (w : WroteBuckets s.size f limit slots rs o2 o3) where
-        pub stopped_controls : (o4 : Output) (e : WriteError F) → Told limit (OnePiece controls) NoRefusal o3 o4 e → Stopped o4 e
+        pub stopped_controls : (o4 : Output) (e : WriteError F) → Told limit (Only (piece controls)) o3 o4 e → Stopped o4 e
         stopped_controls o4 e t =
             let whole : Appends o o3 (front ++ w.0) = appends_after o o2 o3 front w.0 table_front w.1.0 in
             let at : end_of o3 ≡ end_of o + length (front ++ w.0) = end-appends o o3 (front ++ w.0) whole in
-            told_after limit Next (OnePiece controls) Refuses NoRefusal o o3 o4 (front ++ w.0) e whole
-            (λ g piece h.
+            told_after limit Next (Only (piece controls)) o o3 o4 (front ++ w.0) e whole (inr w.1.1)
+            (λ g step h.
             let k : (front ++ w.0) ++ g ≡ front ++ w.0 = ap (λ (y : List ℕ). (front ++ w.0) ++ y) h.0 ∙ append-nil (front ++ w.0) in
             rw k (inr (inr (inr (a, rs, front, w.0, (made, front_is), subst (λ n. SlotImages s.size f slots rs n w.0) at w.2, refl, h.1)))))
-            (λ c h. absurd h) t
+            t
 
-        pub table_wrote : (o4 : Output) → Appends o3 o4 controls → (bytes : List ℕ) × Appends o o4 bytes × TableBytes s f slots controls (end_of o) (end_of o3) bytes
+        pub table_wrote : (o4 : Output) → Appended limit controls o3 o4 → (bytes : List ℕ) × Appended limit bytes o o4 × TableBytes s f slots controls (end_of o) (end_of o3) bytes
         table_wrote o4 d =
             let e1 : end_of o1 ≡ end_of o + length a = end-appends o o1 a aa in
-            let e2 : end_of o2 ≡ end_of o1 + length pad = end-appends o1 o2 pad bb in
+            let e2 : end_of o2 ≡ end_of o1 + length pad = end-appends o1 o2 pad bb.0 in
             let n : length pad ≡ padding s.align (end_of o1) = length-replicate {A = ℕ} (padding s.align (end_of o1)) 0 in
             let q : padding s.align (end_of o1) ≡ padding s.align (end_of o + length a) = ap (padding s.align) e1 in
             let e3 : end_of o3 ≡ end_of o2 + length w.0 = end-appends o2 o3 w.0 w.1.0 in
             let m : length w.0 ≡ length slots * s.size = images_length s.size f sized slots rs (end_of o3) w.0 w.2 in (
               (front ++ w.0) ++ controls,
-              appends_after o o3 o4 (front ++ w.0) controls (appends_after o o2 o3 front w.0 table_front w.1.0) d,
+              (appends_after o o3 o4 (front ++ w.0) controls (appends_after o o2 o3 front w.0 table_front w.1.0) d.0, d.1),
               record {
                 part = a;
                 resolvers = rs;

@@ -38,6 +38,16 @@ module _ (s : Shape) (law : IsElement s) (at : ℕ → ℕ) where
       let q : f.0 ≡ h.0 = law.one b (at i) lo hi f.0 h.0 f.1 h.1 in
       all_clear b hi is h.0 l e h.2 (subst (λ m. FirstFails s at b hi is m e) q f.2)
 
+  -- they fail first by one error alone
+  pub all_one_failure : (b : List ℕ) (hi : ℕ) (is : List ℕ) (lo : ℕ) (e e' : VerifyError) → FirstFails s at b hi is lo e → FirstFails s at b hi is lo e' → e ≡ e'
+  all_one_failure b hi [] lo e e' f g = absurd f
+  all_one_failure b hi (i ∷ is) lo e e' (inl f) (inl g) = law.one_failure b (at i) lo hi e e' f g
+  all_one_failure b hi (i ∷ is) lo e e' (inl f) (inr g) = absurd (law.clear b (at i) lo hi g.0 e g.1 f)
+  all_one_failure b hi (i ∷ is) lo e e' (inr f) (inl g) = absurd (law.clear b (at i) lo hi f.0 e' f.1 g)
+  all_one_failure b hi (i ∷ is) lo e e' (inr f) (inr g) =
+      let q : g.0 ≡ f.0 = law.one b (at i) lo hi g.0 f.0 g.1 f.1 in
+      all_one_failure b hi is f.0 e e' f.2 (subst (λ m. FirstFails s at b hi is m e') q g.2)
+
   pub all_lower : (b : List ℕ) (hi : ℕ) (is : List ℕ) (lo lo' l : ℕ) → lo' ≤ lo → lo ≤ hi → AllHold s at b hi is lo l
       → (l' : ℕ) × AllHold s at b hi is lo' l' × (l' ≤ l)
   all_lower b hi [] lo lo' l o o' h = (lo', refl, omega arith)

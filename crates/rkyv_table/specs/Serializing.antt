@@ -4,9 +4,9 @@ use Rattle.rkyv_base.specs.declared.errors.WriteError.{WriteError}
 use Rattle.rkyv_base.specs.declared.errors.WriteError.TheVariants.{InvalidLoadFactor, IteratorLengthMismatch, CapacityTooLarge, PositionTooLarge, DistanceTooLarge, TextTooLong, Writer, Memory, Refused}
 use Rattle.rkyv_base.specs.Format.{Format, GaveUp, Serialized}
 use Rattle.rkyv_base.specs.Shape.{Shape}
-use Rattle.rkyv_base.specs.Writing.{Appends, Output, Told, end_of}
+use Rattle.rkyv_base.specs.Writing.{Appended, Output, Told, end_of}
 use Rattle.rkyv_table.specs.Numbers.{IsLoadFactor, capacity}
-use Rattle.rkyv_table.specs.Slots.{TableBytes, TableNext, TableRefuses}
+use Rattle.rkyv_table.specs.Slots.{TableBytes, TableNext}
 use Rattle.rkyv_table.specs.TableFormat.{TableResolver}
 use Rattle.rkyv_table.specs.Taking.{Placed}
 
@@ -31,23 +31,23 @@ module _ (len : ℕ) (load_factor : ℕ × ℕ) (max : ℕ) (other : ℕ → Typ
 abbrev pub Came : {X : Type 0} → (List (ℕ × X) → Type 0) → ℕ → List (ℕ × X) → Type 0
 Came gave len pairs = gave pairs × (length pairs ≡ len)
 
-module _ {X R : Type 0} (gave : List (ℕ × X) → Type 0) (len : ℕ) where
+module _ {X R : Type 0} (gave : List (ℕ × X) → Type 0) (len limit : ℕ) where
   -- the pairs that came were written
   abbrev pub WroteGiven : Format (List (ℕ × X)) R → Output → Output → R → Type 0
-  WroteGiven f o o' r = (pairs : List (ℕ × X)) × Came gave len pairs × Serialized f pairs o o' r
+  WroteGiven f o o' r = (pairs : List (ℕ × X)) × Came gave len pairs × Serialized limit f pairs o o' r
 
   -- writing the pairs that came gave up
-  abbrev pub GaveUpGiven : {F : Type 0} → ℕ → Format (List (ℕ × X)) R → Output → Output → WriteError F → Type 0
-  GaveUpGiven limit f o o' e = (pairs : List (ℕ × X)) × Came gave len pairs × GaveUp limit f pairs o o' e
+  abbrev pub GaveUpGiven : {F : Type 0} → Format (List (ℕ × X)) R → Output → Output → WriteError F → Type 0
+  GaveUpGiven f o o' e = (pairs : List (ℕ × X)) × Came gave len pairs × GaveUp limit f pairs o o' e
 
-module _ {X : Type 0} (gave : List (ℕ × X) → Type 0) (len : ℕ) (load_factor : ℕ × ℕ) (max : ℕ) (f : Format (List (ℕ × X)) TableResolver) (o o' : Output) where
+module _ {X : Type 0} (gave : List (ℕ × X) → Type 0) (len : ℕ) (load_factor : ℕ × ℕ) (max : ℕ) (f : Format (List (ℕ × X)) TableResolver) (o o' : Output) (limit : ℕ) where
   -- the pairs that came were written as a table
   abbrev pub WroteTable : TableResolver → Type 0
-  WroteTable r = HasCapacity len load_factor max × WroteGiven gave len f o o' r
+  WroteTable r = HasCapacity len load_factor max × WroteGiven gave len limit f o o' r
 
   -- a cause of the call's own, and nothing was written; or else writing the pairs that came gave up
-  abbrev pub NoTable : {F : Type 0} → (ℕ → Type 0) → ℕ → WriteError F → Type 0
-  NoTable other limit e = (OwnCause len load_factor max other e × (o' ≡ o)) ⊎ (HasCapacity len load_factor max × GaveUpGiven gave len limit f o o' e)
+  abbrev pub NoTable : {F : Type 0} → (ℕ → Type 0) → WriteError F → Type 0
+  NoTable other e = (OwnCause len load_factor max other e × (o' ≡ o)) ⊎ (HasCapacity len load_factor max × GaveUpGiven gave len limit f o o' e)
 
 -- the causes for which the items are not placed
 abbrev pub NotPlaced : {F : Type 0} → ℕ → (ℕ → Type 0) → WriteError F → Type 0
@@ -67,13 +67,13 @@ pub record Taken {X : Type 0} (gave : List (ℕ × X) → Type 0) (len cap : ℕ
   pub placed : Placed cap pairs slots controls
 
 module _ {X R : Type 0} (gave : List (ℕ × X) → Type 0) where
-  module _ (len cap : ℕ) (s : Shape) (f : Format X R) (o o' : Output) where
+  module _ (len cap : ℕ) (s : Shape) (f : Format X R) (o o' : Output) (limit : ℕ) where
     -- the bytes of the table of the pairs that came were appended, with the first control at z
     abbrev pub WroteFilled : ℕ → Type 0
     WroteFilled z = (pairs : List (ℕ × X)) × (slots : List (Option X)) × (controls : List ℕ) × Taken gave len cap slots controls pairs
-        × (bytes : List ℕ) × Appends o o' bytes × TableBytes s f slots controls (end_of o) z bytes
+        × (bytes : List ℕ) × Appended limit bytes o o' × TableBytes s f slots controls (end_of o) z bytes
 
     -- the items were not placed, and nothing was written; or else writing the pairs that came gave up
-    abbrev pub NoFilled : {F : Type 0} → (ℕ → Type 0) → ℕ → WriteError F → Type 0
-    NoFilled other limit e = (NotPlaced len other e × (o' ≡ o)) ⊎ ((pairs : List (ℕ × X)) × (slots : List (Option X)) × (controls : List ℕ) × Taken gave len cap slots controls pairs
-        × Told limit (TableNext s f slots controls (end_of o)) (TableRefuses s f slots controls (end_of o)) o o' e)
+    abbrev pub NoFilled : {F : Type 0} → (ℕ → Type 0) → WriteError F → Type 0
+    NoFilled other e = (NotPlaced len other e × (o' ≡ o)) ⊎ ((pairs : List (ℕ × X)) × (slots : List (Option X)) × (controls : List ℕ) × Taken gave len cap slots controls pairs
+        × Told limit (TableNext s f slots controls (end_of o)) o o' e)

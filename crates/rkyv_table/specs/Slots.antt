@@ -3,7 +3,7 @@ use Rattle.std.specs.Prelude.{◌≡◌, ℕ, suc, ◌+◌, ◌-◌, ◌*◌, �
 use Rattle.rkyv_base.specs.Entry.{round_up}
 use Rattle.rkyv_base.specs.Format.{Format}
 use Rattle.rkyv_base.specs.Shape.{Shape}
-use Rattle.rkyv_base.specs.Writing.{Appended, Output, Refusal, distance, end_of, padding, zeros}
+use Rattle.rkyv_base.specs.Writing.{Appended, Output, Step, distance, end_of, padding, piece, refusal, zeros}
 
 -- how many slots have an item
 abbrev pub filled : {X : Type 0} → List (Option X) → ℕ
@@ -20,15 +20,10 @@ module _ {X R : Type 0} (f : Format X R) where
       × f.parts x p a r × SlotParts ss (p + length a) b qs × (part ≡ a ++ b) × (rs ≡ r ∷ qs)
 
   module _ (slots : List (Option X)) (p : ℕ) where
-    -- the piece that serializing the items appends after front
-    abbrev pub PartsNext : List ℕ → List ℕ → Type 0
-    PartsNext front piece = (i : ℕ) × (x : X) × (a : List ℕ) × (rs : List R) × (rest : List ℕ)
-        × (slice_get slots i ≡ Some (Some x)) × SlotParts (take i slots) p a rs × f.next x (p + length a) rest piece × (front ≡ a ++ rest)
-
-    -- what an item refuses there
-    abbrev pub PartsRefuse : Refusal → Type 0
-    PartsRefuse c = (i : ℕ) × (x : X) × (a : List ℕ) × (rs : List R)
-        × (slice_get slots i ≡ Some (Some x)) × SlotParts (take i slots) p a rs × f.refuses x (p + length a) c
+    -- what serializing the items comes to after front
+    abbrev pub PartsNext : List ℕ → Step → Type 0
+    PartsNext front step = (i : ℕ) × (x : X) × (a : List ℕ) × (rs : List R) × (rest : List ℕ)
+        × (slice_get slots i ≡ Some (Some x)) × SlotParts (take i slots) p a rs × f.next x (p + length a) rest step × (front ≡ a ++ rest)
 
 module _ {X R : Type 0} (size : ℕ) (f : Format X R) where
   -- the buckets before position z, from the highest to the first
@@ -48,20 +43,20 @@ module _ {X R : Type 0} (size : ℕ) (f : Format X R) where
   TooFar None left p = ⊥
   TooFar (Some x) left p = (r : R) × (more : List R) × (left ≡ more ++ r ∷ []) × f.far x r p
 
+  -- what writing one bucket at position p comes to: its bytes, or that the distance of its item is too large
+  abbrev pub BucketStep : Option X → List R → ℕ → Step → Type 0
+  BucketStep s left p step =
+      ((more : List R) × (out : List ℕ) × Filled s left more p out × (step ≡ piece out)) ⊎ (TooFar s left p × (step ≡ refusal distance))
+
   module _ (slots : List (Option X)) (rs : List R) (p : ℕ) where
     -- the buckets above i stand, from p on, and left resolves the items of the others
     abbrev pub Above : ℕ → List R → List ℕ → Type 0
     Above i left front = (done : List R) × (rs ≡ left ++ done) × SlotImages (drop (i + 1) slots) done (p + length front) front
 
-    -- the piece that writing the buckets appends after front
-    abbrev pub BucketNext : List ℕ → List ℕ → Type 0
-    BucketNext front piece = (i : ℕ) × (left : List R) × Above i left front
-        × (s : Option X) × (more : List R) × (slice_get slots i ≡ Some s) × Filled s left more (p + length front) piece
-
-    -- a distance of an item is too large
-    abbrev pub BucketFar : Refusal → Type 0
-    BucketFar c = (c ≡ distance) × (i : ℕ) × (left : List R) × (front : List ℕ) × Above i left front
-        × (s : Option X) × (slice_get slots i ≡ Some s) × TooFar s left (p + length front)
+    -- what writing the buckets comes to after front
+    abbrev pub BucketNext : List ℕ → Step → Type 0
+    BucketNext front step = (i : ℕ) × (left : List R) × Above i left front
+        × (s : Option X) × (slice_get slots i ≡ Some s) × BucketStep s left (p + length front) step
 
   -- the buckets were appended within the limit
   abbrev pub WroteBuckets : ℕ → List (Option X) → List R → Output → Output → Type 0
@@ -83,14 +78,9 @@ module _ {X R : Type 0} (s : Shape) (f : Format X R) (slots : List (Option X)) (
   abbrev pub BeforeBuckets : List ℕ → List R → List ℕ → Type 0
   BeforeBuckets a rs front = SlotParts f slots p a rs × (front ≡ a ++ zeros (padding s.align (p + length a)))
 
-  -- the piece that writing the table appends after front: of a part, the zeros, a bucket, or the controls
-  abbrev pub TableNext : List ℕ → List ℕ → Type 0
-  TableNext front piece = PartsNext f slots p front piece
-      ⊎ ((rs : List R) × SlotParts f slots p front rs × (piece ≡ zeros (padding s.align (p + length front))))
-      ⊎ ((a : List ℕ) × (rs : List R) × (b : List ℕ) × (g : List ℕ) × BeforeBuckets a rs b × BucketNext s.size f slots rs (p + length b) g piece × (front ≡ b ++ g))
-      ⊎ ((a : List ℕ) × (rs : List R) × (b : List ℕ) × (g : List ℕ) × BeforeBuckets a rs b × SlotImages s.size f slots rs (p + length front) g × (front ≡ b ++ g) × (piece ≡ controls))
-
-  -- what an item refuses, or that its distance is too large
-  abbrev pub TableRefuses : Refusal → Type 0
-  TableRefuses c = PartsRefuse f slots p c
-      ⊎ ((a : List ℕ) × (rs : List R) × (b : List ℕ) × BeforeBuckets a rs b × BucketFar s.size f slots rs (p + length b) c)
+  -- what writing the table comes to after front: that of a part, the zeros, that of a bucket, or the controls
+  abbrev pub TableNext : List ℕ → Step → Type 0
+  TableNext front step = PartsNext f slots p front step
+      ⊎ ((rs : List R) × SlotParts f slots p front rs × (step ≡ piece (zeros (padding s.align (p + length front)))))
+      ⊎ ((a : List ℕ) × (rs : List R) × (b : List ℕ) × (g : List ℕ) × BeforeBuckets a rs b × BucketNext s.size f slots rs (p + length b) g step × (front ≡ b ++ g))
+      ⊎ ((a : List ℕ) × (rs : List R) × (b : List ℕ) × (g : List ℕ) × BeforeBuckets a rs b × SlotImages s.size f slots rs (p + length front) g × (front ≡ b ++ g) × (step ≡ piece controls))

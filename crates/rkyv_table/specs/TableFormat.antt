@@ -4,12 +4,12 @@ use Rattle.std.specs.Int.{Width}
 use mir.Val.{bits}
 use Rattle.rkyv_base.specs.Format.{Format}
 use Rattle.rkyv_base.specs.Shape.{Shape}
-use Rattle.rkyv_base.specs.Writing.{Refusal}
+use Rattle.rkyv_base.specs.Writing.{Step}
 use Rattle.rkyv_table.specs.Header.{HeaderFar, IsHeader, begin_told, cap_at, len_at}
 use Rattle.rkyv_table.specs.Laws.{AreHashes}
 use Rattle.rkyv_table.specs.Numbers.{capacity}
 use Rattle.rkyv_table.specs.Placing.{Written}
-use Rattle.rkyv_table.specs.Slots.{TableBytes, TableNext, TableRefuses}
+use Rattle.rkyv_table.specs.Slots.{TableBytes, TableNext}
 use Rattle.rkyv_table.specs.Table.{bucket_at, controls_at}
 use Rattle.rkyv_table.specs.Taking.{Placed, hashes_of, items_of}
 
@@ -40,20 +40,15 @@ module _ {X R : Type 0} (w : Width) (s : Shape) (f : Format X R) (load_factor : 
     pub fits : resolved_capacity r < 2 ^ bits w
     pub written : TableWritten r.pos part
 
-  -- the piece that comes next
-  abbrev pub TablePiece : List ℕ → List ℕ → Type 0
-  TablePiece front piece = (slots : List (Option X)) × (controls : List ℕ) × InBuckets load_factor pairs slots controls × TableNext s f slots controls p front piece
-
-  -- what an item refuses
-  abbrev pub ItemRefuses : Refusal → Type 0
-  ItemRefuses c = (slots : List (Option X)) × (controls : List ℕ) × InBuckets load_factor pairs slots controls × TableRefuses s f slots controls p c
+  -- what writing the table comes to after front
+  abbrev pub PairsNext : List ℕ → Step → Type 0
+  PairsNext front step = (slots : List (Option X)) × (controls : List ℕ) × InBuckets load_factor pairs slots controls × TableNext s f slots controls p front step
 
 -- how a list of hashes and items, in the order handed in, is written as a table under a load factor
 abbrev pub table_format : {X R : Type 0} → Width → Shape → Format X R → ℕ × ℕ → Format (List (ℕ × X)) TableResolver
 table_format w s f load_factor = record {
   parts = TableParts w s f load_factor;
-  next = TablePiece w s f load_factor;
-  refuses = ItemRefuses w s f load_factor;
+  next = PairsNext w s f load_factor;
   image = λ pairs r p out. IsHeader w r.len (resolved_capacity r) r.pos p out;
   far = λ pairs r p. HeaderFar w r.len r.pos p;
 }

@@ -2,18 +2,20 @@
 use Rattle.std.specs.Prelude.{◌≡◌, ℕ, suc, ◌+◌, ◌-◌, ◌*◌, ◌%◌, ◌<◌, ◌≤◌, ℤ, List, slice_index}
 use Rattle.std.specs.Int.{Width, byte_len}
 use Rattle.std.proofs.Common.{refl, arith, subst, sym, ◌∙◌, ap, inl, inr}
+use Rattle.std.proofs.lemmas.Bool.{cases_lt}
 use Rattle.std.proofs.Math.Nat.{mul-le-mul_right, mul-zero}
 use Rattle.std.proofs.lemmas.Nat.{mul-mod}
 use Rattle.rkyv_scan.specs.Groups.{is_full}
 use Rattle.rkyv_base.specs.declared.errors.VerifyError.{VerifyError}
+use Rattle.rkyv_base.specs.declared.errors.VerifyError.TheVariants.{UnwrappedControlByte}
 use Rattle.rkyv_base.specs.Bytes.{Same, same_part}
-use Rattle.rkyv_base.specs.Parts.{part_clear, part_one, part_wider}
+use Rattle.rkyv_base.specs.Parts.{part_clear, part_one, part_one_failure, part_wider}
 use Rattle.rkyv_base.specs.Shape.{Shape, IsElement, IsAlign, by_align, sum_multiple}
 use Rattle.rkyv_base.specs.Text.{IsArchiveWord, by_archive_word}
 use Rattle.rkyv_table.specs.Header.{begin_told, cap_at, len_at}
 use Rattle.rkyv_table.specs.Numbers.{control_count}
 use Rattle.rkyv_table.specs.Places.{AllHold}
-use Rattle.rkyv_table.specs.PlaceLaws.{AllBelow, all_clear, all_lower, all_near, range_below}
+use Rattle.rkyv_table.specs.PlaceLaws.{AllBelow, all_clear, all_lower, all_near, all_one_failure, range_below}
 use Rattle.rkyv_table.specs.Placing.{Accepted, Repeats, walk}
 use Rattle.rkyv_table.specs.Repeating.{FirstUnlike}
 use Rattle.rkyv_table.specs.SameHeader.{begin_same, cap_same, len_same}
@@ -41,6 +43,16 @@ walk_below controls cap = range_below (λ b. is_full (slice_index controls b)) c
 -- controls that repeat are nowhere unlike
 repeats_clear : (cap q : ℕ) (controls : List ℕ) → Repeats cap controls → FirstUnlike cap controls q → ⊥
 repeats_clear cap q controls r u = u.unlike ((λ lt. r.repeated q u.from lt u.below), (λ ge. r.past q ge u.below))
+
+-- the first control that is unlike is one
+unlike_one : (cap q q' : ℕ) (controls : List ℕ) → FirstUnlike cap controls q → FirstUnlike cap controls q' → q ≡ q'
+unlike_one cap q q' controls u u' = elim (cases_lt q q') [
+  | inl below ↦ absurd (u.unlike (u'.least q u.from below))
+  | inr above ↦ elim (cases_lt q' q) [
+    | inl below ↦ absurd (u'.unlike (u.least q' u'.from below))
+    | inr same ↦ omega (arith, above, same)
+  ]
+]
 
 module _ (s : Shape) where
   -- what holds of some numbers holds of the same numbers
@@ -87,6 +99,32 @@ module _ (s : Shape) (law : IsElement s) where
   at_clear b told cap len lo hi l e (inr (n, part, is, x)) (inr (inr (room, n', part', f))) =
       let same : n' ≡ n = part_one told (part_size s.size cap) s.align lo hi n' n part' part in
       inside_clear b cap len lo n e is (subst (λ m. FailsInside s b cap len lo m e) same f)
+
+  inside_one_failure : (b : List ℕ) (cap len lo begin : ℕ) (e e' : VerifyError) → FailsInside s b cap len lo begin e → FailsInside s b cap len lo begin e' → e ≡ e'
+  inside_one_failure b cap len lo begin e e' (inl f) (inl g) =
+      all_one_failure s law (bucket_at s.size begin cap) b begin (walk (controls_at s.size b begin cap) cap) lo e e' f g
+  inside_one_failure b cap len lo begin e e' (inl f) (inr g) =
+      absurd (all_clear s law (bucket_at s.size begin cap) b begin (walk (controls_at s.size b begin cap) cap) lo g.0 e g.1 f)
+  inside_one_failure b cap len lo begin e e' (inr f) (inl g) =
+      absurd (all_clear s law (bucket_at s.size begin cap) b begin (walk (controls_at s.size b begin cap) cap) lo f.0 e' f.1 g)
+  inside_one_failure b cap len lo begin e e' (inr (last, items, inl f)) (inr (last', items', inl g)) = f.1 ∙ sym g.1
+  inside_one_failure b cap len lo begin e e' (inr (last, items, inl f)) (inr (last', items', inr g)) = absurd (f.0 g.0)
+  inside_one_failure b cap len lo begin e e' (inr (last, items, inr f)) (inr (last', items', inl g)) = absurd (g.0 f.0)
+  inside_one_failure b cap len lo begin e e' (inr (last, items, inr f)) (inr (last', items', inr g)) =
+      f.3 ∙ ap UnwrappedControlByte (unlike_one cap f.1 g.1 (controls_at s.size b begin cap) f.2 g.2) ∙ sym g.3
+
+  at_one_failure : (b : List ℕ) (told : ℤ) (cap len lo hi : ℕ) (e e' : VerifyError) → TableFailsAt s b told cap len lo hi e → TableFailsAt s b told cap len lo hi e' → e ≡ e'
+  at_one_failure b told cap len lo hi e e' (inl f) (inl g) = f.2 ∙ sym g.2
+  at_one_failure b told cap len lo hi e e' (inl f) (inr (inl g)) = absurd (omega (arith, f.0, g.0))
+  at_one_failure b told cap len lo hi e e' (inl f) (inr (inr g)) = absurd (omega (arith, f.0, g.0))
+  at_one_failure b told cap len lo hi e e' (inr (inl f)) (inl g) = absurd (omega (arith, f.0, g.0))
+  at_one_failure b told cap len lo hi e e' (inr (inr f)) (inl g) = absurd (omega (arith, f.0, g.0))
+  at_one_failure b told cap len lo hi e e' (inr (inl f)) (inr (inl g)) = part_one_failure told (part_size s.size cap) s.align lo hi e e' f.1 g.1
+  at_one_failure b told cap len lo hi e e' (inr (inl f)) (inr (inr g)) = absurd (part_clear told (part_size s.size cap) s.align lo hi g.1 e g.2 f.1)
+  at_one_failure b told cap len lo hi e e' (inr (inr f)) (inr (inl g)) = absurd (part_clear told (part_size s.size cap) s.align lo hi f.1 e' f.2 g.1)
+  at_one_failure b told cap len lo hi e e' (inr (inr f)) (inr (inr g)) =
+      let same : g.1 ≡ f.1 = part_one told (part_size s.size cap) s.align lo hi g.1 f.1 g.2 f.2 in
+      inside_one_failure b cap len lo f.1 e e' f.3 (subst (λ m. FailsInside s b cap len lo m e') same g.3)
 
   is_lower : (b : List ℕ) (cap len lo lo' begin : ℕ) → lo' ≤ lo → lo ≤ begin → IsPart s b cap len lo begin → IsPart s b cap len lo' begin
   is_lower b cap len lo lo' begin o o' is =
@@ -138,6 +176,7 @@ table_element w kind s law = record {
   between = λ b p lo hi l o h. at_between s law b (begin_told w s.size b p) (cap_at w b p) (len_at w b p) lo hi l o h;
   one = λ b p lo hi l l' h h'. at_one s law b (begin_told w s.size b p) (cap_at w b p) (len_at w b p) lo hi l l' h h';
   clear = λ b p lo hi l e h f. at_clear s law b (begin_told w s.size b p) (cap_at w b p) (len_at w b p) lo hi l e h f;
+  one_failure = λ b p lo hi e e' f g. at_one_failure s law b (begin_told w s.size b p) (cap_at w b p) (len_at w b p) lo hi e e' f g;
   higher = λ b p lo hi hi' l o h. at_higher s law b (begin_told w s.size b p) (cap_at w b p) (len_at w b p) lo hi hi' l o h;
   lower = λ b p lo lo' hi l o o' h. at_lower s law b (begin_told w s.size b p) (cap_at w b p) (len_at w b p) lo lo' hi l o h;
   near = λ b c p lo hi l o fixed part h. holds_near s law w b c p lo hi l fixed part h;

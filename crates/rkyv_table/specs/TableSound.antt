@@ -5,7 +5,7 @@ use Rattle.std.proofs.lemmas.Bool.{ne_eqb}
 use Rattle.std.proofs.lemmas.Int.{ints}
 use Rattle.std.proofs.lemmas.List.{length-map, length-replicate}
 use Rattle.std.specs.Int.{Width}
-use Rattle.std.specs.Prelude.{◌≡◌, ℕ, suc, ◌+◌, ◌*◌, ◌/◌, ◌%◌, ◌<◌, ◌≤◌, cond, max, pos, ◌+ℤ◌, ◌-ℤ◌, List, [], ◌++◌, length, slice_get, slice_index, slice_range, Option, Some}
+use Rattle.std.specs.Prelude.{◌≡◌, ℕ, suc, ◌+◌, ◌*◌, ◌/◌, ◌%◌, ◌<◌, ◌≤◌, cond, max, pos, ◌+ℤ◌, ◌-ℤ◌, FitsSigned, List, [], ◌++◌, length, slice_get, slice_index, slice_range, Option, Some}
 use Rattle.rkyv_base.specs.Bytes.{Sits, signed_at, sits_back, sits_front}
 use Rattle.rkyv_base.specs.Entry.{round_up, round_up-multiple}
 use Rattle.rkyv_base.specs.Format.{Format, IsFormat}
@@ -205,5 +205,9 @@ module _ {X R : Type 0} (w : Width) (kind : IsArchiveWord w) (s : Shape) (laws :
   pub table_is_format : IsFormat (table_shape w s) (TableStands w s stands factor) (table_format w s f factor)
   table_is_format = record {
     whole = λ pairs r p out i. ap length i.is ∙ header_length w kind i.distance r.len (resolved_capacity r);
+    clear = λ pairs r p out i f. elim i.told [
+      | inl h ↦ omega (arith, h.0, f.0)
+      | inr h ↦ f.1 (subst (FitsSigned w) h.1 i.fits)
+    ];
     sound = λ pairs r c p0 p part out t i sp so o al. table_sound pairs r c p0 p part out t i sp so;
   }

@@ -3,7 +3,7 @@ ghost use Rattle.std.specs.Prelude.{[], length, ⊤, ◌≡◌};
 ghost use Rattle.std.specs.Int.{w32};
 ghost use Rattle.std.proofs.Common.{inl, inr, lit≤, refl};
 ghost use Rattle.rkyv_base.specs.AnyBytes.{any_bytes, any_bytes-element};
-ghost use Rattle.rkyv_base.specs.Format.{nothing_far, nothing_next, nothing_refused};
+ghost use Rattle.rkyv_base.specs.Format.{nothing_far, nothing_next};
 
 use crate::access::access;
 use crate::archive::{Archive, Serialize};
@@ -78,7 +78,6 @@ impl<W: Width> Archive<W> for Huge {
     ghost format = { record {
       parts = λ v p part r. part ≡ [];
       next = nothing_next;
-      refuses = nothing_refused;
       image = λ v r p out. length out ≡ 1073741824;
       far = nothing_far;
     } };
@@ -89,6 +88,7 @@ impl<W: Width> Archive<W> for Huge {
 
     ghost laws = { record {
       whole = λ v r p out i. i;
+      clear = λ v r p out i f. f;
       sound = λ v r c p0 p part out h i s t o al. (p0, refl, tt);
     } };
 }

@@ -65,8 +65,8 @@ impl<'a, K: KeyElement, V, H: KeyHasher, W: Width> ArchivedHashMap<'a, K, V, H, 
         ensures { let hash = hash_of H.initial H.feed H.finish A.calls in
             let f = written_as (lent_pairs BK.lent BV.lent) (map_format W.word K.shape V.shape A.format B.format hash load_factor) in
             let gave = Drains I.next_gives iter in let o = S.output serializer.old in let o' = S.output serializer.new in MatchResult result
-            (WroteItems gave len load_factor W.MAX_CAPACITY f o o')
-            (NoItems gave len load_factor W.MAX_CAPACITY f o o' (GaveOther I.next_gives len iter) W.LIMIT) }
+            (WroteItems gave len load_factor W.MAX_CAPACITY f o o' W.LIMIT)
+            (NoItems gave len load_factor W.MAX_CAPACITY f o o' W.LIMIT (GaveOther I.next_gives len iter)) }
     {
         ArchivedHashTable::<Entry<K, V>, W>::serialize_by::<
             Group,

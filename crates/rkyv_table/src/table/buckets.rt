@@ -3,7 +3,7 @@
 ghost use Rattle.std.specs.Prelude.{◌≡◌, ◌+◌, ◌<◌, ◌≤◌, ◌^◌, IfSome, MatchResult, length};
 ghost use Rattle.rkyv_base.specs.Pairs.{written_as};
 ghost use Rattle.rkyv_base.specs.Writing.{Told, end_of};
-ghost use Rattle.rkyv_table.specs.Slots.{BucketFar, BucketNext, Filled, TooFar, WroteBuckets, filled};
+ghost use Rattle.rkyv_table.specs.Slots.{BucketNext, Filled, TooFar, WroteBuckets, filled};
 
 use rkyv_base::archive::Archive;
 use rkyv_base::errors::{DistanceTooLarge, WriteError};
@@ -51,7 +51,7 @@ pub(crate) fn write_buckets<W: Width, S: Writer, U: Archive<W>, X: Lend<U>>(
     ensures kept { length bucket.new ≡ U.Archived.shape.size }
     ensures answer { let f = written_as X.lent U.format in let size = U.Archived.shape.size in let o = S.output serializer.old in let o' = S.output serializer.new in MatchResult result
         (λ _. WroteBuckets size f W.LIMIT slots.now resolvers.items o o')
-        (Told W.LIMIT (BucketNext size f slots.now resolvers.items (end_of o)) (BucketFar size f slots.now resolvers.items (end_of o)) o o') }
+        (Told W.LIMIT (BucketNext size f slots.now resolvers.items (end_of o)) o o') }
 {
     let mut rest = resolvers;
     let mut above = slots.len();

@@ -2,8 +2,8 @@
 
 ghost use Rattle.std.specs.Prelude.{◌≡◌, ◌≤◌, [], MatchResult, vec_capacity, List, ℕ};
 ghost use Rattle.rkyv_base.specs.Pairs.{written_as};
-ghost use Rattle.rkyv_base.specs.Writing.{Appends, Told, end_of};
-ghost use Rattle.rkyv_table.specs.Slots.{PartsNext, PartsRefuse, SlotParts, filled};
+ghost use Rattle.rkyv_base.specs.Writing.{Appends, Told, Within, end_of};
+ghost use Rattle.rkyv_table.specs.Slots.{PartsNext, SlotParts, filled};
 
 use rkyv_base::archive::Serialize;
 use rkyv_base::errors::WriteError;
@@ -22,8 +22,8 @@ pub(crate) fn serialize_slots<W: Width, S: Writer, U: Serialize<S, W>, X: Lend<U
     requires empty { resolvers.old.items ≡ [] }
     requires room { filled slots.now ≤ vec_capacity resolvers.old }
     ensures { let f = written_as X.lent U.format in let o = S.output serializer.old in let o' = S.output serializer.new in MatchResult result
-        (λ _. (part : List ℕ) × Appends o o' part × SlotParts f slots.now (end_of o) part resolvers.new.items)
-        (Told W.LIMIT (PartsNext f slots.now (end_of o)) (PartsRefuse f slots.now (end_of o)) o o') }
+        (λ _. (part : List ℕ) × Appends o o' part × SlotParts f slots.now (end_of o) part resolvers.new.items × Within W.LIMIT o' part)
+        (Told W.LIMIT (PartsNext f slots.now (end_of o)) o o') }
 {
     for slot in slots {
         if let Some(item) = slot {

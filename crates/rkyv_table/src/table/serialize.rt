@@ -88,8 +88,8 @@ fn fill_and_write<
     requires scratch { room.scratch.items ≡ replicate (control_count cap + U.Archived.shape.size) 255 }
     requires resolvers { (room.resolvers.items ≡ []) × (len ≤ vec_capacity room.resolvers) }
     ensures { let s = U.Archived.shape in let f = written_as X.lent U.format in let o = S.output serializer.old in let o' = S.output serializer.new in MatchResult result
-        (WroteFilled (H.gave given) len cap s f o o')
-        (NoFilled (H.gave given) len cap s f o o' (H.gave_other len given) W.LIMIT) }
+        (WroteFilled (H.gave given) len cap s f o o' W.LIMIT)
+        (NoFilled (H.gave given) len cap s f o o' W.LIMIT (H.gave_other len given)) }
 {
     let mut slots = room.slots;
     let mut scratch = room.scratch;
@@ -130,8 +130,8 @@ fn serialize_filled<
     requires below { len < cap }
     requires fits { cap ≤ W.MAX_CAPACITY }
     ensures { let s = U.Archived.shape in let f = written_as X.lent U.format in let o = S.output serializer.old in let o' = S.output serializer.new in MatchResult result
-        (WroteFilled (H.gave given) len cap s f o o')
-        (NoFilled (H.gave given) len cap s f o o' (H.gave_other len given) W.LIMIT) }
+        (WroteFilled (H.gave given) len cap s f o o' W.LIMIT)
+        (NoFilled (H.gave given) len cap s f o o' W.LIMIT (H.gave_other len given)) }
 {
     match Room::new(alloc, len, cap, <U::Archived as Element>::size()) {
         Ok(room) => fill_and_write::<W, G, S, U, X, H>(alloc, given, len, cap, room, serializer),
@@ -156,8 +156,8 @@ fn serialize_given<
 ) -> Result<HashTableResolver<W>, WriteError<S::Fault>>
     requires { H.can given }
     ensures { let f = table_format W.word U.Archived.shape (written_as X.lent U.format) load_factor in let o = S.output serializer.old in let o' = S.output serializer.new in MatchResult result
-        (WroteTable (H.gave given) len load_factor W.MAX_CAPACITY f o o')
-        (NoTable (H.gave given) len load_factor W.MAX_CAPACITY f o o' (H.gave_other len given) W.LIMIT) }
+        (WroteTable (H.gave given) len load_factor W.MAX_CAPACITY f o o' W.LIMIT)
+        (NoTable (H.gave given) len load_factor W.MAX_CAPACITY f o o' W.LIMIT (H.gave_other len given)) }
 {
     let cap = match capacity(len, load_factor, W::MAX_CAPACITY) {
         Ok(cap) => cap,
@@ -227,8 +227,8 @@ impl<'a, T, W: Width> ArchivedHashTable<'a, T, W> {
         requires { I.can_next items × J.can_next hashes }
         ensures { let f = table_format W.word T.shape (written_as X.lent U.format) load_factor in let gave = GaveBoth I.next_gives J.next_gives items hashes in
             let o = S.output serializer.old in let o' = S.output serializer.new in MatchResult result
-            (WroteTable gave len load_factor W.MAX_CAPACITY f o o')
-            (NoTable gave len load_factor W.MAX_CAPACITY f o o' (Uneven I.next_gives J.next_gives len items hashes) W.LIMIT) }
+            (WroteTable gave len load_factor W.MAX_CAPACITY f o o' W.LIMIT)
+            (NoTable gave len load_factor W.MAX_CAPACITY f o o' W.LIMIT (Uneven I.next_gives J.next_gives len items hashes)) }
     {
         let given = ItemsAndHashes { items, hashes };
         serialize_given::<W, Group, S, U, X, ItemsAndHashes<I, J>>(
@@ -260,8 +260,8 @@ impl<'a, T, W: Width> ArchivedHashTable<'a, T, W> {
         requires { I.can_next pairs }
         ensures { let f = table_format W.word T.shape (written_as X.lent U.format) load_factor in let gave = Drains I.next_gives pairs in
             let o = S.output serializer.old in let o' = S.output serializer.new in MatchResult result
-            (WroteTable gave len load_factor W.MAX_CAPACITY f o o')
-            (NoTable gave len load_factor W.MAX_CAPACITY f o o' (GaveOther I.next_gives len pairs) W.LIMIT) }
+            (WroteTable gave len load_factor W.MAX_CAPACITY f o o' W.LIMIT)
+            (NoTable gave len load_factor W.MAX_CAPACITY f o o' W.LIMIT (GaveOther I.next_gives len pairs)) }
     {
         serialize_given::<W, G, S, U, X, Pairs<I>>(
             alloc,

@@ -2,7 +2,7 @@ use Rattle.std.proofs.Common.{arith, ◌≡◌, ◌<◌, ◌++◌, length, get_o
 use Rattle.std.proofs.lemmas.List.{take_all}
 use Rattle.std.proofs.lemmas.List.{get_or_default}
 use Rattle.rkyv_base.specs.Pairs.{written_as}
-use Rattle.rkyv_base.proofs.GivingUp.{appends_after}
+use Rattle.rkyv_base.proofs.GivingUp.{appends_after, grows, within_after}
 use Rattle.rkyv_table.proofs.PartSteps.{step_none, step_some, step_room, step_told}
 use Rattle.rkyv_table.proofs.table.parts.serialize_slots.Goals as goal
 use Rattle.rkyv_table.proofs.table.parts.serialize_slots.Goals.{in-Some+in-Ok, in_default}
@@ -20,7 +20,7 @@ returns-in-Err g c =
     let m = c.loop-slot.invariant.made in
     let e : get_or c.args.slots.now c.loop-slot.slot-index None ≡ Some c.in-Some.item = get_or_default c.args.slots.now c.loop-slot.slot-index None c.slot-item.result c.loop-slot-test.true ∙ sym c.slot-item.is ∙ c.in-Some.is in
     step_told (written_as g.X.Lend.lent g.U.Archive.format) c.args.slots.now c.loop-slot.slot-index c.loop-slot-test.true (g.S.Writer.output c.args.serializer.now) (g.S.Writer.output c.loop-slot.serializer) m.0 c.loop-slot.resolvers.items m.1 m.2 c.in-Some.item e
-    g.W.Width.LIMIT (g.S.Writer.output c.serialize.new.serializer) c.in-Err.e (rw c.lend.ensures at c.in-Err.ensures)
+    g.W.Width.LIMIT (g.S.Writer.output c.serialize.new.serializer) c.in-Err.e m.3 (rw c.lend.ensures at c.in-Err.ensures)
 
 pub loop-slot-preserved : goal.loop-slot-preserved
 loop-slot-preserved g c =
@@ -34,6 +34,7 @@ loop-slot-preserved g c =
               m.0 ++ s.0,
               appends_after (g.S.Writer.output c.args.serializer.now) (g.S.Writer.output c.loop-slot.serializer) (g.S.Writer.output w.serialize.new.serializer) m.0 s.0 m.1 s.1,
               rw w.push_reserved.ensures.items (step_some (written_as g.X.Lend.lent g.U.Archive.format) c.args.slots.now c.loop-slot.slot-index c.loop-slot-test.true (g.S.Writer.output c.args.serializer.now) (g.S.Writer.output c.loop-slot.serializer) m.0 c.loop-slot.resolvers.items m.1 m.2 w.in-Some.item e s.0 w.in-Ok.resolver s.2),
+              within_after g.W.Width.LIMIT (g.S.Writer.output c.loop-slot.serializer) (g.S.Writer.output w.serialize.new.serializer) m.0 s.0 (grows (g.S.Writer.output c.loop-slot.serializer) (g.S.Writer.output w.serialize.new.serializer) s.0 s.1) m.3 s.3,
             );
             room = rw w.push_reserved.ensures.capacity c.loop-slot.invariant.room;
           })
@@ -44,6 +45,7 @@ loop-slot-preserved g c =
               m.0,
               m.1,
               step_none (written_as g.X.Lend.lent g.U.Archive.format) c.args.slots.now c.loop-slot.slot-index c.loop-slot-test.true (g.S.Writer.output c.args.serializer.now) (g.S.Writer.output c.loop-slot.serializer) m.0 c.loop-slot.resolvers.items m.1 m.2 e,
+              m.3,
             );
             room = c.loop-slot.invariant.room;
           })
@@ -53,4 +55,4 @@ pub returns : goal.returns
 returns g c =
     let m = c.loop-slot.invariant.made in
     let all = take_all c.loop-slot.slot-index c.args.slots.now (omega (arith, c.loop-slot-test.false)) in
-    (m.0, m.1, rw all at m.2)
+    (m.0, m.1, rw all at m.2, m.3)
