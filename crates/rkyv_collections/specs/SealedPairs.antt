@@ -1,5 +1,6 @@
 -- What a cursor over the pairs of a map has left, which lends each value to be written.
-use Rattle.std.specs.Prelude.{◌≡◌, ℕ, List, [], ◌∷◌, Option, MatchOption}
+use Rattle.std.specs.Prelude.{◌≡◌, ℕ, ◌+◌, ◌≤◌, List, [], ◌∷◌, Option, MatchOption, length}
+use Rattle.std.specs.Borrow.{MutBor}
 use Rattle.std.specs.Int.{Width}
 use Rattle.rkyv_base.specs.Entry.{entry_shape}
 use Rattle.rkyv_base.specs.Sealing.{value_place}
@@ -7,7 +8,7 @@ use Rattle.rkyv_base.specs.Shape.{Shape}
 use Rattle.rkyv_base.specs.declared.entry.Entry.{Entry}
 use Rattle.rkyv_base.specs.declared.seal.Seal.{Seal}
 use Rattle.rkyv_base.specs.declared.view.View.{View}
-use Rattle.rkyv_table.specs.SealedItems.{IsSealIter, buckets_left, cursor_bytes}
+use Rattle.rkyv_table.specs.SealedItems.{CountsDown, IsSealIter, SameArchive, StaysThere, buckets_left, cursor_bytes}
 use Rattle.rkyv_table.specs.SealedTable.{KeepsTable, SameValue}
 use Rattle.rkyv_table.specs.declared.table.raw_iter_seal.RawIterSeal.{RawIterSeal}
 use Rattle.rkyv_collections.specs.SealedMap.{IsPairPlace, LendsPair, LendsValue}
@@ -74,3 +75,15 @@ module _ {K V : Type 0} (k v : Shape) where
   -- of which the value at q was written
   abbrev pub KeepsValues : RawIterSeal (Entry K V) → ℕ → RawIterSeal (Entry K V) → Type 0
   KeepsValues before q after = (key : ℕ) → q ≡ value_place k v key → KeepsPairs before key after
+
+  -- a writer may be given the bytes of the cursor, at each place at which a value fits
+  abbrev pub MayWriteValue : {F : Type 0} → (F → MutBor (List ℕ) → ℕ → Type 0) → RawIterSeal (Entry K V) → F → Type 0
+  MayWriteValue pre before write = (b : MutBor (List ℕ)) (q : ℕ) → b.now ≡ cursor_bytes before → q + v.size ≤ length b.now → pre write b q
+
+  -- a step over the positions of a map's values, and what the writer does to the archive where a value was left
+  pub record StepsAndWritesValue (Writes : List ℕ → ℕ → List ℕ → Type 0) (before : RawIterSeal (Entry K V)) (result : Option ℕ) (after : RawIterSeal (Entry K V)) : Type 0 where
+    pub stepped : RawIterSeal (Entry K V)
+    pub archive : SameArchive before stepped
+    pub counts : CountsDown before result stepped
+    pub takes : TakesValuePlace before result stepped
+    pub writes : MatchOption result (after ≡ stepped) (λ q. StaysThere stepped after × Writes (cursor_bytes stepped) q (cursor_bytes after))

@@ -1,7 +1,8 @@
 -- What a cursor over the items of a table has left, which lends each to be written.
-use Rattle.std.specs.Prelude.{◌≡◌, ℕ, ◌+◌, ◌<◌, [], ◌∷◌, List, Option, length, MatchOption}
+use Rattle.std.specs.Prelude.{◌≡◌, ℕ, ◌+◌, ◌<◌, [], ◌∷◌, ◌≤◌, List, Option, length, MatchOption}
+use Rattle.std.specs.Borrow.{MutBor}
 use Rattle.std.specs.Int.{Width}
-use Rattle.rkyv_base.specs.Seal.{place_in}
+use Rattle.rkyv_base.specs.Seal.{LiesIn, bytes_in, place_in}
 use Rattle.rkyv_base.specs.Shape.{Shape, Viewed}
 use Rattle.rkyv_base.specs.declared.seal.Seal.{Seal}
 use Rattle.rkyv_table.specs.Header.{cap_at}
@@ -92,3 +93,40 @@ abbrev pub KeepsCursor : {T : Type 0} → Shape → RawIterSeal T → ℕ → Ra
 KeepsCursor s before q after =
     (w : Width) (p i : ℕ) → IsSealIter w s p before → IsItemAt w s before.archive.now p i q
     → KeepsTable w s before.archive.now after.archive.now p i × IsSealIter w s p after × (buckets_left w p after ≡ buckets_left w p before)
+
+-- a writer may be given the archive, at each place at which an item fits
+abbrev pub MayWriteNext : {F T : Type 0} → (F → MutBor (List ℕ) → ℕ → Type 0) → Shape → RawIterSeal T → F → Type 0
+MayWriteNext pre s before write = (b : MutBor (List ℕ)) (q : ℕ) → b.now ≡ before.archive.now → q + s.size ≤ length b.now → pre write b q
+
+-- a writer may be given the archive and this place
+abbrev pub MayWriteAt : {F T : Type 0} → (F → MutBor (List ℕ) → ℕ → Type 0) → RawIterSeal T → ℕ → F → Type 0
+MayWriteAt pre before q write = (b : MutBor (List ℕ)) → b.now ≡ before.archive.now → pre write b q
+
+-- the writer may make the second bytes of the first, at a place
+abbrev pub WrittenBy : {F R : Type 0} → (F → MutBor (List ℕ) → ℕ → R → MutBor (List ℕ) → Type 0) → F → R → List ℕ → ℕ → List ℕ → Type 0
+WrittenBy post write r b q c = (x : MutBor (List ℕ)) × (y : MutBor (List ℕ)) × (x.now ≡ b) × (y.now ≡ c) × post write x q r y
+
+-- a step over the positions of a table's items, and what the writer does to the archive where an item was left
+pub record StepsAndWrites {T : Type 0} (s : Shape) (Writes : List ℕ → ℕ → List ℕ → Type 0) (before : RawIterSeal T) (result : Option ℕ) (after : RawIterSeal T) : Type 0 where
+  pub stepped : RawIterSeal T
+  pub archive : SameArchive before stepped
+  pub counts : CountsDown before result stepped
+  pub takes : TakesPosition s before result stepped
+  pub writes : MatchOption result (after ≡ stepped) (λ q. StaysThere stepped after × Writes stepped.archive.now q after.archive.now)
+
+-- a writer may be lent the seal of an item at this place of these bytes
+abbrev pub MaySeal : {F T : Type 0} → (F → MutBor (Seal T) → Type 0) → F → List ℕ → ℕ → Type 0
+MaySeal {F} {T} pre write b q = (x : MutBor (Seal T)) → bytes_in x.now ≡ b → place_in x.now ≡ q → pre write x
+
+-- the writer was lent the seal at this place of these bytes; if it left that seal's reference there, the second bytes are those behind it
+pub record SealedBy {F R T : Type 0} (post : F → MutBor (Seal T) → R → MutBor (Seal T) → Type 0) (write : F) (r : R) (b : List ℕ) (q : ℕ) (c : List ℕ) : Type 0 where
+  pub given : MutBor (Seal T)
+  pub left : MutBor (Seal T)
+  pub bytes : bytes_in given.now ≡ b
+  pub place : place_in given.now ≡ q
+  pub met : post write given r left
+  pub leaves : left.now.bytes.ghost_name ≡ given.now.bytes.ghost_name → bytes_in left.now ≡ c
+
+-- a writer may be lent the seal of each item that lies in the archive
+abbrev pub MaySealNext : {F T : Type 0} → (F → MutBor (Seal T) → Type 0) → Shape → RawIterSeal T → F → Type 0
+MaySealNext {F} {T} pre s before write = (x : MutBor (Seal T)) → bytes_in x.now ≡ before.archive.now → LiesIn s x.now → pre write x

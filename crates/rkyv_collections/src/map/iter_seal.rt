@@ -10,9 +10,9 @@ ghost use Rattle.rkyv_base.specs.View.{IsView, bytes_of, place_of};
 ghost use Rattle.rkyv_table.specs.Header.{cap_at, len_at};
 ghost use Rattle.rkyv_table.specs.Placing.{walk};
 ghost use Rattle.rkyv_table.specs.Reading.{table_controls};
-ghost use Rattle.rkyv_table.specs.SealedItems.{CountsDown, LendsArchive, SameArchive, StaysThere, buckets_left, cursor_bytes, items_left};
+ghost use Rattle.rkyv_table.specs.SealedItems.{CountsDown, LendsArchive, SameArchive, StaysThere, WrittenBy, buckets_left, cursor_bytes, items_left};
 ghost use Rattle.rkyv_collections.specs.SealedMap.{IsMapSeal};
-ghost use Rattle.rkyv_collections.specs.SealedPairs.{IsPairIter, KeepsPairs, KeepsValues, LendsFirstPair, LendsFirstValue, TakesKeyPlace, TakesValuePlace, entries_in, entries_of};
+ghost use Rattle.rkyv_collections.specs.SealedPairs.{IsPairIter, KeepsPairs, KeepsValues, LendsFirstPair, LendsFirstValue, MayWriteValue, StepsAndWritesValue, TakesKeyPlace, TakesValuePlace, entries_in, entries_of};
 
 use crate::map::{ArchivedHashMap, HashMapOf};
 use rkyv_base::element::{Element, PartRange};
@@ -175,6 +175,21 @@ impl<'a, K: Element, V: Element, H, W> ValuesMut<'a, K, V, H, W> {
             Some(key) => Some(behind::<K, V>(self.pairs.entries.bytes(), key)),
             None => None,
         }
+    }
+
+    /// Where the next value stands, after `write` was given the archive and that place.
+    ///
+    /// Where none is left, nothing is written.
+    #[inline]
+    pub fn next_with<F: FnOnce(&mut [u8], u64)>(&mut self, write: F) -> Option<u64>
+        requires { MayWriteValue K.shape V.shape F.pre (entries_of self.old) write }
+        ensures { StepsAndWritesValue K.shape V.shape (WrittenBy F.post write tt) (entries_of self.old) result (entries_of self.new) }
+    {
+        let next = self.next_pos();
+        if let Some(pos) = next {
+            self.pairs.entries.write_with(pos, write);
+        }
+        next
     }
 
     /// The next value, to be written.

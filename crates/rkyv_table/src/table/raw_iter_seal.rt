@@ -2,14 +2,16 @@
 ghost use Rattle.std.specs.Prelude.{IfSome, MatchOption, [], length, slice_index, slice_range, ◌*◌, ◌+◌, ◌-◌, ◌<◌, ◌∷◌, ◌≡◌, ◌≤◌};
 ghost use Rattle.std.specs.Int.{byte_len};
 ghost use Rattle.rkyv_base.specs.Scalar.{scalar_shape};
-ghost use Rattle.rkyv_base.specs.Seal.{LiesIn, archive_in, bytes_in, pos_in};
+ghost use Rattle.rkyv_base.specs.Seal.{LiesIn, SealStays, archive_in, bytes_in, place_in, pos_in};
 ghost use Rattle.rkyv_base.specs.Sealing.{Keeps, Sealed, with_value};
 ghost use Rattle.rkyv_table.specs.Header.{cap_at, len_at};
 ghost use Rattle.rkyv_table.specs.Placing.{walk};
 ghost use Rattle.rkyv_table.specs.Reading.{table_controls};
-ghost use Rattle.rkyv_table.specs.SealedItems.{CountsDown, FindsFirstLeft, IsSealIter, KeepsCursor, LendsArchive, LendsFirst, SameArchive, StaysThere, TakesPosition, buckets_left, cursor_bytes, items_left};
+ghost use Rattle.rkyv_table.specs.SealedItems.{CountsDown, FindsFirstLeft, IsSealIter, KeepsCursor, LendsArchive, LendsFirst, MaySeal, MaySealNext, MayWriteAt, MayWriteNext, SameArchive, SealedBy, StaysThere, StepsAndWrites, TakesPosition, WrittenBy, buckets_left, cursor_bytes, items_left};
 ghost use Rattle.rkyv_table.specs.RawItems.{place_before};
 ghost use Rattle.rkyv_table.specs.SealedLookup.{IsTableSeal};
+ghost use Rattle.rkyv_base.specs.Shape.{Viewed};
+ghost use Rattle.rkyv_table.specs.Table.{table_shape};
 ghost use Rattle.rkyv_table.specs.Walking.{full_from};
 
 use crate::table::items::Items;
@@ -17,6 +19,7 @@ use crate::table::{ArchivedHashTable, TableOf};
 use rkyv_base::element::Element;
 use rkyv_base::scalars::Scalar;
 use rkyv_base::seal::{ArchiveSeal, Seal, set_at};
+use rkyv_base::view::View;
 use rkyv_base::width::Width;
 use std::marker::PhantomData;
 
@@ -151,7 +154,64 @@ impl<'a, T: Element> RawIterSeal<'a, T> {
     }
 }
 
+impl<'a, T: Element> RawIterSeal<'a, T> {
+    /// Where the next item stands, after `write` was given the archive and that place.
+    ///
+    /// Where none is left, nothing is written.
+    #[inline]
+    pub fn next_with<F: FnOnce(&mut [u8], u64)>(&mut self, write: F) -> Option<u64>
+        requires { MayWriteNext F.pre T.shape self.old write }
+        ensures reference { self.new.archive.ghost_name ≡ self.old.archive.ghost_name }
+        ensures steps { StepsAndWrites T.shape (WrittenBy F.post write tt) self.old result self.new }
+    {
+        let next = self.next_pos();
+        if let Some(pos) = next {
+            let bytes = &mut *self.archive;
+            write(bytes, pos);
+        }
+        next
+    }
+}
+
+/// Lends the seal at a place of some bytes to `write`.
+#[inline]
+fn lend_seal<T, F: FnOnce(&mut Seal<'_, T>)>(bytes: &mut [u8], place: usize, write: F)
+    requires { MaySeal F.pre write bytes.old place }
+    ensures { SealedBy F.post write tt bytes.old place bytes.new }
+{
+    let mut seal = Seal::<T>::over(bytes, place);
+    write(&mut seal);
+}
+
+impl<'a, T: Element> RawIterSeal<'a, T> {
+    /// Lends the next item to `write`, and tells where it stands.
+    #[inline]
+    pub fn next_seal_with<F: FnOnce(&mut Seal<'_, T>)>(&mut self, write: F) -> Option<u64>
+        requires { MaySealNext F.pre T.shape self.old write }
+        ensures reference { self.new.archive.ghost_name ≡ self.old.archive.ghost_name }
+        ensures steps { StepsAndWrites T.shape (SealedBy F.post write tt) self.old result self.new }
+    {
+        let next = self.next_pos();
+        if let Some(pos) = next {
+            let bytes = &mut *self.archive;
+            lend_seal(bytes, pos as usize, write);
+        }
+        next
+    }
+}
+
 impl<'a, T> RawIterSeal<'a, T> {
+    /// Gives the archive and a place to `write`.
+    #[inline]
+    pub fn write_with<F: FnOnce(&mut [u8], u64)>(&mut self, pos: u64, write: F)
+        requires { MayWriteAt F.pre self.old pos write }
+        ensures stays { StaysThere self.old self.new }
+        ensures written { WrittenBy F.post write tt (cursor_bytes self.old) pos (cursor_bytes self.new) }
+    {
+        let bytes = &mut *self.archive;
+        write(bytes, pos)
+    }
+
     /// The bytes of the archive, to be read.
     #[inline]
     pub fn bytes(&self) -> &[u8]
@@ -207,9 +267,22 @@ impl<'a, T: Element, W: Width> ArchivedHashTable<'a, T, W> {
             ≡ walk (table_controls W.word (archive_in this.entry) (pos_in this.entry)) (cap_at W.word (archive_in this.entry) (pos_in this.entry)) }
         ensures count { items_left result ≡ len_at W.word (archive_in this.entry) (pos_in this.entry) }
     {
-        let items = Items::of(ArchivedHashTable::of(this.as_view()));
+        let (archive, pos) = this.into_parts();
+        Self::raw_iter_over(archive, pos)
+    }
+
+    /// The items of the table that stands at a position of an archive, by ascending bucket, to be written.
+    #[inline]
+    pub fn raw_iter_over(archive: &'a mut [u8], pos: u64) -> RawIterSeal<'a, T>
+        requires table { Viewed (table_shape W.word T.shape) archive.old pos }
+        ensures reference { result.archive.ghost_name ≡ archive.entry.ghost_name }
+        ensures bytes { cursor_bytes result ≡ archive.old }
+        ensures iter { IsSealIter W.word T.shape pos result }
+        ensures buckets { buckets_left W.word pos result ≡ walk (table_controls W.word archive.old pos) (cap_at W.word archive.old pos) }
+        ensures count { items_left result ≡ len_at W.word archive.old pos }
+    {
+        let items = Items::of(ArchivedHashTable::<T, W>::of(View::new(&*archive, pos)));
         let (place, cap, left) = (items.place, items.cap, items.len);
-        let (archive, _) = this.into_parts();
         RawIterSeal {
             archive,
             place,
@@ -218,5 +291,34 @@ impl<'a, T: Element, W: Width> ArchivedHashTable<'a, T, W> {
             left,
             kind: PhantomData,
         }
+    }
+}
+
+/// Sets each item of a table.
+pub fn set_all<N: Scalar, W: Width>(archive: &mut [u8], pos: u64, value: N)
+    requires { Viewed (table_shape W.word (scalar_shape N.encoding)) archive.old pos }
+    ensures { Viewed (table_shape W.word (scalar_shape N.encoding)) archive.new pos }
+{
+    let mut rest = ArchivedHashTable::<N, W>::raw_iter_over(archive, pos);
+    while let Some(next) = rest.next_pos() {
+        rest.set_at(next, value);
+    }
+}
+
+/// Sets each item of a table, by seals.
+pub fn set_all_by_seals<N: Scalar, W: Width>(archive: &mut [u8], pos: u64, value: N)
+    requires { Viewed (table_shape W.word (scalar_shape N.encoding)) archive.old pos }
+    ensures { Viewed (table_shape W.word (scalar_shape N.encoding)) archive.new pos }
+{
+    let mut rest = ArchivedHashTable::<N, W>::raw_iter_over(archive, pos);
+    for _ in 0..rest.len() {
+        rest.next_seal_with(|seal: &mut Seal<'_, N>|
+            requires { LiesIn (scalar_shape N.encoding) seal.old }
+            ensures stays { SealStays seal.old seal.new }
+            ensures sealed { Sealed (bytes_in seal.old) (place_in seal.old) (byte_len N.encoding.word) (bytes_in seal.new) }
+            ensures holds { Keeps (scalar_shape N.encoding) (bytes_in seal.old) (bytes_in seal.new) (place_in seal.old) }
+        {
+            seal.set(value);
+        });
     }
 }
