@@ -11,3 +11,7 @@ pub mod SealedMap
 pub mod SealedPairs
 pub mod ValueWrites
 pub mod MisplacedKeys
+pub mod StdWriting
+pub mod StdReading
+pub mod StdComparing
+pub mod Headline

@@ -13,3 +13,9 @@ pub mod Listed
 pub mod SealedMap
 pub mod SealedPairs
 pub mod ValueWrites
+pub mod StdMap
+pub mod StdMapLaws
+pub mod StdEquality
+pub mod StdEqualLaws
+pub mod StdAlone
+pub mod StdSet

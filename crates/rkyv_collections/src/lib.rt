@@ -3,6 +3,7 @@
 
 pub mod map;
 pub mod set;
+pub mod std_maps;
 #[cfg(test)]
 mod tests;
 

@@ -22,5 +22,5 @@ pub struct HashSetOf<K, H = FxHasher64, W = Narrow> {
 /// of its keys to the unit value.
 #[derive_where(Clone, Copy)]
 pub struct ArchivedHashSet<'a, K, H = FxHasher64, W = Narrow> {
-    map: ArchivedHashMap<'a, K, (), H, W>,
+    pub(crate) map: ArchivedHashMap<'a, K, (), H, W>,
 }

@@ -4,4 +4,5 @@ mod nested;
 mod reading;
 mod sealed;
 mod sets;
+mod std_maps;
 mod writing;

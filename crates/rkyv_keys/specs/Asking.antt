@@ -4,7 +4,7 @@ use Rattle.std.proofs.Common.{sym, ◌∙◌}
 use Rattle.std.proofs.lemmas.Bool.Decides.{same_from_decides}
 use Rattle.rkyv_scan.specs.Hash.{HasherCall}
 use Rattle.rkyv_base.specs.Shape.{Shape, Standing}
-use Rattle.rkyv_keys.specs.Equality.{Comparison, IsEquivalence}
+use Rattle.rkyv_keys.specs.Equality.{Comparison, IsEquivalence, StandsOnce}
 use Rattle.rkyv_keys.specs.Keys.{IsQuery, FitsItsEqual}
 
 -- a value makes the calls of each key that was written of it
@@ -42,3 +42,8 @@ module _ {V : Type 0} (s : Shape) (same : Comparison) (key_calls : List ℕ → 
         same_from_decides (q_fits q b p) (q_fits q c r)
         (λ x. laws.class q b c p r can h g x ∙ there, λ x. laws.class q c b r p can g h x ∙ back)
         (λ x. x, λ x. x)
+
+-- values that are asked for by themselves stand alone
+pub native_alone : {V : Type 0} (s : Shape) (stands : List ℕ → ℕ → V → Type 0) (equal : V → V → Bool) (fits : V → List ℕ → ℕ → Bool)
+    → FitsItsEqual s stands equal fits → ((v : V) → equal v v ≡ true) → StandsOnce s stands equal
+native_alone s stands equal fits native itself v x b p h st st' = sym (native v x b p h st') ∙ native v v b p h st ∙ itself v

@@ -18,6 +18,6 @@ pub record IsEquivalence (s : Shape) (same : Comparison) : Type 0 where
 abbrev pub TellsApart : {V : Type 0} → (V → V → Bool) → Type 0
 TellsApart {V = V} equal = (v w : V) → Decides (equal v w) (v ≡ w)
 
--- what stands as a value is equal to it
-abbrev pub EqualsWhatStands : {V : Type 0} → Shape → (List ℕ → ℕ → V → Type 0) → (List ℕ → ℕ → V → Type 0) → Type 0
-EqualsWhatStands {V = V} s stands equals = (v : V) (b : List ℕ) (p : ℕ) → Standing s b p → stands b p v → equals b p v
+-- values that stand at one place are equal
+abbrev pub StandsOnce : {V : Type 0} → Shape → (List ℕ → ℕ → V → Type 0) → (V → V → Bool) → Type 0
+StandsOnce {V = V} s stands equal = (v x : V) (b : List ℕ) (p : ℕ) → Standing s b p → stands b p v → stands b p x → equal v x ≡ true

@@ -7,7 +7,7 @@ use Rattle.rkyv_base.specs.Bytes.{Same, same_part}
 use Rattle.rkyv_base.specs.Shape.{Shape, IsElement, Standing, standing}
 use Rattle.rkyv_base.specs.Entry.{entry_shape, value_offset, same_key, same_value}
 use Rattle.rkyv_base.specs.Pairs.{PairStands}
-use Rattle.rkyv_keys.specs.Equality.{Comparison, IsEquivalence, EqualsWhatStands}
+use Rattle.rkyv_keys.specs.Equality.{Comparison, IsEquivalence, StandsOnce}
 use Rattle.rkyv_keys.specs.Keys.{IsKey, IsQuery, FitsItsEqual}
 use Rattle.rkyv_keys.specs.Reading.{Refusals}
 
@@ -108,10 +108,11 @@ module _ {k v : Shape} (kl : IsElement k) (vl : IsElement v) where
             }
 
   module _ {A B : Type 0} (key : List ℕ → ℕ → A → Type 0) (value : List ℕ → ℕ → B → Type 0) where
-    pub entry_equals_what_stands : (ke : List ℕ → ℕ → A → Type 0) (ve : List ℕ → ℕ → B → Type 0)
-        → EqualsWhatStands k key ke → EqualsWhatStands v value ve → EqualsWhatStands (entry_shape k v) (PairStands k v key value) (entry_equals k v ke ve)
-    entry_equals_what_stands ke ve kw vw pair b p h st =
-        (kw pair.0 b p (standing_key b p h) st.0, vw pair.1 b (p + value_offset k v) (standing_value b p h) st.1)
+    pub entry_alone : (ke : A → A → Bool) (ve : B → B → Bool) → StandsOnce k key ke → StandsOnce v value ve
+        → StandsOnce (entry_shape k v) (PairStands k v key value) (λ x y. ke x.0 y.0 && ve x.1 y.1)
+    entry_alone ke ve ka va x y b p h st tt' =
+        and_from (ke x.0 y.0) (ve x.1 y.1) (ka x.0 y.0 b p (standing_key b p h) st.0 tt'.0)
+        (va x.1 y.1 b (p + value_offset k v) (standing_value b p h) st.1 tt'.1)
 
     pub entry_fits_its_equal : (ka : A → A → Bool) (va : B → B → Bool) (kf : A → List ℕ → ℕ → Bool) (vf : B → List ℕ → ℕ → Bool)
         → FitsItsEqual k key ka kf → FitsItsEqual v value va vf

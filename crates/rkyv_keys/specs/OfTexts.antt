@@ -1,5 +1,6 @@
 -- Text, whose value at a place is its bytes, wherever they stand.
-use Rattle.std.specs.Prelude.{ℕ, Bool, nat_eq, List}
+use Rattle.std.specs.Prelude.{◌≡◌, ℕ, Bool, true, nat_eq, List}
+use Rattle.std.proofs.Common.{refl}
 use Rattle.std.specs.Int.{Width}
 use Rattle.std.specs.Cmp.Lexicographic.{bytes_decides, pointwise}
 use Rattle.rkyv_scan.specs.Hash.{HasherCall}
@@ -13,6 +14,9 @@ use Rattle.rkyv_keys.specs.OfValues.{values_same, value_calls, value_fits, value
 -- two texts have the same bytes
 abbrev pub same_bytes : List ℕ → List ℕ → Bool
 same_bytes = pointwise nat_eq
+
+pub bytes_equal_themselves : (x : List ℕ) → same_bytes x x ≡ true
+bytes_equal_themselves x = (bytes_decides x x).1 refl
 
 module _ (w : Width) where
   -- the texts at both places have the same bytes

@@ -2,16 +2,16 @@
 
 ghost use Rattle.std.specs.Prelude.{◌≡◌, IsTrue, ◌↔◌, MatchResult};
 ghost use Rattle.rkyv_base.specs.Entry.{entry_shape};
-ghost use Rattle.rkyv_base.specs.Pairs.{PairStands};
+ghost use Rattle.rkyv_base.specs.Pairs.{PairStands, pair_is_format};
 ghost use Rattle.rkyv_base.specs.View.{IsView, StandsAt};
 ghost use Rattle.rkyv_keys.specs.Places.{at_view, at_views};
 ghost use Rattle.rkyv_keys.specs.Calls.{after_calls};
 ghost use Rattle.rkyv_keys.specs.Fixed.{entry_fixed};
 ghost use Rattle.rkyv_keys.specs.OfEntries.{
   BothRead,
+  entry_alone,
   entry_calls,
   entry_equals,
-  entry_equals_what_stands,
   entry_equivalence,
   entry_fits,
   entry_fits_its_equal,
@@ -22,7 +22,7 @@ ghost use Rattle.rkyv_keys.specs.OfEntries.{
   pair_calls,
 };
 
-use crate::equality::{ElementEq, ElementEquiv, MatchesNative};
+use crate::equality::{ElementEq, ElementEquiv, EqualsWritten, MatchesNative, StandsAlone};
 use crate::hash::KeyHash;
 use crate::keys::{FixedKey, KeyElement, NativeKey, Query};
 use crate::reading::Deserialize;
@@ -30,6 +30,7 @@ use rkyv_base::element::StandsFor;
 use rkyv_base::entry::Entry;
 use rkyv_base::errors::ReadError;
 use rkyv_base::view::View;
+use rkyv_base::width::Width;
 use rkyv_scan::hash::KeyHasher;
 use std::alloc::Global;
 
@@ -121,9 +122,6 @@ impl<A, B, K: MatchesNative<A>, V: MatchesNative<B>> MatchesNative<(A, B)> for E
     {
         K::eq_native(view.key(), &value.0) && V::eq_native(view.value(), &value.1)
     }
-
-    ghost written = { entry_equals_what_stands K.laws V.laws
-        K.stands V.stands K.equals V.equals K.written V.written };
 }
 
 impl<A: Drop, B, K: Deserialize<A>, V: Deserialize<B>> Deserialize<(A, B)> for Entry<K, V> {
@@ -140,4 +138,18 @@ impl<A: Drop, B, K: Deserialize<A>, V: Deserialize<B>> Deserialize<(A, B)> for E
         let value = V::deserialize(alloc, view.value())?;
         Ok((key, value))
     }
+}
+
+impl<W: Width, A: EqualsWritten<W>, B: EqualsWritten<W>> EqualsWritten<W> for (A, B)
+where
+    A::Archived: MatchesNative<A>,
+    B::Archived: MatchesNative<B>,
+{
+    ghost equal = { pair_is_format A.Archived.shape B.Archived.shape A.Archived.laws B.Archived.laws
+        A.Archived.equals B.Archived.equals A.format B.format A.equal B.equal };
+}
+
+impl<A: PartialEq, B: PartialEq, K: StandsAlone<A>, V: StandsAlone<B>> StandsAlone<(A, B)>
+    for Entry<K, V> {
+    ghost alone = { entry_alone K.laws V.laws K.stands V.stands A.eq B.eq K.alone V.alone };
 }

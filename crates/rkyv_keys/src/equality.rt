@@ -1,12 +1,15 @@
 //! Equality of values that stand in archives.
 
 ghost use Rattle.std.specs.Prelude.{◌≡◌, ℕ, Bool, List, IsTrue, ◌↔◌};
+ghost use Rattle.rkyv_base.specs.Format.{IsFormat};
 ghost use Rattle.rkyv_base.specs.View.{IsView, StandsAt};
 ghost use Rattle.rkyv_keys.specs.Places.{at_views};
-ghost use Rattle.rkyv_keys.specs.Equality.{Comparison, EqualsWhatStands, IsEquivalence};
+ghost use Rattle.rkyv_keys.specs.Equality.{Comparison, IsEquivalence, StandsOnce};
 
+use rkyv_base::archive::Archive;
 use rkyv_base::element::{Element, StandsFor};
 use rkyv_base::view::View;
+use rkyv_base::width::Width;
 
 /// An element whose values can be compared in place, in one archive or in two.
 pub trait ElementEq: Element {
@@ -34,6 +37,19 @@ pub trait MatchesNative<V>: StandsFor<V> {
     fn eq_native(view: View<'_, Self>, value: &V) -> bool
         requires { IsView Self.shape view }
         ensures { IsTrue result ↔ StandsAt equals view.entry value.now };
+}
 
-    ghost written: { EqualsWhatStands Self.shape Self.stands equals };
+/// A type whose values equal what is written of them, in archives of the width W.
+pub trait EqualsWritten<W: Width>: Archive<W>
+where
+    Self::Archived: MatchesNative<Self>,
+{
+    // In every archive in which what was written of a value sits, the value there equals it.
+    ghost equal: { IsFormat Self.Archived.shape Self.Archived.equals Self.format };
+}
+
+/// An element as which equal values alone stand at one place: what is read back of what was written
+/// of a value equals it.
+pub trait StandsAlone<V: PartialEq>: StandsFor<V> {
+    ghost alone: { StandsOnce Self.shape Self.stands V.eq };
 }

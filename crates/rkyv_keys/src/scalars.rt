@@ -4,10 +4,11 @@ ghost use Rattle.std.specs.Prelude.{◌≡◌, IsTrue, ◌↔◌, MatchResult};
 ghost use Rattle.std.specs.Cmp.{booleans_Decides, signed_Decides, unsigned_Decides};
 ghost use Rattle.rkyv_scan.specs.Hash.{HasherCall, I8, I16, I32, I64, U8, U16, U32, U64};
 ghost use Rattle.rkyv_scan.specs.Laws.{IsFixed};
-ghost use Rattle.rkyv_base.specs.Scalar.{ScalarStands, scalar_shape};
+ghost use Rattle.rkyv_base.specs.Scalar.{ScalarStands, scalar_is_format, scalar_shape};
 ghost use Rattle.rkyv_base.specs.View.{IsView, StandsAt};
 ghost use Rattle.rkyv_keys.specs.Places.{at_view, at_views};
 ghost use Rattle.rkyv_keys.specs.Calls.{after_calls, bool_call};
+ghost use Rattle.rkyv_keys.specs.Asking.{native_alone};
 ghost use Rattle.rkyv_keys.specs.Equality.{TellsApart};
 ghost use Rattle.rkyv_keys.specs.Reading.{nothing_fails};
 ghost use Rattle.rkyv_keys.specs.OfScalars.{
@@ -22,13 +23,14 @@ ghost use Rattle.rkyv_keys.specs.OfScalars.{
   scalar_same,
 };
 
-use crate::equality::{ElementEq, ElementEquiv, MatchesNative};
+use crate::equality::{ElementEq, ElementEquiv, EqualsWritten, MatchesNative, StandsAlone};
 use crate::hash::KeyHash;
 use crate::keys::{FixedKey, KeyElement, NativeKey, Query};
 use crate::reading::Deserialize;
 use rkyv_base::errors::ReadError;
 use rkyv_base::scalars::Scalar;
 use rkyv_base::view::View;
+use rkyv_base::width::Width;
 use rkyv_scan::hash::KeyHasher;
 use std::alloc::Global;
 use std::fmt::Debug;
@@ -254,8 +256,6 @@ impl<N: ScalarKey> MatchesNative<N> for N {
     {
         view.to_native() == *value
     }
-
-    ghost written = { λ v b p h st. st };
 }
 
 impl<N: ScalarKey> Deserialize<N> for N {
@@ -270,4 +270,12 @@ impl<N: ScalarKey> Deserialize<N> for N {
     {
         Ok(view.to_native())
     }
+}
+
+impl<N: ScalarKey, W: Width> EqualsWritten<W> for N {
+    ghost equal = { scalar_is_format N.encoding N.word };
+}
+
+impl<N: ScalarKey> StandsAlone<N> for N {
+    ghost alone = { native_alone (scalar_shape N.encoding) (ScalarStands N.encoding) N.eq (scalar_fits N.encoding N.eq) (scalar_fits_its_equal N.encoding N.eq) N.Eq.laws.refl };
 }

@@ -2,12 +2,16 @@
 
 ghost use Rattle.std.specs.Prelude.{◌≡◌, string_bytes, IsTrue, ◌↔◌, MatchResult};
 ghost use Rattle.rkyv_base.specs.Text.{text_shape};
+ghost use Rattle.rkyv_base.specs.TextWriting.{seen_text_is_format};
+ghost use Rattle.rkyv_keys.specs.Asking.{native_alone};
 ghost use Rattle.rkyv_base.specs.View.{IsView, StandsAt};
 ghost use Rattle.rkyv_keys.specs.Places.{at_view, at_views};
 ghost use Rattle.rkyv_keys.specs.Calls.{after_calls, text_calls};
 ghost use Rattle.rkyv_keys.specs.Reading.{memory_fails};
 ghost use Rattle.rkyv_keys.specs.OfTexts.{
   IsTextOf,
+  bytes_equal_themselves,
+  same_bytes,
   text_equivalence,
   text_fits,
   text_fits_its_equal,
@@ -19,7 +23,7 @@ ghost use Rattle.rkyv_keys.specs.OfTexts.{
 };
 
 use crate::debug::ElementDebug;
-use crate::equality::{ElementEq, ElementEquiv, MatchesNative};
+use crate::equality::{ElementEq, ElementEquiv, EqualsWritten, MatchesNative, StandsAlone};
 use crate::hash::KeyHash;
 use crate::keys::{FixedKey, KeyElement, NativeKey, Query};
 use crate::reading::Deserialize;
@@ -136,8 +140,6 @@ impl<W: Width> MatchesNative<&str> for Text<W> {
     {
         view.as_str() == *value
     }
-
-    ghost written = { λ v b p h st. st };
 }
 
 impl<W: Width> MatchesNative<String> for Text<W> {
@@ -151,8 +153,6 @@ impl<W: Width> MatchesNative<String> for Text<W> {
     {
         view.as_str() == value.as_str()
     }
-
-    ghost written = { λ v b p h st. st };
 }
 
 impl<W: Width> Deserialize<String> for Text<W> {
@@ -178,4 +178,20 @@ impl<W: Width> ElementDebug for Text<W> {
     {
         view.as_str().fmt(f)
     }
+}
+
+impl<'t, W: Width> EqualsWritten<W> for &'t str {
+    ghost equal = { seen_text_is_format W.word W.layout.kind (λ t. t.now) };
+}
+
+impl<W: Width> EqualsWritten<W> for String {
+    ghost equal = { seen_text_is_format W.word W.layout.kind string_bytes };
+}
+
+impl<'t, W: Width> StandsAlone<&'t str> for Text<W> {
+    ghost alone = { native_alone (text_shape W.word) (IsTextOf W.word (λ t. t.now)) (λ q v. same_bytes q.now v.now) (text_fits W.word (λ q. q.now)) (text_fits_its_equal W.word (λ q. q.now)) (λ v. bytes_equal_themselves v.now) };
+}
+
+impl<W: Width> StandsAlone<String> for Text<W> {
+    ghost alone = { native_alone (text_shape W.word) (IsTextOf W.word (λ t. string_bytes t)) (λ q v. same_bytes (string_bytes q) (string_bytes v)) (text_fits W.word (λ q. string_bytes q)) (text_fits_its_equal W.word (λ q. string_bytes q)) (λ v. bytes_equal_themselves (string_bytes v)) };
 }

@@ -1,7 +1,8 @@
 //! The unit value as a key.
 
 ghost use Rattle.std.specs.Prelude.{◌≡◌, true, IsTrue, ◌↔◌, MatchResult};
-ghost use Rattle.rkyv_base.specs.Empty.{unit_shape, unit_stands};
+ghost use Rattle.std.proofs.Common.{refl};
+ghost use Rattle.rkyv_base.specs.Empty.{unit_is_format, unit_shape, unit_stands};
 ghost use Rattle.rkyv_base.specs.View.{IsView, StandsAt};
 ghost use Rattle.rkyv_keys.specs.Calls.{after_calls};
 ghost use Rattle.rkyv_keys.specs.Reading.{nothing_fails};
@@ -17,12 +18,13 @@ ghost use Rattle.rkyv_keys.specs.OfUnits.{
   unit_same,
 };
 
-use crate::equality::{ElementEq, ElementEquiv, MatchesNative};
+use crate::equality::{ElementEq, ElementEquiv, EqualsWritten, MatchesNative, StandsAlone};
 use crate::hash::KeyHash;
 use crate::keys::{FixedKey, KeyElement, NativeKey, Query};
 use crate::reading::Deserialize;
 use rkyv_base::errors::ReadError;
 use rkyv_base::view::View;
+use rkyv_base::width::Width;
 use rkyv_scan::hash::KeyHasher;
 use std::alloc::Global;
 
@@ -96,8 +98,6 @@ impl MatchesNative<()> for () {
     {
         true
     }
-
-    ghost written = { λ v b p h st. st };
 }
 
 impl Deserialize<()> for () {
@@ -112,4 +112,12 @@ impl Deserialize<()> for () {
     {
         Ok(())
     }
+}
+
+impl<W: Width> EqualsWritten<W> for () {
+    ghost equal = { unit_is_format };
+}
+
+impl StandsAlone<()> for () {
+    ghost alone = { λ v x b p h st st'. refl };
 }

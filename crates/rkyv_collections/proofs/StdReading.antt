@@ -1,0 +1,63 @@
+-- Reading a map of std's back, pair by pair.
+use Rattle.std.proofs.Common.{◌≡◌, ℕ, refl, ap, ◌∙◌, Bool, true, false, cond, inl, inr, sym, List, [], ◌∷◌, Option, Some, None}
+use Rattle.std.specs.Int.{Width}
+use Rattle.std.specs.HashSet.{HashSet, Updates}
+use Rattle.std.specs.List.{All, list_any}
+use Rattle.std.proofs.lemmas.Bool.{cases_Bool}
+use Rattle.std.specs.Map.{lookup, update_all}
+use Rattle.std.proofs.lemmas.List.Elements.{All-map, All-weaker}
+use Rattle.rkyv_base.specs.Entry.{entry_element, entry_shape}
+use Rattle.rkyv_base.specs.Pairs.{PairStands}
+use Rattle.rkyv_base.specs.Shape.{IsElement, Shape}
+use Rattle.rkyv_table.specs.Header.{cap_at}
+use Rattle.rkyv_table.specs.Placing.{walk}
+use Rattle.rkyv_table.specs.Reading.{IsWalked, item_at, item_places, table_controls}
+use Rattle.rkyv_table.proofs.RawWalks.{walked_all}
+use Rattle.rkyv_collections.specs.Map.{IsKeyPlaceAt}
+use Rattle.rkyv_collections.specs.SetFormat.{with_units}
+use Rattle.rkyv_collections.specs.StdMap.{ArePairsAt}
+
+-- at each place of the walk a key of the map stands
+pub keys_walked : (w : Width) (k v : Shape) → IsElement k → IsElement v → (b : List ℕ) (p : ℕ) → All (IsKeyPlaceAt w k v b p) (item_places w (entry_shape k v).size b p)
+keys_walked w k v kl vl b p =
+    let ws = walk (table_controls w b p) (cap_at w b p) in
+    All-map (IsKeyPlaceAt w k v b p) (item_at w (entry_shape k v).size b p) ws
+    (All-weaker (IsWalked w b p) (λ i. IsKeyPlaceAt w k v b p (item_at w (entry_shape k v).size b p i)) (λ i h. (i, h, refl)) ws (walked_all w (entry_shape k v) (entry_element k v kl vl) b p))
+
+module _ {A B : Type 0} (k v : Shape) (key : List ℕ → ℕ → A → Type 0) (value : List ℕ → ℕ → B → Type 0) (equal : A → A → Bool) (b : List ℕ) (all : List ℕ) where
+  -- inserting the pairs that are left into what is found now gives what inserting all pairs in order into nothing does
+  abbrev pub LeadsOn : List ℕ → (A → Option B) → Type 0
+  LeadsOn left f =
+      (rest : List (A × B)) → ArePairsAt k v key value b left rest → (g : A → Option B) → ((q : A) → g q ≡ update_all equal f rest q)
+      → (pairs : List (A × B)) × ArePairsAt k v key value b all pairs × ((q : A) → g q ≡ update_all equal (λ _. None) pairs q)
+
+  pub leads_first : (f : A → Option B) → ((q : A) → f q ≡ None) → LeadsOn all f
+  leads_first f empty rest read g e = (rest, read, λ q. e q ∙ ap (λ (h : A → Option B). update_all equal h rest q) (λ i x. empty x i))
+
+  pub leads_next : (place : ℕ) (left : List ℕ) (f f' : A → Option B) (a : A) (x : B) → LeadsOn (place ∷ left) f → PairStands k v key value b place (a, x)
+      → ((q : A) → f' q ≡ cond (equal a q) (Some x) (f q)) → LeadsOn left f'
+  leads_next place left f f' a x h st u rest read g e =
+      h ((a, x) ∷ rest) (st, read) g (λ q. e q ∙ ap (λ (t : A → Option B). update_all equal t rest q) (λ i z. u z i))
+
+  pub leads_last : (f : A → Option B) → LeadsOn [] f
+      → (pairs : List (A × B)) × ArePairsAt k v key value b all pairs × ((q : A) → f q ≡ update_all equal (λ _. None) pairs q)
+  leads_last f h = h [] tt f (λ q. refl)
+
+-- what is found among keys, each with the unit value
+pub unit_lookup : {A : Type 0} (test : A → Bool) (keys : List A) → lookup test (with_units keys) ≡ cond (list_any test keys) (Some tt) None
+unit_lookup test [] = refl
+unit_lookup test (x ∷ xs) = elim (cases_Bool (test x)) [
+  | inl here ↦ rw here refl
+  | inr other ↦ rw other (unit_lookup test xs)
+]
+
+either_way : {X : Type 0} (x : X) (s t : Bool) → cond (cond s true t) (Some x) None ≡ cond s (Some x) (cond t (Some x) None)
+either_way x true t = refl
+either_way x false t = refl
+
+pub key_inserted : {A S : Type 0} (equal : A → A → Bool) (s n : HashSet A S) (a : A) → Updates equal s n a true → (q : A)
+    → lookup (equal q) (with_units n.keys) ≡ cond (equal a q) (Some tt) (lookup (equal q) (with_units s.keys))
+key_inserted equal s n a u q =
+    let unit : Unit {0} = tt in
+    unit_lookup (equal q) n.keys ∙ ap (λ t. cond t (Some unit) None) (u.0 q) ∙ either_way unit (equal a q) (list_any (equal q) s.keys)
+    ∙ ap (cond (equal a q) (Some unit)) (sym (unit_lookup (equal q) s.keys))

@@ -1,0 +1,12 @@
+use Rattle.std.proofs.Common.{subst, ◌↔◌}
+use Rattle.std.specs.Prelude.{IsTrue}
+use Rattle.rkyv_base.specs.View.{StandsAt}
+use Rattle.rkyv_collections.specs.MapFormat.{hash_of}
+use Rattle.rkyv_collections.specs.StdEquality.{StdMapEquals}
+use Rattle.rkyv_collections.proofs.std_maps.equality.HashMapOfMatchesNativeHashedHashMap.eq_native.Goals as goal
+
+pub returns : goal.returns
+returns g c =
+    let hash = hash_of g.H.KeyHasher.initial g.H.KeyHasher.feed g.H.KeyHasher.finish g.A.KeyHash.calls in
+    subst (λ view. IsTrue c.eq_std.result ↔ StandsAt (StdMapEquals g.W.Width.word g.K.Element.shape g.V.Element.shape hash g.A.Query.fits g.V.MatchesNative.equals {S = g.row.T.Denot}) view c.args.value.now.map)
+    c.of.ensures.view c.eq_std.ensures

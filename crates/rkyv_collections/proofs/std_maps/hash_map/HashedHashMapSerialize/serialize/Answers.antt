@@ -1,0 +1,18 @@
+use Rattle.std.proofs.Common.{refl}
+use Rattle.std.specs.Map.Iter.{deref_pair}
+use Rattle.rkyv_collections.specs.Handing.{lent_pairs}
+use Rattle.rkyv_collections.specs.Listed.{listed}
+use Rattle.rkyv_collections.specs.MapFormat.{hash_of, map_format}
+use Rattle.rkyv_collections.proofs.StdWriting.{answers_distinct, answers_shown}
+use Rattle.rkyv_collections.proofs.std_maps.hash_map.HashedHashMapSerialize.serialize.Goals as goal
+
+pub returns : goal.returns
+returns g c =
+    let m = c.args.self.now.map in
+    let hash = hash_of g.H.KeyHasher.initial g.H.KeyHasher.feed g.H.KeyHasher.finish g.A.KeyHash.calls in
+    let f = map_format g.W.Width.word g.A.Archived.Element.shape g.B.Archived.Element.shape g.A.Archive.format g.B.Archive.format hash (7, 8) in
+    let o = g.S.Writer.output c.args.serializer.now in
+    let o' = g.S.Writer.output c.serialize_from_iter.new.serializer in
+    answers_distinct g.A.PartialEq.eq (listed g.W.Width.MAX_CAPACITY (7, 8) f) m.entries c.iter.ensures.unique g.W.Width.LIMIT o o' c.serialize_from_iter.result
+    (answers_shown deref_pair (lent_pairs (λ k. k.now) (λ k. k.now)) (λ xs. refl) m.entries c.iter.result c.iter.ensures.rest c.len.result c.len.ensures.len
+    (7, 8) g.W.Width.MAX_CAPACITY g.W.Width.LIMIT f o o' c.serialize_from_iter.result c.serialize_from_iter.ensures)

@@ -1,0 +1,20 @@
+use Rattle.std.proofs.Common.{subst, sym, List}
+use Rattle.std.specs.List.{IsDistinct}
+use Rattle.rkyv_base.specs.Empty.{unit_format, unit_shape}
+use Rattle.rkyv_collections.specs.Listed.{listed}
+use Rattle.rkyv_collections.specs.MapFormat.{hash_of, map_format}
+use Rattle.rkyv_collections.specs.SetFormat.{with_units}
+use Rattle.rkyv_collections.specs.StdSet.{keys_with_units}
+use Rattle.rkyv_collections.proofs.StdWriting.{answers_distinct, answers_keys}
+use Rattle.rkyv_collections.proofs.std_maps.hash_set.HashedHashSetSerialize.serialize.Goals as goal
+
+pub returns : goal.returns
+returns g c =
+    let keys = c.args.self.now.map.keys in
+    let hash = hash_of g.H.KeyHasher.initial g.H.KeyHasher.feed g.H.KeyHasher.finish g.A.KeyHash.calls in
+    let f = map_format g.W.Width.word g.A.Archived.Element.shape unit_shape g.A.Archive.format unit_format hash (7, 8) in
+    let o = g.S.Writer.output c.args.serializer.now in
+    let o' = g.S.Writer.output c.serialize_from_iter.new.serializer in
+    let unique = subst (λ (ks : List g.row.A.Denot). IsDistinct g.A.PartialEq.eq ks) (sym (keys_with_units keys)) c.iter.ensures.unique in
+    answers_distinct g.A.PartialEq.eq (listed g.W.Width.MAX_CAPACITY (7, 8) f) (with_units keys) unique g.W.Width.LIMIT o o' c.serialize_from_iter.result
+    (answers_keys keys c.iter.result c.iter.ensures.rest c.len.result c.len.ensures.len (7, 8) g.W.Width.MAX_CAPACITY g.W.Width.LIMIT f o o' c.serialize_from_iter.result c.serialize_from_iter.ensures)

@@ -1,0 +1,188 @@
+//! Comparing maps with std's.
+
+ghost use Rattle.std.specs.Prelude.{IsTrue, ◌↔◌};
+ghost use Rattle.rkyv_base.specs.Pairs.{written_as-format};
+ghost use Rattle.rkyv_base.specs.View.{IsView, StandsAt};
+ghost use Rattle.rkyv_collections.specs.Listed.{listed, listed_format};
+ghost use Rattle.rkyv_collections.specs.Map.{IsMap, hash_at, map_bytes, map_place, map_shape};
+ghost use Rattle.rkyv_collections.specs.MapFormat.{MapStands, hash_of, map_format};
+ghost use Rattle.rkyv_collections.specs.MapSound.{map_sound};
+ghost use Rattle.rkyv_collections.specs.StdAlone.{std_map_alone};
+ghost use Rattle.rkyv_collections.specs.StdEqualLaws.{entries_equal};
+ghost use Rattle.rkyv_collections.specs.StdEquality.{EntriesEqual, FindsPair, StdMapEquals};
+ghost use Rattle.rkyv_collections.specs.StdMap.{of_entries};
+
+use crate::map::{ArchivedHashMap, HashMapOf};
+use crate::std_maps::hashed::Hashed;
+use rkyv_base::archive::Archive;
+use rkyv_base::element::StandsFor;
+use rkyv_base::view::View;
+use rkyv_base::width::Width;
+use rkyv_keys::equality::{EqualsWritten, MatchesNative, StandsAlone};
+use rkyv_keys::keys::{KeyElement, NativeKey, Query};
+use rkyv_scan::hash::KeyHasher;
+use std::collections::HashMap;
+use std::hash::{BuildHasher, Hash};
+
+impl<'a, K: KeyElement, V, H: KeyHasher, W: Width> ArchivedHashMap<'a, K, V, H, W> {
+    /// Whether the key is found, with a value that equals this one.
+    #[inline]
+    pub(crate) fn finds_equal<A: Query<K>, B>(self, key: &A, value: &B) -> bool
+    where
+        V: MatchesNative<B>,
+        requires map { IsMap W.word K.shape V.shape self }
+        requires query { A.can_read key.now }
+        ensures { let hash = hash_of H.initial H.feed H.finish A.calls in
+            IsTrue result ↔ FindsPair W.word K.shape V.shape hash A.fits V.equals (map_bytes self.entry) (map_place self.entry) (key.now, value.now) }
+    {
+        match self.get(key) {
+            Some(found) => V::eq_native(found, value),
+            None => false,
+        }
+    }
+
+    /// Whether it has as many pairs as the map of std's, and each pair of that one is found in it
+    /// with an equal value.
+    #[inline]
+    pub fn eq_std<A: NativeKey<K> + Hash, B, T: BuildHasher>(self, other: &HashMap<A, B, T>) -> bool
+    where
+        K: StandsFor<A>,
+        V: MatchesNative<B>,
+        requires map { IsMap W.word K.shape V.shape self }
+        ensures { let hash = hash_of H.initial H.feed H.finish A.calls in
+            IsTrue result ↔ StdMapEquals W.word K.shape V.shape hash A.fits V.equals (map_bytes self.entry) (map_place self.entry) other.now }
+    {
+        if self.len() != other.len() {
+            return false;
+        }
+        for (key, value) in other.iter() {
+            if !self.finds_equal(key, value) {
+                return false;
+            }
+        }
+        true
+    }
+}
+
+impl<
+    K: KeyElement + StandsFor<A>,
+    V: MatchesNative<B>,
+    H: KeyHasher,
+    W: Width,
+    A: NativeKey<K> + Hash,
+    B,
+    T: BuildHasher,
+> MatchesNative<HashMap<A, B, T>> for HashMapOf<K, V, H, W> {
+    ghost equals = { StdMapEquals W.word K.shape V.shape (hash_of H.initial H.feed H.finish A.calls) A.fits V.equals };
+
+    #[inline]
+    fn eq_native(view: View<'_, HashMapOf<K, V, H, W>>, value: &HashMap<A, B, T>) -> bool
+        requires { IsView (map_shape W.word K.shape V.shape) view }
+        ensures { let hash = hash_of H.initial H.feed H.finish A.calls in
+            IsTrue result ↔ StandsAt (StdMapEquals W.word K.shape V.shape hash A.fits V.equals) view.entry value.now }
+    {
+        ArchivedHashMap::of(view).eq_std(value)
+    }
+}
+
+impl<
+    K: KeyElement + StandsFor<A>,
+    V: MatchesNative<B>,
+    H: KeyHasher,
+    W: Width,
+    A: NativeKey<K> + Hash,
+    B,
+    T: BuildHasher,
+> MatchesNative<Hashed<HashMap<A, B, T>, H>> for HashMapOf<K, V, H, W> {
+    ghost equals = { λ b p x. StdMapEquals W.word K.shape V.shape (hash_of H.initial H.feed H.finish A.calls) A.fits V.equals b p x.map };
+
+    #[inline]
+    fn eq_native(view: View<'_, HashMapOf<K, V, H, W>>, value: &Hashed<HashMap<A, B, T>, H>) -> bool
+        requires { IsView (map_shape W.word K.shape V.shape) view }
+        ensures { let hash = hash_of H.initial H.feed H.finish A.calls in
+            IsTrue result ↔ StandsAt (StdMapEquals W.word K.shape V.shape hash A.fits V.equals) view.entry value.now.map }
+    {
+        ArchivedHashMap::of(view).eq_std(&value.map)
+    }
+}
+
+impl<
+    W: Width,
+    H: KeyHasher,
+    A: Archive<W> + Hash,
+    B: EqualsWritten<W>,
+    T: BuildHasher,
+> EqualsWritten<W> for Hashed<HashMap<A, B, T>, H>
+where
+    A::Archived: KeyElement,
+    B::Archived: MatchesNative<B>,
+    A: NativeKey<A::Archived>,
+{
+    ghost equal = { let hash = hash_at H.initial H.feed H.finish A.Archived.key_calls in
+        let written = MapStands W.word A.Archived.shape B.Archived.shape A.Archived.stands B.Archived.equals hash (7, 8) in
+        let format = map_format W.word A.Archived.shape B.Archived.shape A.format B.format (hash_of H.initial H.feed H.finish A.calls) (7, 8) in
+        let shape = map_shape W.word A.Archived.shape B.Archived.shape in
+        let whole = listed W.MAX_CAPACITY (7, 8) format in
+        written_as-format (λ x. x.map.entries) shape (EntriesEqual W.word A.Archived.shape B.Archived.shape (hash_of H.initial H.feed H.finish A.calls) A.fits B.Archived.equals) (of_entries A.eq whole)
+        (entries_equal H.initial H.feed H.finish W.word W.layout.kind A.Archived.laws B.Archived.laws (7, 8) A.query A.native A.Eq.laws A.reads whole
+        (listed_format W.MAX_CAPACITY (7, 8) shape written format
+        (map_sound H.initial H.feed H.finish W.word A.Archived.laws B.Archived.laws (7, 8) W.layout.kind A.query A.native A.Eq.laws.refl A.reads A.Archive.laws B.equal))) };
+}
+
+/// A map or set of std's that is compared with an archived one, the collection C.
+pub trait EqArchived<C> {
+    // The collection stands in its archive.
+    ghost can_compare: { C → Type 0 };
+
+    // The collection equals a value.
+    ghost equals_archived: { C → Self → Type 0 };
+
+    /// Whether the archived one equals it, as its `eq_std` answers.
+    fn eq_archived(&self, other: C) -> bool
+        requires { can_compare other }
+        ensures { IsTrue result ↔ equals_archived other self.now };
+}
+
+impl<
+    'a,
+    K: KeyElement + StandsFor<A>,
+    V: MatchesNative<B>,
+    H: KeyHasher,
+    W: Width,
+    A: NativeKey<K> + Hash,
+    B,
+    T: BuildHasher,
+> EqArchived<ArchivedHashMap<'a, K, V, H, W>> for HashMap<A, B, T> {
+    ghost can_compare = { IsMap W.word K.shape V.shape };
+
+    ghost equals_archived = { λ other m. StdMapEquals W.word K.shape V.shape (hash_of H.initial H.feed H.finish A.calls) A.fits V.equals (map_bytes other) (map_place other) m };
+
+    #[inline]
+    fn eq_archived(&self, other: ArchivedHashMap<'a, K, V, H, W>) -> bool {
+        other.eq_std(self)
+    }
+}
+
+impl<
+    K: StandsAlone<A>,
+    V: StandsAlone<B>,
+    H,
+    W: Width,
+    A: Eq + Hash,
+    B: PartialEq,
+    T: BuildHasher,
+> StandsAlone<HashMap<A, B, T>> for HashMapOf<K, V, H, W> {
+    ghost alone = { std_map_alone A.eq A.Eq.laws B.eq K.shape V.shape K.laws V.laws W.word K.stands V.stands K.alone V.alone };
+}
+
+impl<
+    K: StandsAlone<A>,
+    V: StandsAlone<B>,
+    H,
+    W: Width,
+    A: Eq + Hash,
+    B: PartialEq,
+    T: BuildHasher,
+> StandsAlone<Hashed<HashMap<A, B, T>, H>> for HashMapOf<K, V, H, W> {
+    ghost alone = { λ m n. std_map_alone A.eq A.Eq.laws B.eq K.shape V.shape K.laws V.laws W.word K.stands V.stands K.alone V.alone m.map n.map };
+}

@@ -1,0 +1,110 @@
+//! Std's hash maps as what stands in archives.
+
+ghost use Rattle.rkyv_base.specs.Pairs.{written_as, written_as-format};
+ghost use Rattle.rkyv_collections.specs.Listed.{listed, listed_format};
+ghost use Rattle.rkyv_collections.specs.Map.{hash_at, map_shape};
+ghost use Rattle.rkyv_collections.specs.MapFormat.{MapStands, hash_of, map_format};
+ghost use Rattle.rkyv_collections.specs.MapSound.{map_sound};
+ghost use Rattle.rkyv_collections.specs.StdMap.{EntriesStand, StdMapStands, of_entries};
+ghost use Rattle.rkyv_collections.specs.StdMapLaws.{entries_near, entries_sound};
+
+use crate::map::writing::HashMapResolver;
+use crate::map::{ArchivedHashMap, HashMapOf};
+use crate::std_maps::hashed::Hashed;
+use rkyv_base::archive::{Archive, Serialize};
+use rkyv_base::element::StandsFor;
+use rkyv_base::errors::{DistanceTooLarge, WriteError};
+use rkyv_base::width::Width;
+use rkyv_base::writer::Writer;
+use rkyv_keys::keys::{KeyElement, NativeKey};
+use rkyv_scan::hash::KeyHasher;
+use std::alloc::Global;
+use std::collections::HashMap;
+use std::collections::hash_map::Iter;
+use std::hash::{BuildHasher, Hash};
+
+impl<A: Eq + Hash, B, T: BuildHasher, H, W: Width, K: StandsFor<A>, V: StandsFor<B>> StandsFor<
+    HashMap<A, B, T>,
+> for HashMapOf<K, V, H, W> {
+    ghost stands = { StdMapStands K.shape V.shape K.stands V.stands W.word A.eq };
+
+    ghost near = { λ m. entries_near K.shape V.shape K.laws V.laws W.word A.eq K.near V.near m.entries };
+}
+
+impl<A: Eq + Hash, B, T: BuildHasher, H, W: Width, K: StandsFor<A>, V: StandsFor<B>> StandsFor<
+    Hashed<HashMap<A, B, T>, H>,
+> for HashMapOf<K, V, H, W> {
+    ghost stands = { λ b p x. StdMapStands K.shape V.shape K.stands V.stands W.word A.eq b p x.map };
+
+    ghost near = { λ x. entries_near K.shape V.shape K.laws V.laws W.word A.eq K.near V.near x.map.entries };
+}
+
+impl<W: Width, H: KeyHasher, A: Archive<W> + Hash, B: Archive<W>, T: BuildHasher> Archive<W>
+    for Hashed<HashMap<A, B, T>, H>
+where
+    A::Archived: KeyElement,
+    A: NativeKey<A::Archived>,
+{
+    type Archived = HashMapOf<A::Archived, B::Archived, H, W>;
+
+    type Resolver = HashMapResolver<W>;
+
+    ghost format = { written_as (λ x. x.map.entries) (of_entries A.eq (listed W.MAX_CAPACITY (7, 8)
+        (map_format W.word A.Archived.shape B.Archived.shape A.format B.format (hash_of H.initial H.feed H.finish A.calls) (7, 8)))) };
+
+    fn resolve(
+        &self,
+        resolver: HashMapResolver<W>,
+        pos: u64,
+        out: &mut [u8],
+    ) -> Result<(), DistanceTooLarge> {
+        let len = resolver.len();
+        let load_factor = resolver.load_factor();
+        ArchivedHashMap::<A::Archived, B::Archived, H, W>::resolve_from_len(
+            len,
+            load_factor,
+            resolver,
+            pos,
+            out,
+        )
+    }
+
+    ghost laws = { let hash = hash_at H.initial H.feed H.finish A.Archived.key_calls in
+        let written = MapStands W.word A.Archived.shape B.Archived.shape A.Archived.stands B.Archived.stands hash (7, 8) in
+        let stands = EntriesStand A.Archived.shape B.Archived.shape A.Archived.stands B.Archived.stands W.word A.eq in
+        let format = map_format W.word A.Archived.shape B.Archived.shape A.format B.format (hash_of H.initial H.feed H.finish A.calls) (7, 8) in
+        let shape = map_shape W.word A.Archived.shape B.Archived.shape in
+        let whole = listed W.MAX_CAPACITY (7, 8) format in
+        written_as-format (λ x. x.map.entries) shape stands (of_entries A.eq whole)
+        (entries_sound A.Archived.shape B.Archived.shape A.Archived.laws B.Archived.laws W.word A.eq A.Eq.laws hash (7, 8) W.layout.kind whole
+        (listed_format W.MAX_CAPACITY (7, 8) shape written format
+        (map_sound H.initial H.feed H.finish W.word A.Archived.laws B.Archived.laws (7, 8) W.layout.kind A.query A.native A.Eq.laws.refl A.reads A.Archive.laws B.laws))) };
+}
+
+impl<
+    S: Writer,
+    W: Width,
+    H: KeyHasher,
+    A: Serialize<S, W> + Hash,
+    B: Serialize<S, W>,
+    T: BuildHasher,
+> Serialize<S, W> for Hashed<HashMap<A, B, T>, H>
+where
+    A::Archived: KeyElement,
+    A: NativeKey<A::Archived>,
+{
+    fn serialize(
+        &self,
+        alloc: Global,
+        serializer: &mut S,
+    ) -> Result<HashMapResolver<W>, WriteError<S::Fault>> {
+        ArchivedHashMap::<A::Archived, B::Archived, H, W>::serialize_from_iter::<
+            S,
+            A,
+            B,
+            &A,
+            &B,
+            Iter<'_, A, B>,
+        >(alloc, self.map.iter(), self.map.len(), (7, 8), serializer)
+    }
+}

@@ -1,0 +1,303 @@
+//! Std's hash sets as what stands in archives.
+
+ghost use Rattle.std.specs.Prelude.{IsTrue, MatchResult, ◌↔◌};
+ghost use Rattle.rkyv_base.specs.View.{IsView, StandsAt, bytes_of, place_of};
+ghost use Rattle.rkyv_base.specs.Empty.{unit_element, unit_format, unit_is_format, unit_near, unit_shape, unit_stands};
+ghost use Rattle.rkyv_base.specs.Pairs.{written_as, written_as-format};
+ghost use Rattle.rkyv_collections.specs.Listed.{listed, listed_format};
+ghost use Rattle.rkyv_collections.specs.Map.{hash_at};
+ghost use Rattle.rkyv_collections.specs.MapFormat.{MapStands, hash_of, map_format};
+ghost use Rattle.rkyv_collections.specs.MapSound.{map_sound};
+ghost use Rattle.rkyv_collections.specs.Set.{IsSet, set_bytes, set_place, set_shape};
+ghost use Rattle.rkyv_collections.specs.SetFormat.{with_units};
+ghost use Rattle.rkyv_collections.specs.StdAlone.{std_set_alone};
+ghost use Rattle.rkyv_collections.specs.StdEqualLaws.{entries_equal};
+ghost use Rattle.rkyv_collections.specs.StdEquality.{EntriesEqual};
+ghost use Rattle.rkyv_collections.specs.StdMap.{EntriesStand, of_entries};
+ghost use Rattle.rkyv_collections.specs.StdMapLaws.{entries_near, entries_sound};
+ghost use Rattle.rkyv_collections.specs.StdSet.{InsertsKey, ReadsStdSet, StdSetEquals, StdSetStands, key_refuses, set_equal_written, std_set_refuses};
+
+use crate::set::writing::HashSetResolver;
+use crate::set::{ArchivedHashSet, HashSetOf};
+use crate::std_maps::equality::EqArchived;
+use crate::std_maps::hashed::Hashed;
+use rkyv_base::archive::{Archive, Serialize};
+use rkyv_base::element::{Element, StandsFor};
+use rkyv_base::errors::{DistanceTooLarge, ReadError, WriteError};
+use rkyv_base::view::View;
+use rkyv_base::width::Width;
+use rkyv_base::writer::Writer;
+use rkyv_keys::equality::{EqualsWritten, MatchesNative, StandsAlone};
+use rkyv_keys::keys::{KeyElement, NativeKey};
+use rkyv_keys::reading::Deserialize;
+use rkyv_scan::hash::KeyHasher;
+use std::alloc::Global;
+use std::collections::HashSet;
+use std::collections::hash_set::Iter;
+use std::hash::{BuildHasher, BuildHasherDefault, Hash};
+
+impl<A: Eq + Hash, T: BuildHasher, H, W: Width, K: StandsFor<A>> StandsFor<HashSet<A, T>>
+    for HashSetOf<K, H, W> {
+    ghost stands = { StdSetStands K.shape K.stands W.word A.eq };
+
+    ghost near = { λ s. entries_near K.shape unit_shape K.laws unit_element W.word A.eq K.near unit_near (with_units s.keys) };
+}
+
+impl<A: Eq + Hash, T: BuildHasher, H, W: Width, K: StandsFor<A>> StandsFor<Hashed<HashSet<A, T>, H>>
+    for HashSetOf<K, H, W> {
+    ghost stands = { λ b p x. StdSetStands K.shape K.stands W.word A.eq b p x.map };
+
+    ghost near = { λ x. entries_near K.shape unit_shape K.laws unit_element W.word A.eq K.near unit_near (with_units x.map.keys) };
+}
+
+impl<W: Width, H: KeyHasher, A: Archive<W> + Hash, T: BuildHasher> Archive<W>
+    for Hashed<HashSet<A, T>, H>
+where
+    A::Archived: KeyElement,
+    A: NativeKey<A::Archived>,
+{
+    type Archived = HashSetOf<A::Archived, H, W>;
+
+    type Resolver = HashSetResolver<W>;
+
+    ghost format = { written_as (λ x. with_units x.map.keys) (of_entries A.eq (listed W.MAX_CAPACITY (7, 8)
+        (map_format W.word A.Archived.shape unit_shape A.format unit_format (hash_of H.initial H.feed H.finish A.calls) (7, 8)))) };
+
+    fn resolve(
+        &self,
+        resolver: HashSetResolver<W>,
+        pos: u64,
+        out: &mut [u8],
+    ) -> Result<(), DistanceTooLarge> {
+        let len = resolver.len();
+        let load_factor = resolver.load_factor();
+        ArchivedHashSet::<A::Archived, H, W>::resolve_from_len(len, load_factor, resolver, pos, out)
+    }
+
+    ghost laws = { let hash = hash_at H.initial H.feed H.finish A.Archived.key_calls in
+        let written = MapStands W.word A.Archived.shape unit_shape A.Archived.stands unit_stands hash (7, 8) in
+        let stands = EntriesStand A.Archived.shape unit_shape A.Archived.stands unit_stands W.word A.eq in
+        let format = map_format W.word A.Archived.shape unit_shape A.format unit_format (hash_of H.initial H.feed H.finish A.calls) (7, 8) in
+        let shape = set_shape W.word A.Archived.shape in
+        let whole = listed W.MAX_CAPACITY (7, 8) format in
+        written_as-format (λ x. with_units x.map.keys) shape stands (of_entries A.eq whole)
+        (entries_sound A.Archived.shape unit_shape A.Archived.laws unit_element W.word A.eq A.Eq.laws hash (7, 8) W.layout.kind whole
+        (listed_format W.MAX_CAPACITY (7, 8) shape written format
+        (map_sound H.initial H.feed H.finish W.word A.Archived.laws unit_element (7, 8) W.layout.kind A.query A.native A.Eq.laws.refl A.reads A.Archive.laws unit_is_format))) };
+}
+
+impl<S: Writer, W: Width, H: KeyHasher, A: Serialize<S, W> + Hash, T: BuildHasher> Serialize<S, W>
+    for Hashed<HashSet<A, T>, H>
+where
+    A::Archived: KeyElement,
+    A: NativeKey<A::Archived>,
+{
+    fn serialize(
+        &self,
+        alloc: Global,
+        serializer: &mut S,
+    ) -> Result<HashSetResolver<W>, WriteError<S::Fault>> {
+        ArchivedHashSet::<A::Archived, H, W>::serialize_from_iter::<S, A, &A, Iter<'_, A>>(
+            alloc,
+            self.map.iter(),
+            self.map.len(),
+            (7, 8),
+            serializer,
+        )
+    }
+}
+
+/// Reads a key and inserts it.
+#[inline]
+fn insert_read<K: Deserialize<A>, A: Eq + Hash + Drop, T: BuildHasher>(
+    set: &mut HashSet<A, T>,
+    alloc: Global,
+    key: View<'_, K>,
+) -> Result<(), ReadError>
+    requires { IsView K.shape key }
+    ensures { MatchResult result
+        (λ _. InsertsKey A.eq (K.stands (bytes_of key.entry) (place_of key.entry)) set.old set.new)
+        (key_refuses K.refuses (bytes_of key.entry) (place_of key.entry)) }
+{
+    let read = K::deserialize(alloc, key)?;
+    match set.insert(read) {
+        Ok(_) => Ok(()),
+        Err(_) => Err(ReadError::Memory),
+    }
+}
+
+impl<'a, K: Element, H, W: Width> ArchivedHashSet<'a, K, H, W> {
+    /// The set of std's with this hash state into which its keys are inserted, by ascending bucket.
+    ///
+    /// # Errors
+    /// `Memory` where a growth is refused, and those of reading a key.
+    pub fn deserialize_std<A: Eq + Hash + Drop, T: BuildHasher + Drop>(
+        self,
+        alloc: Global,
+        state: T,
+    ) -> Result<HashSet<A, T>, ReadError>
+    where
+        K: Deserialize<A>,
+        requires set { IsSet W.word K.shape self }
+        ensures { let stands = StdSetStands K.shape K.stands W.word A.eq in MatchResult result
+            (ReadsStdSet stands (set_bytes self.entry) (set_place self.entry) state)
+            (std_set_refuses W.word K.shape K.refuses (set_bytes self.entry) (set_place self.entry)) }
+    {
+        let mut set = HashSet::with_hasher(alloc, state);
+        for key in self.iter() {
+            match insert_read(&mut set, alloc, key) {
+                Ok(()) => {}
+                Err(e) => return Err(e),
+            }
+        }
+        Ok(set)
+    }
+}
+
+impl<'a, K: KeyElement, H: KeyHasher, W: Width> ArchivedHashSet<'a, K, H, W> {
+    /// Whether it has as many keys as the set of std's, and each key of that one is found in it.
+    #[inline]
+    pub fn eq_std<A: NativeKey<K> + Hash, T: BuildHasher>(self, other: &HashSet<A, T>) -> bool
+    where
+        K: StandsFor<A>,
+        requires set { IsSet W.word K.shape self }
+        ensures { let hash = hash_of H.initial H.feed H.finish A.calls in
+            IsTrue result ↔ StdSetEquals W.word K.shape hash A.fits (set_bytes self.entry) (set_place self.entry) other.now }
+    {
+        if self.len() != other.len() {
+            return false;
+        }
+        for key in other.iter() {
+            if !self.map.finds_equal(key, &()) {
+                return false;
+            }
+        }
+        true
+    }
+}
+
+impl<
+    K: KeyElement + StandsFor<A>,
+    H: KeyHasher,
+    W: Width,
+    A: NativeKey<K> + Hash,
+    T: BuildHasher,
+> MatchesNative<HashSet<A, T>> for HashSetOf<K, H, W> {
+    ghost equals = { StdSetEquals W.word K.shape (hash_of H.initial H.feed H.finish A.calls) A.fits };
+
+    #[inline]
+    fn eq_native(view: View<'_, HashSetOf<K, H, W>>, value: &HashSet<A, T>) -> bool
+        requires { IsView (set_shape W.word K.shape) view }
+        ensures { let hash = hash_of H.initial H.feed H.finish A.calls in
+            IsTrue result ↔ StandsAt (StdSetEquals W.word K.shape hash A.fits) view.entry value.now }
+    {
+        ArchivedHashSet::of(view).eq_std(value)
+    }
+}
+
+impl<
+    K: KeyElement + StandsFor<A>,
+    H: KeyHasher,
+    W: Width,
+    A: NativeKey<K> + Hash,
+    T: BuildHasher,
+> MatchesNative<Hashed<HashSet<A, T>, H>> for HashSetOf<K, H, W> {
+    ghost equals = { λ b p x. StdSetEquals W.word K.shape (hash_of H.initial H.feed H.finish A.calls) A.fits b p x.map };
+
+    #[inline]
+    fn eq_native(view: View<'_, HashSetOf<K, H, W>>, value: &Hashed<HashSet<A, T>, H>) -> bool
+        requires { IsView (set_shape W.word K.shape) view }
+        ensures { let hash = hash_of H.initial H.feed H.finish A.calls in
+            IsTrue result ↔ StandsAt (StdSetEquals W.word K.shape hash A.fits) view.entry value.now.map }
+    {
+        ArchivedHashSet::of(view).eq_std(&value.map)
+    }
+}
+
+impl<
+    'a,
+    K: KeyElement + StandsFor<A>,
+    H: KeyHasher,
+    W: Width,
+    A: NativeKey<K> + Hash,
+    T: BuildHasher,
+> EqArchived<ArchivedHashSet<'a, K, H, W>> for HashSet<A, T> {
+    ghost can_compare = { IsSet W.word K.shape };
+
+    ghost equals_archived = { λ other s. StdSetEquals W.word K.shape (hash_of H.initial H.feed H.finish A.calls) A.fits (set_bytes other) (set_place other) s };
+
+    #[inline]
+    fn eq_archived(&self, other: ArchivedHashSet<'a, K, H, W>) -> bool {
+        other.eq_std(self)
+    }
+}
+
+impl<W: Width, H: KeyHasher, A: Archive<W> + Hash, T: BuildHasher> EqualsWritten<W>
+    for Hashed<HashSet<A, T>, H>
+where
+    A::Archived: KeyElement,
+    A: NativeKey<A::Archived>,
+{
+    ghost equal = { let hash = hash_at H.initial H.feed H.finish A.Archived.key_calls in
+        let own = hash_of H.initial H.feed H.finish A.calls in
+        let written = MapStands W.word A.Archived.shape unit_shape A.Archived.stands unit_stands hash (7, 8) in
+        let equals = EntriesEqual W.word A.Archived.shape unit_shape own A.fits unit_stands in
+        let format = map_format W.word A.Archived.shape unit_shape A.format unit_format own (7, 8) in
+        let shape = set_shape W.word A.Archived.shape in
+        let whole = listed W.MAX_CAPACITY (7, 8) format in
+        set_equal_written W.word A.Archived.shape shape own A.fits (λ x. x.map.keys) (written_as (λ x. with_units x.map.keys) (of_entries A.eq whole))
+        (written_as-format (λ x. with_units x.map.keys) shape equals (of_entries A.eq whole)
+        (entries_equal H.initial H.feed H.finish W.word W.layout.kind A.Archived.laws unit_element (7, 8) A.query A.native A.Eq.laws A.reads whole
+        (listed_format W.MAX_CAPACITY (7, 8) shape written format
+        (map_sound H.initial H.feed H.finish W.word A.Archived.laws unit_element (7, 8) W.layout.kind A.query A.native A.Eq.laws.refl A.reads A.Archive.laws unit_is_format)))) };
+}
+
+impl<K: Deserialize<A>, H, W: Width, A: Eq + Hash + Drop> Deserialize<HashSet<A>>
+    for HashSetOf<K, H, W> {
+    ghost refuses = { std_set_refuses W.word K.shape K.refuses };
+
+    #[inline]
+    fn deserialize(
+        alloc: Global,
+        view: View<'_, HashSetOf<K, H, W>>,
+    ) -> Result<HashSet<A>, ReadError>
+        requires { IsView (set_shape W.word K.shape) view }
+        ensures { MatchResult result
+            (StandsAt (StdSetStands K.shape K.stands W.word A.eq) view.entry)
+            (StandsAt (std_set_refuses W.word K.shape K.refuses) view.entry) }
+    {
+        ArchivedHashSet::of(view).deserialize_std(alloc, BuildHasherDefault::new())
+    }
+}
+
+impl<K: Deserialize<A>, H, W: Width, A: Eq + Hash + Drop> Deserialize<Hashed<HashSet<A>, H>>
+    for HashSetOf<K, H, W> {
+    ghost refuses = { std_set_refuses W.word K.shape K.refuses };
+
+    #[inline]
+    fn deserialize(
+        alloc: Global,
+        view: View<'_, HashSetOf<K, H, W>>,
+    ) -> Result<Hashed<HashSet<A>, H>, ReadError>
+        requires { IsView (set_shape W.word K.shape) view }
+        ensures { MatchResult result
+            (λ x. StandsAt (StdSetStands K.shape K.stands W.word A.eq) view.entry x.map)
+            (StandsAt (std_set_refuses W.word K.shape K.refuses) view.entry) }
+    {
+        match ArchivedHashSet::of(view).deserialize_std(alloc, BuildHasherDefault::new()) {
+            Ok(set) => Ok(Hashed::new(set)),
+            Err(e) => Err(e),
+        }
+    }
+}
+
+impl<K: StandsAlone<A>, H, W: Width, A: Eq + Hash, T: BuildHasher> StandsAlone<HashSet<A, T>>
+    for HashSetOf<K, H, W> {
+    ghost alone = { std_set_alone A.eq A.Eq.laws K.shape K.laws W.word K.stands K.alone };
+}
+
+impl<K: StandsAlone<A>, H, W: Width, A: Eq + Hash, T: BuildHasher> StandsAlone<
+    Hashed<HashSet<A, T>, H>,
+> for HashSetOf<K, H, W> {
+    ghost alone = { λ s t. std_set_alone A.eq A.Eq.laws K.shape K.laws W.word K.stands K.alone s.map t.map };
+}

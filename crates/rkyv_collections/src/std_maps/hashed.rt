@@ -1,0 +1,54 @@
+//! What is archived of a map or set of std's.
+
+ghost use Rattle.std.specs.Prelude.{◌≡◌};
+
+use rkyv_scan::hash::FxHasher64;
+use std::marker::PhantomData;
+
+/// A map or set of std's that is archived as a map or set under the hasher H, with the load factor
+/// 7 / 8: its pairs or keys in the order of its own iterator.
+#[derive(Drop)]
+pub struct Hashed<M, H = FxHasher64> {
+    pub(crate) map: M,
+    hasher: PhantomData<H>,
+}
+
+impl<M, H> Hashed<M, H> {
+    /// It around a map or set.
+    #[inline]
+    pub fn new(map: M) -> Hashed<M, H>
+        ensures { result.map ≡ map }
+    {
+        Hashed {
+            map,
+            hasher: PhantomData,
+        }
+    }
+
+    /// The map or set.
+    #[inline]
+    pub fn get(&self) -> &M
+        ensures { result.now ≡ self.now.map }
+    {
+        &self.map
+    }
+
+    /// The map or set itself.
+    #[inline]
+    pub fn into_inner(self) -> M
+        ensures { result ≡ self.map }
+    {
+        self.map
+    }
+}
+
+impl<M: PartialEq, H> PartialEq for Hashed<M, H> {
+    ghost eq = { λ x y. M.eq x.map y.map };
+
+    ghost laws = { let m = M.laws in record { symm = λ x y. m.symm x.map y.map; trans = λ x y z. m.trans x.map y.map z.map } };
+
+    #[inline]
+    fn eq(&self, other: &Hashed<M, H>) -> bool {
+        self.map == other.map
+    }
+}

@@ -1,0 +1,113 @@
+//! Reading std's hash maps back.
+
+ghost use Rattle.std.specs.Prelude.{MatchResult, ◌+◌};
+ghost use Rattle.rkyv_base.specs.Entry.{value_offset};
+ghost use Rattle.rkyv_base.specs.Pairs.{PairStands};
+ghost use Rattle.rkyv_base.specs.View.{IsAt, IsView, StandsAt, archive_of, bytes_of, place_of};
+ghost use Rattle.rkyv_collections.specs.Map.{IsMap, map_bytes, map_place, map_shape};
+ghost use Rattle.rkyv_collections.specs.StdMap.{InsertsPair, ReadsStdMap, StdMapStands, insert_refuses, std_map_refuses};
+
+use crate::map::{ArchivedHashMap, HashMapOf};
+use crate::std_maps::hashed::Hashed;
+use rkyv_base::element::Element;
+use rkyv_base::errors::ReadError;
+use rkyv_base::view::View;
+use rkyv_base::width::Width;
+use rkyv_keys::reading::Deserialize;
+use std::alloc::Global;
+use std::collections::HashMap;
+use std::hash::{BuildHasher, BuildHasherDefault, Hash};
+
+/// Reads a pair and inserts it.
+#[inline]
+fn insert_read<K: Deserialize<A>, V: Deserialize<B>, A: Eq + Hash + Drop, B: Drop, T: BuildHasher>(
+    map: &mut HashMap<A, B, T>,
+    alloc: Global,
+    key: View<'_, K>,
+    value: View<'_, V>,
+) -> Result<(), ReadError>
+    requires key { IsView K.shape key }
+    requires value { IsView V.shape value }
+    requires pair { IsAt value (archive_of key) (place_of key + value_offset K.shape V.shape) }
+    ensures { let stands = PairStands K.shape V.shape K.stands V.stands (bytes_of key.entry) (place_of key.entry) in MatchResult result
+        (λ _. InsertsPair A.eq stands map.old map.new)
+        (insert_refuses K.shape V.shape K.refuses V.refuses (bytes_of key.entry) (place_of key.entry)) }
+{
+    let read = K::deserialize(alloc, key)?;
+    let mapped = V::deserialize(alloc, value)?;
+    match map.insert(read, mapped) {
+        Ok(_) => Ok(()),
+        Err(_) => Err(ReadError::Memory),
+    }
+}
+
+impl<'a, K: Element, V: Element, H, W: Width> ArchivedHashMap<'a, K, V, H, W> {
+    /// The map of std's with this hash state into which its pairs are inserted, by ascending
+    /// bucket, so that of equal keys the later has its value.
+    ///
+    /// # Errors
+    /// `Memory` where a growth is refused, and those of reading a key or a value.
+    pub fn deserialize_std<A: Eq + Hash + Drop, B: Drop, T: BuildHasher + Drop>(
+        self,
+        alloc: Global,
+        state: T,
+    ) -> Result<HashMap<A, B, T>, ReadError>
+    where
+        K: Deserialize<A>,
+        V: Deserialize<B>,
+        requires map { IsMap W.word K.shape V.shape self }
+        ensures { let stands = StdMapStands K.shape V.shape K.stands V.stands W.word A.eq in MatchResult result
+            (ReadsStdMap stands (map_bytes self.entry) (map_place self.entry) state)
+            (std_map_refuses W.word K.shape V.shape K.refuses V.refuses (map_bytes self.entry) (map_place self.entry)) }
+    {
+        let mut map = HashMap::with_hasher(alloc, state);
+        for (key, value) in self.iter() {
+            match insert_read(&mut map, alloc, key, value) {
+                Ok(()) => {}
+                Err(e) => return Err(e),
+            }
+        }
+        Ok(map)
+    }
+}
+
+impl<K: Deserialize<A>, V: Deserialize<B>, H, W: Width, A: Eq + Hash + Drop, B: Drop> Deserialize<
+    HashMap<A, B>,
+> for HashMapOf<K, V, H, W> {
+    ghost refuses = { std_map_refuses W.word K.shape V.shape K.refuses V.refuses };
+
+    #[inline]
+    fn deserialize(
+        alloc: Global,
+        view: View<'_, HashMapOf<K, V, H, W>>,
+    ) -> Result<HashMap<A, B>, ReadError>
+        requires { IsView (map_shape W.word K.shape V.shape) view }
+        ensures { MatchResult result
+            (StandsAt (StdMapStands K.shape V.shape K.stands V.stands W.word A.eq) view.entry)
+            (StandsAt (std_map_refuses W.word K.shape V.shape K.refuses V.refuses) view.entry) }
+    {
+        ArchivedHashMap::of(view).deserialize_std(alloc, BuildHasherDefault::new())
+    }
+}
+
+impl<K: Deserialize<A>, V: Deserialize<B>, H, W: Width, A: Eq + Hash + Drop, B: Drop> Deserialize<
+    Hashed<HashMap<A, B>, H>,
+> for HashMapOf<K, V, H, W> {
+    ghost refuses = { std_map_refuses W.word K.shape V.shape K.refuses V.refuses };
+
+    #[inline]
+    fn deserialize(
+        alloc: Global,
+        view: View<'_, HashMapOf<K, V, H, W>>,
+    ) -> Result<Hashed<HashMap<A, B>, H>, ReadError>
+        requires { IsView (map_shape W.word K.shape V.shape) view }
+        ensures { MatchResult result
+            (λ x. StandsAt (StdMapStands K.shape V.shape K.stands V.stands W.word A.eq) view.entry x.map)
+            (StandsAt (std_map_refuses W.word K.shape V.shape K.refuses V.refuses) view.entry) }
+    {
+        match ArchivedHashMap::of(view).deserialize_std(alloc, BuildHasherDefault::new()) {
+            Ok(map) => Ok(Hashed::new(map)),
+            Err(e) => Err(e),
+        }
+    }
+}

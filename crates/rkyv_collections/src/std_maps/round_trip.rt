@@ -1,0 +1,47 @@
+//! A value written, read in place, compared and read back.
+
+ghost use Rattle.std.specs.Prelude.{◌≡◌, IfOk, true};
+
+use rkyv_base::access::access_in;
+use rkyv_base::archive::Serialize;
+use rkyv_base::errors::{ReadError, WriteError};
+use rkyv_base::root::to_bytes_in;
+use rkyv_base::width::Width;
+use rkyv_base::writer::{NoMemory, VecWriter};
+use rkyv_keys::equality::{EqualsWritten, MatchesNative, StandsAlone};
+use rkyv_keys::reading::Deserialize;
+use std::alloc::Global;
+
+/// Why a value didn't come back.
+#[derive(Debug, Drop)]
+pub enum Lost {
+    Write(WriteError<NoMemory>),
+    Read(ReadError),
+}
+
+/// Whether the archive of a value is accepted, equals the value, and is read back as an equal one:
+/// wherever it can be written and read back.
+pub fn comes_back<W: Width, M: Serialize<VecWriter, W> + EqualsWritten<W> + PartialEq + Drop>(
+    alloc: Global,
+    value: &M,
+) -> Result<bool, Lost>
+where
+    M::Archived: Deserialize<M> + MatchesNative<M> + StandsAlone<M>,
+    ensures { IfOk result (λ same. same ≡ true) }
+{
+    let bytes = match to_bytes_in::<W, M>(alloc, value) {
+        Ok(bytes) => bytes,
+        Err(e) => return Err(Lost::Write(e)),
+    };
+    let root = match access_in::<W, M::Archived>(bytes.as_slice()) {
+        Ok(root) => root,
+        Err(_) => return Ok(false),
+    };
+    if !M::Archived::eq_native(root, value) {
+        return Ok(false);
+    }
+    match M::Archived::deserialize(alloc, root) {
+        Ok(back) => Ok(back == *value),
+        Err(e) => Err(Lost::Read(e)),
+    }
+}
