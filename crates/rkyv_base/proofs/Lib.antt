@@ -2,6 +2,7 @@ pub mod GivingUp
 pub mod PairWriting
 pub mod RootWriting
 pub mod TextChecking
+pub mod FirstMark
 pub mod Sealing
 pub mod Zeros
 pub mod SealedText

@@ -10,6 +10,7 @@ ghost use Rattle.std.specs.Prelude.{
   ◌^◌,
   length,
   position,
+  take,
   string_bytes,
   true,
   MatchResult,
@@ -43,6 +44,7 @@ use crate::part::part_in;
 use crate::view::View;
 use crate::width::{Narrow, Width};
 use std::marker::PhantomData;
+use std::simd::prelude::*;
 
 /// Text, as it stands in an archive of the width W.
 ///
@@ -72,12 +74,46 @@ pub(crate) fn is_elsewhere(fixed: &[u8]) -> bool
     128 <= fixed[0] && fixed[0] < 192
 }
 
+/// The place of the first ff among the first eight bytes, by one comparison.
+#[inline]
+fn first_ff_of_eight(bytes: &[u8]) -> Option<usize>
+    requires { 8 ≤ length bytes.now }
+    ensures { result ≡ position (λ x. x == 255) (take 8 bytes.now) }
+{
+    let marks = u8x8::from_slice(bytes)
+        .simd_eq(u8x8::splat(0xff))
+        .to_bitmask();
+    if marks == 0 {
+        None
+    } else {
+        Some(marks.trailing_zeros() as usize)
+    }
+}
+
+/// The place of the first ff, byte by byte.
+#[inline]
+fn first_ff_of_bytes(bytes: &[u8]) -> Option<usize>
+    ensures { result ≡ position (λ x. x == 255) bytes.now }
+{
+    bytes.iter().position(|byte| *byte == 255)
+}
+
 /// The place of the first ff.
 #[inline]
 fn first_ff(fixed: &[u8]) -> Option<usize>
     ensures { result ≡ position (λ x. x == 255) fixed.now }
 {
-    fixed.iter().position(|byte| *byte == 255)
+    let mut at = 0;
+    while 8 <= fixed.len() - at {
+        if let Some(len) = first_ff_of_eight(&fixed[at..]) {
+            return Some(at + len);
+        }
+        at += 8;
+    }
+    match first_ff_of_bytes(&fixed[at..]) {
+        Some(len) => Some(at + len),
+        None => None,
+    }
 }
 
 /// The text that stands inline: the fixed bytes before the first ff.

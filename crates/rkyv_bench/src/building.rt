@@ -40,18 +40,18 @@ struct Both<'a, A, B> {
     values: std::slice::Iter<'a, B>,
 }
 
-impl<'a, A, B> Iterator for Both<'a, A, B> {
-    type Item = (&'a A, &'a B);
+impl<'a, A: Copy, B: Copy> Iterator for Both<'a, A, B> {
+    type Item = (A, B);
 
-    ghost next_gives = { YieldsFirstBy (λ both. (both.0.now, both.1.now)) (λ s. zip (iter_rest s.keys) (iter_rest s.values)) };
+    ghost next_gives = { YieldsFirstBy (λ both. both) (λ s. zip (iter_rest s.keys) (iter_rest s.values)) };
 
     ghost remaining = { λ s. at_most (length (iter_rest s.keys)) };
 
     #[inline]
-    fn next(&mut self) -> Option<(&'a A, &'a B)> {
+    fn next(&mut self) -> Option<(A, B)> {
         match self.keys.next() {
             Some(key) => match self.values.next() {
-                Some(value) => Some((key, value)),
+                Some(value) => Some((*key, *value)),
                 None => None,
             },
             None => None,
@@ -103,8 +103,14 @@ where
         (map_sound H.initial H.feed H.finish W.word A.Archived.laws B.Archived.laws (7, 8) W.layout.kind A.query A.native A.Eq.laws.refl A.reads A.Archive.laws B.laws)) };
 }
 
-impl<'a, S: Writer, W: Width, H: KeyHasher, A: Serialize<S, W>, B: Serialize<S, W>> Serialize<S, W>
-    for Pairs<'a, A, B, H>
+impl<
+    'a,
+    S: Writer,
+    W: Width,
+    H: KeyHasher,
+    A: Serialize<S, W> + Copy,
+    B: Serialize<S, W> + Copy,
+> Serialize<S, W> for Pairs<'a, A, B, H>
 where
     A::Archived: KeyElement,
     A: NativeKey<A::Archived>,
@@ -123,8 +129,8 @@ where
             S,
             A,
             B,
-            &A,
-            &B,
+            A,
+            B,
             Both<'_, A, B>,
         >(alloc, both, len, (7, 8), serializer)
     }

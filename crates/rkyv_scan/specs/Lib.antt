@@ -2,3 +2,5 @@ pub mod Groups
 pub mod Hash
 pub mod Laws
 pub mod KindLaws
+pub mod Halves
+pub mod HalfBits

@@ -5,6 +5,7 @@ ghost use Rattle.rkyv_scan.specs.Groups.{places_where, is_empty, is_full, Kind, 
 
 pub mod bytewise;
 pub mod generic;
+pub mod halves;
 pub mod lanes;
 
 /// The width of the widest kind of group; each kind's width divides it.

@@ -30,3 +30,7 @@ pub mod TableNear
 pub mod SealedLookup
 pub mod SealedItems
 pub mod MisplacedIn
+pub mod RawSteps
+pub mod ItemSteps
+pub mod WholeStride
+pub mod HalvesFound

@@ -1,13 +1,14 @@
 -- The walk over the items of an accepted table.
-use Rattle.std.proofs.Common.{◌≡◌, ℕ, ◌<◌, ◌^◌, ◌∙◌, inl, inr, sym, ap, arith, List, [], length, map}
+use Rattle.std.proofs.Common.{◌≡◌, ℕ, ◌<◌, ◌∙◌, inl, inr, sym, ap, arith, List, [], length, map}
 use Rattle.std.specs.Int.{Width}
 use Rattle.std.specs.List.{All, Contains}
 use Rattle.std.proofs.lemmas.Bool.{cases_eq}
+use Rattle.std.proofs.lemmas.List.{length-map}
 use Rattle.std.proofs.lemmas.List.Elements.{All-contains_itself, All-map, All-weaker}
 use Rattle.rkyv_base.specs.Shape.{IsElement, Shape, Viewed}
 use Rattle.rkyv_table.specs.Header.{cap_at, len_at}
 use Rattle.rkyv_table.specs.Placing.{walk}
-use Rattle.rkyv_table.specs.RawItems.{IsBefore, place_before}
+use Rattle.rkyv_table.specs.RawItems.{IsAhead, place_before}
 use Rattle.rkyv_table.specs.Reading.{IsWalked, controls_place, item_at, item_places, table_controls}
 use Rattle.rkyv_table.specs.Table.{table_shape}
 use Rattle.rkyv_table.proofs.Items.{controls_accepted, item_before, item_viewed, no_items}
@@ -24,6 +25,9 @@ module _ (w : Width) (s : Shape) (law : IsElement s) (b : List ℕ) (p : ℕ) wh
     | inr some ↦ (controls_accepted w s law b p v (omega arith)).full
   ]
 
+  pub places_count : Viewed (table_shape w s) b p → length (item_places w s.size b p) ≡ len_at w b p
+  places_count v = length-map (walk (table_controls w b p) (cap_at w b p)) (item_at w s.size b p) ∙ walk_count v
+
   -- each walked bucket has an item
   pub walked_all : All (IsWalked w b p) (walk (table_controls w b p) (cap_at w b p))
   walked_all =
@@ -35,12 +39,15 @@ module _ (w : Width) (s : Shape) (law : IsElement s) (b : List ℕ) (p : ℕ) wh
       All-map (Viewed s b) (item_at w s.size b p) (walk (table_controls w b p) (cap_at w b p))
       (All-weaker (IsWalked w b p) (λ i. Viewed s b (item_at w s.size b p i)) (λ i h. item_viewed w s law b p v i h) (walk (table_controls w b p) (cap_at w b p)) walked_all)
 
-  -- by the place that was read of the header, before which each walked bucket stands
-  pub read_before : Viewed (table_shape w s) b p → cap_at w b p < 2 ^ 64 → (place : ℕ) → (0 < cap_at w b p → place ≡ controls_place w b p)
-      → All (IsBefore place s.size) (walk (table_controls w b p) (cap_at w b p))
-  read_before v fits place is =
-      All-weaker (IsWalked w b p) (IsBefore place s.size)
-      (λ i h. (omega (arith, h.0), rw (is (omega (arith, h.0))) (item_before w s law b p v i h.0)))
+  -- by the place that was read of the header, before which each walked bucket stands, and by the controls that were, in which its group lies
+  pub read_ahead : Viewed (table_shape w s) b p → (place : ℕ) → (0 < cap_at w b p → place ≡ controls_place w b p) → (controls : List ℕ) → (0 < cap_at w b p → controls ≡ table_controls w b p)
+      → All (IsAhead place s.size controls) (walk (table_controls w b p) (cap_at w b p))
+  read_ahead v place is controls shown =
+      All-weaker (IsWalked w b p) (IsAhead place s.size controls)
+      (λ i h.
+      let some : 0 < cap_at w b p = omega (arith, h.0) in
+      let long = (controls_accepted w s law b p v some).repeats.count in
+      (rw (shown some) (omega (arith, h.0, long)), rw (is some) (item_before w s law b p v i h.0)))
       (walk (table_controls w b p) (cap_at w b p)) walked_all
 
   pub read_places : (place : ℕ) → (0 < cap_at w b p → place ≡ controls_place w b p)

@@ -1,9 +1,10 @@
 -- What a walk over the items of a table has left.
-use Rattle.std.specs.Prelude.{◌≡◌, ℕ, ◌+◌, ◌-◌, ◌*◌, ◌^◌, ◌<◌, ◌≤◌, List, Option, length}
+use Rattle.std.specs.Prelude.{◌≡◌, ℕ, ◌+◌, ◌-◌, ◌*◌, ◌≤◌, List, ◌++◌, Option, length, map, take}
 use Rattle.std.specs.Borrow.{Bor}
 use Rattle.std.specs.Iterator.{YieldsFirst}
 use Rattle.std.specs.List.{All}
 use Rattle.rkyv_base.specs.Shape.{Shape, Viewed}
+use Rattle.rkyv_table.specs.Walking.{full_from}
 
 -- the archive, and where the items that are left stand
 pub record ItemsLeft : Type 0 where
@@ -19,14 +20,26 @@ pub record TakesPlace (before : ItemsLeft) (result : Option ℕ) (after : ItemsL
 abbrev pub place_before : ℕ → ℕ → ℕ → ℕ
 place_before place size i = place - (i + 1) * size
 
--- bucket i stands before the first control
-abbrev pub IsBefore : ℕ → ℕ → ℕ → Type 0
-IsBefore place size i = (i + 1 < 2 ^ 64) × ((i + 1) * size ≤ place)
+-- the full places from the current group's marks on
+unfoldable pub marked_left : List ℕ → ℕ → List ℕ → List ℕ
+marked_left controls base marks = map (λ j. base + j) marks ++ full_from controls (length controls) (base + 8)
 
--- what a walk keeps: the number of the buckets that are left, each of which stands before the first control
-pub record IsRawIter (place size count : ℕ) (buckets : List ℕ) : Type 0 where
-  pub counted : count ≡ length buckets
-  pub before : All (IsBefore place size) buckets
+-- the buckets that are left: the first of them
+unfoldable pub buckets_left : ℕ → List ℕ → ℕ → List ℕ → List ℕ
+buckets_left count controls base marks = take count (marked_left controls base marks)
+
+-- where the buckets that are left stand, by the place of the current group
+abbrev pub places_left : ℕ → ℕ → ℕ → List ℕ → ℕ → List ℕ → List ℕ
+places_left place size count controls base marks = map (place_before (place + base * size) size) (buckets_left count controls base marks)
+
+-- the group of bucket i lies inside the controls, and the bucket before the first control
+abbrev pub IsAhead : ℕ → ℕ → List ℕ → ℕ → Type 0
+IsAhead place size controls i = (i + 8 ≤ length controls) × ((i + 1) * size ≤ place)
+
+-- what a walk keeps: so many full places are left, each of which stands before the first control
+pub record IsRawIter (place size count : ℕ) (controls : List ℕ) (base : ℕ) (marks : List ℕ) : Type 0 where
+  pub counted : count ≡ length (buckets_left count controls base marks)
+  pub ahead : All (IsAhead (place + base * size) size controls) (buckets_left count controls base marks)
 
 -- at each of the places that are left a value stands
 abbrev pub AllStand : Shape → ItemsLeft → Type 0

@@ -3,6 +3,7 @@ ghost use Rattle.std.specs.Prelude.{◌≡◌, ℕ, length};
 ghost use Rattle.std.specs.Iterator.{YieldsFirst, item_count};
 ghost use Rattle.rkyv_scan.specs.Groups.{mask_places, lanes_kind};
 ghost use Rattle.rkyv_scan.specs.KindLaws.{equal_lawful};
+ghost use Rattle.rkyv_scan.specs.HalfBits.{TellsEqual};
 ghost use Rattle.std.proofs.Common.{refl, arith};
 
 use crate::simd::{GroupKind, Marks};
@@ -17,6 +18,14 @@ pub struct Bitmask {
 impl Bitmask {
     /// No mark.
     pub const EMPTY: Self = Bitmask { bits: 0 };
+
+    /// The marks with these bits.
+    #[inline]
+    pub(crate) fn of_bits(bits: u16) -> Self
+        ensures { result.bits ≡ bits }
+    {
+        Bitmask { bits }
+    }
 }
 
 impl Marks for Bitmask {
@@ -70,6 +79,17 @@ impl Iterator for Bitmask {
 pub struct Group {
     lanes: u8x16,
     ghost sixteen: { length lanes ≡ 16 },
+}
+
+impl Group {
+    /// The bits of the places that hold `byte`.
+    #[inline]
+    pub(crate) fn equal_bits(self, byte: u8) -> u16
+        ensures { TellsEqual self.lanes byte result }
+    {
+        let asked = u8x16::splat(byte);
+        self.lanes.simd_eq(asked).to_bitmask() as u16
+    }
 }
 
 impl GroupKind for Group {

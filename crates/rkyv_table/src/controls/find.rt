@@ -89,9 +89,43 @@ enum Seen {
     Full,
 }
 
-// Reads one stride in groups.
+// Reads one stride as one group.
 #[inline]
-fn scan<G: GroupKind, F: Fn(usize) -> bool>(
+fn scan_whole<G: GroupKind, F: Fn(usize) -> bool>(
+    stride: &[u8],
+    pos: usize,
+    cap: usize,
+    tag: u8,
+    cmp: &F,
+) -> Seen
+    requires one { G.kind.width ≡ 16 }
+    requires whole { length stride.now ≡ 16 }
+    requires small { cap < 2 ^ 63 }
+    requires fits { pos + 16 < 2 ^ 64 }
+    requires tag { tag < 128 }
+    requires below { (q : ℕ) → q < 16 → slice_index stride.now q < 128 → pos + q < 2 * cap }
+    requires callable { (b : ℕ) → IsShown stride.now pos cap b → F.pre cmp.now b }
+    ensures full { IsShownIfAccepted stride.now pos cap result }
+    ensures seen { (controls : List ℕ) → stride.now ≡ take 16 (drop pos controls)
+        → (accept : ℕ → Bool) → AnswersAs (F.post cmp.now) (IsShown stride.now pos cap) accept
+        → IsSeen G.kind controls cap tag pos accept result }
+{
+    let group = G::read(stride, 0);
+    match first_accepted(group.match_byte(tag), pos, cap, cmp) {
+        Some(bucket) => Seen::Accepted(bucket),
+        None => {
+            if group.match_empty().any_bit_set() {
+                Seen::Empty
+            } else {
+                Seen::Full
+            }
+        }
+    }
+}
+
+// Reads one stride in groups, one after the other.
+#[inline]
+fn scan_groups<G: GroupKind, F: Fn(usize) -> bool>(
     stride: &[u8],
     pos: usize,
     cap: usize,
@@ -121,6 +155,33 @@ fn scan<G: GroupKind, F: Fn(usize) -> bool>(
         }
     }
     if empty { Seen::Empty } else { Seen::Full }
+}
+
+// Reads one stride.
+#[inline]
+fn scan<G: GroupKind, F: Fn(usize) -> bool>(
+    stride: &[u8],
+    pos: usize,
+    cap: usize,
+    tag: u8,
+    cmp: &F,
+) -> Seen
+    requires whole { length stride.now ≡ 16 }
+    requires small { cap < 2 ^ 63 }
+    requires fits { pos + 16 < 2 ^ 64 }
+    requires tag { tag < 128 }
+    requires below { (q : ℕ) → q < 16 → slice_index stride.now q < 128 → pos + q < 2 * cap }
+    requires callable { (b : ℕ) → IsShown stride.now pos cap b → F.pre cmp.now b }
+    ensures full { IsShownIfAccepted stride.now pos cap result }
+    ensures seen { (controls : List ℕ) → stride.now ≡ take 16 (drop pos controls)
+        → (accept : ℕ → Bool) → AnswersAs (F.post cmp.now) (IsShown stride.now pos cap) accept
+        → IsSeen G.kind controls cap tag pos accept result }
+{
+    if G::WIDTH == 16 {
+        scan_whole::<G, F>(stride, pos, cap, tag, cmp)
+    } else {
+        scan_groups::<G, F>(stride, pos, cap, tag, cmp)
+    }
 }
 
 /// Finds the bucket of an item under `hash` that the comparison accepts.

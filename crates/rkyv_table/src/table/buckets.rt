@@ -6,12 +6,14 @@ ghost use Rattle.rkyv_base.specs.Writing.{Told, end_of};
 ghost use Rattle.rkyv_table.specs.Slots.{BucketNext, Filled, TooFar, WroteBuckets, filled};
 
 use rkyv_base::archive::Archive;
+use rkyv_base::element::Element;
 use rkyv_base::errors::{DistanceTooLarge, WriteError};
 use rkyv_base::lend::Lend;
 use rkyv_base::width::Width;
 use rkyv_base::writer::{Writer, append_in};
 
 // Fills one bucket: with zeros, or with the item, by the last resolver.
+#[inline]
 fn fill_bucket<W: Width, U: Archive<W>, X: Lend<U>>(
     slot: &Option<X>,
     rest: &mut Vec<U::Resolver>,
@@ -38,8 +40,9 @@ fn fill_bucket<W: Width, U: Archive<W>, X: Lend<U>>(
     }
 }
 
-// Writes the buckets from the highest to the first, each in one piece, an empty one as zeros.
-pub(crate) fn write_buckets<W: Width, S: Writer, U: Archive<W>, X: Lend<U>>(
+// Writes them by the scratch of one bucket, from the highest to the first, each in one piece, an empty one as zeros.
+#[inline]
+fn write_by<W: Width, S: Writer, U: Archive<W>, X: Lend<U>>(
     slots: &[Option<X>],
     resolvers: Vec<U::Resolver>,
     bucket: &mut [u8],
@@ -67,4 +70,27 @@ pub(crate) fn write_buckets<W: Width, S: Writer, U: Archive<W>, X: Lend<U>>(
         }
     }
     Ok(())
+}
+
+// Writes the buckets from the highest to the first, each in one piece, an empty one as zeros.
+pub(crate) fn write_buckets<W: Width, S: Writer, U: Archive<W>, X: Lend<U>>(
+    slots: &[Option<X>],
+    resolvers: Vec<U::Resolver>,
+    bucket: &mut [u8],
+    serializer: &mut S,
+) -> Result<(), WriteError<S::Fault>>
+    requires count { length resolvers.items ≡ filled slots.now }
+    requires room { length bucket.old ≡ U.Archived.shape.size }
+    requires within { end_of (S.output serializer.old) ≤ W.LIMIT }
+    ensures kept { length bucket.new ≡ U.Archived.shape.size }
+    ensures answer { let f = written_as X.lent U.format in let size = U.Archived.shape.size in let o = S.output serializer.old in let o' = S.output serializer.new in MatchResult result
+        (λ _. WroteBuckets size f W.LIMIT slots.now resolvers.items o o')
+        (Told W.LIMIT (BucketNext size f slots.now resolvers.items (end_of o)) (BucketFar size f slots.now resolvers.items (end_of o)) o o') }
+{
+    let size = <U::Archived as Element>::size();
+    if size <= 64 {
+        let mut local = [0u8; 64];
+        return write_by::<W, S, U, X>(slots, resolvers, &mut local[..size], serializer);
+    }
+    write_by::<W, S, U, X>(slots, resolvers, bucket, serializer)
 }

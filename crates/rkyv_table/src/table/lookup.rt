@@ -10,8 +10,8 @@ use crate::table::items::{FoundItem, Items};
 use rkyv_base::element::Element;
 use rkyv_base::view::View;
 use rkyv_base::width::Width;
-use rkyv_scan::Group;
 use rkyv_scan::simd::GroupKind;
+use rkyv_scan::simd::halves::Group;
 
 // Every lookup is one call of `find`.
 impl<'a, T: Element, W: Width> ArchivedHashTable<'a, T, W> {

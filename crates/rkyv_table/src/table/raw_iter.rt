@@ -1,5 +1,6 @@
 //! Walking over the items of a table.
-ghost use Rattle.std.specs.Prelude.{[], IfSome, MatchOption, Some, length, ◌∷◌, ◌≡◌};
+ghost use Rattle.std.specs.Prelude.{[], IfSome, MatchOption, Some, length, slice_index, take, ◌<◌, ◌≤◌, ◌∷◌, ◌≡◌};
+ghost use Rattle.rkyv_scan.specs.Groups.{is_full, mask_places, places_where};
 ghost use Rattle.std.specs.Iterator.{UpTo, at_most};
 ghost use Rattle.std.specs.Iterator.SizeHint.{IsWithinCount};
 ghost use Rattle.rkyv_base.specs.View.{IsAt, IsView, archive_of, place_of};
@@ -7,13 +8,13 @@ ghost use Rattle.rkyv_table.specs.Header.{len_at};
 ghost use Rattle.rkyv_table.specs.RawItems.{AllStand, TakesPlace};
 ghost use Rattle.rkyv_table.specs.Reading.{IsTable, item_places, table_bytes, table_place};
 
-use crate::controls::walk::Walk;
 use crate::table::ArchivedHashTable;
 use crate::table::items::Items;
 use rkyv_base::element::Element;
 use rkyv_base::view::View;
 use rkyv_base::width::Width;
-use rkyv_scan::Group;
+use rkyv_scan::simd::generic::{Bitmask, Group};
+use rkyv_scan::simd::{GroupKind, Marks};
 use std::marker::{Model, PhantomData};
 
 /// Where the items of a table stand, by ascending bucket: the positions of those that are still to
@@ -21,24 +22,44 @@ use std::marker::{Model, PhantomData};
 #[derive(Drop)]
 pub struct RawIter<'a, T> {
     archive: &'a [u8],
-    // The place of the first control, before which the buckets stand.
+    // The place before which the buckets of the current group stand.
     place: usize,
     // The bytes of a bucket.
     size: usize,
+    // How many items are left.
     count: usize,
-    walk: Walk<'a, Group>,
+    controls: &'a [u8],
+    // The first place of the current group.
+    base: usize,
+    // The full places of that group that are still to come.
+    marks: Bitmask,
     kind: PhantomData<T>,
 }
 
 impl<'a, T> Model for RawIter<'a, T> {
-    ghost use Rattle.std.specs.Prelude.{map};
-    ghost use Rattle.rkyv_table.specs.RawItems.{IsRawIter, ItemsLeft, place_before};
+    ghost use Rattle.rkyv_scan.specs.Groups.{mask_places};
+    ghost use Rattle.rkyv_table.specs.RawItems.{IsRawIter, ItemsLeft, places_left};
 
     ghost Value = { ItemsLeft };
 
-    ghost view = { λ r. record { archive = r.archive; places = map (place_before r.place r.size) r.walk } };
+    ghost view = { λ r. record { archive = r.archive; places = places_left r.place r.size r.count r.controls.now r.base (mask_places 8 7 8 r.marks.bits) } };
 
-    ghost invariant = { λ r. IsRawIter r.place r.size r.count r.walk };
+    ghost invariant = { λ r. IsRawIter r.place r.size r.count r.controls.now r.base (mask_places 8 7 8 r.marks.bits) };
+}
+
+/// The full places of the first group of controls, where there are items.
+#[inline]
+fn first_marks(controls: &[u8], len: usize) -> Bitmask
+    requires { 0 < len → 8 ≤ length controls.now }
+    ensures { 0 < len
+        → mask_places 8 7 8 result.bits
+        ≡ places_where (λ j. is_full (slice_index (take 8 controls.now) j)) 8 }
+{
+    if len == 0 {
+        Bitmask::EMPTY
+    } else {
+        Group::read(controls, 0).match_full()
+    }
 }
 
 impl<T> RawIter<'static, T> {
@@ -52,7 +73,9 @@ impl<T> RawIter<'static, T> {
             place: 0,
             size: 0,
             count: 0,
-            walk: Walk::empty(),
+            controls: &[],
+            base: 0,
+            marks: Bitmask::EMPTY,
             kind: PhantomData,
         }
     }
@@ -84,13 +107,17 @@ impl<'a, T> Iterator for RawIter<'a, T> {
 
     #[inline]
     fn next(&mut self) -> Option<u64> {
-        match self.walk.next() {
-            Some(bucket) => {
+        while self.count > 0 {
+            if let Some(j) = self.marks.lowest_set_bit() {
+                self.marks = self.marks.remove_lowest_bit();
                 self.count -= 1;
-                Some((self.place - (bucket + 1) * self.size) as u64)
+                return Some((self.place - (j + 1) * self.size) as u64);
             }
-            None => None,
+            self.base += Group::WIDTH;
+            self.place -= Group::WIDTH * self.size;
+            self.marks = Group::read(self.controls, self.base).match_full();
         }
+        None
     }
 
     #[inline]
@@ -126,7 +153,9 @@ impl<'a, T: Element, W: Width> ArchivedHashTable<'a, T, W> {
             place: items.place,
             size: T::size(),
             count: items.len,
-            walk: items.walk(),
+            controls: items.controls,
+            base: 0,
+            marks: first_marks(items.controls, items.len),
             kind: PhantomData,
         }
     }

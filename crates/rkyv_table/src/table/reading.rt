@@ -14,7 +14,7 @@ use rkyv_base::element::{Element, PartRange};
 use rkyv_base::errors::VerifyError;
 use rkyv_base::view::View;
 use rkyv_base::width::Width;
-use rkyv_scan::Group;
+use rkyv_scan::simd::lanes::Group;
 
 impl<'a, T: Element, W: Width> ArchivedHashTable<'a, T, W> {
     /// Looks whether the bytes at `pos` are the header of a table whose items stand in the range,

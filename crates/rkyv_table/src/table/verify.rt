@@ -9,13 +9,37 @@ ghost use Rattle.rkyv_table.specs.Table.{FailsInside, IsPart, bucket_at, part_si
 
 use crate::controls::numbers::control_count;
 use crate::controls::repeats::check_repeats;
-use crate::controls::walk::Walk;
 use crate::table::header::{begin_told, bucket_position, part_size, read_header};
 use rkyv_base::element::{Element, PartRange};
 use rkyv_base::errors::VerifyError;
 use rkyv_base::part::part_in;
 use rkyv_base::width::Width;
-use rkyv_scan::simd::GroupKind;
+use rkyv_scan::simd::{GroupKind, Marks};
+
+/// Checks the item in a bucket, and answers where its parts end.
+#[inline]
+fn check_item<T: Element>(
+    bytes: &[u8],
+    begin: u64,
+    cap: usize,
+    bucket: usize,
+    lo: u64,
+) -> Result<u64, VerifyError>
+    requires bucket { bucket < cap }
+    requires inside { begin + cap * T.shape.size ≤ length bytes.now }
+    requires aligned { begin % T.shape.align ≡ 0 }
+    requires ordered { lo ≤ begin }
+    ensures { MatchResult result
+        (λ rest. (lo ≤ rest) × (rest ≤ begin)
+        × T.shape.holds bytes.now (bucket_at T.shape.size begin cap bucket) lo begin rest)
+        (λ e. T.shape.fails bytes.now (bucket_at T.shape.size begin cap bucket) lo begin e) }
+{
+    let place = bucket_position(begin, cap, bucket, T::size());
+    match T::check(bytes, place, PartRange { lo, hi: begin }) {
+        Ok(rest) => Ok(rest.lo),
+        Err(e) => Err(e),
+    }
+}
 
 /// Checks the item in each full bucket, by ascending bucket, and counts them.
 fn check_items<G: GroupKind, T: Element>(
@@ -36,13 +60,27 @@ fn check_items<G: GroupKind, T: Element>(
 {
     let mut low = lo;
     let mut count = 0;
-    for bucket in Walk::<G>::new(controls, cap) {
-        let place = bucket_position(begin, cap, bucket, T::size());
-        match T::check(bytes, place, PartRange { lo: low, hi: begin }) {
-            Ok(rest) => low = rest.lo,
-            Err(e) => return Err(e),
+    let mut base = 0;
+    while G::WIDTH <= cap - base {
+        let mut marks = G::read(controls, base).match_full();
+        while let Some(j) = marks.lowest_set_bit() {
+            match check_item::<T>(bytes, begin, cap, base + j, low) {
+                Ok(rest) => low = rest,
+                Err(e) => return Err(e),
+            }
+            count += 1;
+            marks = marks.remove_lowest_bit();
         }
-        count += 1;
+        base += G::WIDTH;
+    }
+    for bucket in base..cap {
+        if controls[bucket] < 128 {
+            match check_item::<T>(bytes, begin, cap, bucket, low) {
+                Ok(rest) => low = rest,
+                Err(e) => return Err(e),
+            }
+            count += 1;
+        }
     }
     Ok(count)
 }

@@ -1,14 +1,31 @@
-use Rattle.std.proofs.Common.{◌∙◌, ◌<◌, ℕ, List, ap, length, map, sym}
-use Rattle.std.proofs.lemmas.List.{length-map}
+use Rattle.std.proofs.Common.{◌≡◌, ◌+◌, ◌*◌, ◌<◌, ◌∙◌, ℕ, List, ap, arith, length, map, sym}
 use Rattle.std.proofs.lemmas.List.Elements.{All-same}
+use Rattle.rkyv_scan.specs.Groups.{mask_places}
 use Rattle.rkyv_base.specs.Shape.{Viewed}
-use Rattle.rkyv_table.specs.Header.{cap_at, len_at}
+use Rattle.rkyv_table.specs.Header.{cap_at}
 use Rattle.rkyv_table.specs.Placing.{walk}
-use Rattle.rkyv_table.specs.RawItems.{IsBefore, place_before}
+use Rattle.rkyv_table.specs.RawItems.{IsAhead, buckets_left, place_before, places_left}
 use Rattle.rkyv_table.specs.Reading.{item_places, table_bytes, table_controls, table_place}
-use Rattle.rkyv_table.proofs.RawWalks.{places_viewed, read_places, read_before, walk_count}
+use Rattle.rkyv_table.proofs.Items.{controls_accepted}
+use Rattle.rkyv_table.proofs.RawSteps.{some_capacity, start_left}
+use Rattle.rkyv_table.proofs.RawWalks.{places_count, places_viewed, read_ahead, read_places, walk_count}
 use Rattle.rkyv_table.proofs.table.ArchivedHashTable.raw_iter.Goals as goal
 
+pub first_marks-requires : goal.first_marks-requires
+first_marks-requires g c = λ some.
+    let w = g.W.Width.word in
+    let s = g.T.Element.shape in
+    let items = c.of-items.result in
+    let are = c.of-items.ensures.items in
+    let law = g.met.T.Element.laws in
+    let b : List ℕ = table_bytes items.table in
+    let p : ℕ = table_place items.table in
+    let cap = some_capacity (table_controls w b p) (cap_at w b p) items.len (are.len ∙ sym (walk_count w s law b p are.table)) some in
+    let long = (controls_accepted w s law b p are.table cap).repeats.count in
+    let e = ap length (are.controls (rw are.cap cap)) in
+    omega (arith, long, e)
+
+-- the buckets that are left are those that are walked
 pub invariant_of-result : goal.invariant_of-result
 invariant_of-result g c =
     let w = g.W.Width.word in
@@ -18,11 +35,17 @@ invariant_of-result g c =
     let law = g.met.T.Element.laws in
     let b : List ℕ = table_bytes items.table in
     let p : ℕ = table_place items.table in
-    let small : cap_at w b p < 18446744073709551616 = rw are.cap at are.small in
-    let before = read_before w s law b p are.table small items.place (λ h. are.place (rw are.cap h)) in
+    let count : items.len ≡ length (walk (table_controls w b p) (cap_at w b p)) = are.len ∙ sym (walk_count w s law b p are.table) in
+    let marks : List ℕ = mask_places 8 7 8 c.first_marks.result.bits in
+    let cap = λ (some : 0 < items.len). some_capacity (table_controls w b p) (cap_at w b p) items.len count some in
+    let same = λ (some : 0 < items.len). are.controls (rw are.cap (cap some)) in
+    let left = start_left items.controls.now (table_controls w b p) (cap_at w b p) items.len marks count same
+    (λ some. rw (same some) (let long = (controls_accepted w s law b p are.table (cap some)).repeats.count in omega (arith, long))) c.first_marks.ensures in
+    let ahead = read_ahead w s law b p are.table items.place (λ h. are.place (rw are.cap h)) items.controls.now (λ h. are.controls (rw are.cap h)) in
+    let z : items.place + 0 * s.size ≡ items.place = omega arith in
     record {
-      counted = are.len ∙ sym (walk_count w s law b p are.table) ∙ sym (ap length c.walk.ensures);
-      before = rw c.size.ensures (All-same (IsBefore items.place s.size) c.walk.result (walk (table_controls w b p) (cap_at w b p)) c.walk.ensures before);
+      counted = count ∙ ap length (sym left);
+      ahead = rw (c.size.ensures, z) (All-same (IsAhead items.place s.size items.controls.now) (buckets_left items.len items.controls.now 0 marks) (walk (table_controls w b p) (cap_at w b p)) left ahead);
     }
 
 pub returns-clause-places : goal.returns-clause-places
@@ -32,22 +55,27 @@ returns-clause-places g c =
     let items = c.of-items.result in
     let are = c.of-items.ensures.items in
     let law = g.met.T.Element.laws in
-    ap (λ n. map (place_before items.place n) c.walk.result) c.size.ensures
-    ∙ ap (map (place_before items.place s.size)) c.walk.ensures
-    ∙ read_places w s law (table_bytes items.table) (table_place items.table) items.place (λ h. are.place (rw are.cap h))
+    let b : List ℕ = table_bytes items.table in
+    let p : ℕ = table_place items.table in
+    let count : items.len ≡ length (walk (table_controls w b p) (cap_at w b p)) = are.len ∙ sym (walk_count w s law b p are.table) in
+    let marks : List ℕ = mask_places 8 7 8 c.first_marks.result.bits in
+    let cap = λ (some : 0 < items.len). some_capacity (table_controls w b p) (cap_at w b p) items.len count some in
+    let same = λ (some : 0 < items.len). are.controls (rw are.cap (cap some)) in
+    let left = start_left items.controls.now (table_controls w b p) (cap_at w b p) items.len marks count same
+    (λ some. rw (same some) (let long = (controls_accepted w s law b p are.table (cap some)).repeats.count in omega (arith, long))) c.first_marks.ensures in
+    let z : items.place + 0 * s.size ≡ items.place = omega arith in
+    ap (λ n. places_left items.place n items.len items.controls.now 0 marks) c.size.ensures
+    ∙ ap (λ q. map (place_before q s.size) (buckets_left items.len items.controls.now 0 marks)) z
+    ∙ ap (map (place_before items.place s.size)) left
+    ∙ read_places w s law b p items.place (λ h. are.place (rw are.cap h))
     ∙ ap (λ t. item_places w s.size (table_bytes t) (table_place t)) c.of-items.ensures.table
 
 pub returns-clause-count : goal.returns-clause-count
 returns-clause-count g c =
     let w = g.W.Width.word in
     let s = g.T.Element.shape in
-    let items = c.of-items.result in
-    let are = c.of-items.ensures.items in
-    let law = g.met.T.Element.laws in
-    length-map c.walk.result (place_before items.place c.size.result)
-    ∙ ap length c.walk.ensures
-    ∙ walk_count w s law (table_bytes items.table) (table_place items.table) are.table
-    ∙ ap (λ t. len_at w (table_bytes t) (table_place t)) c.of-items.ensures.table
+    let t = c.args.self in
+    ap length (returns-clause-places g c) ∙ places_count w s g.met.T.Element.laws (table_bytes t) (table_place t) c.requires
 
 pub returns-clause-stand : goal.returns-clause-stand
 returns-clause-stand g c =
@@ -55,6 +83,6 @@ returns-clause-stand g c =
     let s = g.T.Element.shape in
     let t = c.args.self in
     let items = c.of-items.result in
-    let all = All-same (Viewed s (table_bytes t)) (map (place_before items.place c.size.result) c.walk.result) (item_places w s.size (table_bytes t) (table_place t))
+    let all = All-same (Viewed s (table_bytes t)) (places_left items.place c.size.result items.len items.controls.now 0 (mask_places 8 7 8 c.first_marks.result.bits)) (item_places w s.size (table_bytes t) (table_place t))
     (returns-clause-places g c) (places_viewed w s g.met.T.Element.laws (table_bytes t) (table_place t) c.requires) in
     rw c.bytes.ensures all

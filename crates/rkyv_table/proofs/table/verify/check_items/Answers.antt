@@ -1,35 +1,146 @@
-use Rattle.std.proofs.Common.{◌≡◌, ◌∙◌, ap, sym, subst, length, arith}
-use Rattle.rkyv_table.specs.PlaceLaws.{AllBelow}
-use Rattle.rkyv_table.specs.Places.{AllHold, FirstFails}
-use Rattle.rkyv_table.specs.Placing.{walk}
-use Rattle.rkyv_table.specs.Table.{bucket_at}
-use Rattle.rkyv_table.specs.TableLaws.{bucket_aligned, walk_below}
-use Rattle.rkyv_table.proofs.Walks.{walk_small}
+use Rattle.std.proofs.Common.{◌≡◌, ◌∙◌, ◌+◌, ◌≤◌, List, ap, arith, drop, ℕ, sym}
+use Rattle.rkyv_table.specs.Walking.{full_from}
+use Rattle.rkyv_table.proofs.ItemSteps.{below_head, below_rest, fewer, goes_end, goes_fails, goes_init, goes_same, goes_small, goes_step, marks_and_rest, marks_below, rest_group, rest_head, rest_none}
+use Rattle.rkyv_table.proofs.Search.{width_some}
+use Rattle.rkyv_table.proofs.SealedItems.{full_end, full_skipped, full_taken}
 use Rattle.rkyv_table.proofs.table.verify.check_items.Goals as goal
+use Rattle.rkyv_table.proofs.table.verify.check_items.Goals.{then-controls-bucket-lt128+in-Ok-check_item, else-controls-bucket-lt128}
 
-pub loop-bucket-init : goal.loop-bucket-init
-loop-bucket-init g c =
-    let s = g.T.Element.shape in
-    let e : c.into_iter-bucket-iterator.result ≡ walk c.args.controls.now c.args.cap = c.into_iter-bucket-iterator.ensures.into_iter_gives ∙ c.new-bucket-items.ensures in
-    let l = ap length e in
+pub loop-base-init : goal.loop-base-init
+loop-base-init g c = record {
+  below = omega arith;
+  goes = goes_init g.T.Element.shape c.args.begin c.args.cap c.args.bytes.now c.args.controls.now c.args.lo c.requires.ordered;
+}
+
+pub loop-j-init : goal.loop-j-init
+loop-j-init g c =
+    let w = g.G.GroupKind.kind.width in
+    let e : c.WIDTH.result ≡ w = c.WIDTH.ensures ∙ g.met.G.GroupKind.width in
+    let b = c.loop-base.base in
+    let t = c.loop-base-test.true in
+    let i = c.loop-base.invariant.below in
+    let marks : List ℕ = g.G.Mask.Marks.places c.match_full-marks.result in
+    let shows : List ℕ = g.G.GroupKind.controls c.read.result in
+    let inside : b + w ≤ c.args.cap = omega arith in
     record {
-      ordered = c.requires.ordered;
-      below = subst (AllBelow c.args.cap) (sym e) (walk_below c.args.controls.now c.args.cap);
-      counted = omega arith;
-      held = λ m h. subst (λ is. AllHold s (bucket_at s.size c.args.begin c.args.cap) c.args.bytes.now c.args.begin is c.args.lo m) e h;
-      failed = λ x h. subst (λ is. FirstFails s (bucket_at s.size c.args.begin c.args.cap) c.args.bytes.now c.args.begin is c.args.lo x) e h;
+      inside = inside;
+      below = marks_below shows w marks c.match_full-marks.ensures;
+      goes = goes_same g.T.Element.shape c.args.begin c.args.cap c.args.bytes.now c.args.controls.now c.args.lo (full_from c.args.controls.now c.args.cap b) (marks_and_rest c.args.controls.now c.args.cap b w marks) c.loop-base.low c.loop-base.count
+          (rest_group c.args.controls.now shows c.args.cap b w marks inside c.read.ensures c.match_full-marks.ensures) c.loop-base.invariant.goes;
     }
 
-pub check-requires-clause-aligned : goal.check-requires-clause-aligned
-check-requires-clause-aligned g c =
-    let s = g.T.Element.shape in
-    rw (c.bucket_position-place.ensures, c.size.ensures)
-    (bucket_aligned s g.met.T.Element.laws c.args.begin c.args.cap c.in-Some.bucket c.requires.aligned)
+pub overflow_add-base : goal.overflow_add-base
+overflow_add-base g c =
+    let l = below_head g.G.GroupKind.kind.width c.in-Some.j (g.G.Mask.Marks.places c.loop-j.marks) c.loop-j.invariant.below c.in-Some.ensures in
+    let i = c.loop-j.invariant.inside in
+    let r = c.ranges.cap.fits in
+    record { fits = omega arith }
+
+pub check_item-requires-clause-bucket : goal.check_item-requires-clause-bucket
+check_item-requires-clause-bucket g c =
+    let l = below_head g.G.GroupKind.kind.width c.in-Some.j (g.G.Mask.Marks.places c.loop-j.marks) c.loop-j.invariant.below c.in-Some.ensures in
+    let i = c.loop-j.invariant.inside in
+    omega arith
+
+pub returns-in-Err-clause-fails : goal.returns-in-Err-clause-fails
+returns-in-Err-clause-fails g c =
+    let w = g.G.GroupKind.kind.width in
+    let b = c.loop-base.base in
+    let marks : List ℕ = g.G.Mask.Marks.places c.loop-j.marks in
+    let rest : List ℕ = marks_and_rest c.args.controls.now c.args.cap b w (drop 1 marks) in
+    let here = goes_same g.T.Element.shape c.args.begin c.args.cap c.args.bytes.now c.args.controls.now c.args.lo _ _ c.loop-j.low c.loop-j.count
+    (rest_head c.args.controls.now c.args.cap b w c.in-Some.j marks c.in-Some.ensures) c.loop-j.invariant.goes in
+    goes_fails g.T.Element.shape c.args.begin c.args.cap c.args.bytes.now c.args.controls.now c.args.lo (b + c.in-Some.j) rest c.loop-j.low c.loop-j.count c.in-Err.e here c.in-Err.ensures
 
 pub overflow_add-count : goal.overflow_add-count
 overflow_add-count g c =
-    let l = ap length c.in-Some.ensures.steps in
-    let k = c.loop-bucket.invariant.counted in
-    let s = walk_small c.args.controls.now c.args.cap in
+    let w = g.G.GroupKind.kind.width in
+    let b = c.loop-base.base in
+    let marks : List ℕ = g.G.Mask.Marks.places c.loop-j.marks in
+    let rest : List ℕ = marks_and_rest c.args.controls.now c.args.cap b w (drop 1 marks) in
+    let here = goes_same g.T.Element.shape c.args.begin c.args.cap c.args.bytes.now c.args.controls.now c.args.lo _ _ c.loop-j.low c.loop-j.count
+    (rest_head c.args.controls.now c.args.cap b w c.in-Some.j marks c.in-Some.ensures) c.loop-j.invariant.goes in
+    let small = goes_small g.T.Element.shape c.args.begin c.args.cap c.args.bytes.now c.args.controls.now c.args.lo (b + c.in-Some.j) rest c.loop-j.low c.loop-j.count here in
     let r = c.ranges.cap.fits in
     record { fits = omega arith }
+
+pub loop-j-preserved : goal.loop-j-preserved
+loop-j-preserved g c =
+    let w = g.G.GroupKind.kind.width in
+    let b = c.loop-base.base in
+    let marks : List ℕ = g.G.Mask.Marks.places c.loop-j.marks in
+    let rest : List ℕ = marks_and_rest c.args.controls.now c.args.cap b w (drop 1 marks) in
+    let here = goes_same g.T.Element.shape c.args.begin c.args.cap c.args.bytes.now c.args.controls.now c.args.lo _ _ c.loop-j.low c.loop-j.count
+    (rest_head c.args.controls.now c.args.cap b w c.in-Some.j marks c.in-Some.ensures) c.loop-j.invariant.goes in
+    let step = goes_step g.T.Element.shape c.args.begin c.args.cap c.args.bytes.now c.args.controls.now c.args.lo (b + c.in-Some.j) rest c.loop-j.low c.loop-j.count c.in-Ok.rest here c.in-Ok.ensures.1 c.in-Ok.ensures.2 in
+    rw c.remove_lowest_bit-marks.ensures (record { inside = c.loop-j.invariant.inside; below = below_rest w marks c.loop-j.invariant.below; goes = step })
+
+pub loop-j-smaller : goal.loop-j-smaller
+loop-j-smaller g c = rw c.remove_lowest_bit-marks.ensures (fewer (g.G.Mask.Marks.places c.loop-j.marks) c.in-Some.j c.in-Some.ensures)
+
+pub loop-base-preserved : goal.loop-base-preserved
+loop-base-preserved g c =
+    let w = g.G.GroupKind.kind.width in
+    let b = c.loop-base.base in
+    let e : c.WIDTH-base.result ≡ w = c.WIDTH-base.ensures ∙ g.met.G.GroupKind.width in
+    let i = c.loop-j.invariant.inside in
+    record {
+      below = omega arith;
+      goes = goes_same g.T.Element.shape c.args.begin c.args.cap c.args.bytes.now c.args.controls.now c.args.lo _ _ c.loop-j.low c.loop-j.count
+          (rest_none c.args.controls.now c.args.cap b w (g.G.Mask.Marks.places c.loop-j.marks) c.in_default.ensures ∙ ap (λ z. full_from c.args.controls.now c.args.cap (b + z)) (sym e)) c.loop-j.invariant.goes;
+    }
+
+pub loop-base-smaller : goal.loop-base-smaller
+loop-base-smaller g c =
+    let e : c.WIDTH-base.result ≡ g.G.GroupKind.kind.width = c.WIDTH-base.ensures ∙ g.met.G.GroupKind.width in
+    let some = width_some g.G.GroupKind.kind g.met.G.GroupKind.lawful in
+    let i = c.loop-j.invariant.inside in
+    omega arith
+
+pub returns-in-Err-check_item-clause-fails : goal.returns-in-Err-check_item-clause-fails
+returns-in-Err-check_item-clause-fails g c =
+    let i = c.loop-bucket.bucket in
+    let here = goes_same g.T.Element.shape c.args.begin c.args.cap c.args.bytes.now c.args.controls.now c.args.lo _ _ c.loop-bucket.low c.loop-bucket.count
+    (full_taken c.args.controls.now c.args.cap i c.loop-bucket-test.true c.if-controls-bucket-lt128.true) c.loop-bucket.invariant.goes in
+    goes_fails g.T.Element.shape c.args.begin c.args.cap c.args.bytes.now c.args.controls.now c.args.lo i (full_from c.args.controls.now c.args.cap (i + 1)) c.loop-bucket.low c.loop-bucket.count c.in-Err-check_item.e here c.in-Err-check_item.ensures
+
+pub overflow_add-count-then-controls-bucket-lt128 : goal.overflow_add-count-then-controls-bucket-lt128
+overflow_add-count-then-controls-bucket-lt128 g c =
+    let i = c.loop-bucket.bucket in
+    let here = goes_same g.T.Element.shape c.args.begin c.args.cap c.args.bytes.now c.args.controls.now c.args.lo _ _ c.loop-bucket.low c.loop-bucket.count
+    (full_taken c.args.controls.now c.args.cap i c.loop-bucket-test.true c.if-controls-bucket-lt128.true) c.loop-bucket.invariant.goes in
+    let small = goes_small g.T.Element.shape c.args.begin c.args.cap c.args.bytes.now c.args.controls.now c.args.lo i (full_from c.args.controls.now c.args.cap (i + 1)) c.loop-bucket.low c.loop-bucket.count here in
+    let r = c.ranges.cap.fits in
+    record { fits = omega arith }
+
+pub loop-bucket-preserved : goal.loop-bucket-preserved
+loop-bucket-preserved g c =
+    let s = g.T.Element.shape in
+    let i = c.loop-bucket.bucket in
+    let rest : List ℕ = full_from c.args.controls.now c.args.cap (i + 1) in
+    record {
+      below = c.loop-bucket.invariant.below;
+      goes = elim c.if-controls-bucket-lt128.branch [
+        | then-controls-bucket-lt128+in-Ok-check_item w ↦
+            let here = goes_same s c.args.begin c.args.cap c.args.bytes.now c.args.controls.now c.args.lo _ _ c.loop-bucket.low c.loop-bucket.count
+            (full_taken c.args.controls.now c.args.cap i c.loop-bucket-test.true w.if-controls-bucket-lt128.true) c.loop-bucket.invariant.goes in
+            let step = goes_step s c.args.begin c.args.cap c.args.bytes.now c.args.controls.now c.args.lo i rest c.loop-bucket.low c.loop-bucket.count w.in-Ok-check_item.rest here w.in-Ok-check_item.ensures.1 w.in-Ok-check_item.ensures.2 in
+            rw (w.low-is, w.count-is) step
+        | else-controls-bucket-lt128 w ↦
+            let here = goes_same s c.args.begin c.args.cap c.args.bytes.now c.args.controls.now c.args.lo _ _ c.loop-bucket.low c.loop-bucket.count
+            (full_skipped c.args.controls.now c.args.cap i c.loop-bucket-test.true w.if-controls-bucket-lt128.false) c.loop-bucket.invariant.goes in
+            rw (w.low-is, w.count-is) here
+      ];
+    }
+
+pub returns-clause-hold : goal.returns-clause-hold
+returns-clause-hold g c =
+    let e = full_end c.args.controls.now c.args.cap c.loop-bucket.bucket c.loop-bucket-test.false in
+    (goes_end g.T.Element.shape c.args.begin c.args.cap c.args.bytes.now c.args.controls.now c.args.lo c.loop-bucket.low c.loop-bucket.count
+    (goes_same g.T.Element.shape c.args.begin c.args.cap c.args.bytes.now c.args.controls.now c.args.lo _ _ c.loop-bucket.low c.loop-bucket.count e c.loop-bucket.invariant.goes)).0
+
+pub returns-clause-count : goal.returns-clause-count
+returns-clause-count g c =
+    let e = full_end c.args.controls.now c.args.cap c.loop-bucket.bucket c.loop-bucket-test.false in
+    (goes_end g.T.Element.shape c.args.begin c.args.cap c.args.bytes.now c.args.controls.now c.args.lo c.loop-bucket.low c.loop-bucket.count
+    (goes_same g.T.Element.shape c.args.begin c.args.cap c.args.bytes.now c.args.controls.now c.args.lo _ _ c.loop-bucket.low c.loop-bucket.count e c.loop-bucket.invariant.goes)).1

@@ -1,18 +1,30 @@
-use Rattle.std.proofs.Common.{◌≡◌, ℕ, ◌+◌, ◌≤◌, length}
-use Rattle.rkyv_base.specs.declared.errors.VerifyError.{VerifyError}
+use Rattle.std.proofs.Common.{◌+◌, ◌-◌, ◌≤◌, length}
 use Rattle.rkyv_table.specs.PlaceLaws.{AllBelow}
-use Rattle.rkyv_table.specs.Places.{AllHold, FirstFails}
-use Rattle.rkyv_table.specs.Placing.{walk}
-use Rattle.rkyv_table.specs.Table.{bucket_at}
+use Rattle.rkyv_table.specs.Walking.{full_from}
+use Rattle.rkyv_table.proofs.ItemSteps.{Goes, marks_and_rest}
 use Rattle.rkyv_table.proofs.table.verify.check_items.Given as goal
+
+abbrev pub invariant-loop-base : goal.invariant-loop-base
+invariant-loop-base g l = record {
+  below : l.base ≤ l.cap;
+  goes : Goes g.T.Element.shape l.begin l.cap l.bytes l.controls l.lo (full_from l.controls l.cap l.base) l.low l.count;
+}
+
+abbrev pub decreases-loop-base : goal.decreases-loop-base
+decreases-loop-base g l = l.cap - l.base
+
+abbrev pub invariant-loop-j : goal.invariant-loop-j
+invariant-loop-j g l = record {
+  inside : l.base + g.G.GroupKind.kind.width ≤ l.cap;
+  below : AllBelow g.G.GroupKind.kind.width (g.G.Mask.Marks.places l.marks);
+  goes : Goes g.T.Element.shape l.begin l.cap l.bytes l.controls l.lo (marks_and_rest l.controls l.cap l.base g.G.GroupKind.kind.width (g.G.Mask.Marks.places l.marks)) l.low l.count;
+}
+
+abbrev pub decreases-loop-j : goal.decreases-loop-j
+decreases-loop-j g l = length (g.G.Mask.Marks.places l.marks)
 
 abbrev pub invariant-loop-bucket : goal.invariant-loop-bucket
 invariant-loop-bucket g l = record {
-  ordered : l.low ≤ l.begin;
-  below : AllBelow l.cap l.bucket-iterator;
-  counted : l.count + length l.bucket-iterator ≡ length (walk l.controls l.cap);
-  held : (m : ℕ) → AllHold g.T.Element.shape (bucket_at g.T.Element.shape.size l.begin l.cap) l.bytes l.begin l.bucket-iterator l.low m
-      → AllHold g.T.Element.shape (bucket_at g.T.Element.shape.size l.begin l.cap) l.bytes l.begin (walk l.controls l.cap) l.lo m;
-  failed : (e : VerifyError) → FirstFails g.T.Element.shape (bucket_at g.T.Element.shape.size l.begin l.cap) l.bytes l.begin l.bucket-iterator l.low e
-      → FirstFails g.T.Element.shape (bucket_at g.T.Element.shape.size l.begin l.cap) l.bytes l.begin (walk l.controls l.cap) l.lo e;
+  below : l.base ≤ l.cap;
+  goes : Goes g.T.Element.shape l.begin l.cap l.bytes l.controls l.lo (full_from l.controls l.cap l.bucket) l.low l.count;
 }

@@ -1,8 +1,8 @@
 use Rattle.std.proofs.Common.{arith, ◌≡◌, ◌+◌, ◌-◌}
 use Rattle.rkyv_base.specs.Pairs.{written_as}
 use Rattle.rkyv_table.proofs.BucketSteps.{Down, down_rooms, down_read, down_step, down_init, down_end, told_bucket, told_far}
-use Rattle.rkyv_table.proofs.table.buckets.write_buckets.Goals as goal
-use Rattle.rkyv_table.proofs.table.buckets.write_buckets.Goals.{In-loop-above}
+use Rattle.rkyv_table.proofs.table.buckets.write_by.Goals as goal
+use Rattle.rkyv_table.proofs.table.buckets.write_by.Goals.{In-loop-above}
 
 pub loop-above-init : goal.loop-above-init
 loop-above-init g c = record {

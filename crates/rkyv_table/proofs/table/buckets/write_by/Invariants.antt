@@ -1,7 +1,7 @@
 use Rattle.std.proofs.Common.{◌≡◌, length}
 use Rattle.rkyv_base.specs.Pairs.{written_as}
 use Rattle.rkyv_table.proofs.BucketSteps.{Down}
-use Rattle.rkyv_table.proofs.table.buckets.write_buckets.Given as goal
+use Rattle.rkyv_table.proofs.table.buckets.write_by.Given as goal
 
 abbrev pub invariant-loop-above : goal.invariant-loop-above
 invariant-loop-above g l = record {

@@ -5,8 +5,8 @@ use Rattle.rkyv_table.proofs.Groups.{candidates_in, empty_in, all_candidates, al
 use Rattle.rkyv_table.proofs.Search.{width_some}
 use Rattle.std.proofs.lemmas.Bool.{or_right}
 use Rattle.rkyv_table.proofs.Marks.{place_full, marked_shown}
-use Rattle.rkyv_table.proofs.controls.find.scan.Goals as goal
-use Rattle.rkyv_table.proofs.controls.find.scan.Goals.{then-any_bit_set, else-any_bit_set}
+use Rattle.rkyv_table.proofs.controls.find.scan_groups.Goals as goal
+use Rattle.rkyv_table.proofs.controls.find.scan_groups.Goals.{then-any_bit_set, else-any_bit_set}
 
 pub overflow_add-pos : goal.overflow_add-pos
 overflow_add-pos g c =

@@ -1,0 +1,77 @@
+-- The first element of a list that passes, a stretch at a time.
+use Rattle.std.proofs.Common.{◌≡◌, ℕ, ◌+◌, ◌<◌, ◌≤◌, ◌^◌, ◌-◌, Bool, true, false, not, cond, ltb, List, length, get_or, map, Option, Some, None, refl, sym, ap, subst, ◌∙◌, arith, ⊎_elim, w8}
+use Rattle.std.specs.List.{position, prefix_len}
+use Rattle.std.specs.Simd.Lanes.{mask_l}
+use Rattle.std.proofs.lemmas.Bool.{lt-ltb, le-ltb, cases_lt}
+use Rattle.std.proofs.lemmas.Option.{none-some}
+use Rattle.std.proofs.lemmas.List.{length-map}
+use Rattle.std.proofs.lemmas.List.Sums.{prefix_len_is, prefix_len_passes}
+use Rattle.std.proofs.lemmas.List.Quantifiers.{position-Some}
+use Rattle.std.proofs.lemmas.Nat.Bits.{bit_at-trailing_zeros}
+use Rattle.std.proofs.lemmas.Simd.{mask_l-lt, leading_from_mask_l, trailing_mask_l}
+use lib.Count.{count_trailing_zeros}
+
+-- none of the first n passes
+abbrev pub NoneBelow : (ℕ → Bool) → List ℕ → ℕ → Type 0
+NoneBelow p xs n = (k : ℕ) → k < n → p (get_or xs k 0) ≡ false
+
+told : (p : ℕ → Bool) (xs : List ℕ) (n : ℕ) → prefix_len (λ x. not (p x)) xs ≡ n → n < length xs → Some n ≡ position p xs
+told p xs n e l = sym (ap (λ m. cond (ltb m (length xs)) (Some m) None) e ∙ ap (λ b. cond b (Some n) None) (lt-ltb n (length xs) l))
+
+told_none : (p : ℕ → Bool) (xs : List ℕ) → prefix_len (λ x. not (p x)) xs ≡ length xs → None ≡ position p xs
+told_none p xs e = sym (ap (λ m. cond (ltb m (length xs)) (Some m) None) e ∙ ap (λ b. cond b (Some (length xs)) None) (le-ltb (length xs) (length xs) (omega arith)))
+
+-- of eight, by the mask of those that pass
+pub some_marked : (p : ℕ → Bool) (xs : List ℕ) → length xs ≡ 8 → (mask_l (map p xs) ≡ 0 → ⊥) → Some (count_trailing_zeros 64 (mask_l (map p xs))) ≡ position p xs
+some_marked p xs long some =
+    let m = mask_l (map p xs) in
+    let pos : 0 < m = omega arith in
+    let l : length (map p xs) ≡ 8 = length-map xs p ∙ long in
+    let small : m < 2 ^ 8 = subst (λ n. m < 2 ^ n) l (mask_l-lt (map p xs)) in
+    let below = bit_at-trailing_zeros w8 m pos small in
+    let e = trailing_mask_l p 8 xs (omega arith) pos in
+    let f = trailing_mask_l p 64 xs (omega arith) pos in
+    told p xs (count_trailing_zeros 64 m) (sym f) (omega (arith, below.0, e, f))
+
+pub none_marked : (p : ℕ → Bool) (xs : List ℕ) → mask_l (map p xs) ≡ 0 → None ≡ position p xs
+none_marked p xs e = told_none p xs (leading_from_mask_l p xs e)
+
+-- the stretch ys of xs from `at` on
+pub record IsStretch (xs ys : List ℕ) (at : ℕ) : Type 0 where
+  pub inside : at + length ys ≤ length xs
+  pub same : (k : ℕ) → k < length ys → get_or ys k 0 ≡ get_or xs (at + k) 0
+
+fails_from : (b : Bool) → not b ≡ true → b ≡ false
+fails_from true h = cc
+fails_from false h = refl
+
+none_there : (p : ℕ → Bool) (ys : List ℕ) → None ≡ position p ys → NoneBelow p ys (length ys)
+none_there p ys e k l =
+    ⊎_elim (λ (s : prefix_len (λ x. not (p x)) ys < length ys). absurd (none-some (prefix_len (λ x. not (p x)) ys) (e ∙ sym (told p ys (prefix_len (λ x. not (p x)) ys) refl s))))
+    (λ (g : length ys ≤ prefix_len (λ x. not (p x)) ys). fails_from (p (get_or ys k 0)) (prefix_len_passes (λ x. not (p x)) ys k 0 (omega arith)))
+    (cases_lt (prefix_len (λ x. not (p x)) ys) (length ys))
+
+both_below : (p : ℕ → Bool) (xs ys : List ℕ) (at n : ℕ) → IsStretch xs ys at → n ≤ length ys → NoneBelow p xs at → NoneBelow p ys n → NoneBelow p xs (at + n)
+both_below p xs ys at n s le before here k l =
+    ⊎_elim (λ (b : k < at). before k b)
+    (λ (g : at ≤ k).
+    let d : at + (k - at) ≡ k = omega arith in
+    let e : get_or ys (k - at) 0 ≡ get_or xs k 0 = s.same (k - at) (omega arith) ∙ ap (λ i. get_or xs i 0) d in
+    ap p (sym e) ∙ here (k - at) (omega arith))
+    (cases_lt k at)
+
+-- the first that passes of a stretch, before which none does
+pub stretch_hit : (p : ℕ → Bool) (xs ys : List ℕ) (at n : ℕ) → IsStretch xs ys at → NoneBelow p xs at → Some n ≡ position p ys → Some (at + n) ≡ position p xs
+stretch_hit p xs ys at n s before e =
+    let f = position-Some p ys n 0 (sym e) in
+    let i = s.inside in
+    let l = f.0 in
+    let hit : p (get_or xs (at + n) 0) ≡ true = ap p (sym (s.same n f.0)) ∙ f.1 in
+    told p xs (at + n) (prefix_len_is (λ x. not (p x)) xs (at + n) 0 (omega arith) (λ k m. ap not (both_below p xs ys at n s (omega arith) before f.2 k m)) (λ m. ap not hit)) (omega arith)
+
+pub stretch_miss : (p : ℕ → Bool) (xs ys : List ℕ) (at : ℕ) → IsStretch xs ys at → NoneBelow p xs at → None ≡ position p ys → NoneBelow p xs (at + length ys)
+stretch_miss p xs ys at s before e = both_below p xs ys at (length ys) s (omega arith) before (none_there p ys e)
+
+pub none_first : (p : ℕ → Bool) (xs : List ℕ) (n : ℕ) → length xs ≤ n → NoneBelow p xs n → None ≡ position p xs
+none_first p xs n le below =
+    told_none p xs (prefix_len_is (λ x. not (p x)) xs (length xs) 0 (omega arith) (λ k m. ap not (below k (omega arith))) (λ m. absurd (omega arith)))

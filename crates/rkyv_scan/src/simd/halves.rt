@@ -1,0 +1,86 @@
+//! Sixteen control bytes in one vector, marked as the eight wide group marks each half.
+ghost use Rattle.std.specs.Prelude.{◌≡◌, ℕ, ◌+◌, ◌*◌, ◌%◌, ◌<◌, ◌==◌, List, length, slice_index, bit_and, bit_xor};
+ghost use Rattle.std.specs.Int.{bit_at};
+ghost use Rattle.rkyv_scan.specs.Groups.{places_where, mask_places};
+ghost use Rattle.rkyv_scan.specs.Halves.{halves_kind, halves_lawful, is_half_match_at};
+ghost use Rattle.rkyv_scan.specs.HalfBits.{bits_after, chain};
+ghost use Rattle.std.proofs.Common.{refl};
+
+use crate::simd::GroupKind;
+use crate::simd::lanes::{self, Bitmask};
+
+/// Sixteen control bytes.
+///
+/// A match marks in each half what [`generic::Group`](crate::simd::generic::Group) marks there, so
+/// that a lookup by this group answers what a lookup by that one answers.
+#[derive(Clone, Copy)]
+pub struct Group {
+    both: lanes::Group,
+}
+
+/// Each mark moved to the place above it in the same half.
+#[inline]
+fn after(marks: u16) -> u16
+    ensures { result ≡ bits_after marks }
+{
+    (marks << 1) & 0xfefe
+}
+
+/// The marks, where a byte that differs in the lowest bit alone stands above a marked one.
+#[cold]
+#[inline(never)]
+fn chained(equal: u16, next: u16) -> u16
+    ensures { result ≡ chain equal next 7 }
+{
+    let mut marks = equal;
+    for step in 0..7usize {
+        marks = equal | (after(marks) & next);
+    }
+    marks
+}
+
+impl GroupKind for Group {
+    type Mask = Bitmask;
+
+    const WIDTH: usize = 16;
+
+    ghost WIDTH = { 16 };
+
+    ghost controls = { λ g. g.both.lanes };
+
+    ghost kind = { halves_kind };
+
+    ghost width = { refl };
+
+    ghost lawful = { halves_lawful };
+
+    #[inline]
+    fn read(bytes: &[u8], pos: usize) -> Self {
+        Group {
+            both: lanes::Group::read(bytes, pos),
+        }
+    }
+
+    #[inline]
+    fn match_byte(self, byte: u8) -> Bitmask {
+        let equal = self.both.equal_bits(byte);
+        if equal == 0 {
+            return Bitmask::of_bits(0);
+        }
+        let next = self.both.equal_bits(byte ^ 1);
+        if after(equal) & next == 0 {
+            return Bitmask::of_bits(equal);
+        }
+        Bitmask::of_bits(chained(equal, next))
+    }
+
+    #[inline]
+    fn match_empty(self) -> Bitmask {
+        self.both.match_empty()
+    }
+
+    #[inline]
+    fn match_full(self) -> Bitmask {
+        self.both.match_full()
+    }
+}

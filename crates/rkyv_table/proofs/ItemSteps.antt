@@ -1,0 +1,81 @@
+-- Checking the items, one after the other.
+use Rattle.std.proofs.Common.{◌≡◌, ℕ, ◌+◌, ◌-◌, ◌<◌, ◌≤◌, inl, inr, refl, sym, ap, subst, ◌∙◌, arith, List, [], ◌∷◌, ◌++◌, ltb, map, filter, drop, take, length, get_or, Some, None}
+use Rattle.std.specs.List.{range_with_len, slice_get}
+use Rattle.std.proofs.lemmas.Option.{none-some, same_Some}
+use Rattle.rkyv_base.specs.declared.errors.VerifyError.{VerifyError}
+use Rattle.rkyv_base.specs.Shape.{Shape}
+use Rattle.rkyv_scan.specs.Groups.{places_where}
+use Rattle.rkyv_table.specs.PlaceLaws.{AllBelow, range_below}
+use Rattle.rkyv_table.specs.Places.{AllHold, FirstFails, SomeHold}
+use Rattle.rkyv_table.specs.Placing.{walk}
+use Rattle.rkyv_table.specs.Table.{bucket_at}
+use Rattle.rkyv_table.specs.Walking.{full_from}
+use Rattle.rkyv_table.proofs.RawSteps.{group_cut, group_read}
+use Rattle.rkyv_table.proofs.Walks.{walk_small, whole_walk}
+
+-- the items in the buckets `rest` are still to be checked, from `low` on, after `count` that hold
+pub record Goes (s : Shape) (begin cap : ℕ) (b controls : List ℕ) (lo : ℕ) (rest : List ℕ) (low count : ℕ) : Type 0 where
+  pub ordered : low ≤ begin
+  pub counted : count + length rest ≡ length (walk controls cap)
+  pub held : (m : ℕ) → AllHold s (bucket_at s.size begin cap) b begin rest low m → AllHold s (bucket_at s.size begin cap) b begin (walk controls cap) lo m
+  pub failed : (e : VerifyError) → FirstFails s (bucket_at s.size begin cap) b begin rest low e → FirstFails s (bucket_at s.size begin cap) b begin (walk controls cap) lo e
+
+module _ (s : Shape) (begin cap : ℕ) (b controls : List ℕ) (lo : ℕ) where
+  pub goes_same : (rest rest' : List ℕ) (low count : ℕ) → rest ≡ rest' → Goes s begin cap b controls lo rest low count → Goes s begin cap b controls lo rest' low count
+  goes_same rest rest' low count e h = subst (λ is. Goes s begin cap b controls lo is low count) e h
+
+  pub goes_init : lo ≤ begin → Goes s begin cap b controls lo (full_from controls cap 0) lo 0
+  goes_init o = goes_same (walk controls cap) (full_from controls cap 0) lo 0 (sym (whole_walk controls cap)) (record { ordered = o; counted = omega arith; held = λ m h. h; failed = λ e h. h })
+
+  pub goes_step : (i : ℕ) (rest : List ℕ) (low count m : ℕ) → Goes s begin cap b controls lo (i ∷ rest) low count → m ≤ begin → s.holds b (bucket_at s.size begin cap i) low begin m → Goes s begin cap b controls lo rest m (count + 1)
+  goes_step i rest low count m g o h = record { ordered = o; counted = omega (arith, g.counted); held = λ n k. g.held n (m, h, k); failed = λ e k. g.failed e (inr (m, h, k)) }
+
+  pub goes_fails : (i : ℕ) (rest : List ℕ) (low count : ℕ) (e : VerifyError) → Goes s begin cap b controls lo (i ∷ rest) low count → s.fails b (bucket_at s.size begin cap i) low begin e → FirstFails s (bucket_at s.size begin cap) b begin (walk controls cap) lo e
+  goes_fails i rest low count e g f = g.failed e (inl f)
+
+  pub goes_end : (low count : ℕ) → Goes s begin cap b controls lo [] low count → SomeHold s (bucket_at s.size begin cap) b begin (walk controls cap) lo × (count ≡ length (walk controls cap))
+  goes_end low count g = ((low, g.held low refl), omega (arith, g.counted))
+
+  pub goes_small : (i : ℕ) (rest : List ℕ) (low count : ℕ) → Goes s begin cap b controls lo (i ∷ rest) low count → count + 1 ≤ cap
+  goes_small i rest low count g = omega (arith, g.counted, walk_small controls cap)
+
+-- ---- a group's marks and what is behind it
+
+abbrev pub marks_and_rest : List ℕ → ℕ → ℕ → ℕ → List ℕ → List ℕ
+marks_and_rest controls cap base width marks = map (λ j. base + j) marks ++ full_from controls cap (base + width)
+
+pub rest_head : (controls : List ℕ) (cap base width j : ℕ) (marks : List ℕ) → Some j ≡ slice_get marks 0 → marks_and_rest controls cap base width marks ≡ (base + j) ∷ marks_and_rest controls cap base width (drop 1 marks)
+rest_head controls cap base width j [] e = absurd (none-some j (sym e))
+rest_head controls cap base width j (x ∷ xs) e = ap (λ k. (base + k) ∷ marks_and_rest controls cap base width xs) (sym (same_Some j x e))
+
+pub rest_none : (controls : List ℕ) (cap base width : ℕ) (marks : List ℕ) → None ≡ slice_get marks 0 → marks_and_rest controls cap base width marks ≡ full_from controls cap (base + width)
+rest_none controls cap base width [] e = refl
+rest_none controls cap base width (x ∷ xs) e = absurd (none-some x e)
+
+pub rest_group : (controls g : List ℕ) (cap base width : ℕ) (marks : List ℕ) → base + width ≤ cap → g ≡ take width (drop base controls) → marks ≡ places_where (λ j. ltb (get_or g j 0) 128) width
+    → full_from controls cap base ≡ marks_and_rest controls cap base width marks
+unfolding full_from
+rest_group controls g cap base width marks le e is =
+    let read = group_read controls base width marks (is ∙ ap (λ (xs : List ℕ). places_where (λ j. ltb (get_or xs j 0) 128) width) e) in
+    sym (ap (λ xs. map (λ j. base + j) xs ++ filter (λ q. ltb (get_or controls q 0) 128) (range_with_len (base + width) (cap - (base + width)))) read
+    ∙ group_cut (λ q. ltb (get_or controls q 0) 128) cap base width le)
+
+pub marks_below : (g : List ℕ) (width : ℕ) (marks : List ℕ) → marks ≡ places_where (λ j. ltb (get_or g j 0) 128) width → AllBelow width marks
+unfolding places_where
+marks_below g width marks e = subst (AllBelow width) (sym e) (range_below (λ j. ltb (get_or g j 0) 128) width)
+
+pub below_head : (width j : ℕ) (marks : List ℕ) → AllBelow width marks → Some j ≡ slice_get marks 0 → j < width
+below_head width j [] h e = absurd (none-some j (sym e))
+below_head width j (x ∷ xs) h e = subst (λ k. k < width) (sym (same_Some j x e)) h.0
+
+pub below_rest : (width : ℕ) (marks : List ℕ) → AllBelow width marks → AllBelow width (drop 1 marks)
+below_rest width [] h = h
+below_rest width (x ∷ xs) h = h.1
+
+pub fewer : (marks : List ℕ) (j : ℕ) → Some j ≡ slice_get marks 0 → length (drop 1 marks) < length marks
+fewer [] j e = absurd (none-some j (sym e))
+fewer (x ∷ xs) j e = omega arith
+
+pub some_mark : (marks : List ℕ) (j : ℕ) → Some j ≡ slice_get marks 0 → 0 < length marks
+some_mark [] j e = absurd (none-some j (sym e))
+some_mark (x ∷ xs) j e = omega arith

@@ -1,0 +1,197 @@
+-- The steps of a walk over items, by count.
+use Rattle.std.proofs.Common.{◌≡◌, ℕ, zero, suc, ◌+◌, ◌-◌, ◌*◌, ◌<◌, ◌≤◌, inl, inr, refl, sym, ap, ◌∙◌, arith, List, [], ◌∷◌, ◌++◌, Bool, ltb, map, filter, drop, take, length, get_or, Some, None, get_or-take, get_or-drop}
+use Rattle.std.specs.List.{range_with_len, slice_get}
+use Rattle.std.proofs.lemmas.Bool.{cases_eq}
+use Rattle.std.proofs.lemmas.Option.{none-some, same_Some}
+use Rattle.std.proofs.lemmas.List.{take-append-le, take_all}
+use Rattle.std.proofs.Math.Nat.{mul-le-mul_right}
+use Rattle.std.proofs.lemmas.List.Elements.{All-head, All-rest, All-same, filter-append}
+use Rattle.rkyv_scan.specs.Groups.{places_where}
+use Rattle.rkyv_table.specs.Numbers.{control_count}
+use Rattle.rkyv_table.specs.Placing.{walk}
+use Rattle.rkyv_table.specs.RawItems.{IsAhead, IsRawIter, buckets_left, marked_left, place_before, places_left}
+use Rattle.rkyv_table.specs.Walking.{full_from}
+use Rattle.rkyv_table.proofs.FirstFree.{head_filter}
+use Rattle.rkyv_table.proofs.Groups.{filter_shift, range_append}
+use Rattle.rkyv_table.proofs.Lists.{first_range}
+use Rattle.rkyv_table.proofs.Walks.{filter_agree_range, walk_small}
+
+head_marked : (controls : List ℕ) (base j : ℕ) (marks : List ℕ) → Some j ≡ slice_get marks 0 → marked_left controls base marks ≡ (base + j) ∷ marked_left controls base (drop 1 marks)
+unfolding marked_left
+head_marked controls base j [] e = absurd (none-some j (sym e))
+head_marked controls base j (x ∷ xs) e = ap (λ k. (base + k) ∷ (map (λ j. base + j) xs ++ full_from controls (length controls) (base + 8))) (sym (same_Some j x e))
+
+none_marked : (controls : List ℕ) (base : ℕ) (marks : List ℕ) → None ≡ slice_get marks 0 → marked_left controls base marks ≡ full_from controls (length controls) (base + 8)
+unfolding marked_left
+none_marked controls base [] e = refl
+none_marked controls base (x ∷ xs) e = absurd (none-some x e)
+
+-- the full places of a group and those behind it
+pub group_cut : (F : ℕ → Bool) (end base w : ℕ) → base + w ≤ end → map (λ j. base + j) (filter (λ j. F (base + j)) (range_with_len 0 w)) ++ filter F (range_with_len (base + w) (end - (base + w))) ≡ filter F (range_with_len base (end - base))
+group_cut F end base w le =
+    let n = end - (base + w) in
+    let s = filter_shift F (λ j. F (base + j)) base 0 w (λ j lo hi. refl) in
+    let z : base + 0 ≡ base = omega arith in
+    let s' = rw z at s in
+    let d : end - base ≡ w + n = omega arith in
+    ap (λ xs. xs ++ filter F (range_with_len (base + w) n)) (sym s')
+    ∙ sym (ap (λ k. filter F (range_with_len base k)) d ∙ ap (filter F) (range_append base w n) ∙ filter-append F (range_with_len base w) (range_with_len (base + w) n))
+
+pub group_read : (controls : List ℕ) (base w : ℕ) (marks : List ℕ) → marks ≡ places_where (λ j. ltb (get_or (take w (drop base controls)) j 0) 128) w
+    → marks ≡ filter (λ j. ltb (get_or controls (base + j) 0) 128) (range_with_len 0 w)
+unfolding places_where
+group_read controls base w marks e =
+    e ∙ filter_agree_range (λ j. ltb (get_or (take w (drop base controls)) j 0) 128) (λ j. ltb (get_or controls (base + j) 0) 128) 0 w
+    (λ j lo hi. ap (λ x. ltb x 128) (get_or-take w (drop base controls) j 0 (omega arith) ∙ get_or-drop base controls j 0))
+
+-- a group that is read anew
+group_marked : (controls : List ℕ) (base : ℕ) (marks : List ℕ) → base + 8 ≤ length controls → marks ≡ places_where (λ j. ltb (get_or (take 8 (drop base controls)) j 0) 128) 8
+    → marked_left controls base marks ≡ full_from controls (length controls) base
+unfolding marked_left full_from
+group_marked controls base marks le e =
+    ap (λ xs. map (λ j. base + j) xs ++ filter (λ q. ltb (get_or controls q 0) 128) (range_with_len (base + 8) (length controls - (base + 8)))) (group_read controls base 8 marks e)
+    ∙ group_cut (λ q. ltb (get_or controls q 0) 128) (length controls) base 8 le
+
+-- the first full place from b on
+full_head : (controls : List ℕ) (n b q : ℕ) (rest : List ℕ) → full_from controls n b ≡ q ∷ rest → b ≤ q
+unfolding full_from
+full_head controls n b q rest e =
+    let F = λ (q : ℕ). ltb (get_or controls q 0) 128 in
+    let f = first_range F b (n - b) q (sym (head_filter F (range_with_len b (n - b))) ∙ ap (λ xs. slice_get xs 0) e) in
+    f.from
+
+take_cons : (n x : ℕ) (xs : List ℕ) → 0 < n → take n (x ∷ xs) ≡ x ∷ take (n - 1) xs
+take_cons zero x xs h = absurd (omega arith)
+take_cons (suc n) x xs h = let e : suc n - 1 ≡ n = omega arith in ap (λ k. x ∷ take k xs) (sym e)
+
+split_head : (xs : List ℕ) → 0 < length xs → (x : ℕ) × (rest : List ℕ) × (xs ≡ x ∷ rest)
+split_head [] h = absurd (omega arith)
+split_head (x ∷ xs) h = (x, xs, refl)
+
+module _ (place size count : ℕ) (controls : List ℕ) (base : ℕ) (marks : List ℕ) (is : IsRawIter place size count controls base marks) where
+  head_left : (j : ℕ) → 0 < count → Some j ≡ slice_get marks 0 → buckets_left count controls base marks ≡ (base + j) ∷ buckets_left (count - 1) controls base (drop 1 marks)
+  unfolding buckets_left
+  head_left j some e = ap (take count) (head_marked controls base j marks e) ∙ take_cons count (base + j) (marked_left controls base (drop 1 marks)) some
+
+  head_ahead : (j : ℕ) → 0 < count → Some j ≡ slice_get marks 0 → IsAhead (place + base * size) size controls (base + j)
+  head_ahead j some e =
+      All-head (IsAhead (place + base * size) size controls) (base + j) (buckets_left (count - 1) controls base (drop 1 marks))
+      (All-same (IsAhead (place + base * size) size controls) ((base + j) ∷ buckets_left (count - 1) controls base (drop 1 marks)) (buckets_left count controls base marks) (sym (head_left j some e)) is.ahead)
+
+  -- the bucket of the lowest mark stands before the place
+  pub head_before : (j : ℕ) → 0 < count → Some j ≡ slice_get marks 0 → (j + 8 ≤ length controls) × ((j + 1) * size ≤ place)
+  head_before j some e =
+      let h = head_ahead j some e in
+      let p : (base + j + 1) * size ≡ base * size + (j + 1) * size = omega arith in
+      (omega (arith, h.0), omega (arith, h.1, p))
+
+  pub head_places : (j : ℕ) → 0 < count → Some j ≡ slice_get marks 0 → places_left place size count controls base marks ≡ (place - (j + 1) * size) ∷ places_left place size (count - 1) controls base (drop 1 marks)
+  head_places j some e =
+      let p : (base + j + 1) * size ≡ base * size + (j + 1) * size = omega arith in
+      let q : place + base * size - (base + j + 1) * size ≡ place - (j + 1) * size = omega (arith, p) in
+      ap (map (place_before (place + base * size) size)) (head_left j some e)
+      ∙ ap (λ x. x ∷ places_left place size (count - 1) controls base (drop 1 marks)) q
+
+  pub head_keeps : (j : ℕ) → 0 < count → Some j ≡ slice_get marks 0 → IsRawIter place size (count - 1) controls base (drop 1 marks)
+  head_keeps j some e =
+      let h = head_left j some e in
+      let l = ap length h in
+      record {
+        counted = omega (arith, is.counted, l);
+        ahead = All-rest (IsAhead (place + base * size) size controls) (base + j) (buckets_left (count - 1) controls base (drop 1 marks)) (buckets_left count controls base marks) h is.ahead;
+      }
+
+  -- no mark is left, and some bucket is
+  rest_left : None ≡ slice_get marks 0 → buckets_left count controls base marks ≡ take count (full_from controls (length controls) (base + 8))
+  unfolding buckets_left
+  rest_left e = ap (take count) (none_marked controls base marks e)
+
+  next_ahead : 0 < count → None ≡ slice_get marks 0 → (q : ℕ) × (base + 8 ≤ q) × IsAhead (place + base * size) size controls q
+  next_ahead some e =
+      let r = rest_left e in
+      let full = full_from controls (length controls) (base + 8) in
+      let long : 0 < length full = elim (cases_eq (length full) 0) [
+        | inl z ↦ let t = take_all count full (omega arith) in omega (arith, is.counted, ap length r, ap length t)
+        | inr nz ↦ omega arith
+      ] in
+      let h = split_head full long in
+      let t = r ∙ ap (take count) h.2 ∙ take_cons count h.0 h.1 some in (
+        h.0,
+        full_head controls (length controls) (base + 8) h.0 h.1 h.2,
+        All-head (IsAhead (place + base * size) size controls) h.0 (take (count - 1) h.1)
+            (All-same (IsAhead (place + base * size) size controls) (h.0 ∷ take (count - 1) h.1) (buckets_left count controls base marks) (sym t) is.ahead),
+      )
+
+  -- the next group lies inside the controls, and its buckets before the place
+  pub next_inside : 0 < count → None ≡ slice_get marks 0 → (base + 16 ≤ length controls) × (8 * size ≤ place)
+  next_inside some e =
+      let h = next_ahead some e in
+      let m = mul-le-mul_right {m = base + 9} {n = h.0 + 1} size (omega (arith, h.1)) in
+      (omega (arith, h.1, h.2.0), omega (arith, h.2.1, m))
+
+  module _ (some : 0 < count) (none : None ≡ slice_get marks 0) (marks' : List ℕ) (read : marks' ≡ places_where (λ j. ltb (get_or (take 8 (drop (base + 8) controls)) j 0) 128) 8) where
+    next_left : buckets_left count controls base marks ≡ buckets_left count controls (base + 8) marks'
+    unfolding buckets_left
+    next_left =
+        let h = next_inside some none in
+        rest_left none ∙ sym (ap (take count) (group_marked controls (base + 8) marks' (omega (arith, h.0)) read))
+
+    next_place : place - 8 * size + (base + 8) * size ≡ place + base * size
+    next_place =
+        let h = next_inside some none in
+        let p : (base + 8) * size ≡ base * size + 8 * size = omega arith in
+        omega (arith, p, h.1)
+
+    pub next_places : places_left place size count controls base marks ≡ places_left (place - 8 * size) size count controls (base + 8) marks'
+    next_places =
+        ap (map (place_before (place + base * size) size)) next_left
+        ∙ ap (λ z. map (place_before z size) (buckets_left count controls (base + 8) marks')) (sym next_place)
+
+    pub next_keeps : IsRawIter (place - 8 * size) size count controls (base + 8) marks'
+    next_keeps = record {
+      counted = is.counted ∙ ap length next_left;
+      ahead = All-same (IsAhead (place - 8 * size + (base + 8) * size) size controls) (buckets_left count controls (base + 8) marks') (buckets_left count controls base marks) (sym next_left)
+          (rw next_place is.ahead);
+    }
+
+-- nothing is left
+pub end_left : (count : ℕ) (controls : List ℕ) (base : ℕ) (marks : List ℕ) → count ≡ 0 → buckets_left count controls base marks ≡ []
+unfolding buckets_left
+end_left count controls base marks e = ap (λ n. take n (marked_left controls base marks)) e
+
+pub end_places : (place size count : ℕ) (controls : List ℕ) (base : ℕ) (marks : List ℕ) → count ≡ 0 → places_left place size count controls base marks ≡ []
+end_places place size count controls base marks e = ap (map (place_before (place + base * size) size)) (end_left count controls base marks e)
+
+-- the walked buckets are the first full places
+walked_first : (controls : List ℕ) (cap : ℕ) → cap ≤ length controls → take (length (walk controls cap)) (full_from controls (length controls) 0) ≡ walk controls cap
+unfolding full_from walk
+walked_first controls cap le =
+    let F = λ (q : ℕ). ltb (get_or controls q 0) 128 in
+    let n = length controls - cap in
+    let d : length controls - 0 ≡ cap + n = omega arith in
+    let xs = filter F (range_with_len 0 cap) in
+    let ys = filter F (range_with_len (0 + cap) n) in
+    let cut = ap (λ k. filter F (range_with_len 0 k)) d ∙ ap (filter F) (range_append 0 cap n) ∙ filter-append F (range_with_len 0 cap) (range_with_len (0 + cap) n) in
+    ap (take (length xs)) cut ∙ take-append-le (length xs) xs ys (omega arith) ∙ take_all (length xs) xs (omega arith)
+
+no_length : (xs : List ℕ) → length xs ≡ 0 → xs ≡ []
+no_length [] e = refl
+no_length (x ∷ xs) e = absurd (omega arith)
+
+pub start_left : (controls shown : List ℕ) (cap len : ℕ) (marks : List ℕ) → len ≡ length (walk shown cap) → (0 < len → controls ≡ shown) → (0 < len → control_count cap ≤ length controls)
+    → (0 < len → marks ≡ places_where (λ j. ltb (get_or (take 8 controls) j 0) 128) 8) → buckets_left len controls 0 marks ≡ walk shown cap
+unfolding buckets_left
+start_left controls shown cap len marks count same long read =
+    elim (cases_eq len 0) [
+      | inl z ↦ end_left len controls 0 marks z ∙ sym (no_length (walk shown cap) (omega arith))
+      | inr nz ↦
+          let some : 0 < len = omega arith in
+          let l = long some in
+          let e = same some in
+          let w = ap (λ xs. walk xs cap) e in
+          ap (take len) (group_marked controls 0 marks (omega arith) (read some))
+          ∙ ap (λ n. take n (full_from controls (length controls) 0)) (count ∙ ap length (sym w)) ∙ walked_first controls cap (omega arith) ∙ w
+    ]
+
+pub some_capacity : (controls : List ℕ) (cap len : ℕ) → len ≡ length (walk controls cap) → 0 < len → 0 < cap
+some_capacity controls cap len e some = omega (arith, walk_small controls cap)
