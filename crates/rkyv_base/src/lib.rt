@@ -17,8 +17,6 @@ pub mod scalars;
 pub mod seal;
 pub mod seal_text;
 pub mod strings;
-#[cfg(test)]
-mod tests;
 pub mod text;
 pub mod unit;
 pub mod view;

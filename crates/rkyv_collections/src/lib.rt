@@ -4,8 +4,6 @@
 pub mod map;
 pub mod set;
 pub mod std_maps;
-#[cfg(test)]
-mod tests;
 
 pub use map::iter::{Iter, Keys, Values};
 pub use map::iter_seal::{IterMut, ValuesMut};

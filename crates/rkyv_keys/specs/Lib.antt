@@ -3,7 +3,6 @@ pub mod Calls
 pub mod Equality
 pub mod Fixed
 pub mod Keys
-pub mod LowByte
 pub mod OfEntries
 pub mod OfScalars
 pub mod OfTexts

@@ -9,8 +9,6 @@ pub mod keys;
 pub mod laws;
 pub mod reading;
 pub mod scalars;
-#[cfg(test)]
-mod tests;
 pub mod texts;
 pub mod units;
 pub mod views;

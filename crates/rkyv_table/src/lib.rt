@@ -3,8 +3,6 @@
 
 pub mod controls;
 pub mod table;
-#[cfg(test)]
-mod tests;
 
 pub use controls::find::Strides;
 pub use table::raw_iter::RawIter;

@@ -1,0 +1,17 @@
+//! Tests of `rkyv_collections`: worked examples, and one call of each public function.
+#![tactic(auto)]
+
+#[cfg(test)]
+mod lists;
+#[cfg(test)]
+mod nested;
+#[cfg(test)]
+mod reading;
+#[cfg(test)]
+mod sealed;
+#[cfg(test)]
+mod sets;
+#[cfg(test)]
+mod std_maps;
+#[cfg(test)]
+mod writing;

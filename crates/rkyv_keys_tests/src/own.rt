@@ -1,0 +1,173 @@
+//! A user's own element: a number that is compared by its low byte, and asked for by it.
+ghost use Rattle.std.specs.Prelude.{◌≡◌, MatchResult};
+ghost use Rattle.std.specs.Int.{w32};
+ghost use Rattle.rkyv_base.specs.Bytes.{number_at};
+ghost use Rattle.rkyv_base.specs.View.{IsView, StandsAt};
+ghost use Rattle.rkyv_keys.specs.Calls.{after_calls};
+ghost use Rattle.rkyv_keys.specs.Places.{at_view, at_views};
+ghost use Rattle.rkyv_keys_tests.specs.LowByte.{
+  byte_call,
+  low_calls,
+  low_element,
+  low_equivalence,
+  low_fits,
+  low_key,
+  low_near,
+  low_query,
+  low_refuses,
+  low_same,
+  low_shape,
+  low_stands,
+};
+
+use rkyv_base::access::access;
+use rkyv_base::element::{Element, PartRange, StandsFor};
+use rkyv_base::errors::{ReadError, VerifyError};
+use rkyv_base::root::to_bytes;
+use rkyv_base::view::View;
+use rkyv_keys::equality::{ElementEq, ElementEquiv};
+use rkyv_keys::hash::{KeyHash, hash_value};
+use rkyv_keys::keys::{KeyElement, Query};
+use rkyv_keys::reading::Deserialize;
+use rkyv_scan::hash::{FxHasher64, KeyHasher};
+use std::alloc::Global;
+use std::test::Fail;
+
+struct LowByte;
+
+impl Element for LowByte {
+    ghost shape = { low_shape };
+
+    fn size() -> usize {
+        4
+    }
+
+    fn align() -> usize {
+        4
+    }
+
+    fn check(bytes: &[u8], pos: u64, range: PartRange) -> Result<PartRange, VerifyError> {
+        u32::check(bytes, pos, range)
+    }
+
+    ghost laws = { low_element };
+}
+
+fn number(view: View<'_, LowByte>) -> u32
+    requires { IsView low_shape view }
+    ensures { result ≡ at_view (number_at w32) view.entry }
+{
+    view.at::<u32>(view.pos()).to_native()
+}
+
+impl ElementEq for LowByte {
+    ghost same = { low_same };
+
+    fn same(a: View<'_, LowByte>, b: View<'_, LowByte>) -> bool
+        requires a { IsView low_shape a }
+        requires b { IsView low_shape b }
+        ensures { result ≡ at_views low_same a.entry b.entry }
+    {
+        number(a) % 256 == number(b) % 256
+    }
+}
+
+impl ElementEquiv for LowByte {
+    ghost equivalence = { low_equivalence };
+}
+
+impl KeyElement for LowByte {
+    ghost key_calls = { low_calls };
+
+    fn hash_view<H: KeyHasher>(view: View<'_, LowByte>, state: &mut H)
+        requires { IsView low_shape view }
+        ensures { state.new ≡ after_calls H.feed state.old (at_view low_calls view.entry) }
+    {
+        state.write_u8((number(view) % 256) as u8);
+    }
+
+    ghost key = { low_key };
+}
+
+struct EndsIn(u8);
+
+impl KeyHash for EndsIn {
+    ghost calls = { λ q. byte_call q.0 };
+
+    fn hash<H: KeyHasher>(&self, state: &mut H) {
+        state.write_u8(self.0);
+    }
+}
+
+impl Query<LowByte> for EndsIn {
+    ghost fits = { low_fits (λ q. q.0) };
+
+    fn same(&self, key: View<'_, LowByte>) -> bool
+        requires { IsView low_shape key }
+        ensures { result ≡ at_view (low_fits (λ q. q.0) self.now) key.entry }
+    {
+        u32::from(self.0) == number(key) % 256
+    }
+
+    ghost query = { low_query (λ q. q.0) };
+}
+
+impl StandsFor<u32> for LowByte {
+    ghost stands = { low_stands };
+
+    ghost near = { low_near };
+}
+
+// A number whose low byte is 0 is refused with 7.
+impl Deserialize<u32> for LowByte {
+    ghost refuses = { low_refuses };
+
+    fn deserialize(_alloc: Global, view: View<'_, LowByte>) -> Result<u32, ReadError>
+        requires { IsView low_shape view }
+        ensures { MatchResult result
+            (StandsAt low_stands view.entry)
+            (StandsAt low_refuses view.entry) }
+    {
+        let value = number(view);
+        if value % 256 == 0 {
+            return Err(ReadError::Refused(7));
+        }
+        Ok(value)
+    }
+}
+
+#[test]
+fn a_low_byte_is_a_key(rt: HostRuntime) -> Result<(), Fail> {
+    let (first, second, third) = (
+        to_bytes(rt.alloc(), &0x0101u32)?,
+        to_bytes(rt.alloc(), &0x0201u32)?,
+        to_bytes(rt.alloc(), &0x0100u32)?,
+    );
+    let a = access::<LowByte>(first.as_slice())?;
+    let b = access::<LowByte>(second.as_slice())?;
+    let c = access::<LowByte>(third.as_slice())?;
+    let same = [
+        LowByte::same(a, b),
+        LowByte::same(a, c),
+        EndsIn(1).same(a),
+        EndsIn(1).same(b),
+        EndsIn(1).same(c),
+    ];
+    let mut state = FxHasher64::default();
+    LowByte::hash_view(b, &mut state);
+    let read = LowByte::deserialize(rt.alloc(), b).ok();
+    let refused = matches!(
+        LowByte::deserialize(rt.alloc(), c),
+        Err(ReadError::Refused(7))
+    );
+    assert_eq!(rt;
+        (same, state.finish(), read, refused),
+        (
+            [true, false, true, true, false],
+            hash_value::<EndsIn, FxHasher64>(&EndsIn(1)),
+            Some(0x0201),
+            true
+        )
+    );
+    Ok(())
+}

@@ -1,0 +1,45 @@
+//! Keys that are archived and asked for by themselves.
+ghost use Rattle.std.specs.Prelude.{◌≡◌, IfOk, true};
+
+use rkyv_base::access::access_in;
+use rkyv_base::archive::Serialize;
+use rkyv_base::errors::WriteError;
+use rkyv_base::root::to_bytes_in;
+use rkyv_base::width::{Narrow, Wide, Width};
+use rkyv_base::writer::{NoMemory, VecWriter};
+use rkyv_keys::keys::{KeyElement, NativeKey};
+use std::alloc::Global;
+use std::test::Fail;
+
+// Whether the archive of a key is asked for by the key itself: wherever it can be made.
+fn finds_itself<W: Width, V: Serialize<VecWriter, W> + NativeKey<V::Archived>>(
+    alloc: Global,
+    key: &V,
+) -> Result<bool, WriteError<NoMemory>>
+where
+    V::Archived: KeyElement,
+    requires { V.can_read key.now }
+    ensures { IfOk result (λ found. found ≡ true) }
+{
+    let bytes = to_bytes_in::<W, V>(alloc, key)?;
+    match access_in::<W, V::Archived>(bytes.as_slice()) {
+        Ok(root) => Ok(key.same(root)),
+        Err(_) => Ok(false),
+    }
+}
+
+#[test]
+fn keys_find_themselves(rt: HostRuntime) -> Result<(), Fail> {
+    let alloc = rt.alloc();
+    let text = String::from_str(alloc, "wonderful text")?;
+    let found = [
+        finds_itself::<Narrow, u32>(alloc, &7).ok(),
+        finds_itself::<Wide, (char, (i8, bool))>(alloc, &('x', (-1, true))).ok(),
+        finds_itself::<Narrow, &str>(alloc, &"hello").ok(),
+        finds_itself::<Narrow, (&str, u8)>(alloc, &("wonderful", 7)).ok(),
+        finds_itself::<Wide, String>(alloc, &text).ok(),
+        finds_itself::<Wide, ((), u64)>(alloc, &((), 7)).ok(),
+    ];
+    assert_eq!(rt; found, [Some(true); 6]);
+    Ok(())
+}

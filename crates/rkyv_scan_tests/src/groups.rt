@@ -1,0 +1,168 @@
+//! Groups: the places that they mark.
+
+use rkyv_scan::laws;
+use rkyv_scan::simd::{GroupKind, MAX_GROUP_WIDTH, Marks, bytewise, generic, lanes};
+
+// Whether the mask's places are these: by its iterator, and by its calls.
+fn marks<M: Marks>(mask: M, places: &[usize]) -> bool {
+    let mut items = mask;
+    let mut left = mask;
+    for place in places {
+        if !left.any_bit_set() {
+            return false;
+        }
+        if left.lowest_set_bit() != Some(*place) || items.next() != Some(*place) {
+            return false;
+        }
+        left = left.remove_lowest_bit();
+    }
+    !left.any_bit_set() && left.lowest_set_bit().is_none() && items.next().is_none()
+}
+
+// The places that a group marks: of a byte, of the empty controls, of the full ones.
+#[derive(Clone, Copy)]
+struct Places<'a> {
+    byte: &'a [usize],
+    empty: &'a [usize],
+    full: &'a [usize],
+}
+
+// Whether the first group of the controls marks these places.
+fn matches<G: GroupKind>(controls: &[u8], byte: u8, expected: &Places) -> bool {
+    if controls.len() < G::WIDTH {
+        return false;
+    }
+    let group = G::read(controls, 0);
+    marks(group.match_byte(byte), expected.byte)
+        && marks(group.match_empty(), expected.empty)
+        && marks(group.match_full(), expected.full)
+}
+
+// The controls, and then eight empty ones.
+fn padded(controls: [u8; 8]) -> [u8; 16] {
+    let mut all = [0xff; 16];
+    for place in 0..8 {
+        all[place] = controls[place];
+    }
+    all
+}
+
+#[test]
+fn marks_a_byte(rt: HostRuntime) {
+    let controls = padded([0x28, 0x29, 0xff, 0xff, 0xff, 0xff, 0xff, 0xff]);
+    let empty = [2, 3, 4, 5, 6, 7, 8, 9, 10, 11, 12, 13, 14, 15];
+    let word = Places {
+        byte: &[0, 1],
+        empty: &empty[..6],
+        full: &[0, 1],
+    };
+    let exact = Places {
+        byte: &[0],
+        empty: &empty[..6],
+        full: &[0, 1],
+    };
+    let wide = Places {
+        byte: &[0],
+        empty: &empty,
+        full: &[0, 1],
+    };
+    assert!(rt; matches::<generic::Group>(&controls, 0x28, &word));
+    assert!(rt; matches::<bytewise::Group>(&controls, 0x28, &exact));
+    assert!(rt; matches::<lanes::Group>(&controls, 0x28, &wide));
+}
+
+#[test]
+fn marks_above_a_mark(rt: HostRuntime) {
+    let controls = padded([0x29, 0x28, 0x29, 0x28, 0x00, 0xff, 0xff, 0x29]);
+    let empty = [5, 6, 8, 9, 10, 11, 12, 13, 14, 15];
+    let word = Places {
+        byte: &[1, 2, 3],
+        empty: &empty[..2],
+        full: &[0, 1, 2, 3, 4, 7],
+    };
+    let exact = Places {
+        byte: &[1, 3],
+        empty: &empty[..2],
+        full: &[0, 1, 2, 3, 4, 7],
+    };
+    let wide = Places {
+        byte: &[1, 3],
+        empty: &empty,
+        full: &[0, 1, 2, 3, 4, 7],
+    };
+    assert!(rt; matches::<generic::Group>(&controls, 0x28, &word));
+    assert!(rt; matches::<bytewise::Group>(&controls, 0x28, &exact));
+    assert!(rt; matches::<lanes::Group>(&controls, 0x28, &wide));
+}
+
+#[test]
+fn marks_zero(rt: HostRuntime) {
+    let controls = padded([0x00, 0x01, 0x02, 0xff, 0xff, 0xff, 0xff, 0xff]);
+    let empty = [3, 4, 5, 6, 7, 8, 9, 10, 11, 12, 13, 14, 15];
+    let word = Places {
+        byte: &[0, 1],
+        empty: &empty[..5],
+        full: &[0, 1, 2],
+    };
+    let exact = Places {
+        byte: &[0],
+        empty: &empty[..5],
+        full: &[0, 1, 2],
+    };
+    let wide = Places {
+        byte: &[0],
+        empty: &empty,
+        full: &[0, 1, 2],
+    };
+    assert!(rt; matches::<generic::Group>(&controls, 0x00, &word));
+    assert!(rt; matches::<bytewise::Group>(&controls, 0x00, &exact));
+    assert!(rt; matches::<lanes::Group>(&controls, 0x00, &wide));
+}
+
+#[test]
+fn marks_any_high_bit_as_empty(rt: HostRuntime) {
+    let controls = [
+        0xff, 0x80, 0x7f, 0x00, 0x28, 0xfe, 0x01, 0x81, 0xff, 0xff, 0xff, 0xff, 0xff, 0xff, 0xff,
+        0x00,
+    ];
+    let wide = Places {
+        byte: &[4],
+        empty: &[0, 1, 5, 7, 8, 9, 10, 11, 12, 13, 14],
+        full: &[2, 3, 4, 6, 15],
+    };
+    let eight = Places {
+        byte: &[4],
+        empty: &[0, 1, 5, 7],
+        full: &[2, 3, 4, 6],
+    };
+    assert!(rt; matches::<lanes::Group>(&controls, 0x28, &wide));
+    assert!(rt; matches::<generic::Group>(&controls, 0x28, &eight));
+    assert!(rt; matches::<bytewise::Group>(&controls, 0x28, &eight));
+
+    // The second half, read from its own place on.
+    let rest = [0, 1, 2, 3, 4, 5, 6];
+    assert!(rt; marks(generic::Group::read(&controls, 8).match_empty(), &rest));
+    assert!(rt; marks(bytewise::Group::read(&controls, 8).match_empty(), &rest));
+    assert!(rt; marks(lanes::Group::read(&controls, 0).match_byte(0), &[3, 15]));
+}
+
+#[test]
+fn empty_masks_have_no_place(rt: HostRuntime) {
+    let (bytes, word, lane_bits) = laws::empty_masks();
+    assert!(rt; marks(bytes, &[]));
+    assert!(rt; marks(word, &[]));
+    assert!(rt; marks(lane_bits, &[]));
+}
+
+#[test]
+fn root_names_are_the_word_kind(rt: HostRuntime) {
+    let group: rkyv_scan::Group = generic::Group::read(&[0xff; 8], 0);
+    let mask: rkyv_scan::Bitmask = group.match_full();
+    assert!(rt; marks(mask, &[]));
+    assert!(rt; marks(rkyv_scan::Bitmask::EMPTY, &[]));
+    assert_eq!(rt; rkyv_scan::Group::WIDTH, 8);
+    assert_eq!(rt; bytewise::Group::WIDTH, 8);
+    assert_eq!(rt; lanes::Group::WIDTH, MAX_GROUP_WIDTH);
+    let word: generic::Word = 5;
+    assert!(rt; generic::NonZeroWord::new(word).is_some());
+}

@@ -1,0 +1,7 @@
+//! Tests of `rkyv_scan`: worked examples, and one call of each public function.
+#![tactic(auto)]
+
+#[cfg(test)]
+mod groups;
+#[cfg(test)]
+mod hashing;

@@ -1,0 +1,71 @@
+//! Items that a lookup of their own doesn't answer.
+
+use crate::archives::{FOUR_PAIRS, ONE_PAIR, archived, hash_of_i8, hash_of_u32};
+use rkyv_base::access::access;
+use rkyv_base::entry::Entry;
+use rkyv_base::errors::VerifyError;
+use rkyv_table::table::{ArchivedHashTable, TableOf};
+use std::test::Fail;
+
+// How many pairs of a table are misplaced, each of which is told by its key.
+fn misplaced_small(bytes: &[u8]) -> Result<usize, VerifyError> {
+    let table = ArchivedHashTable::of(access::<TableOf<Entry<i8, i8>>>(bytes)?);
+    Ok(table.misplaced_by(
+        |pair| hash_of_i8(pair.key().to_native()),
+        |own, other| own.key().to_native() == other.key().to_native(),
+    ))
+}
+
+fn misplaced(bytes: &[u8]) -> Result<usize, VerifyError> {
+    let table = ArchivedHashTable::of(access::<TableOf<Entry<u32, u32>>>(bytes)?);
+    Ok(table.misplaced_by(
+        |pair| hash_of_u32(pair.key().to_native()),
+        |own, other| own.key().to_native() == other.key().to_native(),
+    ))
+}
+
+#[test]
+fn pairs_that_were_written_are_in_their_places(rt: HostRuntime) -> Result<(), Fail> {
+    let hashes = [hash_of_i8(1), hash_of_i8(3), hash_of_i8(5), hash_of_i8(7)];
+    let bytes = archived(rt.alloc(), &FOUR_PAIRS, &hashes, (7, 8))?;
+    assert_eq!(rt; misplaced_small(bytes.as_slice())?, 0);
+    assert_eq!(rt; misplaced(&ONE_PAIR)?, 0);
+    let none = archived::<(i8, i8)>(rt.alloc(), &[], &[], (7, 8))?;
+    assert_eq!(rt; misplaced_small(none.as_slice())?, 0);
+    Ok(())
+}
+
+#[test]
+fn a_repeated_key_is_misplaced(rt: HostRuntime) -> Result<(), Fail> {
+    let hashes = [hash_of_i8(1), hash_of_i8(1)];
+    let bytes = archived(rt.alloc(), &[(1i8, 2i8), (1, 9)], &hashes, (7, 8))?;
+    assert_eq!(rt; misplaced_small(bytes.as_slice())?, 1);
+    Ok(())
+}
+
+#[test]
+fn items_of_no_bytes_are_told_by_their_buckets(rt: HostRuntime) -> Result<(), Fail> {
+    let bytes = archived(rt.alloc(), &[(), ()], &[0, 0], (7, 8))?;
+    let table = ArchivedHashTable::of(access::<TableOf<()>>(bytes.as_slice())?);
+    assert_eq!(rt; table.misplaced_by(|_| 0, |_, _| true), 1);
+    Ok(())
+}
+
+#[test]
+fn a_changed_key_is_misplaced(rt: HostRuntime) -> Result<(), Fail> {
+    let mut bytes = ONE_PAIR;
+    bytes[0] = 5;
+    assert_eq!(rt; misplaced(&bytes)?, 1);
+    Ok(())
+}
+
+#[test]
+fn the_own_item_is_asked_of_first(rt: HostRuntime) -> Result<(), Fail> {
+    let bytes = archived(rt.alloc(), &[10u8, 20], &[2, 2], (1, 1))?;
+    let table = ArchivedHashTable::of(access::<TableOf<u8>>(bytes.as_slice())?);
+    let by_less = table.misplaced_by(|_| 2, |own, other| own.to_native() <= other.to_native());
+    assert_eq!(rt; by_less, 0);
+    let by_more = table.misplaced_by(|_| 2, |own, other| own.to_native() >= other.to_native());
+    assert_eq!(rt; by_more, 1);
+    Ok(())
+}

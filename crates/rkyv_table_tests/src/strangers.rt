@@ -1,0 +1,199 @@
+//! Headers and controls that were not written here.
+
+use crate::archives::{ONE_PAIR, SIXTEEN, archived};
+use crate::reading::counts;
+use rkyv_base::access::{access, access_in};
+use rkyv_base::element::PartRange;
+use rkyv_base::entry::Entry;
+use rkyv_base::errors::VerifyError;
+use rkyv_base::width::{Narrow, Wide};
+use rkyv_table::table::{ArchivedHashTable, TableOf};
+use std::test::Fail;
+
+#[test]
+fn the_distance_of_an_empty_table_is_not_read(rt: HostRuntime) -> Result<(), Fail> {
+    let bytes = [77, 0, 0, 0, 0, 0, 0, 0, 0, 0, 0, 0];
+    let table = ArchivedHashTable::of(access::<TableOf<Entry<u32, u32>>>(&bytes)?);
+    assert!(rt; table.is_empty());
+    assert_eq!(rt; (table.len(), table.capacity()), (0, 0));
+    assert!(rt; table.get_with(0, |_| true).is_none());
+    Ok(())
+}
+
+#[test]
+fn a_length_that_is_the_capacity_is_refused(rt: HostRuntime) {
+    assert!(rt;
+        matches!(
+            access::<TableOf<Entry<u32, u32>>>(&[1, 0, 0, 0, 2, 0, 0, 0, 2, 0, 0, 0]),
+            Err(VerifyError::InvalidLength { len: 2, cap: 2 })
+        )
+    );
+}
+
+#[test]
+fn more_items_than_the_length_are_refused(rt: HostRuntime) {
+    let mut bytes = ONE_PAIR;
+    bytes[52] = 0;
+    assert!(rt;
+        matches!(
+            access::<TableOf<Entry<u32, u32>>>(&bytes),
+            Err(VerifyError::WrongNumberOfElements {
+                expected: 0,
+                actual: 1,
+            })
+        )
+    );
+}
+
+#[test]
+fn a_table_that_has_buckets_and_no_items_is_accepted(rt: HostRuntime) -> Result<(), Fail> {
+    let mut bytes = ONE_PAIR;
+    bytes[17] = 0xff;
+    bytes[19] = 0xff;
+    bytes[52] = 0;
+    let table = ArchivedHashTable::of(access::<TableOf<Entry<u32, u32>>>(&bytes)?);
+    assert!(rt; table.is_empty());
+    assert_eq!(rt; (table.len(), table.capacity()), (0, 2));
+    assert!(rt; table.get_with(0x5000_0000_0000_0001, |_| true).is_none());
+    Ok(())
+}
+
+#[test]
+fn controls_that_do_not_repeat_are_refused(rt: HostRuntime) -> Result<(), Fail> {
+    let starts = [0, 1, 2, 3, 4, 5, 6, 7, 8, 9, 10, 11, 12, 13, 14];
+    let mut large = archived(rt.alloc(), &SIXTEEN[..15], &starts, (1, 1))?;
+    // sixteen buckets of one byte, 31 controls, and a zero before the header
+    assert_eq!(rt; large.len(), 60);
+    large[32] = 1;
+    assert!(rt;
+        matches!(
+            access::<TableOf<u8>>(large.as_slice()),
+            Err(VerifyError::UnwrappedControlByte { index: 16 })
+        )
+    );
+    let mut bytes = ONE_PAIR;
+    bytes[20] = 0;
+    assert!(rt;
+        matches!(
+            access::<TableOf<Entry<u32, u32>>>(&bytes),
+            Err(VerifyError::UnwrappedControlByte { index: 4 })
+        )
+    );
+    Ok(())
+}
+
+#[test]
+fn an_empty_control_may_be_another_byte_than_is_written(rt: HostRuntime) -> Result<(), Fail> {
+    let mut bytes = ONE_PAIR;
+    bytes[16] = 0x80;
+    bytes[18] = 0x80;
+    let table = ArchivedHashTable::of(access::<TableOf<Entry<u32, u32>>>(&bytes)?);
+    assert_eq!(rt; table.len(), 1);
+    Ok(())
+}
+
+#[test]
+fn the_part_of_a_table_is_the_range_up_to_its_end(rt: HostRuntime) {
+    let whole = PartRange { lo: 0, hi: 48 };
+    match ArchivedHashTable::<Entry<u32, u32>, Narrow>::verify(&ONE_PAIR, 48, whole) {
+        Ok(rest) => assert_eq!(rt; (rest.lo, rest.hi), (47, 48)),
+        Err(_) => assert!(rt; false, "the table is accepted"),
+    }
+    let narrower = PartRange { lo: 1, hi: 48 };
+    assert!(rt;
+        matches!(
+            ArchivedHashTable::<Entry<u32, u32>, Narrow>::verify(&ONE_PAIR, 48, narrower),
+            Err(VerifyError::OutOfRange { pos: 0, size: 47 })
+        )
+    );
+    let shorter = PartRange { lo: 0, hi: 46 };
+    assert!(rt;
+        matches!(
+            ArchivedHashTable::<Entry<u32, u32>, Narrow>::verify(&ONE_PAIR, 48, shorter),
+            Err(VerifyError::OutOfRange { pos: 0, size: 47 })
+        )
+    );
+}
+
+// Whether so many bytes of the archive of one pair are answered as they should be.
+fn is_answered(len: usize, front: &[u8]) -> bool {
+    let answer = access::<TableOf<Entry<u32, u32>>>(front);
+    match len {
+        0..12 => matches!(
+            answer,
+            Err(VerifyError::OutOfRange { pos, size: 12 }) if pos == len as i128 - 12
+        ),
+        12 => matches!(answer, Err(VerifyError::InvalidLength { len: 2, cap: 0 })),
+        16 => matches!(counts::<Entry<u32, u32>, Narrow>(front), Ok((0, 0))),
+        20 => matches!(
+            answer,
+            Err(VerifyError::OutOfRange {
+                pos: -5_502_486_512,
+                size: 6_190_297_351,
+            })
+        ),
+        24 | 52 => matches!(answer, Err(VerifyError::OutOfRange { .. })),
+        28 | 32 | 36 | 40 | 44 => matches!(
+            answer,
+            Err(VerifyError::InvalidLength {
+                len: 4_294_967_295,
+                cap: 4_294_967_295,
+            })
+        ),
+        48 => matches!(
+            answer,
+            Err(VerifyError::InvalidLength {
+                len: 4_294_967_295,
+                cap: 16_777_215,
+            })
+        ),
+        56 => matches!(
+            answer,
+            Err(VerifyError::InvalidLength {
+                len: 4_294_967_264,
+                cap: 1,
+            })
+        ),
+        _ => matches!(
+            answer,
+            Err(VerifyError::Unaligned { pos, align: 4 }) if pos == len as u64 - 12
+        ),
+    }
+}
+
+#[test]
+fn fronts_of_an_archive_are_answered(rt: HostRuntime) {
+    for len in 0..60 {
+        assert!(rt; is_answered(len, &ONE_PAIR[..len]), "of {len} bytes");
+    }
+    assert!(rt; access::<TableOf<Entry<u32, u32>>>(&ONE_PAIR).is_ok());
+}
+
+#[test]
+fn a_narrow_archive_is_no_wide_one(rt: HostRuntime) {
+    assert!(rt;
+        matches!(
+            access_in::<Wide, TableOf<Entry<u32, u32>, Wide>>(&ONE_PAIR),
+            Err(VerifyError::Unaligned { pos: 36, align: 8 })
+        )
+    );
+}
+
+#[test]
+fn an_item_that_is_no_value_is_refused(rt: HostRuntime) -> Result<(), Fail> {
+    let mut bytes = archived(rt.alloc(), &[true, false], &[2, 2], (1, 1))?;
+    let table = ArchivedHashTable::of(access::<TableOf<bool>>(bytes.as_slice())?);
+    assert_eq!(rt; table.len(), 2);
+    // an empty bucket may hold anything
+    assert_eq!(rt; bytes.len(), 48);
+    bytes[1] = 2;
+    assert!(rt; access::<TableOf<bool>>(bytes.as_slice()).is_ok());
+    bytes[0] = 2;
+    assert!(rt;
+        matches!(
+            access::<TableOf<bool>>(bytes.as_slice()),
+            Err(VerifyError::InvalidValue { pos: 0 })
+        )
+    );
+    Ok(())
+}
