@@ -21,9 +21,9 @@ use Rattle.rkyv_collections.proofs.Listing.{all_came, answers_listed, no_other_c
 module _ {A V F : Type 0} (shows : A → V) (lent : List A → List V) (seen : (xs : List A) → lent xs ≡ map shows xs) (items from : List V) (rest : from ≡ items) (len : ℕ) (count : len ≡ length items)
     (factor : ℕ × ℕ) (max limit : ℕ) (f : Format (List V) TableResolver) (o o' : Output) where
   pub answers_shown : (result : Result TableResolver (WriteError F))
-      → MatchResult result (WroteItems (Drains (TakesFirst shows) from) len factor max (written_as lent f) o o')
-      (NoItems (Drains (TakesFirst shows) from) len factor max (written_as lent f) o o' (GaveOther (TakesFirst shows) len from) limit)
-      → MatchResult result (Serialized (listed max factor f) items o o') (GaveUp limit (listed max factor f) items o o')
+      → MatchResult result (WroteItems (Drains (TakesFirst shows) from) len factor max (written_as lent f) o o' limit)
+      (NoItems (Drains (TakesFirst shows) from) len factor max (written_as lent f) o o' limit (GaveOther (TakesFirst shows) len from))
+      → MatchResult result (Serialized limit (listed max factor f) items o o') (GaveUp limit (listed max factor f) items o o')
   answers_shown result h =
       answers_listed (Drains (TakesFirst shows) from) (GaveOther (TakesFirst shows) len from) lent items
       (λ xs d. seen xs ∙ all_came shows (λ (s : List V). s) xs from d ∙ rest)
@@ -32,18 +32,18 @@ module _ {A V F : Type 0} (shows : A → V) (lent : List A → List V) (seen : (
 
 -- the entries have distinct keys
 pub answers_distinct : {K X R F : Type 0} (equal : K → K → Bool) (f : Format (List (K × X)) R) (es : List (K × X)) → IsDistinct equal (keys_of es) → (limit : ℕ) (o o' : Output) (result : Result R (WriteError F))
-    → MatchResult result (Serialized f es o o') (GaveUp limit f es o o')
-    → MatchResult result (Serialized (of_entries equal f) es o o') (GaveUp limit (of_entries equal f) es o o')
-answers_distinct equal f es unique limit o o' (Ok r) h = (h.0, h.1, (unique, h.2))
+    → MatchResult result (Serialized limit f es o o') (GaveUp limit f es o o')
+    → MatchResult result (Serialized limit (of_entries equal f) es o o') (GaveUp limit (of_entries equal f) es o o')
+answers_distinct equal f es unique limit o o' (Ok r) h = (h.0, h.1, (unique, h.2), h.3)
 answers_distinct equal f es unique limit o o' (Err e) h = h
 
 -- an iterator over the keys of a set of std's, each with the unit value
 module _ {A F : Type 0} (keys from : List A) (rest : from ≡ keys) (len : ℕ) (count : len ≡ length keys)
     (factor : ℕ × ℕ) (max limit : ℕ) (f : Format (List (A × Unit {0})) TableResolver) (o o' : Output) where
   pub answers_keys : (result : Result TableResolver (WriteError F))
-      → MatchResult result (WroteItems (Drains (TakesFirst deref) from) len factor max (written_as (λ xs. with_units (lent_keys (λ k. k.now) xs)) f) o o')
-      (NoItems (Drains (TakesFirst deref) from) len factor max (written_as (λ xs. with_units (lent_keys (λ k. k.now) xs)) f) o o' (GaveOther (TakesFirst deref) len from) limit)
-      → MatchResult result (Serialized (listed max factor f) (with_units keys) o o') (GaveUp limit (listed max factor f) (with_units keys) o o')
+      → MatchResult result (WroteItems (Drains (TakesFirst deref) from) len factor max (written_as (λ xs. with_units (lent_keys (λ k. k.now) xs)) f) o o' limit)
+      (NoItems (Drains (TakesFirst deref) from) len factor max (written_as (λ xs. with_units (lent_keys (λ k. k.now) xs)) f) o o' limit (GaveOther (TakesFirst deref) len from))
+      → MatchResult result (Serialized limit (listed max factor f) (with_units keys) o o') (GaveUp limit (listed max factor f) (with_units keys) o o')
   answers_keys result h =
       answers_listed (Drains (TakesFirst deref) from) (GaveOther (TakesFirst deref) len from) (λ xs. with_units (lent_keys (λ k. k.now) xs)) (with_units keys)
       (λ xs d. ap with_units (all_came deref (λ (s : List A). s) xs from d ∙ rest))

@@ -35,7 +35,6 @@ abbrev pub of_entries : {A B R : Type 0} → (A → A → Bool) → Format (List
 of_entries equal f = record {
   parts = λ entries p part r. IsDistinct equal (keys_of entries) × f.parts entries p part r;
   next = f.next;
-  refuses = f.refuses;
   image = f.image;
   far = f.far;
 }

@@ -254,6 +254,7 @@ module _ (k v : Shape) (kl : IsElement k) (vl : IsElement v) (w : Width) {A B : 
       → IsFormat (map_shape w k v) (EntriesStand k v key value w equal) (of_entries equal f)
   entries_sound {R} kind f base = record {
     whole = λ es. base.whole es;
+    clear = λ es. base.clear es;
     sound = λ es r c p0 p part out h i s t o al.
         let d = base.sound es r c p0 p part out h.1 i s t o al in
         let whole = base.whole es r p out i in

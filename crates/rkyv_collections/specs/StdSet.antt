@@ -64,6 +64,7 @@ pub set_equal_written : {X A R : Type 0} (w : Width) (k s : Shape) (hash : A →
     → IsFormat s (λ b p x. (len_at w b p ≡ length (seen x)) × All (λ key. FindsPair w k unit_shape hash fits unit_stands b p (key, tt)) (seen x)) f
 set_equal_written w k s hash fits seen f law = record {
   whole = law.whole;
+  clear = law.clear;
   sound = λ x r c p0 p part out h i t o q al.
       let d = law.sound x r c p0 p part out h i t o q al in
       (d.0, d.1, set_equal_entries w k hash fits c p (seen x) d.2);

@@ -85,7 +85,7 @@ pub(crate) fn write_buckets<W: Width, S: Writer, U: Archive<W>, X: Lend<U>>(
     ensures kept { length bucket.new ≡ U.Archived.shape.size }
     ensures answer { let f = written_as X.lent U.format in let size = U.Archived.shape.size in let o = S.output serializer.old in let o' = S.output serializer.new in MatchResult result
         (λ _. WroteBuckets size f W.LIMIT slots.now resolvers.items o o')
-        (Told W.LIMIT (BucketNext size f slots.now resolvers.items (end_of o)) (BucketFar size f slots.now resolvers.items (end_of o)) o o') }
+        (Told W.LIMIT (BucketNext size f slots.now resolvers.items (end_of o)) o o') }
 {
     let size = <U::Archived as Element>::size();
     if size <= 64 {
