@@ -2,7 +2,7 @@
 use Rattle.std.specs.Prelude.{◌≡◌, ℕ, List, [], length}
 use Rattle.std.proofs.Common.{refl, arith, inl, ap}
 use Rattle.rkyv_base.specs.Shape.{Shape, IsElement}
-use Rattle.rkyv_base.specs.AnyBytes.{any_bytes, any_bytes-element}
+use Rattle.rkyv_base.specs.Lemmas.AnyBytes.{any_bytes, any_bytes-element}
 use Rattle.rkyv_base.specs.Format.{Format, IsFormat, StandsNear, nothing_next, nothing_far}
 
 abbrev pub unit_shape : Shape

@@ -11,11 +11,10 @@ pub mod View
 pub mod Access
 pub mod Pairs
 pub mod Root
-pub mod AnyBytes
+pub mod Lemmas
 pub mod Empty
 pub mod Parts
 pub mod Text
-pub mod Utf8
 pub mod TextWriting
 pub mod Adapter
 pub mod Limit

@@ -8,8 +8,8 @@ use Rattle.rkyv_base.specs.Shape.{Shape}
 abbrev pub bytes_in : {T : Type 0} → Seal T → List ℕ
 bytes_in s = s.bytes.now
 
-abbrev pub place_in : {T : Type 0} → Seal T → ℕ
-place_in s = s.place
+abbrev pub seal_pos : {T : Type 0} → Seal T → ℕ
+seal_pos s = s.place
 
 -- the seal is at this place of what this reference lends
 pub record SealAt {T : Type 0} (s : Seal T) (lender : MutBor (List ℕ)) (p : ℕ) : Type 0 where

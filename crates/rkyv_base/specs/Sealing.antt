@@ -15,8 +15,8 @@ abbrev pub with_value : {V : Type 0} → Encoding V → List ℕ → ℕ → V �
 with_value e b p v = with_bytes b p (byte_len e.word) (to_le_bytes e.word (e.code v))
 
 -- where the value of the entry at p begins
-abbrev pub value_place : Shape → Shape → ℕ → ℕ
-value_place k v p = p + value_offset k v
+abbrev pub value_pos : Shape → Shape → ℕ → ℕ
+value_pos k v p = p + value_offset k v
 
 -- the number at place p is a value's
 abbrev pub IsValueAt : {V : Type 0} → Encoding V → List ℕ → ℕ → Type 0
@@ -38,7 +38,7 @@ Keeps s b c p = (lo hi l : ℕ) → lo ≤ hi → hi ≤ p → s.holds b p lo hi
 
 -- the entry at p is kept by every write of its value's bytes alone that keeps the value
 abbrev pub KeepsEntry : Shape → Shape → List ℕ → ℕ → Type 0
-KeepsEntry k v b p = (c : List ℕ) → Sealed b (value_place k v p) v.size c → Keeps v b c (value_place k v p) → Keeps (entry_shape k v) b c p
+KeepsEntry k v b p = (c : List ℕ) → Sealed b (value_pos k v p) v.size c → Keeps v b c (value_pos k v p) → Keeps (entry_shape k v) b c p
 
 -- no byte from i to j, j not included, is one of the n from place p on
 abbrev pub Outside : ℕ → ℕ → ℕ → ℕ → Type 0

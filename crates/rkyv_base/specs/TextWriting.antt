@@ -11,7 +11,7 @@ use Rattle.rkyv_base.specs.Format.{Format, IsFormat, Serialized, GaveUp}
 use Rattle.rkyv_base.specs.Pairs.{written_as, written_as-format}
 use Rattle.rkyv_base.specs.Text.{FixedHolds, IsArchiveWord, TextReads, by_archive_word, far_begin, far_length, far_reads, fixed_bytes, inline_reads, inline_text, is_far, text_shape, text_size, told_length}
 use Rattle.rkyv_base.specs.Bytes.{Sits, signed_at}
-use Rattle.rkyv_base.specs.Utf8.{text_below, text_begins}
+use Rattle.rkyv_base.specs.Lemmas.Utf8.{text_below, text_begins}
 use Rattle.std.proofs.Common.{refl, arith, sym, subst, ◌∙◌, ap, inl, inr, length-append}
 use Rattle.std.proofs.Math.Facts.{Fits-of_z}
 use Rattle.std.proofs.Math.ListN.{get_or-append}

@@ -4,8 +4,8 @@ use Rattle.std.specs.Borrow.{Bor}
 use Rattle.rkyv_base.specs.declared.view.View.{View}
 use Rattle.rkyv_base.specs.Shape.{Shape, Viewed}
 
-abbrev pub place_of : {T : Type 0} → View T → ℕ
-place_of v = v.pos
+abbrev pub pos_of : {T : Type 0} → View T → ℕ
+pos_of v = v.pos
 
 abbrev pub archive_of : {T : Type 0} → View T → Bor (List ℕ)
 archive_of v = v.archive

@@ -3,11 +3,11 @@
 ghost use Rattle.std.specs.Prelude.{◌≡◌, ℕ, ◌+◌, ◌≤◌, List, length, take, drop};
 ghost use Rattle.std.specs.Borrow.{sem};
 ghost use Rattle.std.specs.Int.{byte_len};
-ghost use Rattle.rkyv_base.specs.View.{IsView, bytes_of, place_of};
+ghost use Rattle.rkyv_base.specs.View.{IsView, bytes_of, pos_of};
 ghost use Rattle.rkyv_base.specs.Entry.{entry_shape};
 ghost use Rattle.rkyv_base.specs.Scalar.{scalar_shape};
-ghost use Rattle.rkyv_base.specs.Seal.{ArchiveAt, LendsHalves, LiesIn, SealAt, SealStays, archive_in, bytes_in, place_in, pos_in};
-ghost use Rattle.rkyv_base.specs.Sealing.{IsValueAt, Keeps, KeepsEntry, Sealed, value_at, value_place, with_value};
+ghost use Rattle.rkyv_base.specs.Seal.{ArchiveAt, LendsHalves, LiesIn, SealAt, SealStays, archive_in, bytes_in, seal_pos, pos_in};
+ghost use Rattle.rkyv_base.specs.Sealing.{IsValueAt, Keeps, KeepsEntry, Sealed, value_at, value_pos, with_value};
 ghost use Rattle.rkyv_base.specs.Shape.{Viewed};
 
 use crate::element::Element;
@@ -67,8 +67,8 @@ impl<'a, N: Scalar> Seal<'a, N> {
     #[inline]
     pub fn to_native(&self) -> N
         requires inside { LiesIn (scalar_shape N.encoding) self.now }
-        requires value { IsValueAt N.encoding (bytes_in self.now) (place_in self.now) }
-        ensures { result ≡ value_at N.encoding (bytes_in self.now) (place_in self.now) }
+        requires value { IsValueAt N.encoding (bytes_in self.now) (seal_pos self.now) }
+        ensures { result ≡ value_at N.encoding (bytes_in self.now) (seal_pos self.now) }
     {
         N::read(&self.bytes[self.place..self.place + N::byte_count()])
     }
@@ -79,13 +79,13 @@ impl<'a, N: Scalar> Seal<'a, N> {
         requires { LiesIn (scalar_shape N.encoding) self.old }
         ensures stays { SealStays self.old self.new }
         ensures written { bytes_in self.new
-            ≡ with_value N.encoding (bytes_in self.old) (place_in self.old) value }
-        ensures sealed { Sealed (bytes_in self.old) (place_in self.old)
+            ≡ with_value N.encoding (bytes_in self.old) (seal_pos self.old) value }
+        ensures sealed { Sealed (bytes_in self.old) (seal_pos self.old)
             (byte_len N.encoding.word) (bytes_in self.new) }
-        ensures reads { value_at N.encoding (bytes_in self.new) (place_in self.new) ≡ value }
-        ensures value { IsValueAt N.encoding (bytes_in self.new) (place_in self.new) }
+        ensures reads { value_at N.encoding (bytes_in self.new) (seal_pos self.new) ≡ value }
+        ensures value { IsValueAt N.encoding (bytes_in self.new) (seal_pos self.new) }
         ensures holds { Keeps (scalar_shape N.encoding)
-            (bytes_in self.old) (bytes_in self.new) (place_in self.old) }
+            (bytes_in self.old) (bytes_in self.new) (seal_pos self.old) }
     {
         let place = self.place;
         let bytes = &mut *self.bytes;
@@ -181,12 +181,12 @@ impl<'a, T> ArchiveSeal<'a, T> {
     pub fn split_value<K: Element, V: Element>(self, entry_pos: u64) -> (View<'a, K>, Seal<'a, V>)
         requires { Viewed (entry_shape K.shape V.shape) (archive_in self) entry_pos }
         ensures key { bytes_of result.0
-            ≡ take (value_place K.shape V.shape entry_pos) (archive_in self.entry) }
-        ensures key_place { place_of result.0 ≡ entry_pos }
+            ≡ take (value_pos K.shape V.shape entry_pos) (archive_in self.entry) }
+        ensures key_pos { pos_of result.0 ≡ entry_pos }
         ensures viewed { IsView K.shape result.0 }
         ensures value { bytes_in result.1
-            ≡ drop (value_place K.shape V.shape entry_pos) (archive_in self.entry) }
-        ensures value_place { place_in result.1 ≡ 0 }
+            ≡ drop (value_pos K.shape V.shape entry_pos) (archive_in self.entry) }
+        ensures value_pos { seal_pos result.1 ≡ 0 }
         ensures inside { LiesIn V.shape result.1 }
         ensures kept { KeepsEntry K.shape V.shape (archive_in self.entry) entry_pos }
     {
@@ -207,7 +207,7 @@ impl<'a, T: Element> ArchiveSeal<'a, T> {
     pub fn as_view(&self) -> View<'_, T>
         requires { Viewed T.shape (archive_in self.now) (pos_in self.now) }
         ensures bytes { bytes_of result ≡ archive_in self.now }
-        ensures pos { place_of result ≡ pos_in self.now }
+        ensures pos { pos_of result ≡ pos_in self.now }
         ensures viewed { IsView T.shape result }
     {
         View::new(&*self.archive, self.pos)
@@ -217,10 +217,10 @@ impl<'a, T: Element> ArchiveSeal<'a, T> {
 /// The bytes of an archive before the value of an entry, and those from there on.
 #[inline]
 pub fn halves<K: Element, V: Element>(archive: &mut [u8], entry_pos: u64) -> (&mut [u8], &mut [u8])
-    requires { value_place K.shape V.shape entry_pos ≤ length archive.old }
+    requires { value_pos K.shape V.shape entry_pos ≤ length archive.old }
     ensures* writes_back { sem 𝓛 (LendsHalves archive.entry result) }
-    ensures front { result.0.now ≡ take (value_place K.shape V.shape entry_pos) archive.old }
-    ensures back { result.1.now ≡ drop (value_place K.shape V.shape entry_pos) archive.old }
+    ensures front { result.0.now ≡ take (value_pos K.shape V.shape entry_pos) archive.old }
+    ensures back { result.1.now ≡ drop (value_pos K.shape V.shape entry_pos) archive.old }
 {
     let begin = entry_pos as usize + value_offset::<K, V>();
     archive.split_at_mut(begin)
@@ -231,11 +231,11 @@ pub fn halves<K: Element, V: Element>(archive: &mut [u8], entry_pos: u64) -> (&m
 pub fn set_value<K: Element, N: Scalar>(archive: &mut [u8], entry_pos: u64, value: N)
     requires { Viewed (entry_shape K.shape (scalar_shape N.encoding)) archive.old entry_pos }
     ensures written { archive.new ≡ with_value N.encoding archive.old
-        (value_place K.shape (scalar_shape N.encoding) entry_pos) value }
-    ensures sealed { Sealed archive.old (value_place K.shape (scalar_shape N.encoding) entry_pos)
+        (value_pos K.shape (scalar_shape N.encoding) entry_pos) value }
+    ensures sealed { Sealed archive.old (value_pos K.shape (scalar_shape N.encoding) entry_pos)
         (byte_len N.encoding.word) archive.new }
     ensures reads { value_at N.encoding archive.new
-        (value_place K.shape (scalar_shape N.encoding) entry_pos) ≡ value }
+        (value_pos K.shape (scalar_shape N.encoding) entry_pos) ≡ value }
     ensures holds { Keeps (entry_shape K.shape (scalar_shape N.encoding))
         archive.old archive.new entry_pos }
     ensures viewed { Viewed (entry_shape K.shape (scalar_shape N.encoding)) archive.new entry_pos }

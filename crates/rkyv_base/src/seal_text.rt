@@ -2,7 +2,7 @@
 
 ghost use Rattle.std.specs.Prelude.{◌≡◌, ℕ, ◌+◌, ◌≤◌, List, length, map, MatchOption};
 ghost use Rattle.std.specs.Char.{to_ascii_uppercase};
-ghost use Rattle.rkyv_base.specs.Seal.{LiesIn, SealStays, bytes_in, place_in};
+ghost use Rattle.rkyv_base.specs.Seal.{LiesIn, SealStays, bytes_in, seal_pos};
 ghost use Rattle.rkyv_base.specs.SealedText.{
   IsElsewhere,
   IsInline,
@@ -68,11 +68,11 @@ impl<'a, W: Width> Seal<'a, Text<W>> {
     #[inline]
     pub fn as_str(&self) -> Option<&str>
         requires inside { LiesIn (text_shape W.word) self.now }
-        requires text { IsSealedText W.word (bytes_in self.now) (place_in self.now) }
+        requires text { IsSealedText W.word (bytes_in self.now) (seal_pos self.now) }
         ensures { MatchOption result
-            (IsElsewhere W.word (bytes_in self.now) (place_in self.now))
-            (λ text. IsInline W.word (bytes_in self.now) (place_in self.now)
-            × (text.now ≡ text_at W.word (bytes_in self.now) (place_in self.now))) }
+            (IsElsewhere W.word (bytes_in self.now) (seal_pos self.now))
+            (λ text. IsInline W.word (bytes_in self.now) (seal_pos self.now)
+            × (text.now ≡ text_at W.word (bytes_in self.now) (seal_pos self.now))) }
     {
         match inline_bytes::<W>(&*self.bytes, self.place) {
             Some(text) => Some(unsafe { str::from_utf8_unchecked(text) }),
@@ -86,17 +86,17 @@ impl<'a, W: Width> Seal<'a, Text<W>> {
     pub fn make_ascii_uppercase(&mut self) -> bool
         requires { LiesIn (text_shape W.word) self.old }
         ensures stays { SealStays self.old self.new }
-        ensures raised { Raised W.word (bytes_in self.old) (place_in self.old)
+        ensures raised { Raised W.word (bytes_in self.old) (seal_pos self.old)
             (bytes_in self.new) result }
-        ensures sealed { Sealed (bytes_in self.old) (place_in self.old)
+        ensures sealed { Sealed (bytes_in self.old) (seal_pos self.old)
             (text_size W.word) (bytes_in self.new) }
-        ensures reads { IsInline W.word (bytes_in self.old) (place_in self.old) →
-            text_at W.word (bytes_in self.new) (place_in self.old)
-            ≡ map to_ascii_uppercase (text_at W.word (bytes_in self.old) (place_in self.old)) }
-        ensures text { IsSealedText W.word (bytes_in self.old) (place_in self.old)
-            → IsSealedText W.word (bytes_in self.new) (place_in self.old) }
+        ensures reads { IsInline W.word (bytes_in self.old) (seal_pos self.old) →
+            text_at W.word (bytes_in self.new) (seal_pos self.old)
+            ≡ map to_ascii_uppercase (text_at W.word (bytes_in self.old) (seal_pos self.old)) }
+        ensures text { IsSealedText W.word (bytes_in self.old) (seal_pos self.old)
+            → IsSealedText W.word (bytes_in self.new) (seal_pos self.old) }
         ensures holds { Keeps (text_shape W.word)
-            (bytes_in self.old) (bytes_in self.new) (place_in self.old) }
+            (bytes_in self.old) (bytes_in self.new) (seal_pos self.old) }
     {
         let place = self.place;
         let bytes = &mut *self.bytes;

@@ -36,7 +36,7 @@ ghost use Rattle.rkyv_base.specs.Text.{
   told_length,
 };
 ghost use Rattle.rkyv_base.specs.Shape.{Viewed};
-ghost use Rattle.rkyv_base.specs.View.{IsView, bytes_of, place_of};
+ghost use Rattle.rkyv_base.specs.View.{IsView, bytes_of, pos_of};
 
 use crate::element::{Element, PartRange, StandsFor};
 use crate::errors::VerifyError;
@@ -233,7 +233,7 @@ impl<W: Width> Element for Text<W> {
 
 /// The place at which a part begins.
 #[inline]
-fn place_of_begin(begin: i128) -> usize
+fn pos_of_begin(begin: i128) -> usize
     requires { (at : ℕ) × (int at ≡ begin) × (at < 2 ^ 64) }
     ensures { int result ≡ begin }
 {
@@ -248,7 +248,7 @@ fn far_part<W: Width>(bytes: &[u8], pos: u64) -> &[u8]
     ensures { result.now ≡ text_at W.word bytes.now pos }
 {
     let fixed = fixed_at::<W>(bytes, pos);
-    let place = place_of_begin(far_start::<W>(fixed, pos));
+    let place = pos_of_begin(far_start::<W>(fixed, pos));
     &bytes[place..place + far_len::<W>(fixed) as usize]
 }
 
@@ -282,7 +282,7 @@ impl<'a, W: Width> View<'a, Text<W>> {
     #[inline]
     pub fn as_str(self) -> &'a str
         requires { IsView (text_shape W.word) self }
-        ensures { result.now ≡ text_at W.word (bytes_of self.entry) (place_of self.entry) }
+        ensures { result.now ≡ text_at W.word (bytes_of self.entry) (pos_of self.entry) }
     {
         unsafe { str::from_utf8_unchecked(text_part::<W>(self.bytes(), self.pos())) }
     }

@@ -4,7 +4,7 @@ ghost use Rattle.std.specs.Prelude.{◌≡◌, ℕ, ◌+◌};
 ghost use Rattle.rkyv_base.specs.Entry.{entry_shape, value_offset};
 ghost use Rattle.rkyv_base.specs.Scalar.{ScalarStands, scalar_shape};
 ghost use Rattle.rkyv_base.specs.Shape.{Viewed};
-ghost use Rattle.rkyv_base.specs.View.{IsAt, IsView, StandsAt, archive_of, bytes_of, place_of};
+ghost use Rattle.rkyv_base.specs.View.{IsAt, IsView, StandsAt, archive_of, bytes_of, pos_of};
 
 use crate::element::Element;
 use crate::entry::{Entry, value_offset};
@@ -36,7 +36,7 @@ impl<'a, T: Element> View<'a, T> {
     /// Where the value stands.
     #[inline]
     pub fn pos(self) -> u64
-        ensures { result ≡ place_of self.entry }
+        ensures { result ≡ pos_of self.entry }
     {
         self.pos
     }
@@ -76,7 +76,7 @@ impl<'a, K: Element, V: Element> View<'a, Entry<K, V>> {
     #[inline]
     pub fn key(self) -> View<'a, K>
         requires { IsView (entry_shape K.shape V.shape) self }
-        ensures at { IsAt result (archive_of self.entry) (place_of self.entry) }
+        ensures at { IsAt result (archive_of self.entry) (pos_of self.entry) }
         ensures viewed { IsView K.shape result }
     {
         self.at::<K>(self.pos)
@@ -86,7 +86,7 @@ impl<'a, K: Element, V: Element> View<'a, Entry<K, V>> {
     #[inline]
     pub fn value(self) -> View<'a, V>
         requires { IsView (entry_shape K.shape V.shape) self }
-        ensures at { IsAt result (archive_of self.entry) (place_of self.entry + value_offset K.shape V.shape) }
+        ensures at { IsAt result (archive_of self.entry) (pos_of self.entry + value_offset K.shape V.shape) }
         ensures viewed { IsView V.shape result }
     {
         self.at::<V>(self.pos + value_offset::<K, V>() as u64)

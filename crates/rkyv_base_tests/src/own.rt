@@ -2,7 +2,7 @@
 ghost use Rattle.std.specs.Prelude.{[], length, ⊤, ◌≡◌};
 ghost use Rattle.std.specs.Int.{w32};
 ghost use Rattle.std.proofs.Common.{inl, inr, lit≤, refl};
-ghost use Rattle.rkyv_base.specs.AnyBytes.{any_bytes, any_bytes-element};
+ghost use Rattle.rkyv_base.specs.Lemmas.AnyBytes.{any_bytes, any_bytes-element};
 ghost use Rattle.rkyv_base.specs.Format.{nothing_far, nothing_next};
 
 use rkyv_base::access::access;

@@ -11,7 +11,7 @@ use Rattle.std.specs.Slice.Iter.{iter_rest, iter_steps}
 use Rattle.std.specs.declared.slice.Iter.{Iter}
 use Rattle.rkyv_base.specs.Shape.{Shape, Viewed}
 use Rattle.rkyv_collections.specs.Walking.{TakesFirst}
-use Rattle.rkyv_table.specs.RawItems.{AllStand, ItemsLeft}
+use Rattle.rkyv_table.specs.Table.RawItems.{AllStand, ItemsLeft}
 use Rattle.rkyv_bench.specs.Totals.{total}
 
 -- what is counted of what is seen of each item

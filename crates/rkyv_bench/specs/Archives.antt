@@ -10,7 +10,7 @@ use Rattle.rkyv_base.specs.Text.{text_shape}
 use Rattle.rkyv_base.specs.View.{IsAt}
 use Rattle.rkyv_collections.specs.Map.{map_shape}
 use Rattle.rkyv_collections.specs.declared.map.ArchivedHashMap.{ArchivedHashMap}
-use Rattle.rkyv_table.specs.Header.{len_at}
+use Rattle.rkyv_table.specs.Table.Header.{len_at}
 
 -- a number of 32 bits, and a text
 abbrev pub number_shape : Shape

@@ -10,7 +10,7 @@ use Rattle.rkyv_keys.specs.Calls.{text_calls}
 use Rattle.rkyv_keys.specs.OfTexts.{same_bytes}
 use Rattle.rkyv_scan.specs.Groups.{generic_kind}
 use Rattle.rkyv_scan.specs.Hash.{HasherCall, U32, fx_hash, low_halves}
-use Rattle.rkyv_table.specs.Reading.{item_places, place_found}
+use Rattle.rkyv_table.specs.Table.Reading.{item_positions, pos_found}
 use Rattle.rkyv_bench.specs.Archives.{number_shape, root, short_text}
 
 -- the sum modulo 2 ^ 64 of what is counted of each
@@ -34,7 +34,7 @@ value_or_miss key b (Some q) = number_at w32 b (q + value_offset key number_shap
 
 -- that of the key which a lookup under a hash finds in the archive, of those that fit
 abbrev pub looked_up : Shape → List ℕ → ℕ → ℕ → (ℕ → Bool) → ℕ
-looked_up key b p hash fits = value_or_miss key b (place_found generic_kind w32 (entry_shape key number_shape).size b p hash fits)
+looked_up key b p hash fits = value_or_miss key b (pos_found generic_kind w32 (entry_shape key number_shape).size b p hash fits)
 
 -- of a number and of a text, in the archive whose header stands at p
 abbrev pub number_looked_up_at : List ℕ → ℕ → ℕ → ℕ
@@ -55,7 +55,7 @@ pair_weight key weight b q = weight b q + number_at w32 b (q + value_offset key 
 
 -- where the keys of the archived map stand, by ascending bucket
 abbrev pub walked : Shape → List ℕ → ℕ → List ℕ
-walked key b p = item_places w32 (entry_shape key number_shape).size b p
+walked key b p = item_positions w32 (entry_shape key number_shape).size b p
 
 -- a number counts itself, a text its bytes
 abbrev pub number_weight : List ℕ → ℕ → ℕ

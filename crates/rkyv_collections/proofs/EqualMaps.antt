@@ -11,8 +11,8 @@ use Rattle.rkyv_base.specs.Entry.{entry_shape, value_offset}
 use Rattle.rkyv_base.specs.Shape.{IsElement, Shape, Standing}
 use Rattle.rkyv_keys.specs.Equality.{Comparison, IsEquivalence}
 use Rattle.rkyv_keys.specs.OfEntries.{entry_equivalence, entry_same, standing_key}
-use Rattle.rkyv_table.specs.Header.{len_at}
-use Rattle.rkyv_table.specs.Reading.{home_places, item_at, item_places}
+use Rattle.rkyv_table.specs.Table.Header.{len_at}
+use Rattle.rkyv_table.specs.Table.Reading.{home_positions, item_at, item_positions}
 use Rattle.rkyv_table.proofs.Lists.{any_member, contains_member, none_find, some_find}
 use Rattle.rkyv_table.proofs.Search.{cases_option}
 use Rattle.rkyv_table.proofs.Written.{first_within}
@@ -48,7 +48,7 @@ module _ (w : Width) (k v : Shape) (kl : IsElement k) (vl : IsElement v) (key_ha
 
     -- the key of the first pair is looked up among those handed in
     matches_is : (i : ℕ) → i < length homes → pair_matches w k v key_hash same_key same_value b (pair_at w k v b p homes i) c r
-        ≡ unwrap_or (option_map (same_at i) (find (same_key b (pair_at w k v b p homes i) c) (home_places w (entry_shape k v).size c r others))) false
+        ≡ unwrap_or (option_map (same_at i) (find (same_key b (pair_at w k v b p homes i) c) (home_positions w (entry_shape k v).size c r others))) false
     unfolding same_at
     matches_is i h =
         let q = pair_at w k v b p homes i in
@@ -62,7 +62,7 @@ module _ (w : Width) (k v : Shape) (kl : IsElement k) (vl : IsElement v) (key_ha
     unfolding same_at
     match_same i h matched =
         let q = pair_at w k v b p homes i in
-        let xs = home_places w (entry_shape k v).size c r others in
+        let xs = home_positions w (entry_shape k v).size c r others in
         let n = length-map others (item_at w (entry_shape k v).size c r) in
         let e = sym (matches_is i h) ∙ matched in
         elim (cases_option (find (same_key b q c) xs)) [
@@ -88,7 +88,7 @@ module _ (w : Width) (k v : Shape) (kl : IsElement k) (vl : IsElement v) (key_ha
     same_matches i j h l same =
         let q = pair_at w k v b p homes i in
         let x = pair_at w k v c r others j in
-        let xs = home_places w (entry_shape k v).size c r others in
+        let xs = home_positions w (entry_shape k v).size c r others in
         let n = length-map others (item_at w (entry_shape k v).size c r) in
         let both = and_parts (same_key b q c x) (same_value b (q + value_offset k v) c (x + value_offset k v)) same in
         let there = place_of_pair w k v kl vl key_hash c r others second.stands second.written j l in
@@ -128,7 +128,7 @@ module _ (w : Width) (k v : Shape) (kl : IsElement k) (vl : IsElement v) (key_ha
   equal_have_same_pairs b c p r homes others first second =
       let same : ℕ → ℕ → Bool = λ i j. entry_same k v same_key same_value b (pair_at w k v b p homes i) c (pair_at w k v c r others j) in
       let matches : ℕ → Bool = λ q. pair_matches w k v key_hash same_key same_value b q c r in
-      let every : Bool = list_all matches (item_places w (entry_shape k v).size b p) in
+      let every : Bool = list_all matches (item_positions w (entry_shape k v).size b p) in
       let count = pair_count w k v kl vl key_hash b p homes first.stands first.written in
       let count' = pair_count w k v kl vl key_hash c r others second.stands second.written in
       let equivalence = entry_equivalence kl vl ke ve in (

@@ -11,9 +11,9 @@ use Rattle.rkyv_base.specs.Shape.{Shape}
 use Rattle.rkyv_base.specs.Writing.{Output}
 use Rattle.rkyv_base.specs.declared.adapter.EntryAdapter.{EntryAdapter}
 use Rattle.rkyv_base.specs.declared.errors.WriteError.{WriteError}
-use Rattle.rkyv_table.specs.Counting.{GaveOther}
-use Rattle.rkyv_table.specs.Serializing.{NoTable, WroteTable}
-use Rattle.rkyv_table.specs.TableFormat.{TableResolver, table_format}
+use Rattle.rkyv_table.specs.Table.Counting.{GaveOther}
+use Rattle.rkyv_table.specs.Table.Serializing.{NoTable, WroteTable}
+use Rattle.rkyv_table.specs.Table.TableFormat.{TableResolver, table_format}
 use Rattle.rkyv_collections.specs.Handing.{HashedStep, NoItems, WroteItems, lent_pairs}
 use Rattle.rkyv_collections.specs.MapFormat.{keyed, map_format}
 use Rattle.rkyv_collections.proofs.Through.{drains_through, other_through, own_counted}

@@ -8,10 +8,10 @@ use Rattle.rkyv_base.specs.Writing.{CauseStands, Output, end_of, capacity as too
 use Rattle.rkyv_base.proofs.GivingUp.{grows, none_appended, told_as}
 use Rattle.rkyv_base.specs.declared.errors.WriteError.{WriteError}
 use Rattle.rkyv_base.specs.declared.errors.WriteError.TheVariants.{InvalidLoadFactor, IteratorLengthMismatch, CapacityTooLarge, PositionTooLarge, DistanceTooLarge, TextTooLong, Writer, Memory, Refused}
-use Rattle.rkyv_table.specs.Counting.{GaveOther}
-use Rattle.rkyv_table.specs.Numbers.{capacity}
-use Rattle.rkyv_table.specs.Serializing.{HasCapacity, OwnCause}
-use Rattle.rkyv_table.specs.TableFormat.{TableResolver}
+use Rattle.rkyv_table.specs.Table.Counting.{GaveOther}
+use Rattle.rkyv_table.specs.Controls.Numbers.{capacity}
+use Rattle.rkyv_table.specs.Table.Serializing.{HasCapacity, OwnCause}
+use Rattle.rkyv_table.specs.Table.TableFormat.{TableResolver}
 use Rattle.rkyv_collections.specs.Handing.{NoItems, WroteItems}
 use Rattle.rkyv_collections.specs.Listed.{listed}
 

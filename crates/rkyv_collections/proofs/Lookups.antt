@@ -6,31 +6,31 @@ use Rattle.std.proofs.lemmas.List.{get_or-map, length-map}
 use Rattle.rkyv_scan.specs.Hash.{HasherCall, hash_of_calls}
 use Rattle.rkyv_base.specs.Entry.{entry_element, entry_shape}
 use Rattle.rkyv_base.specs.Shape.{Shape, IsElement, Standing}
-use Rattle.rkyv_base.specs.View.{IsAt, IsView, archive_of, place_of}
+use Rattle.rkyv_base.specs.View.{IsAt, IsView, archive_of, pos_of}
 use Rattle.rkyv_base.specs.declared.view.View.{View}
 use Rattle.rkyv_base.specs.declared.entry.Entry.{Entry}
 use Rattle.rkyv_keys.specs.Equality.{Comparison}
 use Rattle.rkyv_keys.specs.Keys.{IsQuery}
 use Rattle.rkyv_keys.specs.OfEntries.{standing_key}
-use Rattle.rkyv_table.specs.Laws.{IsUnderHash}
-use Rattle.rkyv_table.specs.Reading.{IsItem, IsWalked, home_places, item_at}
+use Rattle.rkyv_table.specs.Controls.Laws.{IsUnderHash}
+use Rattle.rkyv_table.specs.Table.Reading.{IsItem, IsWalked, home_positions, item_at}
 use Rattle.rkyv_table.specs.declared.table.ArchivedHashTable.{ArchivedHashTable}
 use Rattle.rkyv_table.proofs.Items.{item_viewed}
-use Rattle.rkyv_collections.specs.Map.{AreUnderHash, IsEntryAt, IsEntryIn, map_archive, IsFoundAt, IsKeyIn, IsMap, MapWrittenAt, hash_at, map_bytes, map_place}
+use Rattle.rkyv_collections.specs.Map.{AreUnderHash, IsEntryAt, IsEntryIn, map_archive, IsFoundAt, IsKeyIn, IsMap, MapWrittenAt, hash_at, map_bytes, map_pos}
 use Rattle.rkyv_collections.specs.declared.map.ArchivedHashMap.{ArchivedHashMap}
-use Rattle.rkyv_table.proofs.WrittenTables.{home_count, home_place, home_walked}
+use Rattle.rkyv_table.proofs.WrittenTables.{home_count, home_pos, home_walked}
 
 module _ {K V H W : Type 0} (w : Width) (k v : Shape) (m : ArchivedHashMap K V H W) where
   -- an item of its table is an entry of the map
-  pub entry_of_item : (t : ArchivedHashTable (Entry K V) W) → IsAt t.view (map_archive m) (map_place m) → (entry : View (Entry K V)) → IsItem w (entry_shape k v) t entry
+  pub entry_of_item : (t : ArchivedHashTable (Entry K V) W) → IsAt t.view (map_archive m) (map_pos m) → (entry : View (Entry K V)) → IsItem w (entry_shape k v) t entry
       → IsEntryIn w k v m entry
   entry_of_item t at entry item =
-      let walked : IsWalked w (map_bytes m) (map_place m) item.0 = rw (← at.0, ← at.1) item.1.walked in
-      let place : entry.pos ≡ item_at w (entry_shape k v).size (map_bytes m) (map_place m) item.0 = rw (← at.0, ← at.1) item.1.place in
+      let walked : IsWalked w (map_bytes m) (map_pos m) item.0 = rw (← at.0, ← at.1) item.1.walked in
+      let place : entry.pos ≡ item_at w (entry_shape k v).size (map_bytes m) (map_pos m) item.0 = rw (← at.0, ← at.1) item.1.place in
       (item.1.archive ∙ at.0, item.1.viewed, (item.0, walked, place))
 
   -- where the key of an entry is viewed, it is a key of the map
-  pub key_of_entry : (entry : View (Entry K V)) (key : View K) → IsEntryIn w k v m entry → IsAt key (archive_of entry) (place_of entry) → IsView k key
+  pub key_of_entry : (entry : View (Entry K V)) (key : View K) → IsEntryIn w k v m entry → IsAt key (archive_of entry) (pos_of entry) → IsView k key
       → IsKeyIn w k v m key
   key_of_entry entry key is at viewed = record {
     archive = at.0 ∙ is.0;
@@ -40,17 +40,17 @@ module _ {K V H W : Type 0} (w : Width) (k v : Shape) (m : ArchivedHashMap K V H
 
   -- the keys under the asked hash are the items under it
   pub under_hash : (hash : ℕ) (key_hash : List ℕ → ℕ → ℕ) (accept : ℕ → Bool) (homes : List ℕ)
-      → AreUnderHash w k v m hash key_hash accept → MapWrittenAt w (entry_shape k v) key_hash (map_bytes m) (map_place m) homes
-      → IsUnderHash hash (map (key_hash (map_bytes m)) (home_places w (entry_shape k v).size (map_bytes m) (map_place m) homes))
-      (home_places w (entry_shape k v).size (map_bytes m) (map_place m) homes) accept
+      → AreUnderHash w k v m hash key_hash accept → MapWrittenAt w (entry_shape k v) key_hash (map_bytes m) (map_pos m) homes
+      → IsUnderHash hash (map (key_hash (map_bytes m)) (home_positions w (entry_shape k v).size (map_bytes m) (map_pos m) homes))
+      (home_positions w (entry_shape k v).size (map_bytes m) (map_pos m) homes) accept
   under_hash hash key_hash accept homes under written i h accepted =
       let b = map_bytes m in
-      let p = map_place m in
-      let places = home_places w (entry_shape k v).size b p homes in
+      let p = map_pos m in
+      let places = home_positions w (entry_shape k v).size b p homes in
       let hashes = map (key_hash b) places in
       let below : i < length homes = omega (arith, h, home_count w b p hashes homes written) in
       let walked = home_walked w b p hashes homes written i below in
-      let at : slice_index places i ≡ _ = home_place w (entry_shape k v).size b p homes i below in
+      let at : slice_index places i ≡ _ = home_pos w (entry_shape k v).size b p homes i below in
       let here = under (slice_index places i) (slice_index homes i, walked, at) accepted in
       let n : length hashes ≡ length places = length-map places (key_hash b) in
       get_or-map (key_hash b) places i 0 0 (omega arith) ∙ here
@@ -62,7 +62,7 @@ module _ {K V H W : Type 0} (w : Width) (k v : Shape) (m : ArchivedHashMap K V H
       → AreUnderHash w k v m (hash_of_calls initial feed finish (calls q)) (hash_at initial feed finish key_calls) (fits q (map_bytes m))
   query_under_hash kl vl initial feed finish same key_calls can_read calls fits query is q can place key accepted =
       let b = map_bytes m in
-      let item = item_viewed w (entry_shape k v) (entry_element k v kl vl) b (map_place m) is key.0 key.1 in
+      let item = item_viewed w (entry_shape k v) (entry_element k v kl vl) b (map_pos m) is key.0 key.1 in
       let stands : Standing k b place = standing_key kl vl b place (subst (Standing (entry_shape k v) b) (sym key.2) item.stands) in
       ap (hash_of_calls initial feed finish) (sym (query.alike q b place can stands accepted))
 

@@ -8,17 +8,17 @@ use Rattle.std.proofs.lemmas.Bool.{cases_eq}
 use Rattle.std.proofs.lemmas.List.{get_or_default, get_or-map, length-map, nil_from_length, take-map}
 use Rattle.rkyv_scan.specs.Groups.{generic_kind}
 use Rattle.rkyv_scan.specs.Hash.{HasherCall, hash_of_calls}
-use Rattle.rkyv_scan.specs.KindLaws.{word_lawful}
+use Rattle.rkyv_scan.specs.Lemmas.KindLaws.{word_lawful}
 use Rattle.rkyv_base.specs.Entry.{entry_element, entry_shape}
 use Rattle.rkyv_base.specs.Shape.{IsElement, Shape, Standing, Viewed}
 use Rattle.rkyv_keys.specs.Equality.{Comparison, IsEquivalence}
 use Rattle.rkyv_keys.specs.Keys.{IsQuery}
 use Rattle.rkyv_keys.specs.OfEntries.{standing_key}
-use Rattle.rkyv_table.specs.Finding.{found}
-use Rattle.rkyv_table.specs.Header.{cap_at, len_at}
-use Rattle.rkyv_table.specs.Misplaced.{AloneAccepted, AsksForOne, IsSameness, NoneAccepted, misplaced, repeated, repeats_earlier}
-use Rattle.rkyv_table.specs.Placing.{walk}
-use Rattle.rkyv_table.specs.Reading.{home_places, item_at, place_found, table_controls}
+use Rattle.rkyv_table.specs.Controls.Finding.{found}
+use Rattle.rkyv_table.specs.Table.Header.{cap_at, len_at}
+use Rattle.rkyv_table.specs.Table.Misplaced.{AloneAccepted, AsksForOne, IsSameness, NoneAccepted, misplaced, repeated, repeats_earlier}
+use Rattle.rkyv_table.specs.Controls.Placing.{walk}
+use Rattle.rkyv_table.specs.Table.Reading.{home_positions, item_at, pos_found, table_controls}
 use Rattle.rkyv_table.proofs.Items.{controls_accepted, item_viewed, no_items}
 use Rattle.rkyv_table.proofs.Misplaced.{complete, repeated_misplaced}
 use Rattle.rkyv_table.proofs.RawWalks.{walk_count}
@@ -52,7 +52,7 @@ module _ (w : Width) (k v : Shape) (kl : IsElement k) (vl : IsElement v) (key_ha
     at = item_at w (entry_shape k v).size b p
 
     abbrev hashes : List ℕ
-    hashes = map (key_hash b) (home_places w (entry_shape k v).size b p homes)
+    hashes = map (key_hash b) (home_positions w (entry_shape k v).size b p homes)
 
     key_there : (i : ℕ) → Contains homes i → Standing k b (at i)
     key_there i c =
@@ -68,7 +68,7 @@ module _ (w : Width) (k v : Shape) (kl : IsElement k) (vl : IsElement v) (key_ha
       transitive = λ i j l c d e s t. equivalence.transitive b b b (at i) (at j) (at l) (key_there i c) (key_there j d) (key_there l e) s t;
     }
 
-    repeated_keys : map_misplaced w k v key_hash same_key b p ≡ repeated (λ q r. same_key b q b r) (home_places w (entry_shape k v).size b p homes)
+    repeated_keys : map_misplaced w k v key_hash same_key b p ≡ repeated (λ q r. same_key b q b r) (home_positions w (entry_shape k v).size b p homes)
     repeated_keys = elim written.placed [
       | inl none ↦
           let count = walk_count w (entry_shape k v) (entry_element k v kl vl) b p view in
@@ -94,8 +94,8 @@ module _ {Q State : Type 0} (w : Width) (k v : Shape) (kl : IsElement k) (vl : I
   abbrev size : ℕ
   size = (entry_shape k v).size
 
-  abbrev place_in : ℕ → ℕ
-  place_in = item_at w size b p
+  abbrev seal_pos : ℕ → ℕ
+  seal_pos = item_at w size b p
 
   abbrev cap : ℕ
   cap = cap_at w b p
@@ -107,19 +107,19 @@ module _ {Q State : Type 0} (w : Width) (k v : Shape) (kl : IsElement k) (vl : I
   hash = hash_of_calls initial feed finish (calls q)
 
   abbrev accept : ℕ → Bool
-  accept i = fits q b (place_in i)
+  accept i = fits q b (seal_pos i)
 
-  key_walked : (i : ℕ) → Contains (walk controls cap) i → Standing k b (place_in i)
+  key_walked : (i : ℕ) → Contains (walk controls cap) i → Standing k b (seal_pos i)
   key_walked i c =
-      standing_key kl vl b (place_in i) (item_viewed w (entry_shape k v) (entry_element k v kl vl) b p view i (walked_full cap controls i c)).stands
+      standing_key kl vl b (seal_pos i) (item_viewed w (entry_shape k v) (entry_element k v kl vl) b p view i (walked_full cap controls i c)).stands
 
-  asks : AsksForOne controls cap hash accept (λ i. hash_at initial feed finish key_calls b (place_in i)) (λ i j. same b (place_in i) b (place_in j))
+  asks : AsksForOne controls cap hash accept (λ i. hash_at initial feed finish key_calls b (seal_pos i)) (λ i j. same b (seal_pos i) b (seal_pos j))
   asks = record {
-    hashed = λ i c f. ap (hash_of_calls initial feed finish) (sym (query.alike q b (place_in i) can (key_walked i c) f));
-    same = λ i j c d f. query.class q b b (place_in i) (place_in j) can (key_walked i c) (key_walked j d) f;
+    hashed = λ i c f. ap (hash_of_calls initial feed finish) (sym (query.alike q b (seal_pos i) can (key_walked i c) f));
+    same = λ i j c d f. query.class q b b (seal_pos i) (seal_pos j) can (key_walked i c) (key_walked j d) f;
   }
 
-  by_place : (o : Option ℕ) → MatchOption o (NoneAccepted controls cap accept) (AloneAccepted controls cap accept) → FindsTheOne w size b p (fits q b) (option_map place_in o)
+  by_place : (o : Option ℕ) → MatchOption o (NoneAccepted controls cap accept) (AloneAccepted controls cap accept) → FindsTheOne w size b p (fits q b) (option_map seal_pos o)
   by_place None n = λ i walked. n i (full_walked cap controls i walked)
   by_place (Some i) a = record {
     bucket = i;
@@ -129,14 +129,14 @@ module _ {Q State : Type 0} (w : Width) (k v : Shape) (kl : IsElement k) (vl : I
     alone = λ j walked f. a.alone j (full_walked cap controls j walked) f;
   }
 
-  pub finds_the_one : FindsTheOne w size b p (fits q b) (place_found generic_kind w size b p hash (fits q b))
+  pub finds_the_one : FindsTheOne w size b p (fits q b) (pos_found generic_kind w size b p hash (fits q b))
   finds_the_one = elim (cases_eq cap 0) [
     | inl z ↦
         let e = no_items w (entry_shape k v) (entry_element k v kl vl) b p view z in
-        subst (λ n. FindsTheOne w size b p (fits q b) (option_map place_in (found generic_kind controls cap n hash accept))) (sym e)
+        subst (λ n. FindsTheOne w size b p (fits q b) (option_map seal_pos (found generic_kind controls cap n hash accept))) (sym e)
         (by_place None (λ i c. absurd (omega (arith, (walked_full cap controls i c).0, z))))
     | inr some ↦
         by_place (found generic_kind controls cap (len_at w b p) hash accept)
-        (complete generic_kind cap (len_at w b p) hash controls accept (λ i. hash_at initial feed finish key_calls b (place_in i)) (λ i j. same b (place_in i) b (place_in j)) word_lawful
+        (complete generic_kind cap (len_at w b p) hash controls accept (λ i. hash_at initial feed finish key_calls b (seal_pos i)) (λ i j. same b (seal_pos i) b (seal_pos j)) word_lawful
         (controls_accepted w (entry_shape k v) (entry_element k v kl vl) b p view (omega arith)) small none asks)
   ]

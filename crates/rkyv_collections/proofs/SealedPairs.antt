@@ -4,24 +4,24 @@ use Rattle.std.specs.Prelude.{IfSome, IsSome, MatchOption}
 use Rattle.std.specs.Int.{Width}
 use Rattle.std.proofs.lemmas.Bool.{cases_lt, true≢false}
 use Rattle.rkyv_base.specs.Entry.{entry_element, entry_shape, parts_inside, size_of_small, whole_size}
-use Rattle.rkyv_base.specs.Sealing.{Keeps, Sealed, value_place}
+use Rattle.rkyv_base.specs.Sealing.{Keeps, Sealed, value_pos}
 use Rattle.rkyv_base.specs.Shape.{IsElement, Shape, Viewed}
-use Rattle.rkyv_base.specs.Seal.{bytes_in, place_in}
-use Rattle.rkyv_base.specs.View.{IsView, bytes_of, place_of}
+use Rattle.rkyv_base.specs.Seal.{bytes_in, seal_pos}
+use Rattle.rkyv_base.specs.View.{IsView, bytes_of, pos_of}
 use Rattle.rkyv_base.specs.declared.entry.Entry.{Entry}
 use Rattle.rkyv_base.specs.declared.seal.Seal.{Seal}
 use Rattle.rkyv_base.specs.declared.view.View.{View}
 use Rattle.rkyv_base.proofs.Sealing.{entry_kept, sealed_wider}
-use Rattle.rkyv_table.specs.SealedItems.{StaysThere, TakesPosition, buckets_left, cursor_bytes}
-use Rattle.rkyv_table.specs.Reading.{table_controls}
-use Rattle.rkyv_table.specs.SealedTable.{SameValue}
-use Rattle.rkyv_table.specs.Walking.{full_from}
+use Rattle.rkyv_table.specs.Table.SealedItems.{StaysThere, TakesPosition, buckets_left, cursor_bytes}
+use Rattle.rkyv_table.specs.Table.Reading.{table_controls}
+use Rattle.rkyv_table.specs.Table.SealedTable.{SameValue}
+use Rattle.rkyv_table.specs.Controls.Walking.{full_from}
 use Rattle.rkyv_table.specs.declared.table.raw_iter_seal.RawIterSeal.{RawIterSeal}
 use Rattle.rkyv_table.proofs.Items.{item_viewed}
 use Rattle.rkyv_table.proofs.SealedItems.{cursor_kept, full_end, full_skipped}
 use Rattle.rkyv_table.proofs.SealedTable.{table_kept}
 use Rattle.rkyv_collections.specs.SealedMap.{LendsPair}
-use Rattle.rkyv_collections.specs.SealedPairs.{IsPairIter, KeepsPairs, TakesKeyPlace, TakesPairAt}
+use Rattle.rkyv_collections.specs.SealedPairs.{IsPairIter, KeepsPairs, TakesKeyPos, TakesPairAt}
 use Rattle.rkyv_collections.proofs.SealedMap.{pair_lent, pair_place}
 
 -- where no control is full, no bucket is left
@@ -48,7 +48,7 @@ module _ {K V : Type 0} (k v : Shape) (kl : IsElement k) (vl : IsElement v) wher
       r.cap r.next (omega arith)
 
   -- a step over the entries is one over the keys
-  pub takes_key : (before after : RawIterSeal (Entry K V)) (result : Option ℕ) → TakesPosition (entry_shape k v) before result after → TakesKeyPlace k v before result after
+  pub takes_key : (before after : RawIterSeal (Entry K V)) (result : Option ℕ) → TakesPosition (entry_shape k v) before result after → TakesKeyPos k v before result after
   takes_key before after None h w p is = let d = h w p is in record { none = d.0; still = d.1; iter = d.2 }
   takes_key before after (Some q) h w p is =
       let t = h w p is in
@@ -62,8 +62,8 @@ module _ {K V : Type 0} (k v : Shape) (kl : IsElement k) (vl : IsElement v) wher
   -- what is lent where the first key was found
   pub lends_first : (w : Width) (p q : ℕ) (before after : RawIterSeal (Entry K V)) (archive : List ℕ) → archive ≡ cursor_bytes before → TakesPairAt k v w p before after q
       → (result : Option (View K × Seal V)) → IfSome result (λ (pair : View K × Seal V). IsView k pair.0)
-      → IfSome result (λ (pair : View K × Seal V). (place_of pair.0 ≡ q) × (bytes_of pair.0 ≡ take (value_place k v q) archive))
-      → IfSome result (λ (pair : View K × Seal V). (place_in pair.1 ≡ 0) × (bytes_in pair.1 ≡ drop (value_place k v q) archive))
+      → IfSome result (λ (pair : View K × Seal V). (pos_of pair.0 ≡ q) × (bytes_of pair.0 ≡ take (value_pos k v q) archive))
+      → IfSome result (λ (pair : View K × Seal V). (seal_pos pair.1 ≡ 0) × (bytes_in pair.1 ≡ drop (value_pos k v q) archive))
       → (Viewed k archive q → IsSome result)
       → MatchOption result (buckets_left w p before ≡ [])
       (λ (pair : View K × Seal V). (i : ℕ) × (rest : List ℕ) × (buckets_left w p before ≡ i ∷ rest) × LendsPair w k v (cursor_bytes before) p i pair)
@@ -72,12 +72,12 @@ module _ {K V : Type 0} (k v : Shape) (kl : IsElement k) (vl : IsElement v) wher
     t.bucket,
     buckets_left w p after,
     t.first,
-    pair_lent w k v before.archive.now p t.bucket q pair t.pair key.0 view (key.1 ∙ ap (take (value_place k v q)) same) (value.1 ∙ ap (drop (value_place k v q)) same) value.0,
+    pair_lent w k v before.archive.now p t.bucket q pair t.pair key.0 view (key.1 ∙ ap (take (value_pos k v q)) same) (value.1 ∙ ap (drop (value_pos k v q)) same) value.0,
   )
 
   -- a write of one value keeps the map and the cursor
-  pub pairs_kept : (before after : RawIterSeal (Entry K V)) (q : ℕ) → StaysThere before after → Sealed (cursor_bytes before) (value_place k v q) v.size (cursor_bytes after)
-      → Keeps v (cursor_bytes before) (cursor_bytes after) (value_place k v q) → KeepsPairs k v before q after
+  pub pairs_kept : (before after : RawIterSeal (Entry K V)) (q : ℕ) → StaysThere before after → Sealed (cursor_bytes before) (value_pos k v q) v.size (cursor_bytes after)
+      → Keeps v (cursor_bytes before) (cursor_bytes after) (value_pos k v q) → KeepsPairs k v before q after
   pairs_kept before after q there sealed keeps w p i is at =
       let b = before.archive.now in
       let c = after.archive.now in
@@ -86,8 +86,8 @@ module _ {K V : Type 0} (k v : Shape) (kl : IsElement k) (vl : IsElement v) wher
       let item = item_viewed w s law b p is.table i at.walked in
       let small = size_of_small (whole_size k v) item.stands.1.0 in
       let inside = parts_inside k v in
-      let kept = at.kept c (subst (λ n. Sealed b (value_place k v n) v.size c) at.place sealed) (subst (λ n. Keeps v b c (value_place k v n)) at.place keeps) in
+      let kept = at.kept c (subst (λ n. Sealed b (value_pos k v n) v.size c) at.place sealed) (subst (λ n. Keeps v b c (value_pos k v n)) at.place keeps) in
       let cursor = cursor_kept w s p i q before after is
       (record { walked = at.walked; place = at.place; viewed = subst (λ n. Viewed s b n) (sym at.place) item; kept = λ d x y. table_kept w s law b p i is.table at.walked d x y })
-      there (sealed_wider b c (value_place k v q) v.size q s.size (omega arith) (omega (arith, small, inside.1)) sealed) (entry_kept k v kl vl b c q sealed keeps) in
+      there (sealed_wider b c (value_pos k v q) v.size q s.size (omega arith) (omega (arith, small, inside.1)) sealed) (entry_kept k v kl vl b c q sealed keeps) in
       (kept.0, subst (λ n. SameValue k b c n) (sym at.place) kept.1, cursor.1, cursor.2)

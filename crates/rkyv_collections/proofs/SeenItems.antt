@@ -12,12 +12,12 @@ use Rattle.rkyv_base.specs.Pairs.{written_as}
 use Rattle.rkyv_base.specs.Shape.{Shape}
 use Rattle.rkyv_base.specs.Writing.{Output, Step, end_of}
 use Rattle.rkyv_base.proofs.GivingUp.{told_as}
-use Rattle.rkyv_table.specs.Laws.{AreHashes}
-use Rattle.rkyv_table.specs.Numbers.{capacity}
-use Rattle.rkyv_table.specs.Placing.{Written}
-use Rattle.rkyv_table.specs.Slots.{Above, BeforeBuckets, BucketNext, BucketStep, Filled, PartsNext, SlotImages, SlotParts, TableBytes, TableNext, TooFar, filled}
-use Rattle.rkyv_table.specs.TableFormat.{InBuckets, PairsNext, TableParts, TableResolver, TableWritten, table_format}
-use Rattle.rkyv_table.specs.Taking.{Placed, Slotted, hashes_of, items_of}
+use Rattle.rkyv_table.specs.Controls.Laws.{AreHashes}
+use Rattle.rkyv_table.specs.Controls.Numbers.{capacity}
+use Rattle.rkyv_table.specs.Controls.Placing.{Written}
+use Rattle.rkyv_table.specs.Table.Slots.{Above, BeforeBuckets, BucketNext, BucketStep, Filled, PartsNext, SlotImages, SlotParts, TableBytes, TableNext, TooFar, filled}
+use Rattle.rkyv_table.specs.Table.TableFormat.{InBuckets, PairsNext, TableParts, TableResolver, TableWritten, table_format}
+use Rattle.rkyv_table.specs.Table.Taking.{Placed, Slotted, hashes_of, items_of}
 
 -- what is seen in each item, under the item's hash
 abbrev pub seen_pairs : {X Y : Type 0} → (X → Y) → List (ℕ × X) → List (ℕ × Y)

@@ -9,20 +9,20 @@ use Rattle.std.proofs.lemmas.List.Elements.{All-map, All-weaker}
 use Rattle.rkyv_base.specs.Entry.{entry_element, entry_shape}
 use Rattle.rkyv_base.specs.Pairs.{PairStands}
 use Rattle.rkyv_base.specs.Shape.{IsElement, Shape}
-use Rattle.rkyv_table.specs.Header.{cap_at}
-use Rattle.rkyv_table.specs.Placing.{walk}
-use Rattle.rkyv_table.specs.Reading.{IsWalked, item_at, item_places, table_controls}
+use Rattle.rkyv_table.specs.Table.Header.{cap_at}
+use Rattle.rkyv_table.specs.Controls.Placing.{walk}
+use Rattle.rkyv_table.specs.Table.Reading.{IsWalked, item_at, item_positions, table_controls}
 use Rattle.rkyv_table.proofs.RawWalks.{walked_all}
-use Rattle.rkyv_collections.specs.Map.{IsKeyPlaceAt}
+use Rattle.rkyv_collections.specs.Map.{IsKeyPosAt}
 use Rattle.rkyv_collections.specs.SetFormat.{with_units}
 use Rattle.rkyv_collections.specs.StdMap.{ArePairsAt}
 
 -- at each place of the walk a key of the map stands
-pub keys_walked : (w : Width) (k v : Shape) → IsElement k → IsElement v → (b : List ℕ) (p : ℕ) → All (IsKeyPlaceAt w k v b p) (item_places w (entry_shape k v).size b p)
+pub keys_walked : (w : Width) (k v : Shape) → IsElement k → IsElement v → (b : List ℕ) (p : ℕ) → All (IsKeyPosAt w k v b p) (item_positions w (entry_shape k v).size b p)
 keys_walked w k v kl vl b p =
     let ws = walk (table_controls w b p) (cap_at w b p) in
-    All-map (IsKeyPlaceAt w k v b p) (item_at w (entry_shape k v).size b p) ws
-    (All-weaker (IsWalked w b p) (λ i. IsKeyPlaceAt w k v b p (item_at w (entry_shape k v).size b p i)) (λ i h. (i, h, refl)) ws (walked_all w (entry_shape k v) (entry_element k v kl vl) b p))
+    All-map (IsKeyPosAt w k v b p) (item_at w (entry_shape k v).size b p) ws
+    (All-weaker (IsWalked w b p) (λ i. IsKeyPosAt w k v b p (item_at w (entry_shape k v).size b p i)) (λ i h. (i, h, refl)) ws (walked_all w (entry_shape k v) (entry_element k v kl vl) b p))
 
 module _ {A B : Type 0} (k v : Shape) (key : List ℕ → ℕ → A → Type 0) (value : List ℕ → ℕ → B → Type 0) (equal : A → A → Bool) (b : List ℕ) (all : List ℕ) where
   -- inserting the pairs that are left into what is found now gives what inserting all pairs in order into nothing does

@@ -9,8 +9,8 @@ use Rattle.rkyv_base.specs.Format.{Format, GaveUp, Serialized}
 use Rattle.rkyv_base.specs.Pairs.{written_as}
 use Rattle.rkyv_base.specs.Writing.{Output}
 use Rattle.rkyv_base.specs.declared.errors.WriteError.{WriteError}
-use Rattle.rkyv_table.specs.Counting.{GaveOther}
-use Rattle.rkyv_table.specs.TableFormat.{TableResolver}
+use Rattle.rkyv_table.specs.Table.Counting.{GaveOther}
+use Rattle.rkyv_table.specs.Table.TableFormat.{TableResolver}
 use Rattle.rkyv_collections.specs.Handing.{NoItems, WroteItems}
 use Rattle.rkyv_collections.specs.Listed.{listed}
 use Rattle.rkyv_collections.specs.SetFormat.{lent_keys, with_units}

@@ -7,9 +7,9 @@ use Rattle.rkyv_base.specs.Pairs.{written_as}
 use Rattle.rkyv_base.specs.Writing.{Output}
 use Rattle.rkyv_base.specs.declared.errors.WriteError.{WriteError}
 use Rattle.rkyv_base.specs.declared.errors.WriteError.TheVariants.{InvalidLoadFactor, IteratorLengthMismatch, CapacityTooLarge, PositionTooLarge, DistanceTooLarge, TextTooLong, Writer, Memory, Refused}
-use Rattle.rkyv_table.specs.Counting.{GaveOther}
-use Rattle.rkyv_table.specs.Serializing.{OwnCause}
-use Rattle.rkyv_table.specs.TableFormat.{TableResolver}
+use Rattle.rkyv_table.specs.Table.Counting.{GaveOther}
+use Rattle.rkyv_table.specs.Table.Serializing.{OwnCause}
+use Rattle.rkyv_table.specs.Table.TableFormat.{TableResolver}
 use Rattle.rkyv_collections.specs.Handing.{NoItems, WroteItems}
 
 -- a state of the outer iterator has one of the inner; each step of it is one of that, which gives what is seen in the item

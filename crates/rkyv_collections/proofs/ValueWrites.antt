@@ -7,30 +7,30 @@ use Rattle.std.proofs.lemmas.Bool.{cases_eq, cases_lt, eq-eqb}
 use Rattle.std.proofs.lemmas.List.{ext_get_or, get_or-map, get_or-set_other, get_or-set_same, length-map, length-set}
 use Rattle.std.proofs.lemmas.Option.{get_or_from_slice_get, slice_get-get_or, slice_get_within}
 use Rattle.rkyv_scan.specs.Groups.{generic_kind}
-use Rattle.rkyv_scan.specs.KindLaws.{word_lawful}
+use Rattle.rkyv_scan.specs.Lemmas.KindLaws.{word_lawful}
 use Rattle.rkyv_base.specs.Bytes.{same_part}
 use Rattle.rkyv_base.specs.Entry.{entry_element, entry_shape, same_key, viewed_key}
 use Rattle.rkyv_base.specs.Format.{StandsNear}
 use Rattle.rkyv_base.specs.Pairs.{PairStands, pair_near}
-use Rattle.rkyv_base.specs.Sealing.{Keeps, Sealed, value_place}
+use Rattle.rkyv_base.specs.Sealing.{Keeps, Sealed, value_pos}
 use Rattle.rkyv_base.specs.Shape.{IsElement, Shape, Viewed}
 use Rattle.rkyv_base.proofs.Sealing.{viewed_kept}
 use Rattle.rkyv_keys.specs.OfValues.{IsValueAt, value_fits}
-use Rattle.rkyv_table.specs.Header.{cap_at, len_at}
-use Rattle.rkyv_table.specs.Numbers.{capacity}
-use Rattle.rkyv_table.specs.Reading.{IsWalked, WrittenAt, bucket_found, home_places, item_at, place_found, table_controls}
-use Rattle.rkyv_table.specs.SealedTable.{KeepsTable, SameValue}
+use Rattle.rkyv_table.specs.Table.Header.{cap_at, len_at}
+use Rattle.rkyv_table.specs.Controls.Numbers.{capacity}
+use Rattle.rkyv_table.specs.Table.Reading.{IsWalked, WrittenAt, bucket_found, home_positions, item_at, pos_found, table_controls}
+use Rattle.rkyv_table.specs.Table.SealedTable.{KeepsTable, SameValue}
 use Rattle.rkyv_table.proofs.Items.{controls_accepted, item_viewed, some_cap}
 use Rattle.rkyv_table.proofs.Misplaced.{found_agree}
-use Rattle.rkyv_table.specs.SameHeader.{cap_same, len_same}
+use Rattle.rkyv_table.specs.Lemmas.SameHeader.{cap_same, len_same}
 use Rattle.rkyv_table.proofs.SealedTable.{item_stays, lookup_kept, value_kept, written_kept}
 use Rattle.rkyv_table.proofs.Walks.{walked_full}
 use Rattle.rkyv_table.proofs.WrittenAccepted.{homes_apart}
-use Rattle.rkyv_collections.specs.Map.{IsKeyPlaceAt, MapWrittenAt, map_shape}
+use Rattle.rkyv_collections.specs.Map.{IsKeyPosAt, MapWrittenAt, map_shape}
 use Rattle.rkyv_collections.specs.MapFormat.{MapStands}
-use Rattle.rkyv_collections.specs.MapLaws.{HashNear}
-use Rattle.rkyv_collections.specs.ValueWrites.{KeepsMap, RestsOnKey, WritesValue, entry_place}
-use Rattle.rkyv_table.proofs.WrittenTables.{home_count, home_place, home_walked}
+use Rattle.rkyv_collections.specs.Lemmas.MapLaws.{HashNear}
+use Rattle.rkyv_collections.specs.ValueWrites.{KeepsMap, RestsOnKey, WritesValue, entry_at}
+use Rattle.rkyv_table.proofs.WrittenTables.{home_count, home_pos, home_walked}
 
 map_of_found : (f g : ℕ → ℕ) → ((i : ℕ) → f i ≡ g i) → (o : Option ℕ) → option_map f o ≡ option_map g o
 map_of_found f g same None = refl
@@ -41,7 +41,7 @@ module _ (k v : Shape) (kl : IsElement k) (vl : IsElement v) where
   key_of_entry : (b c : List ℕ) (q : ℕ) → Viewed (entry_shape k v) b q → SameValue (entry_shape k v) b c q → SameValue k b c q
   key_of_entry b c q view same =
       let e = view.stands.1 in
-      let y = vl.between b (value_place k v q) e.1 q view.stands.0 ((kl.between b q 0 q e.1 (omega arith) e.2).1) e.3 in
+      let y = vl.between b (value_pos k v q) e.1 q view.stands.0 ((kl.between b q 0 q e.1 (omega arith) e.2).1) e.3 in
       record {
         fixed = same_key k v kl vl b c q e.0 same.fixed;
         parts = λ l h.
@@ -55,7 +55,7 @@ module _ (k v : Shape) (kl : IsElement k) (vl : IsElement v) where
       sym (near b c q 0 q view.stands.0 (omega arith) view.stands.1 same.fixed (same.parts view.stands.0 view.stands.1))
 
   module _ (w : Width) (key_hash : List ℕ → ℕ → ℕ) (near : HashNear k key_hash) (b c : List ℕ) (p i : ℕ) (view : Viewed (map_shape w k v) b p) (walked : IsWalked w b p i)
-      (writes : WritesValue w k v b c (entry_place w k v b p i)) where
+      (writes : WritesValue w k v b c (entry_at w k v b p i)) where
     abbrev S : Shape
     S = entry_shape k v
 
@@ -65,20 +65,20 @@ module _ (k v : Shape) (kl : IsElement k) (vl : IsElement v) where
     kept : KeepsTable w S b c p i × SameValue k b c (item_at w S.size b p i)
     kept = value_kept w k v kl vl b p i view walked c writes.sealed writes.keeps
 
-    entry_at : (j : ℕ) → IsWalked w b p j → Viewed S b (item_at w S.size b p j)
-    entry_at j there = item_viewed w S law b p view j there
+    entry_viewed : (j : ℕ) → IsWalked w b p j → Viewed S b (item_at w S.size b p j)
+    entry_viewed j there = item_viewed w S law b p view j there
 
     key_same : (j : ℕ) → IsWalked w b p j → SameValue k b c (item_at w S.size b p j)
     key_same j there = elim (cases_eq j i) [
       | inl e ↦ subst (λ n. SameValue k b c (item_at w S.size b p n)) (sym e) kept.1
-      | inr ne ↦ key_of_entry b c (item_at w S.size b p j) (entry_at j there) (kept.0.others j there ne)
+      | inr ne ↦ key_of_entry b c (item_at w S.size b p j) (entry_viewed j there) (kept.0.others j there ne)
     ]
 
     hash_there : (j : ℕ) → IsWalked w b p j → key_hash c (item_at w S.size b p j) ≡ key_hash b (item_at w S.size b p j)
-    hash_there j there = hash_same key_hash near b c (item_at w S.size b p j) (viewed_key k v kl vl b (item_at w S.size b p j) (entry_at j there)) (key_same j there)
+    hash_there j there = hash_same key_hash near b c (item_at w S.size b p j) (viewed_key k v kl vl b (item_at w S.size b p j) (entry_viewed j there)) (key_same j there)
 
-    place_same : (j : ℕ) → item_at w S.size c p j ≡ item_at w S.size b p j
-    place_same = item_stays w S b c p i kept.0
+    pos_same : (j : ℕ) → item_at w S.size c p j ≡ item_at w S.size b p j
+    pos_same = item_stays w S b c p i kept.0
 
     bucket_same : (hash : ℕ) (fits : List ℕ → ℕ → Bool) → hash < 2 ^ 64 → RestsOnKey k fits
         → bucket_found generic_kind w S.size b p hash (fits c) ≡ bucket_found generic_kind w S.size b p hash (fits b)
@@ -90,19 +90,19 @@ module _ (k v : Shape) (kl : IsElement k) (vl : IsElement v) where
           (λ j. fits c (item_at w S.size b p j)) (λ j. fits b (item_at w S.size b p j))
           (λ j there.
           let full = walked_full (cap_at w b p) (table_controls w b p) j there in
-          rests b c (item_at w S.size b p j) (viewed_key k v kl vl b (item_at w S.size b p j) (entry_at j full)).stands (key_same j full))
+          rests b c (item_at w S.size b p j) (viewed_key k v kl vl b (item_at w S.size b p j) (entry_viewed j full)).stands (key_same j full))
     ]
 
     lookup_same : (hash : ℕ) (fits : List ℕ → ℕ → Bool) → hash < 2 ^ 64 → RestsOnKey k fits
-        → place_found generic_kind w S.size c p hash (fits c) ≡ place_found generic_kind w S.size b p hash (fits b)
+        → pos_found generic_kind w S.size c p hash (fits c) ≡ pos_found generic_kind w S.size b p hash (fits b)
     lookup_same hash fits small rests =
         ap (option_map (item_at w S.size c p)) (lookup_kept w S b c p i kept.0 generic_kind hash (fits c) ∙ bucket_same hash fits small rests)
-        ∙ map_of_found (item_at w S.size c p) (item_at w S.size b p) place_same (bucket_found generic_kind w S.size b p hash (fits b))
+        ∙ map_of_found (item_at w S.size c p) (item_at w S.size b p) pos_same (bucket_found generic_kind w S.size b p hash (fits b))
 
-    hashes_same : (homes : List ℕ) → MapWrittenAt w S key_hash b p homes → map (key_hash b) (home_places w S.size b p homes) ≡ map (key_hash c) (home_places w S.size c p homes)
+    hashes_same : (homes : List ℕ) → MapWrittenAt w S key_hash b p homes → map (key_hash b) (home_positions w S.size b p homes) ≡ map (key_hash c) (home_positions w S.size c p homes)
     hashes_same homes written =
-        let hb = home_places w S.size b p homes in
-        let hc = home_places w S.size c p homes in
+        let hb = home_positions w S.size b p homes in
+        let hc = home_positions w S.size c p homes in
         let hashes = map (key_hash b) hb in
         let nb : length hb ≡ length homes = length-map homes (item_at w S.size b p) in
         let nc : length hc ≡ length homes = length-map homes (item_at w S.size c p) in
@@ -113,18 +113,18 @@ module _ (k v : Shape) (kl : IsElement k) (vl : IsElement v) where
         let atb : slice_index hb j ≡ item_at w S.size b p (slice_index homes j) = get_or-map (item_at w S.size b p) homes j 0 0 (omega arith) in
         let atc : slice_index hc j ≡ item_at w S.size c p (slice_index homes j) = get_or-map (item_at w S.size c p) homes j 0 0 (omega arith) in
         get_or-map (key_hash b) hb j 0 0 (omega arith) ∙ ap (key_hash b) atb ∙ sym (hash_there (slice_index homes j) there)
-        ∙ ap (key_hash c) (sym (place_same (slice_index homes j)) ∙ sym atc) ∙ sym (get_or-map (key_hash c) hc j 0 0 (omega arith)))
+        ∙ ap (key_hash c) (sym (pos_same (slice_index homes j)) ∙ sym atc) ∙ sym (get_or-map (key_hash c) hc j 0 0 (omega arith)))
 
     written_same : (homes : List ℕ) → MapWrittenAt w S key_hash b p homes → MapWrittenAt w S key_hash c p homes
     written_same homes written =
         subst (λ hashes. WrittenAt w c p hashes homes) (hashes_same homes written)
-        (written_kept w S b c p i kept.0 (map (key_hash b) (home_places w S.size b p homes)) homes written)
+        (written_kept w S b c p i kept.0 (map (key_hash b) (home_positions w S.size b p homes)) homes written)
 
     pub map_kept : KeepsMap w k v key_hash b c p i
     map_kept = record {
       table = kept.0;
       stands = viewed_kept (map_shape w k v) b c p writes.sealed.same_length kept.0.holds view;
-      places = place_same;
+      places = pos_same;
       keys = key_same;
       hashes = hash_there;
       lookups = lookup_same;
@@ -133,9 +133,9 @@ module _ (k v : Shape) (kl : IsElement k) (vl : IsElement v) where
 
 -- where the key stands at q, and the value at pos
 pub map_kept_at : (k v : Shape) (kl : IsElement k) (vl : IsElement v) (w : Width) (key_hash : List ℕ → ℕ → ℕ) → HashNear k key_hash → (b c : List ℕ) (p q pos : ℕ) → Viewed (map_shape w k v) b p
-    → (at : IsKeyPlaceAt w k v b p q) → pos ≡ value_place k v q → Sealed b pos v.size c → Keeps v b c pos → KeepsMap w k v key_hash b c p at.0
+    → (at : IsKeyPosAt w k v b p q) → pos ≡ value_pos k v q → Sealed b pos v.size c → Keeps v b c pos → KeepsMap w k v key_hash b c p at.0
 map_kept_at k v kl vl w key_hash near b c p q pos view at is sealed keeps =
-    let there : pos ≡ value_place k v (entry_place w k v b p at.0) = is ∙ ap (value_place k v) at.2 in
+    let there : pos ≡ value_pos k v (entry_at w k v b p at.0) = is ∙ ap (value_pos k v) at.2 in
     map_kept k v kl vl w key_hash near b c p at.0 view at.1 (record { sealed = subst (λ n. Sealed b n v.size c) there sealed; keeps = subst (Keeps v b c) there keeps })
 
 module _ (k v : Shape) (kl : IsElement k) (vl : IsElement v) (w : Width) (key_hash : List ℕ → ℕ → ℕ) (near : HashNear k key_hash) {A B : Type 0} (key : List ℕ → ℕ → A → Type 0) (value : List ℕ → ℕ → B → Type 0)
@@ -145,7 +145,7 @@ module _ (k v : Shape) (kl : IsElement k) (vl : IsElement v) (w : Width) (key_ha
   size = (entry_shape k v).size
 
   abbrev places : List ℕ → List ℕ
-  places d = home_places w size d p st.homes
+  places d = home_positions w size d p st.homes
 
   abbrev hashes : List ℕ
   hashes = map (key_hash b) (places b)
@@ -165,7 +165,7 @@ module _ (k v : Shape) (kl : IsElement k) (vl : IsElement v) (w : Width) (key_ha
 
   place_home : (j : ℕ) → j < length pairs → slice_index (places b) j ≡ item_at w size b p (home j)
   unfolding home
-  place_home j h = home_place w size b p st.homes j (has_home j h)
+  place_home j h = home_pos w size b p st.homes j (has_home j h)
 
   inside : n < length pairs
   inside = slice_get_within pairs n pair at_n
@@ -181,7 +181,7 @@ module _ (k v : Shape) (kl : IsElement k) (vl : IsElement v) (w : Width) (key_ha
     ]
   ]
 
-  module _ (writes : WritesValue w k v b c (slice_index (places b) n)) (stands : value c (value_place k v (slice_index (places b) n)) new) where
+  module _ (writes : WritesValue w k v b c (slice_index (places b) n)) (stands : value c (value_pos k v (slice_index (places b) n)) new) where
     kept_there : KeepsMap w k v key_hash b c p (home n)
     kept_there = map_kept k v kl vl w key_hash near b c p (home n) view (walked_home n inside) (subst (WritesValue w k v b c) (place_home n inside) writes)
 

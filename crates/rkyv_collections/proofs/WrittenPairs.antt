@@ -7,12 +7,12 @@ use Rattle.std.proofs.lemmas.List.Elements.{All-contains_itself, All-weaker}
 use Rattle.std.proofs.lemmas.List.Folds.{list_all-map}
 use Rattle.std.proofs.lemmas.List.Sums.{AllPass-from_list_all, list_all-from_AllPass}
 use Rattle.rkyv_scan.specs.Groups.{generic_kind}
-use Rattle.rkyv_scan.specs.KindLaws.{word_lawful}
+use Rattle.rkyv_scan.specs.Lemmas.KindLaws.{word_lawful}
 use Rattle.rkyv_base.specs.Entry.{entry_element, entry_shape}
 use Rattle.rkyv_base.specs.Shape.{IsElement, Shape, Standing, Viewed}
-use Rattle.rkyv_table.specs.Header.{cap_at, len_at}
-use Rattle.rkyv_table.specs.Placing.{walk}
-use Rattle.rkyv_table.specs.Reading.{IsWalked, home_places, item_at, item_places, place_found, table_controls}
+use Rattle.rkyv_table.specs.Table.Header.{cap_at, len_at}
+use Rattle.rkyv_table.specs.Controls.Placing.{walk}
+use Rattle.rkyv_table.specs.Table.Reading.{IsWalked, home_positions, item_at, item_positions, pos_found, table_controls}
 use Rattle.rkyv_table.proofs.FirstFound.{first_found}
 use Rattle.rkyv_table.proofs.Items.{item_viewed}
 use Rattle.rkyv_table.proofs.RawWalks.{walk_count}
@@ -20,12 +20,12 @@ use Rattle.rkyv_table.proofs.WalkedHomes.{walked_homes}
 use Rattle.rkyv_table.proofs.Walks.{full_walked}
 use Rattle.rkyv_collections.specs.Equality.{pair_at}
 use Rattle.rkyv_collections.specs.Map.{MapWrittenAt, map_shape}
-use Rattle.rkyv_table.proofs.WrittenTables.{home_place, home_walked}
+use Rattle.rkyv_table.proofs.WrittenTables.{home_pos, home_walked}
 
 module _ (w : Width) (k v : Shape) (kl : IsElement k) (vl : IsElement v) (key_hash : List ℕ → ℕ → ℕ)
     (b : List ℕ) (p : ℕ) (homes : List ℕ) (view : Viewed (map_shape w k v) b p) (written : MapWrittenAt w (entry_shape k v) key_hash b p homes) where
   places : List ℕ
-  places = home_places w (entry_shape k v).size b p homes
+  places = home_positions w (entry_shape k v).size b p homes
 
   hashes : List ℕ
   hashes = map (key_hash b) places
@@ -34,12 +34,12 @@ module _ (w : Width) (k v : Shape) (kl : IsElement k) (vl : IsElement v) (key_ha
   unfolding hashes places
   hash_count = length-map places (key_hash b) ∙ length-map homes (item_at w (entry_shape k v).size b p)
 
-  pub place_of_pair : (i : ℕ) → i < length homes → slice_index (home_places w (entry_shape k v).size b p homes) i ≡ pair_at w k v b p homes i
-  place_of_pair i h = home_place w (entry_shape k v).size b p homes i h
+  pub place_of_pair : (i : ℕ) → i < length homes → slice_index (home_positions w (entry_shape k v).size b p homes) i ≡ pair_at w k v b p homes i
+  place_of_pair i h = home_pos w (entry_shape k v).size b p homes i h
 
   -- the i-th hash is that of the i-th key
   pub hash_of_pair : (i : ℕ) → i < length homes
-      → slice_index (map (key_hash b) (home_places w (entry_shape k v).size b p homes)) i ≡ key_hash b (pair_at w k v b p homes i)
+      → slice_index (map (key_hash b) (home_positions w (entry_shape k v).size b p homes)) i ≡ key_hash b (pair_at w k v b p homes i)
   unfolding hashes places
   hash_of_pair i h =
       let n = length-map homes (item_at w (entry_shape k v).size b p) in
@@ -73,7 +73,7 @@ module _ (w : Width) (k v : Shape) (kl : IsElement k) (vl : IsElement v) (key_ha
   ]
 
   -- what holds of each walked pair holds of each pair handed in, and the other way
-  pub all_handed : (matches : ℕ → Bool) → list_all matches (item_places w (entry_shape k v).size b p) ≡ true
+  pub all_handed : (matches : ℕ → Bool) → list_all matches (item_positions w (entry_shape k v).size b p) ≡ true
       → (i : ℕ) → i < length homes → matches (pair_at w k v b p homes i) ≡ true
   all_handed matches every i h =
       let at : ℕ → ℕ = item_at w (entry_shape k v).size b p in
@@ -83,7 +83,7 @@ module _ (w : Width) (k v : Shape) (kl : IsElement k) (vl : IsElement v) (key_ha
       subst (λ bucket. matches (at bucket) ≡ true) here.2 (each here.0 (slice_index homes i) here.1)
 
   pub all_walked : (matches : ℕ → Bool) → ((i : ℕ) → i < length homes → matches (pair_at w k v b p homes i) ≡ true)
-      → list_all matches (item_places w (entry_shape k v).size b p) ≡ true
+      → list_all matches (item_positions w (entry_shape k v).size b p) ≡ true
   all_walked matches every =
       let at : ℕ → ℕ = item_at w (entry_shape k v).size b p in
       let ws = walk (table_controls w b p) (cap_at w b p) in
@@ -99,7 +99,7 @@ module _ (w : Width) (k v : Shape) (kl : IsElement k) (vl : IsElement v) (key_ha
   -- a lookup that accepts keys under the hash alone finds the first of those that are accepted
   pub first_accepted : (hash : ℕ) (accept : ℕ → Bool) → hash < 2 ^ 64
       → ((i : ℕ) → i < length homes → accept (pair_at w k v b p homes i) ≡ true → key_hash b (pair_at w k v b p homes i) ≡ hash)
-      → place_found generic_kind w (entry_shape k v).size b p hash accept ≡ find accept (home_places w (entry_shape k v).size b p homes)
+      → pos_found generic_kind w (entry_shape k v).size b p hash accept ≡ find accept (home_positions w (entry_shape k v).size b p homes)
   unfolding hashes places
   first_accepted hash accept small under =
       first_found generic_kind word_lawful w (entry_shape k v).size b p hash small hashes homes accept written

@@ -8,8 +8,8 @@ use Rattle.rkyv_base.specs.Entry.{entry_shape, value_offset}
 use Rattle.rkyv_base.specs.Shape.{Shape, Viewed}
 use Rattle.rkyv_keys.specs.Equality.{Comparison}
 use Rattle.rkyv_keys.specs.OfEntries.{entry_same}
-use Rattle.rkyv_table.specs.Header.{len_at}
-use Rattle.rkyv_table.specs.Reading.{item_at, item_places, place_found}
+use Rattle.rkyv_table.specs.Table.Header.{len_at}
+use Rattle.rkyv_table.specs.Table.Reading.{item_at, item_positions, pos_found}
 use Rattle.rkyv_collections.specs.Map.{MapWrittenAt, map_shape}
 
 -- where the i-th pair handed in stands
@@ -21,12 +21,12 @@ module _ (w : Width) (k v : Shape) (key_hash : List ℕ → ℕ → ℕ) (same_k
   abbrev pub pair_matches : List ℕ → ℕ → List ℕ → ℕ → Bool
   pair_matches b q c r =
       unwrap_or (option_map (λ at. same_value b (q + value_offset k v) c (at + value_offset k v))
-      (place_found generic_kind w (entry_shape k v).size c r (key_hash b q) (same_key b q c)))
+      (pos_found generic_kind w (entry_shape k v).size c r (key_hash b q) (same_key b q c)))
       false
 
   -- the maps have equal lengths, and each pair of the first is matched in the second
   abbrev pub map_equal : Comparison
-  map_equal b p c r = (len_at w b p == len_at w c r) && list_all (λ q. pair_matches b q c r) (item_places w (entry_shape k v).size b p)
+  map_equal b p c r = (len_at w b p == len_at w c r) && list_all (λ q. pair_matches b q c r) (item_positions w (entry_shape k v).size b p)
 
   -- a map that stands and was written with these homes, no two keys of which are the same
   pub record IsWrittenApart (b : List ℕ) (p : ℕ) (homes : List ℕ) : Type 0 where

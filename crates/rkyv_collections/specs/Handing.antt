@@ -4,8 +4,8 @@ use Rattle.rkyv_base.specs.declared.adapter.EntryAdapter.{EntryAdapter}
 use Rattle.rkyv_base.specs.declared.errors.WriteError.{WriteError}
 use Rattle.rkyv_base.specs.Format.{Format, GaveUp, Serialized}
 use Rattle.rkyv_base.specs.Writing.{Output}
-use Rattle.rkyv_table.specs.Serializing.{HasCapacity, OwnCause}
-use Rattle.rkyv_table.specs.TableFormat.{TableResolver}
+use Rattle.rkyv_table.specs.Table.Serializing.{HasCapacity, OwnCause}
+use Rattle.rkyv_table.specs.Table.TableFormat.{TableResolver}
 
 -- the pairs that items lend
 abbrev pub lent_pairs : {BK BV A B : Type 0} → (BK → A) → (BV → B) → List (BK × BV) → List (A × B)

@@ -8,12 +8,12 @@ use Rattle.rkyv_scan.specs.Groups.{generic_kind}
 use Rattle.rkyv_scan.specs.Hash.{HasherCall, hash_of_calls}
 use Rattle.rkyv_base.specs.Entry.{entry_shape, value_offset}
 use Rattle.rkyv_base.specs.Shape.{Shape}
-use Rattle.rkyv_base.specs.View.{IsAt, IsView, archive_of, bytes_of, place_of}
+use Rattle.rkyv_base.specs.View.{IsAt, IsView, archive_of, bytes_of, pos_of}
 use Rattle.rkyv_base.specs.declared.entry.Entry.{Entry}
 use Rattle.rkyv_base.specs.declared.view.View.{View}
-use Rattle.rkyv_table.specs.Header.{cap_at, len_at}
-use Rattle.rkyv_table.specs.Reading.{IsWalked, WrittenAt, home_places, item_at, item_places, place_found, place_of_found}
-use Rattle.rkyv_table.specs.Table.{table_shape}
+use Rattle.rkyv_table.specs.Table.Header.{cap_at, len_at}
+use Rattle.rkyv_table.specs.Table.Reading.{IsWalked, WrittenAt, home_positions, item_at, item_positions, pos_found, pos_of_found}
+use Rattle.rkyv_table.specs.Table.Layout.{table_shape}
 use Rattle.rkyv_collections.specs.declared.map.ArchivedHashMap.{ArchivedHashMap}
 
 -- the header of a map: that of a table of its entries
@@ -21,8 +21,8 @@ abbrev pub map_shape : Width → Shape → Shape → Shape
 map_shape w k v = table_shape w (entry_shape k v)
 
 -- a key of the map at p stands at q
-abbrev pub IsKeyPlaceAt : Width → Shape → Shape → List ℕ → ℕ → ℕ → Type 0
-IsKeyPlaceAt w k v b p q = (i : ℕ) × IsWalked w b p i × (q ≡ item_at w (entry_shape k v).size b p i)
+abbrev pub IsKeyPosAt : Width → Shape → Shape → List ℕ → ℕ → ℕ → Type 0
+IsKeyPosAt w k v b p q = (i : ℕ) × IsWalked w b p i × (q ≡ item_at w (entry_shape k v).size b p i)
 
 module _ {K V H W : Type 0} where
   -- the header of a map stands where the map is
@@ -36,42 +36,42 @@ module _ {K V H W : Type 0} where
   abbrev pub map_bytes : ArchivedHashMap K V H W → List ℕ
   map_bytes m = bytes_of m.view
 
-  abbrev pub map_place : ArchivedHashMap K V H W → ℕ
-  map_place m = place_of m.view
+  abbrev pub map_pos : ArchivedHashMap K V H W → ℕ
+  map_pos m = pos_of m.view
 
   -- how many pairs it has, and how many buckets
   abbrev pub map_len : Width → ArchivedHashMap K V H W → ℕ
-  map_len w m = len_at w (map_bytes m) (map_place m)
+  map_len w m = len_at w (map_bytes m) (map_pos m)
 
   abbrev pub map_cap : Width → ArchivedHashMap K V H W → ℕ
-  map_cap w m = cap_at w (map_bytes m) (map_place m)
+  map_cap w m = cap_at w (map_bytes m) (map_pos m)
 
   -- where its keys stand, by ascending bucket
-  abbrev pub key_places : Width → Shape → Shape → ArchivedHashMap K V H W → List ℕ
-  key_places w k v m = item_places w (entry_shape k v).size (map_bytes m) (map_place m)
+  abbrev pub key_positions : Width → Shape → Shape → ArchivedHashMap K V H W → List ℕ
+  key_positions w k v m = item_positions w (entry_shape k v).size (map_bytes m) (map_pos m)
 
   -- a key of the map stands at the position
-  abbrev pub IsKeyPlace : Width → Shape → Shape → ArchivedHashMap K V H W → ℕ → Type 0
-  IsKeyPlace w k v m q = IsKeyPlaceAt w k v (map_bytes m) (map_place m) q
+  abbrev pub IsKeyPos : Width → Shape → Shape → ArchivedHashMap K V H W → ℕ → Type 0
+  IsKeyPos w k v m q = IsKeyPosAt w k v (map_bytes m) (map_pos m) q
 
   -- the view is that of a key of the map
   pub record IsKeyIn (w : Width) (k v : Shape) (m : ArchivedHashMap K V H W) (key : View K) : Type 0 where
     pub archive : key.archive ≡ map_archive m
     pub viewed : IsView k key
-    pub place : IsKeyPlace w k v m key.pos
+    pub place : IsKeyPos w k v m key.pos
 
   -- the view is that of the value behind a key of the map
   pub record IsValueIn (w : Width) (k v : Shape) (m : ArchivedHashMap K V H W) (value : View V) : Type 0 where
     pub viewed : IsView v value
     pub key : ℕ
-    pub walked : IsKeyPlace w k v m key
+    pub walked : IsKeyPos w k v m key
     pub at : IsAt value (map_archive m) (key + value_offset k v)
 
   -- the views are those of a key of the map and of the value behind it
   pub record IsPairIn (w : Width) (k v : Shape) (m : ArchivedHashMap K V H W) (pair : View K × View V) : Type 0 where
     pub key : IsKeyIn w k v m pair.0
     pub viewed : IsView v pair.1
-    pub at : IsAt pair.1 (map_archive m) (place_of pair.0 + value_offset k v)
+    pub at : IsAt pair.1 (map_archive m) (pos_of pair.0 + value_offset k v)
 
 -- the hash of the key that stands at q
 abbrev pub hash_at : {State : Type 0} → State → (State → HasherCall → State) → (State → ℕ) → (List ℕ → ℕ → List HasherCall) → List ℕ → ℕ → ℕ
@@ -79,21 +79,21 @@ hash_at initial feed finish calls b q = hash_of_calls initial feed finish (calls
 
 -- the table at p was written of entries under the hashes of their keys, handed in in this order, with their homes
 abbrev pub MapWrittenAt : Width → Shape → (List ℕ → ℕ → ℕ) → List ℕ → ℕ → List ℕ → Type 0
-MapWrittenAt w s hash b p homes = WrittenAt w b p (map (hash b) (home_places w s.size b p homes)) homes
+MapWrittenAt w s hash b p homes = WrittenAt w b p (map (hash b) (home_positions w s.size b p homes)) homes
 
 module _ (w : Width) (k v : Shape) (b : List ℕ) (p : ℕ) where
   -- only keys under the hash are accepted, in the map at p
   abbrev pub AreUnderHashAt : ℕ → (List ℕ → ℕ → ℕ) → (ℕ → Bool) → Type 0
-  AreUnderHashAt hash key_hash accept = (q : ℕ) → IsKeyPlaceAt w k v b p q → accept q ≡ true → key_hash b q ≡ hash
+  AreUnderHashAt hash key_hash accept = (q : ℕ) → IsKeyPosAt w k v b p q → accept q ≡ true → key_hash b q ≡ hash
 
   -- what is told is told of the position of the key that a lookup under the hash finds, on any accepted map
   abbrev pub FindsKeyAt : ℕ → (ℕ → Bool) → (Option ℕ → Type 0) → Type 0
-  FindsKeyAt hash accept Told = Told (place_found generic_kind w (entry_shape k v).size b p hash accept)
+  FindsKeyAt hash accept Told = Told (pos_found generic_kind w (entry_shape k v).size b p hash accept)
 
   -- and on a written one: of the position of the first accepted key in the order handed in
   abbrev pub FindsFirstKeyAt : (List ℕ → ℕ → ℕ) → (ℕ → Bool) → (Option ℕ → Type 0) → Type 0
   FindsFirstKeyAt key_hash accept Told =
-      (homes : List ℕ) → MapWrittenAt w (entry_shape k v) key_hash b p homes → Told (find accept (home_places w (entry_shape k v).size b p homes))
+      (homes : List ℕ) → MapWrittenAt w (entry_shape k v) key_hash b p homes → Told (find accept (home_positions w (entry_shape k v).size b p homes))
 
 module _ {K V H W : Type 0} (w : Width) (k v : Shape) (m : ArchivedHashMap K V H W) where
   -- the comparison may be asked of each key
@@ -106,32 +106,32 @@ module _ {K V H W : Type 0} (w : Width) (k v : Shape) (m : ArchivedHashMap K V H
 
   -- the same of the map that is read
   abbrev pub AreUnderHash : ℕ → (List ℕ → ℕ → ℕ) → (ℕ → Bool) → Type 0
-  AreUnderHash hash key_hash accept = AreUnderHashAt w k v (map_bytes m) (map_place m) hash key_hash accept
+  AreUnderHash hash key_hash accept = AreUnderHashAt w k v (map_bytes m) (map_pos m) hash key_hash accept
 
   abbrev pub FindsKey : ℕ → (ℕ → Bool) → (Option ℕ → Type 0) → Type 0
-  FindsKey hash accept Told = FindsKeyAt w k v (map_bytes m) (map_place m) hash accept Told
+  FindsKey hash accept Told = FindsKeyAt w k v (map_bytes m) (map_pos m) hash accept Told
 
   abbrev pub FindsFirstKey : (List ℕ → ℕ → ℕ) → (ℕ → Bool) → (Option ℕ → Type 0) → Type 0
-  FindsFirstKey key_hash accept Told = FindsFirstKeyAt w k v (map_bytes m) (map_place m) key_hash accept Told
+  FindsFirstKey key_hash accept Told = FindsFirstKeyAt w k v (map_bytes m) (map_pos m) key_hash accept Told
 
 -- the view is that of an entry of the map
 abbrev pub IsEntryIn : {K V H W : Type 0} → Width → Shape → Shape → ArchivedHashMap K V H W → View (Entry K V) → Type 0
-IsEntryIn w k v m entry = (entry.archive ≡ map_archive m) × IsView (entry_shape k v) entry × IsKeyPlace w k v m entry.pos
+IsEntryIn w k v m entry = (entry.archive ≡ map_archive m) × IsView (entry_shape k v) entry × IsKeyPos w k v m entry.pos
 
 -- the key that was found stands at the position, or none was found
 abbrev pub IsEntryAt : {E : Type 0} → Option (View E) → Option ℕ → Type 0
-IsEntryAt result place = place_of_found result ≡ place
+IsEntryAt result place = pos_of_found result ≡ place
 
 -- where the key of a pair that may have been found stands
-abbrev pub key_place_found : {K V : Type 0} → Option (View K × View V) → Option ℕ
-key_place_found {K} {V} result = option_map (λ (pair : View K × View V). place_of pair.0) result
+abbrev pub key_pos_found : {K V : Type 0} → Option (View K × View V) → Option ℕ
+key_pos_found {K} {V} result = option_map (λ (pair : View K × View V). pos_of pair.0) result
 
 abbrev pub IsPairAt : {K V : Type 0} → Option (View K × View V) → Option ℕ → Type 0
-IsPairAt result place = key_place_found result ≡ place
+IsPairAt result place = key_pos_found result ≡ place
 
 -- the value that was found stands behind the key at the position, or none was found
 abbrev pub IsValueAt : {V : Type 0} → Shape → Shape → Option (View V) → Option ℕ → Type 0
-IsValueAt k v result place = place_of_found result ≡ option_map (λ q. q + value_offset k v) place
+IsValueAt k v result place = pos_of_found result ≡ option_map (λ q. q + value_offset k v) place
 
 -- the answer is true exactly where a key was found
 abbrev pub IsFoundAt : Bool → Option ℕ → Type 0

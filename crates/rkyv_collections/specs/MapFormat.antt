@@ -6,10 +6,10 @@ use Rattle.rkyv_base.specs.Format.{Format}
 use Rattle.rkyv_base.specs.Pairs.{PairStands, pair_format, written_as}
 use Rattle.rkyv_base.specs.Shape.{Shape}
 use Rattle.rkyv_scan.specs.Hash.{HasherCall, hash_of_calls}
-use Rattle.rkyv_table.specs.Header.{cap_at, len_at}
-use Rattle.rkyv_table.specs.Numbers.{capacity}
-use Rattle.rkyv_table.specs.Reading.{home_places}
-use Rattle.rkyv_table.specs.TableFormat.{TableResolver, table_format}
+use Rattle.rkyv_table.specs.Table.Header.{cap_at, len_at}
+use Rattle.rkyv_table.specs.Controls.Numbers.{capacity}
+use Rattle.rkyv_table.specs.Table.Reading.{home_positions}
+use Rattle.rkyv_table.specs.Table.TableFormat.{TableResolver, table_format}
 use Rattle.rkyv_collections.specs.Map.{MapWrittenAt}
 
 -- the hash of a value that makes these calls
@@ -32,4 +32,4 @@ pub record MapStands {A B : Type 0} (w : Width) (k v : Shape) (key : List ℕ �
   pub written : MapWrittenAt w (entry_shape k v) hash b p homes
   pub len : len_at w b p ≡ length pairs
   pub cap : cap_at w b p ≡ capacity (length pairs) load_factor
-  pub at : (i : ℕ) (pair : A × B) → slice_get pairs i ≡ Some pair → PairStands k v key value b (slice_index (home_places w (entry_shape k v).size b p homes) i) pair
+  pub at : (i : ℕ) (pair : A × B) → slice_get pairs i ≡ Some pair → PairStands k v key value b (slice_index (home_positions w (entry_shape k v).size b p homes) i) pair

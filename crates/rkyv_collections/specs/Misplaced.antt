@@ -5,9 +5,9 @@ use Rattle.rkyv_scan.specs.Groups.{generic_kind}
 use Rattle.rkyv_base.specs.Entry.{entry_shape}
 use Rattle.rkyv_base.specs.Shape.{Shape, Viewed}
 use Rattle.rkyv_keys.specs.Equality.{Comparison}
-use Rattle.rkyv_table.specs.Header.{cap_at, len_at}
-use Rattle.rkyv_table.specs.Misplaced.{misplaced, repeated}
-use Rattle.rkyv_table.specs.Reading.{IsWalked, home_places, item_at, table_controls}
+use Rattle.rkyv_table.specs.Table.Header.{cap_at, len_at}
+use Rattle.rkyv_table.specs.Table.Misplaced.{misplaced, repeated}
+use Rattle.rkyv_table.specs.Table.Reading.{IsWalked, home_positions, item_at, table_controls}
 use Rattle.rkyv_collections.specs.Map.{MapWrittenAt, map_shape}
 
 -- of how many buckets a lookup of their own key answers another bucket, or none
@@ -20,7 +20,7 @@ map_misplaced w k v key_hash same_key b p =
 abbrev pub RepeatedKeysAreMisplaced : Width → Shape → Shape → (List ℕ → ℕ → ℕ) → Comparison → Type 0
 RepeatedKeysAreMisplaced w k v key_hash same_key =
     (b : List ℕ) (p : ℕ) (homes : List ℕ) → Viewed (map_shape w k v) b p → MapWrittenAt w (entry_shape k v) key_hash b p homes
-    → map_misplaced w k v key_hash same_key b p ≡ repeated (λ q r. same_key b q b r) (home_places w (entry_shape k v).size b p homes)
+    → map_misplaced w k v key_hash same_key b p ≡ repeated (λ q r. same_key b q b r) (home_positions w (entry_shape k v).size b p homes)
 
 module _ (w : Width) (size : ℕ) (b : List ℕ) (p : ℕ) (fits : ℕ → Bool) where
   -- no key of the map fits

@@ -3,17 +3,17 @@ use Rattle.std.specs.Prelude.{◌≡◌, ℕ, List, Bool, Option, take, drop}
 use Rattle.std.specs.Int.{Width}
 use Rattle.std.specs.Option.{option_map}
 use Rattle.rkyv_base.specs.Entry.{entry_shape}
-use Rattle.rkyv_base.specs.Seal.{archive_in, bytes_in, place_in, pos_in}
-use Rattle.rkyv_base.specs.Sealing.{value_place}
+use Rattle.rkyv_base.specs.Seal.{archive_in, bytes_in, seal_pos, pos_in}
+use Rattle.rkyv_base.specs.Sealing.{value_pos}
 use Rattle.rkyv_base.specs.Shape.{Shape, Viewed}
-use Rattle.rkyv_base.specs.View.{IsView, bytes_of, place_of}
+use Rattle.rkyv_base.specs.View.{IsView, bytes_of, pos_of}
 use Rattle.rkyv_base.specs.declared.seal.ArchiveSeal.{ArchiveSeal}
 use Rattle.rkyv_base.specs.declared.seal.Seal.{Seal}
 use Rattle.rkyv_base.specs.declared.view.View.{View}
-use Rattle.rkyv_table.specs.Reading.{IsWalked, item_at}
-use Rattle.rkyv_table.specs.SealedLookup.{place_of_seal}
-use Rattle.rkyv_table.specs.SealedTable.{KeptByValueWrites}
-use Rattle.rkyv_collections.specs.Map.{IsKeyPlaceAt, map_shape}
+use Rattle.rkyv_table.specs.Table.Reading.{IsWalked, item_at}
+use Rattle.rkyv_table.specs.Table.SealedLookup.{pos_of_seal}
+use Rattle.rkyv_table.specs.Table.SealedTable.{KeptByValueWrites}
+use Rattle.rkyv_collections.specs.Map.{IsKeyPosAt, map_shape}
 use Rattle.rkyv_collections.specs.declared.map.HashMapOf.{HashMapOf}
 
 -- the header of a map stands where the seal is
@@ -24,7 +24,7 @@ IsMapSeal w k v a = Viewed (map_shape w k v) (archive_in a) (pos_in a)
 pub record IsKeyAt {K : Type 0} (w : Width) (k v : Shape) (b : List ℕ) (p : ℕ) (key : View K) : Type 0 where
   pub bytes : bytes_of key ≡ b
   pub viewed : IsView k key
-  pub place : IsKeyPlaceAt w k v b p (place_of key)
+  pub place : IsKeyPosAt w k v b p (pos_of key)
 
 module _ {K : Type 0} (w : Width) (k v : Shape) (b : List ℕ) (p : ℕ) where
   -- the comparison may be asked of each key
@@ -33,31 +33,31 @@ module _ {K : Type 0} (w : Width) (k v : Shape) (b : List ℕ) (p : ℕ) where
 
   -- of each key the comparison answers what accept tells of its position
   abbrev pub AnswersKeysAt : (View K → Bool → Type 0) → (ℕ → Bool) → Type 0
-  AnswersKeysAt post accept = (key : View K) (r : Bool) → IsKeyAt w k v b p key → post key r → r ≡ accept (place_of key)
+  AnswersKeysAt post accept = (key : View K) (r : Bool) → IsKeyAt w k v b p key → post key r → r ≡ accept (pos_of key)
 
 -- The key of the pair in bucket i of the map at p stands at q, and the value behind it. Every write of the value alone that
 -- keeps the value keeps the map: its header, its controls, all keys and all other values.
-pub record IsPairPlace (w : Width) (k v : Shape) (b : List ℕ) (p i q : ℕ) : Type 0 where
+pub record IsPairPos (w : Width) (k v : Shape) (b : List ℕ) (p i q : ℕ) : Type 0 where
   pub walked : IsWalked w b p i
   pub place : q ≡ item_at w (entry_shape k v).size b p i
   pub key : Viewed k b q
-  pub value : Viewed v b (value_place k v q)
+  pub value : Viewed v b (value_pos k v q)
   pub kept : KeptByValueWrites w k v b p i
 
 -- the bytes are cut at the begin of the pair's value: the key is viewed in the front, and the seal is at the begin of the back
 pub record LendsPair {K V : Type 0} (w : Width) (k v : Shape) (b : List ℕ) (p i : ℕ) (pair : View K × Seal V) : Type 0 where
-  pub at : IsPairPlace w k v b p i (place_of pair.0)
+  pub at : IsPairPos w k v b p i (pos_of pair.0)
   pub key : IsView k pair.0
-  pub front : bytes_of pair.0 ≡ take (value_place k v (place_of pair.0)) b
-  pub back : bytes_in pair.1 ≡ drop (value_place k v (place_of pair.0)) b
-  pub begin : place_in pair.1 ≡ 0
+  pub front : bytes_of pair.0 ≡ take (value_pos k v (pos_of pair.0)) b
+  pub back : bytes_in pair.1 ≡ drop (value_pos k v (pos_of pair.0)) b
+  pub begin : seal_pos pair.1 ≡ 0
 
 -- the seal is at the pair's value, in the same bytes
 pub record LendsValue {V : Type 0} (w : Width) (k v : Shape) (b : List ℕ) (p i : ℕ) (value : Seal V) : Type 0 where
   pub key : ℕ
-  pub at : IsPairPlace w k v b p i key
+  pub at : IsPairPos w k v b p i key
   pub bytes : bytes_in value ≡ b
-  pub place : place_in value ≡ value_place k v key
+  pub place : seal_pos value ≡ value_pos k v key
 
 module _ {K V H W : Type 0} (w : Width) (k v : Shape) (a : ArchiveSeal (HashMapOf K V H W)) where
   -- what is lent is a pair of the map
@@ -70,8 +70,8 @@ module _ {K V H W : Type 0} (w : Width) (k v : Shape) (a : ArchiveSeal (HashMapO
 
 -- the key that was found stands at the position, or none was found
 abbrev pub IsPairSealAt : {K V : Type 0} → Option (View K × Seal V) → Option ℕ → Type 0
-IsPairSealAt {K} {V} result place = option_map (λ (pair : View K × Seal V). place_of pair.0) result ≡ place
+IsPairSealAt {K} {V} result place = option_map (λ (pair : View K × Seal V). pos_of pair.0) result ≡ place
 
 -- the value that was found stands behind the key at the position, or none was found
 abbrev pub IsValueSealAt : {V : Type 0} → Shape → Shape → Option (Seal V) → Option ℕ → Type 0
-IsValueSealAt k v result place = place_of_seal result ≡ option_map (value_place k v) place
+IsValueSealAt k v result place = pos_of_seal result ≡ option_map (value_pos k v) place

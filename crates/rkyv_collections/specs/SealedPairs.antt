@@ -3,15 +3,15 @@ use Rattle.std.specs.Prelude.{◌≡◌, ℕ, ◌+◌, ◌≤◌, List, [], ◌�
 use Rattle.std.specs.Borrow.{MutBor}
 use Rattle.std.specs.Int.{Width}
 use Rattle.rkyv_base.specs.Entry.{entry_shape}
-use Rattle.rkyv_base.specs.Sealing.{value_place}
+use Rattle.rkyv_base.specs.Sealing.{value_pos}
 use Rattle.rkyv_base.specs.Shape.{Shape}
 use Rattle.rkyv_base.specs.declared.entry.Entry.{Entry}
 use Rattle.rkyv_base.specs.declared.seal.Seal.{Seal}
 use Rattle.rkyv_base.specs.declared.view.View.{View}
-use Rattle.rkyv_table.specs.SealedItems.{CountsDown, IsSealIter, SameArchive, StaysThere, buckets_left, cursor_bytes}
-use Rattle.rkyv_table.specs.SealedTable.{KeepsTable, SameValue}
+use Rattle.rkyv_table.specs.Table.SealedItems.{CountsDown, IsSealIter, SameArchive, StaysThere, buckets_left, cursor_bytes}
+use Rattle.rkyv_table.specs.Table.SealedTable.{KeepsTable, SameValue}
 use Rattle.rkyv_table.specs.declared.table.raw_iter_seal.RawIterSeal.{RawIterSeal}
-use Rattle.rkyv_collections.specs.SealedMap.{IsPairPlace, LendsPair, LendsValue}
+use Rattle.rkyv_collections.specs.SealedMap.{IsPairPos, LendsPair, LendsValue}
 use Rattle.rkyv_collections.specs.declared.map.iter_seal.IterMut.{IterMut}
 use Rattle.rkyv_collections.specs.declared.map.iter_seal.ValuesMut.{ValuesMut}
 
@@ -32,7 +32,7 @@ module _ {K V : Type 0} (k v : Shape) where
   pub record TakesPairAt (w : Width) (p : ℕ) (before after : RawIterSeal (Entry K V)) (q : ℕ) : Type 0 where
     pub bucket : ℕ
     pub first : buckets_left w p before ≡ bucket ∷ buckets_left w p after
-    pub pair : IsPairPlace w k v (cursor_bytes before) p bucket q
+    pub pair : IsPairPos w k v (cursor_bytes before) p bucket q
     pub iter : IsPairIter w p after
 
   -- none is left, and the cursor is as before
@@ -42,14 +42,14 @@ module _ {K V : Type 0} (k v : Shape) where
     pub iter : IsPairIter w p after
 
   -- a step over the positions of a map's keys; of its values
-  abbrev pub TakesKeyPlace : RawIterSeal (Entry K V) → Option ℕ → RawIterSeal (Entry K V) → Type 0
-  TakesKeyPlace before result after =
+  abbrev pub TakesKeyPos : RawIterSeal (Entry K V) → Option ℕ → RawIterSeal (Entry K V) → Type 0
+  TakesKeyPos before result after =
       (w : Width) (p : ℕ) → IsPairIter w p before → MatchOption result (IsDone w p before after) (TakesPairAt w p before after)
 
-  abbrev pub TakesValuePlace : RawIterSeal (Entry K V) → Option ℕ → RawIterSeal (Entry K V) → Type 0
-  TakesValuePlace before result after =
+  abbrev pub TakesValuePos : RawIterSeal (Entry K V) → Option ℕ → RawIterSeal (Entry K V) → Type 0
+  TakesValuePos before result after =
       (w : Width) (p : ℕ) → IsPairIter w p before
-      → MatchOption result (IsDone w p before after) (λ q. (key : ℕ) × (q ≡ value_place k v key) × TakesPairAt w p before after key)
+      → MatchOption result (IsDone w p before after) (λ q. (key : ℕ) × (q ≡ value_pos k v key) × TakesPairAt w p before after key)
 
   -- the first pair that a cursor over a map has left is lent; none is where none is left
   abbrev pub LendsFirstPair : RawIterSeal (Entry K V) → Option (View K × Seal V) → Type 0
@@ -68,13 +68,13 @@ module _ {K V : Type 0} (k v : Shape) where
   -- a cursor over a map of which the value behind the key at q was written is one over the map, which is kept, with the same pairs left
   abbrev pub KeepsPairs : RawIterSeal (Entry K V) → ℕ → RawIterSeal (Entry K V) → Type 0
   KeepsPairs before q after =
-      (w : Width) (p i : ℕ) → IsPairIter w p before → IsPairPlace w k v (cursor_bytes before) p i q
+      (w : Width) (p i : ℕ) → IsPairIter w p before → IsPairPos w k v (cursor_bytes before) p i q
       → KeepsTable w (entry_shape k v) (cursor_bytes before) (cursor_bytes after) p i × SameValue k (cursor_bytes before) (cursor_bytes after) q
       × IsPairIter w p after × (buckets_left w p after ≡ buckets_left w p before)
 
   -- of which the value at q was written
   abbrev pub KeepsValues : RawIterSeal (Entry K V) → ℕ → RawIterSeal (Entry K V) → Type 0
-  KeepsValues before q after = (key : ℕ) → q ≡ value_place k v key → KeepsPairs before key after
+  KeepsValues before q after = (key : ℕ) → q ≡ value_pos k v key → KeepsPairs before key after
 
   -- a writer may be given the bytes of the cursor, at each place at which a value fits
   abbrev pub MayWriteValue : {F : Type 0} → (F → MutBor (List ℕ) → ℕ → Type 0) → RawIterSeal (Entry K V) → F → Type 0
@@ -85,5 +85,5 @@ module _ {K V : Type 0} (k v : Shape) where
     pub stepped : RawIterSeal (Entry K V)
     pub archive : SameArchive before stepped
     pub counts : CountsDown before result stepped
-    pub takes : TakesValuePlace before result stepped
+    pub takes : TakesValuePos before result stepped
     pub writes : MatchOption result (after ≡ stepped) (λ q. StaysThere stepped after × Writes (cursor_bytes stepped) q (cursor_bytes after))

@@ -9,7 +9,7 @@ use Rattle.rkyv_base.specs.declared.view.View.{View}
 use Rattle.rkyv_keys.specs.Equality.{Comparison}
 use Rattle.rkyv_keys.specs.OfUnits.{unit_same}
 use Rattle.rkyv_collections.specs.Equality.{map_equal}
-use Rattle.rkyv_collections.specs.Map.{FindsFirstKey, FindsKey, IsKeyIn, IsMap, key_places, map_archive, map_bytes, map_len, map_place, map_shape}
+use Rattle.rkyv_collections.specs.Map.{FindsFirstKey, FindsKey, IsKeyIn, IsMap, key_positions, map_archive, map_bytes, map_len, map_pos, map_shape}
 use Rattle.rkyv_collections.specs.Misplaced.{map_misplaced}
 use Rattle.rkyv_collections.specs.declared.set.ArchivedHashSet.{ArchivedHashSet}
 
@@ -29,8 +29,8 @@ module _ {K H W : Type 0} where
   abbrev pub set_bytes : ArchivedHashSet K H W → List ℕ
   set_bytes s = map_bytes s.map
 
-  abbrev pub set_place : ArchivedHashSet K H W → ℕ
-  set_place s = map_place s.map
+  abbrev pub set_pos : ArchivedHashSet K H W → ℕ
+  set_pos s = map_pos s.map
 
   -- the set's header is at this place of this archive
   abbrev pub IsSetAt : ArchivedHashSet K H W → Bor (List ℕ) → ℕ → Type 0
@@ -41,8 +41,8 @@ module _ {K H W : Type 0} where
   set_len w s = map_len w s.map
 
   -- where its keys stand, by ascending bucket
-  abbrev pub member_places : Width → Shape → ArchivedHashSet K H W → List ℕ
-  member_places w k s = key_places w k unit_shape s.map
+  abbrev pub member_positions : Width → Shape → ArchivedHashSet K H W → List ℕ
+  member_positions w k s = key_positions w k unit_shape s.map
 
   -- the view is that of a key of the set
   abbrev pub IsMemberIn : Width → Shape → ArchivedHashSet K H W → View K → Type 0

@@ -5,7 +5,7 @@ use Rattle.rkyv_base.specs.Empty.{unit_format, unit_shape, unit_stands}
 use Rattle.rkyv_base.specs.Format.{Format}
 use Rattle.rkyv_base.specs.Pairs.{written_as}
 use Rattle.rkyv_base.specs.Shape.{Shape}
-use Rattle.rkyv_table.specs.TableFormat.{TableResolver}
+use Rattle.rkyv_table.specs.Table.TableFormat.{TableResolver}
 use Rattle.rkyv_collections.specs.MapFormat.{MapStands, map_format}
 
 -- the keys, each with the unit value

@@ -11,8 +11,8 @@ use Rattle.rkyv_base.specs.Shape.{Shape}
 use Rattle.rkyv_base.specs.declared.errors.ReadError.TheVariants.{Memory}
 use Rattle.rkyv_keys.specs.OfEntries.{entry_refuses}
 use Rattle.rkyv_keys.specs.Reading.{Refusals}
-use Rattle.rkyv_table.specs.Reading.{item_places}
-use Rattle.rkyv_collections.specs.Map.{IsKeyPlaceAt}
+use Rattle.rkyv_table.specs.Table.Reading.{item_positions}
+use Rattle.rkyv_collections.specs.Map.{IsKeyPosAt}
 
 module _ {A B : Type 0} (k v : Shape) (key : List ℕ → ℕ → A → Type 0) (value : List ℕ → ℕ → B → Type 0) where
   -- at each of the places a pair stands, and these are the pairs
@@ -23,7 +23,7 @@ module _ {A B : Type 0} (k v : Shape) (key : List ℕ → ℕ → A → Type 0) 
   -- bucket, so that of equal keys the later has its value.
   pub record EntriesStand (w : Width) (equal : A → A → Bool) (b : List ℕ) (p : ℕ) (entries : List (A × B)) : Type 0 where
     pub pairs : List (A × B)
-    pub read : ArePairsAt b (item_places w (entry_shape k v).size b p) pairs
+    pub read : ArePairsAt b (item_positions w (entry_shape k v).size b p) pairs
     pub inserted : ((q : A) → lookup (equal q) entries ≡ update_all equal (λ _. None) pairs q) × IsDistinct equal (keys_of entries)
 
   -- a map of std's stands: it is that of inserting the pairs of the map at p in order
@@ -41,7 +41,7 @@ of_entries equal f = record {
 
 -- Reading a map of std's back may fail for want of memory, and where reading a key or a value of the map at p may.
 abbrev pub std_map_refuses : Width → Shape → Shape → Refusals → Refusals → Refusals
-std_map_refuses w k v key value b p e = (e ≡ Memory) ⊎ ((q : ℕ) × IsKeyPlaceAt w k v b p q × entry_refuses k v key value b q e)
+std_map_refuses w k v key value b p e = (e ≡ Memory) ⊎ ((q : ℕ) × IsKeyPosAt w k v b p q × entry_refuses k v key value b q e)
 
 -- a map of std's was read back: it stands, and has this state
 abbrev pub ReadsStdMap : {A B S : Type 0} → (List ℕ → ℕ → HashMap A B S → Type 0) → List ℕ → ℕ → S → HashMap A B S → Type 0

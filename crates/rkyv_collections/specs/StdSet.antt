@@ -12,8 +12,8 @@ use Rattle.rkyv_base.specs.Format.{Format, IsFormat}
 use Rattle.rkyv_base.specs.Shape.{Shape}
 use Rattle.rkyv_base.specs.declared.errors.ReadError.TheVariants.{Memory}
 use Rattle.rkyv_keys.specs.Reading.{Refusals}
-use Rattle.rkyv_table.specs.Header.{len_at}
-use Rattle.rkyv_collections.specs.Map.{IsKeyPlaceAt}
+use Rattle.rkyv_table.specs.Table.Header.{len_at}
+use Rattle.rkyv_collections.specs.Map.{IsKeyPosAt}
 use Rattle.rkyv_collections.specs.SetFormat.{with_units}
 use Rattle.rkyv_collections.specs.StdEquality.{EntriesEqual, FindsPair}
 use Rattle.rkyv_collections.specs.StdMap.{EntriesStand}
@@ -36,7 +36,7 @@ key_refuses key b q e = (e ≡ Memory) ⊎ key b q e
 
 -- reading a set of std's back may fail for want of memory, and where reading a key of the set at p may
 abbrev pub std_set_refuses : Width → Shape → Refusals → Refusals
-std_set_refuses w k key b p e = (e ≡ Memory) ⊎ ((q : ℕ) × IsKeyPlaceAt w k unit_shape b p q × key b q e)
+std_set_refuses w k key b p e = (e ≡ Memory) ⊎ ((q : ℕ) × IsKeyPosAt w k unit_shape b p q × key b q e)
 
 -- a set of std's was read back: it stands, and has this state
 abbrev pub ReadsStdSet : {A S : Type 0} → (List ℕ → ℕ → HashSet A S → Type 0) → List ℕ → ℕ → S → HashSet A S → Type 0

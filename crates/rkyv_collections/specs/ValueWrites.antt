@@ -3,10 +3,10 @@ use Rattle.std.specs.Prelude.{◌≡◌, ℕ, ◌<◌, ◌^◌, List, Bool, Some
 use Rattle.std.specs.Int.{Width}
 use Rattle.rkyv_scan.specs.Groups.{generic_kind}
 use Rattle.rkyv_base.specs.Entry.{entry_shape}
-use Rattle.rkyv_base.specs.Sealing.{Keeps, Sealed, value_place}
+use Rattle.rkyv_base.specs.Sealing.{Keeps, Sealed, value_pos}
 use Rattle.rkyv_base.specs.Shape.{Shape, Standing, Viewed}
-use Rattle.rkyv_table.specs.Reading.{IsWalked, home_places, item_at, place_found}
-use Rattle.rkyv_table.specs.SealedTable.{KeepsTable, SameValue}
+use Rattle.rkyv_table.specs.Table.Reading.{IsWalked, home_positions, item_at, pos_found}
+use Rattle.rkyv_table.specs.Table.SealedTable.{KeepsTable, SameValue}
 use Rattle.rkyv_collections.specs.Map.{MapWrittenAt, map_shape}
 use Rattle.rkyv_collections.specs.MapFormat.{MapStands}
 
@@ -16,36 +16,36 @@ RestsOnKey k fits = (b c : List ℕ) (q : ℕ) → Standing k b q → SameValue 
 
 module _ (w : Width) (k v : Shape) where
   -- where the entry in bucket i stands, and where its value begins
-  abbrev pub entry_place : List ℕ → ℕ → ℕ → ℕ
-  entry_place b p i = item_at w (entry_shape k v).size b p i
+  abbrev pub entry_at : List ℕ → ℕ → ℕ → ℕ
+  entry_at b p i = item_at w (entry_shape k v).size b p i
 
   -- a value is written in place: only its own bytes change, and it holds again
   pub record WritesValue (b c : List ℕ) (q : ℕ) : Type 0 where
-    pub sealed : Sealed b (value_place k v q) v.size c
-    pub keeps : Keeps v b c (value_place k v q)
+    pub sealed : Sealed b (value_pos k v q) v.size c
+    pub keeps : Keeps v b c (value_pos k v q)
 
   -- The map at p in b is one in c, of which the value in bucket i was written: its header, its controls, all keys and all
   -- other values are the same, each lookup finds the same key, and a map that was written stays one.
   pub record KeepsMap (key_hash : List ℕ → ℕ → ℕ) (b c : List ℕ) (p i : ℕ) : Type 0 where
     pub table : KeepsTable w (entry_shape k v) b c p i
     pub stands : Viewed (map_shape w k v) c p
-    pub places : (j : ℕ) → entry_place c p j ≡ entry_place b p j
-    pub keys : (j : ℕ) → IsWalked w b p j → SameValue k b c (entry_place b p j)
-    pub hashes : (j : ℕ) → IsWalked w b p j → key_hash c (entry_place b p j) ≡ key_hash b (entry_place b p j)
+    pub places : (j : ℕ) → entry_at c p j ≡ entry_at b p j
+    pub keys : (j : ℕ) → IsWalked w b p j → SameValue k b c (entry_at b p j)
+    pub hashes : (j : ℕ) → IsWalked w b p j → key_hash c (entry_at b p j) ≡ key_hash b (entry_at b p j)
     pub lookups : (hash : ℕ) (fits : List ℕ → ℕ → Bool) → hash < 2 ^ 64 → RestsOnKey k fits
-        → place_found generic_kind w (entry_shape k v).size c p hash (fits c) ≡ place_found generic_kind w (entry_shape k v).size b p hash (fits b)
+        → pos_found generic_kind w (entry_shape k v).size c p hash (fits c) ≡ pos_found generic_kind w (entry_shape k v).size b p hash (fits b)
     pub written : (homes : List ℕ) → MapWrittenAt w (entry_shape k v) key_hash b p homes → MapWrittenAt w (entry_shape k v) key_hash c p homes
 
   -- a write of one value in place keeps the map
   abbrev pub ValueWritesKeepMaps : (List ℕ → ℕ → ℕ) → Type 0
   ValueWritesKeepMaps key_hash =
-      (b c : List ℕ) (p i : ℕ) → Viewed (map_shape w k v) b p → IsWalked w b p i → WritesValue b c (entry_place b p i) → KeepsMap key_hash b c p i
+      (b c : List ℕ) (p i : ℕ) → Viewed (map_shape w k v) b p → IsWalked w b p i → WritesValue b c (entry_at b p i) → KeepsMap key_hash b c p i
 
   -- a map that stands for a list of pairs stands for the list with the new value
   abbrev pub ValuesWrittenStand : {A B : Type 0} → (List ℕ → ℕ → A → Type 0) → (List ℕ → ℕ → B → Type 0) → (List ℕ → ℕ → ℕ) → Type 0
   ValuesWrittenStand {A} {B} key value key_hash =
       (b c : List ℕ) (p n : ℕ) (factor : ℕ × ℕ) (pairs : List (A × B)) (pair : A × B) (new : B) → Viewed (map_shape w k v) b p
       → (stands : MapStands w k v key value key_hash factor b p pairs) → slice_get pairs n ≡ Some pair
-      → WritesValue b c (slice_index (home_places w (entry_shape k v).size b p stands.homes) n)
-      → value c (value_place k v (slice_index (home_places w (entry_shape k v).size b p stands.homes) n)) new
+      → WritesValue b c (slice_index (home_positions w (entry_shape k v).size b p stands.homes) n)
+      → value c (value_pos k v (slice_index (home_positions w (entry_shape k v).size b p stands.homes) n)) new
       → MapStands w k v key value key_hash factor c p (slice_set pairs n (pair.0, new))

@@ -4,7 +4,7 @@ use Rattle.rkyv_base.specs.Entry.{value_offset}
 use Rattle.rkyv_base.specs.Shape.{Shape}
 use Rattle.rkyv_base.specs.View.{IsAt, IsView}
 use Rattle.rkyv_base.specs.declared.view.View.{View}
-use Rattle.rkyv_table.specs.RawItems.{ItemsLeft}
+use Rattle.rkyv_table.specs.Table.RawItems.{ItemsLeft}
 
 -- the place was the first of those that were left, of the same archive
 pub record TakesFirst (before : ItemsLeft) (place : ℕ) (after : ItemsLeft) : Type 0 where

@@ -8,7 +8,7 @@ ghost use Rattle.rkyv_base.specs.Pairs.{written_as, written_as-format};
 ghost use Rattle.rkyv_collections.specs.Listed.{listed, listed_format};
 ghost use Rattle.rkyv_collections.specs.Map.{hash_at, map_shape};
 ghost use Rattle.rkyv_collections.specs.MapFormat.{MapStands, hash_of, map_format};
-ghost use Rattle.rkyv_collections.specs.MapSound.{map_near, map_sound};
+ghost use Rattle.rkyv_collections.specs.Lemmas.MapSound.{map_near, map_sound};
 
 use rkyv_base::archive::{Archive, Serialize};
 use rkyv_base::element::StandsFor;

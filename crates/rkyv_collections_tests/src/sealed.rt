@@ -5,12 +5,12 @@ ghost use Rattle.std.specs.Option.{option_map};
 ghost use Rattle.rkyv_base.specs.Entry.{entry_shape};
 ghost use Rattle.rkyv_base.specs.Numbers.{unsigned};
 ghost use Rattle.rkyv_base.specs.Scalar.{scalar_shape};
-ghost use Rattle.rkyv_base.specs.Sealing.{value_at, value_place};
+ghost use Rattle.rkyv_base.specs.Sealing.{value_at, value_pos};
 ghost use Rattle.rkyv_base.specs.Shape.{Viewed};
 ghost use Rattle.rkyv_base.specs.Text.{text_shape};
 ghost use Rattle.rkyv_base.specs.View.{IsView};
 ghost use Rattle.rkyv_scan.specs.Hash.{hash_of_calls};
-ghost use Rattle.rkyv_collections.specs.Map.{FindsKeyAt, IsKeyPlaceAt, hash_at, map_shape};
+ghost use Rattle.rkyv_collections.specs.Map.{FindsKeyAt, IsKeyPosAt, hash_at, map_shape};
 ghost use Rattle.rkyv_collections.specs.ValueWrites.{KeepsMap, RestsOnKey};
 
 use crate::lists::Pairs;
@@ -61,16 +61,16 @@ fn texts(alloc: Global, values: [&str; 3]) -> Result<Vec<u8>, Fail> {
 }
 
 // Where the value of a key stands, by a plain lookup in the map at `root`.
-fn value_pos<K: KeyElement, V: Element, H: KeyHasher, W: Width, Q: Query<K>>(
+fn value_found<K: KeyElement, V: Element, H: KeyHasher, W: Width, Q: Query<K>>(
     bytes: &[u8],
     root: u64,
     key: &Q,
 ) -> Option<u64>
     requires map { Viewed (map_shape W.word K.shape V.shape) bytes.now root }
     requires query { Q.can_read key.now }
-    ensures walked { IfSome result (λ pos. (place : ℕ) × IsKeyPlaceAt W.word K.shape V.shape bytes.now root place × (pos ≡ value_place K.shape V.shape place)) }
+    ensures walked { IfSome result (λ pos. (place : ℕ) × IsKeyPosAt W.word K.shape V.shape bytes.now root place × (pos ≡ value_pos K.shape V.shape place)) }
     ensures answer { let hash = hash_of_calls H.initial H.feed H.finish (Q.calls key.now) in
-        FindsKeyAt W.word K.shape V.shape bytes.now root hash (Q.fits key.now bytes.now) (λ place. result ≡ option_map (value_place K.shape V.shape) place) }
+        FindsKeyAt W.word K.shape V.shape bytes.now root hash (Q.fits key.now bytes.now) (λ place. result ≡ option_map (value_pos K.shape V.shape) place) }
 {
     let map = ArchivedHashMap::<K, V, H, W>::of(View::new(bytes, root));
     match map.get(key) {
@@ -87,7 +87,7 @@ fn write_value<K: KeyElement, N: Scalar, H: KeyHasher, W: Width>(
     value: N,
 )
     requires map { Viewed (map_shape W.word K.shape (scalar_shape N.encoding)) bytes.old root }
-    requires place { (place : ℕ) × IsKeyPlaceAt W.word K.shape (scalar_shape N.encoding) bytes.old root place × (pos ≡ value_place K.shape (scalar_shape N.encoding) place) }
+    requires place { (place : ℕ) × IsKeyPosAt W.word K.shape (scalar_shape N.encoding) bytes.old root place × (pos ≡ value_pos K.shape (scalar_shape N.encoding) place) }
     ensures kept { let key_hash = hash_at H.initial H.feed H.finish K.key_calls in
         (i : ℕ) × KeepsMap W.word K.shape (scalar_shape N.encoding) key_hash bytes.old bytes.new root i }
     ensures reads { value_at N.encoding bytes.new pos ≡ value }
@@ -111,12 +111,12 @@ fn stored<K: KeyElement, N: Scalar, H: KeyHasher, W: Width, Q: Query<K>>(
 {
     // A hash of 64 bits, as the law on lookups wants.
     let _hash: u64 = hash_value::<Q, H>(key);
-    let pos = match value_pos::<K, N, H, W, Q>(&*bytes, root, key) {
+    let pos = match value_found::<K, N, H, W, Q>(&*bytes, root, key) {
         Some(pos) => pos,
         None => return None,
     };
     write_value::<K, N, H, W>(bytes, root, pos, value);
-    match value_pos::<K, N, H, W, Q>(&*bytes, root, key) {
+    match value_found::<K, N, H, W, Q>(&*bytes, root, key) {
         Some(found) => Some(View::<N>::new(&*bytes, found).to_native()),
         None => None,
     }

@@ -1,7 +1,7 @@
 //! The controls of tables, with each kind of group.
 ghost use Rattle.std.specs.Prelude.{IfSome, length, ◌<◌, ◌^◌};
-ghost use Rattle.rkyv_table.specs.Controls.{IsFullBucket};
-ghost use Rattle.rkyv_table.specs.Placing.{Accepted};
+ghost use Rattle.rkyv_table.specs.Controls.Shown.{IsFullBucket};
+ghost use Rattle.rkyv_table.specs.Controls.Placing.{Accepted};
 
 use rkyv_scan::hash::{FxHasher64, KeyHasher};
 use rkyv_scan::simd::{GroupKind, bytewise, generic, lanes};

@@ -12,7 +12,7 @@ use Rattle.rkyv_base.specs.Numbers.{unsigned}
 use Rattle.rkyv_base.specs.Scalar.{ScalarStands}
 use Rattle.rkyv_base.specs.Text.{TextReads, text_at}
 use Rattle.rkyv_keys.specs.OfTexts.{same_bytes}
-use Rattle.rkyv_table.specs.Reading.{home_places}
+use Rattle.rkyv_table.specs.Table.Reading.{home_positions}
 use Rattle.rkyv_dict.specs.Archives.{hash, pair_shape, root, value_text}
 use Rattle.rkyv_dict.specs.Built.{Holds, PairsStand, PairsStandAt}
 use Rattle.rkyv_dict.specs.First.{HasHomes, first_under, first_value}
@@ -41,9 +41,9 @@ firsts_alike fits asks shown show (x ∷ xs) (y ∷ ys) n h =
 module _ (k : Parts) {A : Type 0} (stands : List ℕ → ℕ → A → Type 0) (factor : ℕ × ℕ) (b : List ℕ) (pairs : List (A × A))
     (fits : ℕ → Bool) (asks : A → Bool) (show : A → List ℕ) (alike : (q : ℕ) (a : A) → stands b q a → fits q ≡ asks a) (reads : (q : ℕ) (a : A) → stands b q a → k.text b q ≡ show a) where
   first_at : (h : PairsStandAt k factor stands b (root k b) pairs)
-      → option_map (value_text k b) (find fits (home_places k.word (pair_shape k).size b (root k b) h.homes)) ≡ option_map (λ pair. show pair.1) (find (λ pair. asks pair.0) pairs)
+      → option_map (value_text k b) (find fits (home_positions k.word (pair_shape k).size b (root k b) h.homes)) ≡ option_map (λ pair. show pair.1) (find (λ pair. asks pair.0) pairs)
   first_at h =
-      let places = home_places k.word (pair_shape k).size b (root k b) h.homes in
+      let places = home_positions k.word (pair_shape k).size b (root k b) h.homes in
       let count : length places ≡ length pairs = sym (length-map places (λ q. hash (k.calls b q))) ∙ sym h.written.count ∙ h.len in
       firsts_alike fits (λ pair. asks pair.0) (value_text k b) (λ pair. show pair.1) places pairs count
       (λ i pair e. let there = h.at i pair e in

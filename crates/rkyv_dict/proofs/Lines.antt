@@ -8,7 +8,7 @@ use Rattle.rkyv_base.specs.Entry.{entry_shape, value_offset}
 use Rattle.rkyv_base.specs.Shape.{Shape, Viewed}
 use Rattle.rkyv_base.specs.declared.view.View.{View}
 use Rattle.rkyv_keys.specs.Places.{at_view}
-use Rattle.rkyv_table.specs.RawItems.{AllStand, ItemsLeft}
+use Rattle.rkyv_table.specs.Table.RawItems.{AllStand, ItemsLeft}
 use Rattle.rkyv_collections.specs.Walking.{TakesFirst, ViewsAt}
 use Rattle.rkyv_dict.specs.Archives.{line, line_at}
 

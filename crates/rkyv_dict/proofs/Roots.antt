@@ -5,10 +5,10 @@ use Rattle.std.specs.Option.{option_map}
 use Rattle.std.proofs.lemmas.Option.{same_Some}
 use Rattle.rkyv_base.specs.Access.{Accepted, root_viewed}
 use Rattle.rkyv_base.specs.Shape.{Viewed}
-use Rattle.rkyv_base.specs.View.{IsAt, bytes_of, place_of}
+use Rattle.rkyv_base.specs.View.{IsAt, bytes_of, pos_of}
 use Rattle.rkyv_base.specs.declared.view.View.{View}
 use Rattle.rkyv_keys.specs.Places.{at_view}
-use Rattle.rkyv_table.specs.Reading.{place_of_found}
+use Rattle.rkyv_table.specs.Table.Reading.{pos_of_found}
 use Rattle.rkyv_dict.specs.Archives.{IsMapArchive, header_shape, root}
 use Rattle.rkyv_dict.specs.Parts.{Parts}
 
@@ -21,11 +21,11 @@ module _ (k : Parts) (b : List ℕ) where
   root_stands h = root_viewed k.limit (header_shape k) b (accepted h)
 
 -- what is read where a view is
-pub read_at : {X T : Type 0} (f : List ℕ → ℕ → X) (v : View T) (archive : Bor (List ℕ)) (p : ℕ) → IsAt v archive p → f (bytes_of v) (place_of v) ≡ f archive.now p
+pub read_at : {X T : Type 0} (f : List ℕ → ℕ → X) (v : View T) (archive : Bor (List ℕ)) (p : ℕ) → IsAt v archive p → f (bytes_of v) (pos_of v) ≡ f archive.now p
 read_at f v archive p h = ap (λ (a : Bor (List ℕ)). f a.now v.pos) h.0 ∙ ap (f archive.now) h.1
 
 -- and back
-pub back_at : {T : Type 0} (P : List ℕ → ℕ → Type 0) (v : View T) (archive : Bor (List ℕ)) (p : ℕ) → IsAt v archive p → P archive.now p → P (bytes_of v) (place_of v)
+pub back_at : {T : Type 0} (P : List ℕ → ℕ → Type 0) (v : View T) (archive : Bor (List ℕ)) (p : ℕ) → IsAt v archive p → P archive.now p → P (bytes_of v) (pos_of v)
 back_at P v archive p h x = subst (λ (a : Bor (List ℕ)). P a.now v.pos) (sym h.0) (subst (P archive.now) (sym h.1) x)
 
 pub some_map : {X : Type 0} {P Q : X → Type 0} (o : Option X) → ((x : X) → P x → Q x) → IfSome o P → IfSome o Q
@@ -34,7 +34,7 @@ some_map (Some x) f h = f x h
 
 -- the text of a value that may have been found, by the place of its key
 text_found : {V : Type 0} (text : List ℕ → ℕ → List ℕ) (b : List ℕ) (off : ℕ) (value : Option (View V)) (place : Option ℕ) → IfSome value (λ v. bytes_of v ≡ b)
-    → place_of_found value ≡ option_map (λ q. q + off) place → option_map (at_view text) value ≡ option_map (λ q. text b (q + off)) place
+    → pos_of_found value ≡ option_map (λ q. q + off) place → option_map (at_view text) value ≡ option_map (λ q. text b (q + off)) place
 text_found text b off None None same e = refl
 text_found text b off None (Some q) same e = absurd cc
 text_found text b off (Some v) None same e = absurd cc
@@ -43,7 +43,7 @@ text_found text b off (Some v) (Some q) same e = ap Some (ap (λ a. text a v.pos
 -- where the place is told of where a view is
 pub text_read : {T V : Type 0} (text : List ℕ → ℕ → List ℕ) (off : ℕ) (v : View T) (archive : Bor (List ℕ)) (p : ℕ) → IsAt v archive p
     → (value : Option (View V)) → IfSome value (λ x. x.archive ≡ v.archive) → (place : List ℕ → ℕ → Option ℕ)
-    → place_of_found value ≡ option_map (λ q. q + off) (place (bytes_of v) (place_of v)) → option_map (at_view text) value ≡ option_map (λ q. text archive.now (q + off)) (place archive.now p)
+    → pos_of_found value ≡ option_map (λ q. q + off) (place (bytes_of v) (pos_of v)) → option_map (at_view text) value ≡ option_map (λ q. text archive.now (q + off)) (place archive.now p)
 text_read text off v archive p at value same place e =
     let bytes : IfSome value (λ x. bytes_of x ≡ archive.now) = some_map value (λ x s. ap (λ (a : Bor (List ℕ)). a.now) (s ∙ at.0)) same in
     text_found text archive.now off value (place archive.now p) bytes (e ∙ ap (option_map (λ q. q + off)) (read_at place v archive p at))

@@ -14,10 +14,10 @@ use Rattle.rkyv_base.specs.declared.pairs.EntryResolver.{EntryResolver}
 use Rattle.rkyv_base.specs.declared.errors.WriteError.{WriteError}
 use Rattle.rkyv_base.proofs.GivingUp.{told_as}
 use Rattle.rkyv_keys.specs.Calls.{text_calls}
-use Rattle.rkyv_table.specs.Numbers.{capacity}
-use Rattle.rkyv_table.specs.Serializing.{HasCapacity}
-use Rattle.rkyv_table.specs.Reading.{home_places}
-use Rattle.rkyv_table.specs.TableFormat.{PairsNext, TableParts, TableResolver}
+use Rattle.rkyv_table.specs.Controls.Numbers.{capacity}
+use Rattle.rkyv_table.specs.Table.Serializing.{HasCapacity}
+use Rattle.rkyv_table.specs.Table.Reading.{home_positions}
+use Rattle.rkyv_table.specs.Table.TableFormat.{PairsNext, TableParts, TableResolver}
 use Rattle.rkyv_collections.specs.Listed.{ListRefuses}
 use Rattle.rkyv_collections.specs.MapFormat.{keyed}
 use Rattle.rkyv_collections.proofs.SeenItems.{seen_pairs, seen_pairs_next, seen_table, was_seen}
@@ -49,7 +49,7 @@ module _ {A B : Type 0} (see : A → B) where
           cap = h.cap ∙ ap (λ n. capacity n factor) (sym count);
           at = λ i y e.
               let w = was_seen both (slice_get pairs i) y (sym (slice_get-map both pairs i) ∙ e) in
-              subst (PairStands k.shape k.shape stands stands b (slice_index (home_places k.word (pair_shape k).size b p h.homes) i)) w.2 (h.at i w.0 w.1);
+              subst (PairStands k.shape k.shape stands stands b (slice_index (home_positions k.word (pair_shape k).size b p h.homes) i)) w.2 (h.at i w.0 w.1);
         }
 
     module _ {R : Type 0} (most : ℕ) (format : Format B R) (calls : B → List HasherCall) (pairs : List (A × A)) where

@@ -13,8 +13,8 @@ use Rattle.rkyv_base.specs.Text.{text_at}
 use Rattle.rkyv_base.specs.declared.errors.VerifyError.{VerifyError}
 use Rattle.rkyv_keys.specs.Calls.{text_calls}
 use Rattle.rkyv_keys.specs.OfTexts.{same_bytes}
-use Rattle.rkyv_table.specs.Header.{len_at}
-use Rattle.rkyv_table.specs.Reading.{item_places, place_found}
+use Rattle.rkyv_table.specs.Table.Header.{len_at}
+use Rattle.rkyv_table.specs.Table.Reading.{item_positions, pos_found}
 use Rattle.rkyv_collections.specs.Map.{map_shape}
 use Rattle.rkyv_collections.specs.Misplaced.{map_misplaced}
 use Rattle.rkyv_dict.specs.declared.form.Bits.{Bits}
@@ -65,8 +65,8 @@ module _ (k : Parts) where
     unfoldable pub pair_count : ℕ
     pair_count = len_at k.word b root
 
-    unfoldable pub pair_places : List ℕ
-    pair_places = item_places k.word pair_shape.size b root
+    unfoldable pub pair_positions : List ℕ
+    pair_positions = item_positions k.word pair_shape.size b root
 
     -- the text of the value of the pair at q
     abbrev pub value_text : ℕ → List ℕ
@@ -74,11 +74,11 @@ module _ (k : Parts) where
 
     -- the number of pairs, then a line for each
     unfoldable pub pair_lines : List ℕ
-    pair_lines = line (codes "entries " ++ decimal pair_count) ++ flat_map (line_at k.shape k.text b) pair_places
+    pair_lines = line (codes "entries " ++ decimal pair_count) ++ flat_map (line_at k.shape k.text b) pair_positions
 
     -- the text of the value that a lookup finds of a key with these calls, where accept tells of a key by its place
     unfoldable pub value_under : List HasherCall → (ℕ → Bool) → Option (List ℕ)
-    value_under calls accept = option_map value_text (place_found generic_kind k.word pair_shape.size b root (hash calls) accept)
+    value_under calls accept = option_map value_text (pos_found generic_kind k.word pair_shape.size b root (hash calls) accept)
 
     -- how many keys a lookup doesn't answer where they stand
     unfoldable pub keys_misplaced : ℕ

@@ -3,7 +3,7 @@ use Rattle.std.specs.Prelude.{ℕ, ◌==◌, Bool, List, Option, None, decimal}
 use Rattle.std.specs.List.{find}
 use Rattle.std.specs.Option.{option_map}
 use Rattle.rkyv_keys.specs.OfTexts.{same_bytes}
-use Rattle.rkyv_table.specs.Reading.{home_places}
+use Rattle.rkyv_table.specs.Table.Reading.{home_positions}
 use Rattle.rkyv_collections.specs.Map.{MapWrittenAt}
 use Rattle.rkyv_dict.specs.Archives.{hash, pair_shape, root, value_text}
 use Rattle.rkyv_dict.specs.Forms.{Asked, Pairs, asked_number, asked_text, numbers, texts}
@@ -27,4 +27,4 @@ module _ (k : Parts) (b : List ℕ) where
 
   -- the text of the value of the first of them whose key is accepted, where accept tells of a key by its place
   unfoldable pub first_under : List ℕ → (ℕ → Bool) → Option (List ℕ)
-  first_under homes accept = option_map (value_text k b) (find accept (home_places k.word (pair_shape k).size b (root k b) homes))
+  first_under homes accept = option_map (value_text k b) (find accept (home_positions k.word (pair_shape k).size b (root k b) homes))

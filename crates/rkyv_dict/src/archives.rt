@@ -5,7 +5,7 @@ ghost use Rattle.std.specs.List.{flat_map};
 ghost use Rattle.std.specs.Option.{option_map};
 ghost use Rattle.rkyv_base.specs.View.{IsAt, IsView};
 ghost use Rattle.rkyv_keys.specs.Places.{at_view};
-ghost use Rattle.rkyv_collections.specs.Map.{IsMap, key_places, map_bytes};
+ghost use Rattle.rkyv_collections.specs.Map.{IsMap, key_positions, map_bytes};
 ghost use Rattle.rkyv_dict.specs.Archives.{IsArchive, IsMapArchive, IsRefused, MapArchiveFails, entry_count, keys_misplaced, line, line_at, listing, misplaced_count, pair_count, pair_lines, root, value_found, value_line, value_under};
 ghost use Rattle.rkyv_dict.specs.Built.{BuildRefused, Holds, IsArchiveOf, IsBuilt, NoArchiveOf, form_of_pairs};
 ghost use Rattle.rkyv_dict.specs.First.{HasHomes, first_under, first_value};
@@ -128,7 +128,7 @@ fn push_lines<P: Part, W: Width>(
     requires { IsMap W.word P.shape P.shape map }
     ensures { let lines = flat_map (line_at P.shape P.text (map_bytes map.entry)) in
         OnOk result (string_bytes out.new
-        ≡ string_bytes out.old ++ lines (key_places W.word P.shape P.shape map.entry)) }
+        ≡ string_bytes out.old ++ lines (key_positions W.word P.shape P.shape map.entry)) }
 {
     for (key, value) in map.iter() {
         push_pair(key, value, out)?;

@@ -5,11 +5,11 @@ ghost use Rattle.std.specs.Iterator.{YieldsFirstBy, at_most};
 ghost use Rattle.std.specs.Slice.Iter.{iter_rest};
 ghost use Rattle.rkyv_collections.specs.Listed.{listed, listed_format};
 ghost use Rattle.rkyv_base.specs.Format.{Format};
-ghost use Rattle.rkyv_table.specs.TableFormat.{TableResolver};
+ghost use Rattle.rkyv_table.specs.Table.TableFormat.{TableResolver};
 ghost use Rattle.rkyv_scan.specs.Hash.{fx_feed, low_halves};
 ghost use Rattle.rkyv_collections.specs.Map.{map_shape};
 ghost use Rattle.rkyv_collections.specs.MapFormat.{MapStands, map_format};
-ghost use Rattle.rkyv_collections.specs.MapSound.{map_near, map_sound};
+ghost use Rattle.rkyv_collections.specs.Lemmas.MapSound.{map_near, map_sound};
 ghost use Rattle.rkyv_dict.specs.Archives.{hash};
 ghost use Rattle.rkyv_dict.specs.Listed.{written_under, written_under-format};
 

@@ -9,7 +9,7 @@ ghost use Rattle.std.specs.Str.{bytes_eq};
 use crate::form::{Bits, Kind};
 
 /// The place of the first `at`.
-fn place_of(bytes: &[u8], at: u8) -> Option<usize>
+fn pos_of(bytes: &[u8], at: u8) -> Option<usize>
     ensures { result ≡ position (λ b. b == at) bytes.now }
 {
     bytes.iter().position(|b| *b == at)
@@ -21,7 +21,7 @@ pub fn cut(bytes: &[u8], at: u8) -> (&[u8], Option<&[u8]>)
         ≡ result.0.now ∷ parts_after at (option_copied result.1) }
     ensures shorter { IfSome result.1 (λ rest. length rest.now < length bytes.now) }
 {
-    match place_of(bytes, at) {
+    match pos_of(bytes, at) {
         Some(i) => (&bytes[..i], Some(&bytes[i + 1..])),
         None => (bytes, None),
     }

@@ -2,7 +2,7 @@
 use Rattle.std.specs.Prelude.{◌≡◌, ℕ, ◌+◌, ◌*◌, ◌/◌, ◌%◌, ◌<◌, Bool, List, slice_index, take, drop}
 use Rattle.std.proofs.Common.{arith, refl, sym, ◌∙◌, ap, get_or-take, get_or-drop}
 use Rattle.rkyv_scan.specs.Groups.{IsKind, Kind, is_word_match_at}
-use Rattle.rkyv_scan.specs.KindLaws.{word_lawful}
+use Rattle.rkyv_scan.specs.Lemmas.KindLaws.{word_lawful}
 
 -- the half in which the place stands
 abbrev pub half_of : List ℕ → ℕ → List ℕ

@@ -1,6 +1,5 @@
 pub mod Groups
 pub mod Hash
 pub mod Laws
-pub mod KindLaws
+pub mod Lemmas
 pub mod Halves
-pub mod HalfBits

@@ -9,7 +9,7 @@ use Rattle.rkyv_base.specs.declared.errors.WriteError.TheVariants.{DistanceTooLa
 use Rattle.rkyv_base.specs.Writing.{Only, Output, end_of, Appends, Told, piece, zeros}
 use Rattle.rkyv_base.specs.Format.{Format}
 use Rattle.rkyv_base.proofs.GivingUp.{appends_after, end-appends, grows, none_appended, told_after}
-use Rattle.rkyv_table.specs.Slots.{SlotImages, BucketNext, filled, WroteBuckets, Filled, TooFar}
+use Rattle.rkyv_table.specs.Table.Slots.{SlotImages, BucketNext, filled, WroteBuckets, Filled, TooFar}
 use Rattle.rkyv_table.proofs.PartSteps.{filled-append}
 
 drop_at : {A : Type 0} (xs : List A) (i : ℕ) (d : A) → i < length xs → drop i xs ≡ get_or xs i d ∷ drop (i + 1) xs

@@ -7,8 +7,8 @@ use Rattle.std.proofs.lemmas.Bool.{cases_lt, and_parts, and_from, eqb-true, eq-e
 use Rattle.std.proofs.lemmas.Map.Made.{length-from_same_keys}
 use Rattle.std.specs.Cmp.{nat_eq_equiv}
 use Rattle.std.proofs.lemmas.List.FromFn.{length-map-range_with_len}
-use Rattle.rkyv_table.specs.Numbers.{start, modulus, probe_capacity}
-use Rattle.rkyv_table.specs.Probe.{probe_place, strides}
+use Rattle.rkyv_table.specs.Controls.Numbers.{start, modulus, probe_capacity}
+use Rattle.rkyv_table.specs.Controls.Probe.{probe_place, strides}
 use Rattle.rkyv_table.proofs.Triangle.{triangle, hits, hits_once}
 use Rattle.rkyv_table.proofs.Lists.{any_filter, any_map_range, from_map_range, distinct_filter, distinct_map_range}
 use Rattle.rkyv_table.proofs.Modulus.{modulus_power}

@@ -5,16 +5,16 @@ use Rattle.std.specs.List.{find}
 use Rattle.std.specs.Option.{option_map}
 use Rattle.std.proofs.lemmas.List.{get_or-map}
 use Rattle.rkyv_scan.specs.Groups.{Kind, IsKind}
-use Rattle.rkyv_table.specs.Finding.{found}
-use Rattle.rkyv_table.specs.Header.{cap_at, len_at}
-use Rattle.rkyv_table.specs.Laws.{IsUnderHash}
-use Rattle.rkyv_table.specs.Reading.{WrittenAt, home_places, item_at, place_found, table_controls}
+use Rattle.rkyv_table.specs.Controls.Finding.{found}
+use Rattle.rkyv_table.specs.Table.Header.{cap_at, len_at}
+use Rattle.rkyv_table.specs.Controls.Laws.{IsUnderHash}
+use Rattle.rkyv_table.specs.Table.Reading.{WrittenAt, home_positions, item_at, pos_found, table_controls}
 use Rattle.rkyv_table.proofs.Written.{found_first}
 
 module _ (kind : Kind) (law : IsKind kind) (w : Width) (size : ℕ) (b : List ℕ) (p hash : ℕ) where
   -- where only items under the asked hash are accepted, the answer is the first accepted one in the order handed in
   pub first_found : hash < 2 ^ 64 → (hashes homes : List ℕ) (accept : ℕ → Bool) → WrittenAt w b p hashes homes
-      → IsUnderHash hash hashes (home_places w size b p homes) accept → place_found kind w size b p hash accept ≡ find accept (home_places w size b p homes)
+      → IsUnderHash hash hashes (home_positions w size b p homes) accept → pos_found kind w size b p hash accept ≡ find accept (home_positions w size b p homes)
   first_found fits hashes homes accept written under = elim written.placed [
     | inl none ↦
         let count = written.count in
@@ -24,6 +24,6 @@ module _ (kind : Kind) (law : IsKind kind) (w : Width) (size : ℕ) (b : List �
         let at : ℕ → ℕ = item_at w size b p in
         let n = placed.1.placed.count in
         ap (λ len. option_map at (found kind (table_controls w b p) (cap_at w b p) len hash (λ i. accept (at i)))) written.count
-        ∙ found_first (cap_at w b p) hash hashes homes (table_controls w b p) kind (home_places w size b p homes) at accept placed.0 fits law placed.1 (λ j l. written.fit j 0 l) refl
+        ∙ found_first (cap_at w b p) hash hashes homes (table_controls w b p) kind (home_positions w size b p homes) at accept placed.0 fits law placed.1 (λ j l. written.fit j 0 l) refl
         (λ j l yes. under j l (ap accept (get_or-map at homes j 0 0 (omega arith)) ∙ yes))
   ]

@@ -6,10 +6,10 @@ use Rattle.std.proofs.lemmas.List.Folds.{find-append}
 use Rattle.std.proofs.lemmas.List.{length-set, set_past}
 use Rattle.std.proofs.lemmas.Bool.{cases_Bool, cases_lt, and_from, and_left, and_right, lt-ltb, le-ltb, both_ways, false_from_ne_true, eq-eqb, or_left, or_right}
 use Rattle.rkyv_scan.specs.Groups.{places_where}
-use Rattle.rkyv_table.specs.Numbers.{start, control_count, probe_capacity}
-use Rattle.rkyv_table.specs.Probe.{strides, buckets_at, shown}
-use Rattle.rkyv_table.specs.Placing.{Repeats}
-use Rattle.rkyv_table.specs.Controls.{is_empty_at, empty_place, with_control}
+use Rattle.rkyv_table.specs.Controls.Numbers.{start, control_count, probe_capacity}
+use Rattle.rkyv_table.specs.Controls.Probe.{strides, buckets_at, shown}
+use Rattle.rkyv_table.specs.Controls.Placing.{Repeats}
+use Rattle.rkyv_table.specs.Controls.Shown.{is_empty_at, empty_place, with_control}
 use Rattle.rkyv_table.proofs.Coverage.{covered}
 use Rattle.rkyv_table.proofs.Search.{control_of, tail_shows_all, strides_head}
 use Rattle.rkyv_table.proofs.Groups.{range_append}

@@ -9,11 +9,11 @@ use Rattle.rkyv_base.proofs.GivingUp.{none_appended, told_as}
 use Rattle.rkyv_base.specs.Format.{Format}
 use Rattle.rkyv_base.specs.Shape.{Shape}
 use Rattle.rkyv_base.specs.Writing.{Output, end_of}
-use Rattle.rkyv_table.specs.Numbers.{capacity}
-use Rattle.rkyv_table.specs.Serializing.{HasCapacity, NoFilled, NoTable, NotPlaced, OwnCause, WroteFilled, WroteTable}
-use Rattle.rkyv_table.specs.Slots.{TableNext}
-use Rattle.rkyv_table.specs.TableFormat.{InBuckets, PairsNext, table_format}
-use Rattle.rkyv_table.specs.Taking.{Placed}
+use Rattle.rkyv_table.specs.Controls.Numbers.{capacity}
+use Rattle.rkyv_table.specs.Table.Serializing.{HasCapacity, NoFilled, NoTable, NotPlaced, OwnCause, WroteFilled, WroteTable}
+use Rattle.rkyv_table.specs.Table.Slots.{TableNext}
+use Rattle.rkyv_table.specs.Table.TableFormat.{InBuckets, PairsNext, table_format}
+use Rattle.rkyv_table.specs.Table.Taking.{Placed}
 
 no_pairs : {X : Type 0} (xs : List X) → length xs ≡ 0 → xs ≡ []
 no_pairs [] e = refl

@@ -10,7 +10,7 @@ use Rattle.std.proofs.Math.Nat.{mul-le-mul_right, mul-mod_left}
 use Rattle.std.proofs.lemmas.Bool.{cases_Bool, or_left, or_right, false≢true}
 use Rattle.rkyv_table.proofs.Coverage.{same_tests}
 use Rattle.rkyv_scan.specs.Groups.{Kind, IsKind, places_where}
-use Rattle.rkyv_table.specs.Finding.{marked, candidates, shows_empty}
+use Rattle.rkyv_table.specs.Controls.Finding.{marked, candidates, shows_empty}
 
 pub range_append : (a m n : ℕ) → range_with_len a (m + n) ≡ range_with_len a m ++ range_with_len (a + m) n
 range_append a zero n = let e : a + 0 ≡ a = omega arith in let f : 0 + n ≡ n = omega arith in rw (e, f) refl

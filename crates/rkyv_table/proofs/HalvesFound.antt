@@ -4,9 +4,9 @@ use Rattle.std.specs.List.{find, list_any, position_or_len}
 use Rattle.std.specs.Option.{option_and_then}
 use Rattle.rkyv_scan.specs.Groups.{generic_kind, is_word_match_at}
 use Rattle.rkyv_scan.specs.Halves.{halves_kind}
-use Rattle.rkyv_table.specs.Finding.{candidates, end, found, marked, shows_empty}
-use Rattle.rkyv_table.specs.Numbers.{tag}
-use Rattle.rkyv_table.specs.Probe.{strides}
+use Rattle.rkyv_table.specs.Controls.Finding.{candidates, end, found, marked, shows_empty}
+use Rattle.rkyv_table.specs.Controls.Numbers.{tag}
+use Rattle.rkyv_table.specs.Controls.Probe.{strides}
 use Rattle.rkyv_table.proofs.Groups.{group_of}
 use Rattle.rkyv_table.proofs.Walks.{filter_agree_range}
 

@@ -7,9 +7,9 @@ use Rattle.std.proofs.lemmas.List.{take_all, take_more, ext_get_or, get_or_past,
 use Rattle.std.proofs.lemmas.List.FromFn.{length-map-range_with_len, get_or-map-range_with_len}
 use Rattle.std.proofs.lemmas.List.Sums.{fold-append, passes_at_first}
 use Rattle.std.proofs.lemmas.Bool.{cases_Bool, cases_lt, or_parts, eqb-true, lt-ltb, le-ltb, both_ways}
-use Rattle.rkyv_table.specs.Numbers.{tag, control_count}
-use Rattle.rkyv_table.specs.Probe.{shown}
-use Rattle.rkyv_table.specs.Placing.{is_free, Homes, with_home, homes, Written, bucket_control, written_controls}
+use Rattle.rkyv_table.specs.Controls.Numbers.{tag, control_count}
+use Rattle.rkyv_table.specs.Controls.Probe.{shown}
+use Rattle.rkyv_table.specs.Controls.Placing.{is_free, Homes, with_home, homes, Written, bucket_control, written_controls}
 use Rattle.rkyv_table.proofs.FirstFree.{free_shown}
 use Rattle.rkyv_table.proofs.Lists.{none_find}
 use Rattle.rkyv_table.proofs.Search.{cases_option, control_of}

@@ -5,11 +5,11 @@ use Rattle.std.proofs.lemmas.Option.{none-some, same_Some}
 use Rattle.rkyv_base.specs.declared.errors.VerifyError.{VerifyError}
 use Rattle.rkyv_base.specs.Shape.{Shape}
 use Rattle.rkyv_scan.specs.Groups.{places_where}
-use Rattle.rkyv_table.specs.PlaceLaws.{AllBelow, range_below}
-use Rattle.rkyv_table.specs.Places.{AllHold, FirstFails, SomeHold}
-use Rattle.rkyv_table.specs.Placing.{walk}
-use Rattle.rkyv_table.specs.Table.{bucket_at}
-use Rattle.rkyv_table.specs.Walking.{full_from}
+use Rattle.rkyv_table.specs.Lemmas.PlaceLaws.{AllBelow, range_below}
+use Rattle.rkyv_table.specs.Table.Places.{AllHold, FirstFails, SomeHold}
+use Rattle.rkyv_table.specs.Controls.Placing.{walk}
+use Rattle.rkyv_table.specs.Table.Layout.{bucket_at}
+use Rattle.rkyv_table.specs.Controls.Walking.{full_from}
 use Rattle.rkyv_table.proofs.RawSteps.{group_cut, group_read}
 use Rattle.rkyv_table.proofs.Walks.{walk_small, whole_walk}
 

@@ -7,16 +7,16 @@ use Rattle.std.proofs.Math.Nat.{mul-le-mul_right}
 use Rattle.rkyv_scan.specs.Groups.{Kind}
 use Rattle.rkyv_base.specs.Bytes.{signed_at}
 use Rattle.rkyv_base.specs.Shape.{Shape, IsElement, Viewed, standing}
-use Rattle.rkyv_table.specs.Controls.{IsFullBucket}
-use Rattle.rkyv_table.specs.Finding.{end, found}
-use Rattle.rkyv_table.specs.Header.{len_at, cap_at}
-use Rattle.rkyv_table.specs.ItemPlaces.{HeldPart, holds_at, item_holds, told_controls, told_item, told_place}
-use Rattle.rkyv_table.specs.Numbers.{control_count}
-use Rattle.rkyv_table.specs.Placing.{Accepted}
-use Rattle.rkyv_table.specs.Reading.{AreItems, IsWalked, controls_place, item_at, table_bytes, table_controls, table_place}
+use Rattle.rkyv_table.specs.Controls.Shown.{IsFullBucket}
+use Rattle.rkyv_table.specs.Controls.Finding.{end, found}
+use Rattle.rkyv_table.specs.Table.Header.{len_at, cap_at}
+use Rattle.rkyv_table.specs.Lemmas.ItemPositions.{HeldPart, holds_at, item_holds, told_controls, told_item, told_pos}
+use Rattle.rkyv_table.specs.Controls.Numbers.{control_count}
+use Rattle.rkyv_table.specs.Controls.Placing.{Accepted}
+use Rattle.rkyv_table.specs.Table.Reading.{AreItems, IsWalked, controls_pos, item_at, table_bytes, table_controls, table_pos}
 use Rattle.rkyv_table.specs.declared.table.items.Items.{Items}
-use Rattle.rkyv_table.specs.Table.{table_shape}
-use Rattle.rkyv_table.specs.TableLaws.{bucket_aligned}
+use Rattle.rkyv_table.specs.Table.Layout.{table_shape}
+use Rattle.rkyv_table.specs.Lemmas.TableLaws.{bucket_aligned}
 
 module _ (w : Width) (s : Shape) (law : IsElement s) (b : List ℕ) (p : ℕ) (v : Viewed (table_shape w s) b p) where
   -- the part of a table with buckets
@@ -30,20 +30,20 @@ module _ (w : Width) (s : Shape) (law : IsElement s) (b : List ℕ) (p : ℕ) (v
       subst (Accepted (cap_at w b p) (len_at w b p)) (sym (told_controls w s.size b p t.begin t.part.begins)) t.is.controls
 
   -- where they end, and where they begin
-  pub controls_inside : 0 < cap_at w b p → (controls_place w b p + control_count (cap_at w b p) ≤ length b) × (pos (controls_place w b p) ≡ pos p +ℤ signed_at w b p)
+  pub controls_inside : 0 < cap_at w b p → (controls_pos w b p + control_count (cap_at w b p) ≤ length b) × (pos (controls_pos w b p) ≡ pos p +ℤ signed_at w b p)
   controls_inside h =
       let t = part_of h in
       let begins = t.part.begins in
-      let e = told_place w s.size b p t.begin begins in
+      let e = told_pos w s.size b p t.begin begins in
       let below = t.part.below in
       let inside = v.inside in
       (omega arith, omega (arith, ints, begins, e))
 
   -- a bucket stands before them
-  pub item_before : (i : ℕ) → i < cap_at w b p → (i + 1) * s.size ≤ controls_place w b p
+  pub item_before : (i : ℕ) → i < cap_at w b p → (i + 1) * s.size ≤ controls_pos w b p
   item_before i h =
       let t = part_of (omega arith) in
-      let e = told_place w s.size b p t.begin t.part.begins in
+      let e = told_pos w s.size b p t.begin t.part.begins in
       let m : (i + 1) * s.size ≤ cap_at w b p * s.size = mul-le-mul_right s.size (omega arith) in
       omega arith
 
@@ -81,27 +81,27 @@ module _ {T W : Type 0} (w : Width) (s : Shape) (law : IsElement s) (items : Ite
   pub read_accepted : 0 < items.len → Accepted items.cap items.len items.controls.now
   read_accepted some =
       let v = are.table in
-      let n = some_cap w s law (table_bytes items.table) (table_place items.table) v (rw are.len at some) in
-      let a = controls_accepted w s law (table_bytes items.table) (table_place items.table) v n in
+      let n = some_cap w s law (table_bytes items.table) (table_pos items.table) v (rw are.len at some) in
+      let a = controls_accepted w s law (table_bytes items.table) (table_pos items.table) v n in
       rw (are.controls (rw are.cap n), are.cap, are.len) a
 
-  pub read_walked : (i : ℕ) → IsFullBucket items.cap items.controls.now i → IsWalked w (table_bytes items.table) (table_place items.table) i
+  pub read_walked : (i : ℕ) → IsFullBucket items.cap items.controls.now i → IsWalked w (table_bytes items.table) (table_pos items.table) i
   read_walked i full = rw (are.controls (omega (arith, full.0)), are.cap) at full
 
   pub read_found : (kind : Kind) (hash : ℕ) (accept : ℕ → Bool) → found kind items.controls.now items.cap items.len hash accept
-      ≡ found kind (table_controls w (table_bytes items.table) (table_place items.table)) (cap_at w (table_bytes items.table) (table_place items.table)) (len_at w (table_bytes items.table) (table_place items.table)) hash accept
+      ≡ found kind (table_controls w (table_bytes items.table) (table_pos items.table)) (cap_at w (table_bytes items.table) (table_pos items.table)) (len_at w (table_bytes items.table) (table_pos items.table)) hash accept
   read_found kind hash accept = elim (cases_eq items.cap 0) [
     | inl none ↦
-        let z = no_items w s law (table_bytes items.table) (table_place items.table) are.table (sym are.cap ∙ none) in
+        let z = no_items w s law (table_bytes items.table) (table_pos items.table) are.table (sym are.cap ∙ none) in
         rw (are.len, z) refl
     | inr some ↦ rw (are.controls (omega arith), are.cap, are.len) refl
   ]
 
   pub read_end : (kind : Kind) (hash : ℕ) (accept : ℕ → Bool) → end kind items.controls.now items.cap items.len hash accept
-      ≡ end kind (table_controls w (table_bytes items.table) (table_place items.table)) (cap_at w (table_bytes items.table) (table_place items.table)) (len_at w (table_bytes items.table) (table_place items.table)) hash accept
+      ≡ end kind (table_controls w (table_bytes items.table) (table_pos items.table)) (cap_at w (table_bytes items.table) (table_pos items.table)) (len_at w (table_bytes items.table) (table_pos items.table)) hash accept
   read_end kind hash accept = elim (cases_eq items.cap 0) [
     | inl none ↦
-        let z = no_items w s law (table_bytes items.table) (table_place items.table) are.table (sym are.cap ∙ none) in
+        let z = no_items w s law (table_bytes items.table) (table_pos items.table) are.table (sym are.cap ∙ none) in
         rw (are.len, z) refl
     | inr some ↦ rw (are.controls (omega arith), are.cap, are.len) refl
   ]

@@ -5,13 +5,13 @@ use Rattle.std.proofs.lemmas.List.FromFn.{length-range_with_len, get_or-range_wi
 use Rattle.std.proofs.lemmas.List.Folds.{Any-from_list_any}
 use Rattle.std.proofs.lemmas.Nat.{mod_below}
 use Rattle.std.proofs.lemmas.Bool.{cases_Bool, cases_eq, cases_lt, eq-eqb, ne_eqb, or_left, or_right, or_from, or_parts, ltb-true, ltb-false, le-leb, not-false, not-true, and_parts}
-use Rattle.rkyv_table.specs.Numbers.{start, tag, control_count, probe_capacity}
-use Rattle.rkyv_table.specs.Probe.{strides}
-use Rattle.rkyv_table.specs.Controls.{IsFullBucket}
-use Rattle.rkyv_table.specs.Seen.{IsShown}
-use Rattle.rkyv_table.specs.Placing.{Accepted, walk}
+use Rattle.rkyv_table.specs.Controls.Numbers.{start, tag, control_count, probe_capacity}
+use Rattle.rkyv_table.specs.Controls.Probe.{strides}
+use Rattle.rkyv_table.specs.Controls.Shown.{IsFullBucket}
+use Rattle.rkyv_table.specs.Controls.Seen.{IsShown}
+use Rattle.rkyv_table.specs.Controls.Placing.{Accepted, walk}
 use Rattle.rkyv_scan.specs.Groups.{Kind, IsKind}
-use Rattle.rkyv_table.specs.Finding.{marked, candidates, shows_empty, ends_at, found, end}
+use Rattle.rkyv_table.specs.Controls.Finding.{marked, candidates, shows_empty, ends_at, found, end}
 use Rattle.rkyv_table.proofs.Coverage.{covered, has_stride, count_strides, stride_below}
 use Rattle.rkyv_table.proofs.Lists.{any_member, any_range, contains_member, none_find, some_find}
 use Rattle.rkyv_table.proofs.Search.{answer, answer_cons, control_of, mark_full}

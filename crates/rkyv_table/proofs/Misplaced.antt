@@ -11,11 +11,11 @@ use Rattle.std.proofs.lemmas.Map.Made.{length-from_same_keys}
 use Rattle.std.proofs.lemmas.Option.{none-some, same_Some, slice_get-get_or}
 use Rattle.std.proofs.lemmas.Bool.{cases_Bool, cases_eq, cases_lt, and_parts, and_from, eq-eqb, eqb-true, ne_eqb, not-false, or_left, or_right, true≢false}
 use Rattle.rkyv_scan.specs.Groups.{Kind, IsKind, is_full}
-use Rattle.rkyv_table.specs.Finding.{marked, candidates, ends_at, found}
-use Rattle.rkyv_table.specs.Misplaced.{AloneAccepted, AsksForOne, IsSameness, NoneAccepted, is_answer, is_misplaced, misplaced, repeated, repeats_earlier}
-use Rattle.rkyv_table.specs.Numbers.{tag}
-use Rattle.rkyv_table.specs.Placing.{Accepted, Written, walk}
-use Rattle.rkyv_table.specs.Probe.{strides}
+use Rattle.rkyv_table.specs.Controls.Finding.{marked, candidates, ends_at, found}
+use Rattle.rkyv_table.specs.Table.Misplaced.{AloneAccepted, AsksForOne, IsSameness, NoneAccepted, is_answer, is_misplaced, misplaced, repeated, repeats_earlier}
+use Rattle.rkyv_table.specs.Controls.Numbers.{tag}
+use Rattle.rkyv_table.specs.Controls.Placing.{Accepted, Written, walk}
+use Rattle.rkyv_table.specs.Controls.Probe.{strides}
 use Rattle.rkyv_table.proofs.Lists.{any_filter, any_map_filter, any_member, contains_member, distinct_filter, member_contains, some_find}
 use Rattle.rkyv_table.proofs.Lookup.{found_is, marked_walked}
 use Rattle.rkyv_table.proofs.Search.{answer, answer_cons, cases_option}

@@ -4,9 +4,9 @@ use Rattle.std.specs.Int.{Width}
 use Rattle.rkyv_base.specs.Shape.{Shape}
 use Rattle.rkyv_base.specs.declared.view.View.{View}
 use Rattle.rkyv_scan.specs.Groups.{Kind}
-use Rattle.rkyv_table.specs.Misplaced.{is_answer}
-use Rattle.rkyv_table.specs.MisplacedIn.{ComparesAs, FindsOwn, HashesAs, bucket_misplaced}
-use Rattle.rkyv_table.specs.Reading.{IsItemIn, bucket_found, item_at, table_bytes, table_place}
+use Rattle.rkyv_table.specs.Table.Misplaced.{is_answer}
+use Rattle.rkyv_table.specs.Table.MisplacedIn.{ComparesAs, FindsOwn, HashesAs, bucket_misplaced}
+use Rattle.rkyv_table.specs.Table.Reading.{IsItemIn, bucket_found, item_at, table_bytes, table_pos}
 use Rattle.rkyv_table.specs.declared.table.ArchivedHashTable.{ArchivedHashTable}
 
 pub count_taken : (P : ℕ → Bool) (x : ℕ) (xs rest : List ℕ) → xs ≡ x ∷ rest → P x ≡ true → length (filter P xs) ≡ suc (length (filter P rest))
@@ -21,8 +21,8 @@ module _ {T W : Type 0} (kind : Kind) (w : Width) (s : Shape) (read self : Archi
   pub bucket_told : (hash_of : ℕ → ℕ) (same : ℕ → ℕ → Bool) → HashesAs hashes w s self hash_of → ComparesAs compares w s self same
       → not (is_answer bucket result) ≡ bucket_misplaced kind w s self hash_of same bucket
   bucket_told hash_of same hash_as same_as =
-      let at : ℕ → ℕ = item_at w s.size (table_bytes self) (table_place self) in
+      let at : ℕ → ℕ = item_at w s.size (table_bytes self) (table_pos self) in
       let here : IsItemIn w s self bucket item = subst (λ t. IsItemIn w s t bucket item) one is in
       let found = subst (λ t. FindsOwn compares kind w s t hash bucket result) one finds same same_as in
       let under : hash ≡ hash_of (at bucket) = hash_as item hash (bucket, here) hashed ∙ ap hash_of here.place in
-      ap (λ o. not (is_answer bucket o)) (found ∙ ap (λ z. bucket_found kind w s.size (table_bytes self) (table_place self) z (same (at bucket))) under)
+      ap (λ o. not (is_answer bucket o)) (found ∙ ap (λ z. bucket_found kind w s.size (table_bytes self) (table_pos self) z (same (at bucket))) under)

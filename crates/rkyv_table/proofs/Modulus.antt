@@ -8,7 +8,7 @@ use Rattle.std.proofs.lemmas.Nat.{pow-add, pow_below}
 use Rattle.std.proofs.lemmas.Bool.{cases_lt, leb-true, lt-leb, le-leb}
 use Rattle.std.proofs.lemmas.List.FromFn.{length-range_with_len, get_or-range_with_len}
 use Rattle.std.proofs.lemmas.List.Sums.{passes_at_first, position_or_len_is}
-use Rattle.rkyv_table.specs.Numbers.{modulus, control_count}
+use Rattle.rkyv_table.specs.Controls.Numbers.{modulus, control_count}
 
 below_pow : (n : ℕ) → n < 2 ^ n
 below_pow zero = omega arith

@@ -7,7 +7,7 @@ use Rattle.rkyv_base.specs.declared.errors.WriteError.{WriteError}
 use Rattle.rkyv_base.specs.Writing.{Output, end_of, Appends, Told, Within}
 use Rattle.rkyv_base.specs.Format.{Format}
 use Rattle.rkyv_base.proofs.GivingUp.{end-appends, told_after}
-use Rattle.rkyv_table.specs.Slots.{SlotParts, PartsNext, filled}
+use Rattle.rkyv_table.specs.Table.Slots.{SlotParts, PartsNext, filled}
 
 zero_plus : (n : ℕ) → 0 + n ≡ n
 zero_plus n = omega arith

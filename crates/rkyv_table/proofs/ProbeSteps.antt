@@ -5,8 +5,8 @@ use Rattle.std.proofs.Math.Nat.{mod-add-mod, mod-eq_of_lt}
 use Rattle.std.proofs.Math.Pow.{pow_mono}
 use Rattle.std.proofs.lemmas.Nat.{and_mask, mod_below, pow_pos}
 use Rattle.std.proofs.lemmas.Bool.{cases_lt, lt-ltb, le-ltb}
-use Rattle.rkyv_table.specs.Numbers.{modulus, probe_capacity}
-use Rattle.rkyv_table.specs.Probe.{probe_place, strides, strides_from, IsProbe}
+use Rattle.rkyv_table.specs.Controls.Numbers.{modulus, probe_capacity}
+use Rattle.rkyv_table.specs.Controls.Probe.{probe_place, strides, strides_from, IsProbe}
 use Rattle.rkyv_table.proofs.Triangle.{triangle, twice}
 use Rattle.rkyv_table.proofs.Modulus.{modulus_power}
 
@@ -32,8 +32,8 @@ offset_next : (m k offset : ℕ) → 0 < k → offset ≡ 16 * (k * (k - 1) / 2)
 offset_next m k offset h e =
     ap (λ z. (z + 16 * k) % m) e ∙ mod-add-mod (16 * (k * (k - 1) / 2)) m (16 * k) ∙ ap (λ z. z % m) (triangle_step k h)
 
-place_of : (s m x : ℕ) → (s + x % m) % m ≡ (s + x) % m
-place_of s m x = ap (λ z. z % m) (add_comm s (x % m)) ∙ mod-add-mod x m s ∙ ap (λ z. z % m) (add_comm x s)
+pos_of : (s m x : ℕ) → (s + x % m) % m ≡ (s + x) % m
+pos_of s m x = ap (λ z. z % m) (add_comm s (x % m)) ∙ mod-add-mod x m s ∙ ap (λ z. z % m) (add_comm x s)
 
 -- ---- bounds
 
@@ -74,7 +74,7 @@ place_is cap s offset k h is =
     let o = and_mask (offset + 16 * k) _ ∙ offset_next (modulus cap) k offset h is.at in
     and_mask (s + bit_and (offset + 16 * k) (modulus cap - 1)) _
     ∙ ap (λ z. (s + z) % modulus cap) o
-    ∙ place_of s (modulus cap) (16 * triangle k)
+    ∙ pos_of s (modulus cap) (16 * triangle k)
 
 range_cons : (k n : ℕ) → k < n → range_with_len k (n - k) ≡ k ∷ range_with_len (k + 1) (n - (k + 1))
 range_cons k n h = let e : n - k ≡ suc (n - (k + 1)) = omega arith in rw e refl

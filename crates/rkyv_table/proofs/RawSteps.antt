@@ -7,10 +7,10 @@ use Rattle.std.proofs.lemmas.List.{take-append-le, take_all}
 use Rattle.std.proofs.Math.Nat.{mul-le-mul_right}
 use Rattle.std.proofs.lemmas.List.Elements.{All-head, All-rest, All-same, filter-append}
 use Rattle.rkyv_scan.specs.Groups.{places_where}
-use Rattle.rkyv_table.specs.Numbers.{control_count}
-use Rattle.rkyv_table.specs.Placing.{walk}
-use Rattle.rkyv_table.specs.RawItems.{IsAhead, IsRawIter, buckets_left, marked_left, place_before, places_left}
-use Rattle.rkyv_table.specs.Walking.{full_from}
+use Rattle.rkyv_table.specs.Controls.Numbers.{control_count}
+use Rattle.rkyv_table.specs.Controls.Placing.{walk}
+use Rattle.rkyv_table.specs.Table.RawItems.{IsAhead, IsRawIter, buckets_left, marked_left, pos_before, places_left}
+use Rattle.rkyv_table.specs.Controls.Walking.{full_from}
 use Rattle.rkyv_table.proofs.FirstFree.{head_filter}
 use Rattle.rkyv_table.proofs.Groups.{filter_shift, range_append}
 use Rattle.rkyv_table.proofs.Lists.{first_range}
@@ -89,7 +89,7 @@ module _ (place size count : ℕ) (controls : List ℕ) (base : ℕ) (marks : Li
   head_places j some e =
       let p : (base + j + 1) * size ≡ base * size + (j + 1) * size = omega arith in
       let q : place + base * size - (base + j + 1) * size ≡ place - (j + 1) * size = omega (arith, p) in
-      ap (map (place_before (place + base * size) size)) (head_left j some e)
+      ap (map (pos_before (place + base * size) size)) (head_left j some e)
       ∙ ap (λ x. x ∷ places_left place size (count - 1) controls base (drop 1 marks)) q
 
   pub head_keeps : (j : ℕ) → 0 < count → Some j ≡ slice_get marks 0 → IsRawIter place size (count - 1) controls base (drop 1 marks)
@@ -144,8 +144,8 @@ module _ (place size count : ℕ) (controls : List ℕ) (base : ℕ) (marks : Li
 
     pub next_places : places_left place size count controls base marks ≡ places_left (place - 8 * size) size count controls (base + 8) marks'
     next_places =
-        ap (map (place_before (place + base * size) size)) next_left
-        ∙ ap (λ z. map (place_before z size) (buckets_left count controls (base + 8) marks')) (sym next_place)
+        ap (map (pos_before (place + base * size) size)) next_left
+        ∙ ap (λ z. map (pos_before z size) (buckets_left count controls (base + 8) marks')) (sym next_place)
 
     pub next_keeps : IsRawIter (place - 8 * size) size count controls (base + 8) marks'
     next_keeps = record {
@@ -160,7 +160,7 @@ unfolding buckets_left
 end_left count controls base marks e = ap (λ n. take n (marked_left controls base marks)) e
 
 pub end_places : (place size count : ℕ) (controls : List ℕ) (base : ℕ) (marks : List ℕ) → count ≡ 0 → places_left place size count controls base marks ≡ []
-end_places place size count controls base marks e = ap (map (place_before (place + base * size) size)) (end_left count controls base marks e)
+end_places place size count controls base marks e = ap (map (pos_before (place + base * size) size)) (end_left count controls base marks e)
 
 -- the walked buckets are the first full places
 walked_first : (controls : List ℕ) (cap : ℕ) → cap ≤ length controls → take (length (walk controls cap)) (full_from controls (length controls) 0) ≡ walk controls cap

@@ -6,11 +6,11 @@ use Rattle.std.proofs.lemmas.Bool.{cases_eq}
 use Rattle.std.proofs.lemmas.List.{length-map}
 use Rattle.std.proofs.lemmas.List.Elements.{All-contains_itself, All-map, All-weaker}
 use Rattle.rkyv_base.specs.Shape.{IsElement, Shape, Viewed}
-use Rattle.rkyv_table.specs.Header.{cap_at, len_at}
-use Rattle.rkyv_table.specs.Placing.{walk}
-use Rattle.rkyv_table.specs.RawItems.{IsAhead, place_before}
-use Rattle.rkyv_table.specs.Reading.{IsWalked, controls_place, item_at, item_places, table_controls}
-use Rattle.rkyv_table.specs.Table.{table_shape}
+use Rattle.rkyv_table.specs.Table.Header.{cap_at, len_at}
+use Rattle.rkyv_table.specs.Controls.Placing.{walk}
+use Rattle.rkyv_table.specs.Table.RawItems.{IsAhead, pos_before}
+use Rattle.rkyv_table.specs.Table.Reading.{IsWalked, controls_pos, item_at, item_positions, table_controls}
+use Rattle.rkyv_table.specs.Table.Layout.{table_shape}
 use Rattle.rkyv_table.proofs.Items.{controls_accepted, item_before, item_viewed, no_items}
 use Rattle.rkyv_table.proofs.Walks.{walk_none, walked_full}
 
@@ -25,7 +25,7 @@ module _ (w : Width) (s : Shape) (law : IsElement s) (b : List ℕ) (p : ℕ) wh
     | inr some ↦ (controls_accepted w s law b p v (omega arith)).full
   ]
 
-  pub places_count : Viewed (table_shape w s) b p → length (item_places w s.size b p) ≡ len_at w b p
+  pub places_count : Viewed (table_shape w s) b p → length (item_positions w s.size b p) ≡ len_at w b p
   places_count v = length-map (walk (table_controls w b p) (cap_at w b p)) (item_at w s.size b p) ∙ walk_count v
 
   -- each walked bucket has an item
@@ -34,13 +34,13 @@ module _ (w : Width) (s : Shape) (law : IsElement s) (b : List ℕ) (p : ℕ) wh
       All-weaker (Contains (walk (table_controls w b p) (cap_at w b p))) (IsWalked w b p) (λ i h. walked_full (cap_at w b p) (table_controls w b p) i h)
       (walk (table_controls w b p) (cap_at w b p)) (All-contains_itself (walk (table_controls w b p) (cap_at w b p)))
 
-  pub places_viewed : Viewed (table_shape w s) b p → All (Viewed s b) (item_places w s.size b p)
+  pub places_viewed : Viewed (table_shape w s) b p → All (Viewed s b) (item_positions w s.size b p)
   places_viewed v =
       All-map (Viewed s b) (item_at w s.size b p) (walk (table_controls w b p) (cap_at w b p))
       (All-weaker (IsWalked w b p) (λ i. Viewed s b (item_at w s.size b p i)) (λ i h. item_viewed w s law b p v i h) (walk (table_controls w b p) (cap_at w b p)) walked_all)
 
   -- by the place that was read of the header, before which each walked bucket stands, and by the controls that were, in which its group lies
-  pub read_ahead : Viewed (table_shape w s) b p → (place : ℕ) → (0 < cap_at w b p → place ≡ controls_place w b p) → (controls : List ℕ) → (0 < cap_at w b p → controls ≡ table_controls w b p)
+  pub read_ahead : Viewed (table_shape w s) b p → (place : ℕ) → (0 < cap_at w b p → place ≡ controls_pos w b p) → (controls : List ℕ) → (0 < cap_at w b p → controls ≡ table_controls w b p)
       → All (IsAhead place s.size controls) (walk (table_controls w b p) (cap_at w b p))
   read_ahead v place is controls shown =
       All-weaker (IsWalked w b p) (IsAhead place s.size controls)
@@ -50,9 +50,9 @@ module _ (w : Width) (s : Shape) (law : IsElement s) (b : List ℕ) (p : ℕ) wh
       (rw (shown some) (omega (arith, h.0, long)), rw (is some) (item_before w s law b p v i h.0)))
       (walk (table_controls w b p) (cap_at w b p)) walked_all
 
-  pub read_places : (place : ℕ) → (0 < cap_at w b p → place ≡ controls_place w b p)
-      → map (place_before place s.size) (walk (table_controls w b p) (cap_at w b p)) ≡ item_places w s.size b p
+  pub read_places : (place : ℕ) → (0 < cap_at w b p → place ≡ controls_pos w b p)
+      → map (pos_before place s.size) (walk (table_controls w b p) (cap_at w b p)) ≡ item_positions w s.size b p
   read_places place is = elim (cases_eq (cap_at w b p) 0) [
-    | inl none ↦ ap (map (place_before place s.size)) (none_walked none) ∙ sym (ap (map (item_at w s.size b p)) (none_walked none))
-    | inr some ↦ ap (λ z. map (place_before z s.size) (walk (table_controls w b p) (cap_at w b p))) (is (omega arith))
+    | inl none ↦ ap (map (pos_before place s.size)) (none_walked none) ∙ sym (ap (map (item_at w s.size b p)) (none_walked none))
+    | inr some ↦ ap (λ z. map (pos_before z s.size) (walk (table_controls w b p) (cap_at w b p))) (is (omega arith))
   ]

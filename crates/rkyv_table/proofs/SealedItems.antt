@@ -4,23 +4,23 @@ use Rattle.std.specs.Int.{Width}
 use Rattle.std.proofs.lemmas.Bool.{cases_eq, le-ltb, lt-ltb}
 use Rattle.rkyv_base.specs.Shape.{IsElement, Shape, Viewed}
 use Rattle.rkyv_scan.specs.Groups.{is_full}
-use Rattle.rkyv_table.specs.Header.{cap_at, len_at}
-use Rattle.rkyv_table.specs.Numbers.{control_count}
-use Rattle.rkyv_table.specs.RawItems.{place_before}
-use Rattle.rkyv_table.specs.Reading.{AreItems, IsWalked, controls_place, item_at, table_bytes, table_controls, table_place}
-use Rattle.rkyv_table.specs.SealedLookup.{IsReadAt, IsTableSeal}
+use Rattle.rkyv_table.specs.Table.Header.{cap_at, len_at}
+use Rattle.rkyv_table.specs.Controls.Numbers.{control_count}
+use Rattle.rkyv_table.specs.Table.RawItems.{pos_before}
+use Rattle.rkyv_table.specs.Table.Reading.{AreItems, IsWalked, controls_pos, item_at, table_bytes, table_controls, table_pos}
+use Rattle.rkyv_table.specs.Table.SealedLookup.{IsReadAt, IsTableSeal}
 use Rattle.rkyv_table.specs.declared.table.TableOf.{TableOf}
 use Rattle.rkyv_table.specs.declared.table.items.Items.{Items}
 use Rattle.rkyv_base.specs.Seal.{archive_in, pos_in}
 use Rattle.rkyv_base.specs.declared.seal.ArchiveSeal.{ArchiveSeal}
-use Rattle.rkyv_table.specs.Placing.{walk}
-use Rattle.rkyv_table.specs.SealedItems.{IsItemAt, IsSealIter, StaysThere, buckets_left}
-use Rattle.rkyv_table.specs.SameHeader.{cap_same, place_same}
-use Rattle.rkyv_table.specs.SealedTable.{KeepsTable}
-use Rattle.rkyv_table.specs.Table.{table_shape}
+use Rattle.rkyv_table.specs.Controls.Placing.{walk}
+use Rattle.rkyv_table.specs.Table.SealedItems.{IsItemAt, IsSealIter, StaysThere, buckets_left}
+use Rattle.rkyv_table.specs.Lemmas.SameHeader.{cap_same, pos_same}
+use Rattle.rkyv_table.specs.Table.SealedTable.{KeepsTable}
+use Rattle.rkyv_table.specs.Table.Layout.{table_shape}
 use Rattle.rkyv_base.specs.Sealing.{Keeps, Sealed}
 use Rattle.rkyv_base.proofs.Sealing.{viewed_kept}
-use Rattle.rkyv_table.specs.Walking.{full_from}
+use Rattle.rkyv_table.specs.Controls.Walking.{full_from}
 use Rattle.rkyv_table.specs.declared.table.raw_iter_seal.RawIterSeal.{RawIterSeal}
 use Rattle.rkyv_table.proofs.Items.{controls_inside, item_before, item_viewed}
 use Rattle.rkyv_table.proofs.RawWalks.{walk_count}
@@ -77,9 +77,9 @@ module _ {T : Type 0} (w : Width) (s : Shape) (law : IsElement s) (p : ℕ) (r :
   control_same h i l =
       let f = is.cap in
       let e = is.place (some_buckets h) in
-      let m : i < (controls_place w bytes p + control_count (cap_at w bytes p)) - controls_place w bytes p = omega arith in
+      let m : i < (controls_pos w bytes p + control_count (cap_at w bytes p)) - controls_pos w bytes p = omega arith in
       ap (λ n. slice_index (slice_range bytes n (n + r.cap)) i) e
-      ∙ front_same (drop (controls_place w bytes p) bytes) ((controls_place w bytes p + r.cap) - controls_place w bytes p) ((controls_place w bytes p + control_count (cap_at w bytes p)) - controls_place w bytes p) i (omega arith) m
+      ∙ front_same (drop (controls_pos w bytes p) bytes) ((controls_pos w bytes p + r.cap) - controls_pos w bytes p) ((controls_pos w bytes p + control_count (cap_at w bytes p)) - controls_pos w bytes p) i (omega arith) m
 
   pub full_same : 0 < r.left → (x : ℕ) → full_from controls r.cap x ≡ full_from (table_controls w bytes p) r.cap x
   unfolding full_from
@@ -93,7 +93,7 @@ module _ {T : Type 0} (w : Width) (s : Shape) (law : IsElement s) (p : ℕ) (r :
       let k = item_before w s law bytes p is.table i (subst (λ n. i < n) is.cap l) in
       omega arith
 
-  pub first_item : 0 < r.left → (i q : ℕ) → i < r.cap → slice_index controls i < 128 → q ≡ place_before r.place s.size i → IsItemAt w s bytes p i q
+  pub first_item : 0 < r.left → (i q : ℕ) → i < r.cap → slice_index controls i < 128 → q ≡ pos_before r.place s.size i → IsItemAt w s bytes p i q
   first_item h i q l full at =
       let e = is.place (some_buckets h) in
       let walked : IsWalked w bytes p i = (subst (λ n. i < n) is.cap l, subst (λ n. n < 128) (control_same h i l) full) in
@@ -123,7 +123,7 @@ module _ {T : Type 0} (w : Width) (s : Shape) (p i q : ℕ) (before after : RawI
         record {
           table = viewed_kept (table_shape w s) before.archive.now after.archive.now p sealed.same_length cursor_table.holds is.table;
           cap = there.cap ∙ is.cap ∙ cap_same w before.archive.now after.archive.now p header;
-          place = λ h. there.place ∙ is.place (subst (λ n. 0 < n) there.cap h) ∙ place_same w before.archive.now after.archive.now p header;
+          place = λ h. there.place ∙ is.place (subst (λ n. 0 < n) there.cap h) ∙ pos_same w before.archive.now after.archive.now p header;
           left = there.left ∙ is.left ∙ ap length (sym cursor_buckets);
         },
         cursor_buckets,
@@ -136,14 +136,14 @@ module _ {T : Type 0} (w : Width) (s : Shape) (law : IsElement s) (p : ℕ) (r :
   all_left = ap (λ n. full_from (table_controls w r.archive.now p) n r.next) cap
       ∙ ap (λ n. full_from (table_controls w r.archive.now p) (cap_at w r.archive.now p) n) next ∙ whole_walk (table_controls w r.archive.now p) (cap_at w r.archive.now p)
 
-  pub begun : r.left ≡ len_at w r.archive.now p → (0 < r.cap → r.place ≡ controls_place w r.archive.now p) → IsSealIter w s p r
+  pub begun : r.left ≡ len_at w r.archive.now p → (0 < r.cap → r.place ≡ controls_pos w r.archive.now p) → IsSealIter w s p r
   begun left place = record { table = view; cap = cap; place = place; left = left ∙ sym (walk_count w s law r.archive.now p view) ∙ ap length (sym all_left) }
 
 -- a cursor with the numbers that were read of a header
 module _ {T W : Type 0} (w : Width) (s : Shape) (law : IsElement s) (a : ArchiveSeal (TableOf T W)) (stands : IsTableSeal w s a) (items : Items T W) (are : AreItems w s items)
     (read : IsReadAt a items.table) (r : RawIterSeal T) (bytes : r.archive.now ≡ archive_in a) (place : r.place ≡ items.place) (cap : r.cap ≡ items.cap) (left : r.left ≡ items.len) (next : r.next ≡ 0) where
-  as_read : (F : List ℕ → ℕ → ℕ) → F (table_bytes items.table) (table_place items.table) ≡ F r.archive.now (pos_in a)
-  as_read F = ap (λ b. F b (table_place items.table)) (read.0 ∙ sym bytes) ∙ ap (F r.archive.now) read.1
+  as_read : (F : List ℕ → ℕ → ℕ) → F (table_bytes items.table) (table_pos items.table) ≡ F r.archive.now (pos_in a)
+  as_read F = ap (λ b. F b (table_pos items.table)) (read.0 ∙ sym bytes) ∙ ap (F r.archive.now) read.1
 
   stands_there : Viewed (table_shape w s) r.archive.now (pos_in a)
   stands_there = subst (λ b. Viewed (table_shape w s) b (pos_in a)) (sym bytes) stands
@@ -153,7 +153,7 @@ module _ {T W : Type 0} (w : Width) (s : Shape) (law : IsElement s) (a : Archive
 
   pub begun_at : IsSealIter w s (pos_in a) r
   begun_at = begun w s law (pos_in a) r stands_there cap_there next (left ∙ are.len ∙ as_read (len_at w))
-      (λ h. place ∙ are.place (subst (λ n. 0 < n) cap h) ∙ as_read (controls_place w))
+      (λ h. place ∙ are.place (subst (λ n. 0 < n) cap h) ∙ as_read (controls_pos w))
 
   pub all_left_at : buckets_left w (pos_in a) r ≡ walk (table_controls w (archive_in a) (pos_in a)) (cap_at w (archive_in a) (pos_in a))
   all_left_at = all_left w s law (pos_in a) r stands_there cap_there next ∙ ap (λ b. walk (table_controls w b (pos_in a)) (cap_at w b (pos_in a))) bytes

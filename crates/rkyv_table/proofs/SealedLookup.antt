@@ -8,10 +8,10 @@ use Rattle.rkyv_base.specs.declared.seal.ArchiveSeal.{ArchiveSeal}
 use Rattle.rkyv_base.specs.declared.seal.Seal.{Seal}
 use Rattle.rkyv_base.specs.declared.view.View.{View}
 use Rattle.rkyv_scan.specs.Groups.{Kind}
-use Rattle.rkyv_table.specs.Laws.{IsUnderHash}
-use Rattle.rkyv_table.specs.Reading.{FindsFirst, FindsFound, IsItemPlace, IsTable, IsWalked, WrittenAt, home_places, item_at, place_found}
-use Rattle.rkyv_table.specs.SealedLookup.{IsItemSeal, IsReadAt, IsTableSeal, SealsFirst, SealsFound}
-use Rattle.rkyv_table.specs.Table.{table_shape}
+use Rattle.rkyv_table.specs.Controls.Laws.{IsUnderHash}
+use Rattle.rkyv_table.specs.Table.Reading.{FindsFirst, FindsFound, IsItemPos, IsTable, IsWalked, WrittenAt, home_positions, item_at, pos_found}
+use Rattle.rkyv_table.specs.Table.SealedLookup.{IsItemSeal, IsReadAt, IsTableSeal, SealsFirst, SealsFound}
+use Rattle.rkyv_table.specs.Table.Layout.{table_shape}
 use Rattle.rkyv_table.specs.declared.table.ArchivedHashTable.{ArchivedHashTable}
 use Rattle.rkyv_table.specs.declared.table.TableOf.{TableOf}
 use Rattle.rkyv_table.proofs.Items.{item_viewed}
@@ -22,15 +22,15 @@ module _ {T W : Type 0} (w : Width) (s : Shape) (law : IsElement s) (a : Archive
   table_stands = subst (λ b. Viewed (table_shape w s) b t.view.pos) (sym read.0) (subst (Viewed (table_shape w s) (archive_in a)) (sym read.1) stands)
 
   -- where a bucket of the table stands, in the seal's terms
-  at_seal : (q : ℕ) → IsItemPlace w s t q → (i : ℕ) × IsWalked w (archive_in a) (pos_in a) i × (q ≡ item_at w s.size (archive_in a) (pos_in a) i)
+  at_seal : (q : ℕ) → IsItemPos w s t q → (i : ℕ) × IsWalked w (archive_in a) (pos_in a) i × (q ≡ item_at w s.size (archive_in a) (pos_in a) i)
   at_seal q is =
       let P = λ (b : List ℕ) (p : ℕ). (i : ℕ) × IsWalked w b p i × (q ≡ item_at w s.size b p i) in
       subst (P (archive_in a)) read.1 (subst (λ b. P b t.view.pos) read.0 is)
 
-  pub place_viewed : (q : ℕ) → IsItemPlace w s t q → Viewed s (archive_in a) q
+  pub place_viewed : (q : ℕ) → IsItemPos w s t q → Viewed s (archive_in a) q
   place_viewed q is = let k = at_seal q is in subst (Viewed s (archive_in a)) (sym k.2) (item_viewed w s law (archive_in a) (pos_in a) stands k.0 k.1)
 
-  pub item_seal : (q : ℕ) (x : Seal T) → IsItemPlace w s t q → SealAt x a.archive q → IsItemSeal w s a x
+  pub item_seal : (q : ℕ) (x : Seal T) → IsItemPos w s t q → SealAt x a.archive q → IsItemSeal w s a x
   item_seal q x is at =
       let k = at_seal q is in
       record {
@@ -44,10 +44,10 @@ module _ {T W : Type 0} (w : Width) (s : Shape) (law : IsElement s) (a : Archive
   module _ (post : View T → Bool → Type 0) (hash : ℕ) (result : Option ℕ) where
     pub seals_found : (kind : Kind) → FindsFound post kind w s t hash result → SealsFound post kind w s a hash result
     seals_found kind found accept answers =
-        let P = λ (b : List ℕ) (p : ℕ). result ≡ place_found kind w s.size b p hash accept in
+        let P = λ (b : List ℕ) (p : ℕ). result ≡ pos_found kind w s.size b p hash accept in
         subst (P (archive_in a)) read.1 (subst (λ b. P b t.view.pos) read.0 (found accept (answers t read)))
 
     pub seals_first : FindsFirst post w s t hash result → SealsFirst post w s a hash result
     seals_first first hashes homes accept written answers under =
-        let P = λ (b : List ℕ) (p : ℕ). WrittenAt w b p hashes homes → IsUnderHash hash hashes (home_places w s.size b p homes) accept → result ≡ find accept (home_places w s.size b p homes) in
+        let P = λ (b : List ℕ) (p : ℕ). WrittenAt w b p hashes homes → IsUnderHash hash hashes (home_positions w s.size b p homes) accept → result ≡ find accept (home_positions w s.size b p homes) in
         subst (P (archive_in a)) read.1 (subst (λ b. P b t.view.pos) read.0 (λ x y. first hashes homes accept x (answers t read) y)) written under

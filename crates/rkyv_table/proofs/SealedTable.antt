@@ -7,23 +7,23 @@ use Rattle.std.proofs.lemmas.Int.{ints}
 use Rattle.std.proofs.Math.Nat.{mul-le-mul_right}
 use Rattle.rkyv_base.specs.Bytes.{Same}
 use Rattle.rkyv_base.specs.Entry.{entry_element, entry_shape, parts_inside, size_of_small, whole_size}
-use Rattle.rkyv_base.specs.Sealing.{Keeps, Outside, Sealed, value_place}
+use Rattle.rkyv_base.specs.Sealing.{Keeps, Outside, Sealed, value_pos}
 use Rattle.rkyv_base.specs.Shape.{IsElement, Shape, Viewed}
 use Rattle.rkyv_base.proofs.Sealing.{entry_kept, holds_elsewhere, same_outside, sealed_wider}
 use Rattle.rkyv_table.proofs.Items.{item_viewed, part_of}
-use Rattle.rkyv_table.specs.Reading.{IsWalked, WrittenAt, bucket_found, controls_place, item_at, table_controls}
-use Rattle.rkyv_table.specs.SealedTable.{KeepsTable, SameValue}
+use Rattle.rkyv_table.specs.Table.Reading.{IsWalked, WrittenAt, bucket_found, controls_pos, item_at, table_controls}
+use Rattle.rkyv_table.specs.Table.SealedTable.{KeepsTable, SameValue}
 use Rattle.rkyv_scan.specs.Groups.{Kind, is_full}
-use Rattle.rkyv_table.specs.Finding.{found}
-use Rattle.rkyv_table.specs.Header.{begin_told, cap_at, len_at}
-use Rattle.rkyv_table.specs.ItemPlaces.{HeldPart, bucket_holds_within, told_controls, told_item, told_place}
-use Rattle.rkyv_table.specs.Numbers.{control_count}
-use Rattle.rkyv_table.specs.Places.{AllHold}
-use Rattle.rkyv_table.specs.PlaceLaws.{AllBelow, range_below}
-use Rattle.rkyv_table.specs.Placing.{Accepted, Written, walk}
-use Rattle.rkyv_table.specs.Table.{IsPart, TableAt, bucket_at, controls_at, table_shape}
-use Rattle.rkyv_table.specs.SameHeader.{begin_same, cap_same, item_same, len_same, place_same}
-use Rattle.rkyv_table.specs.TableLaws.{bucket_inside, of_numbers}
+use Rattle.rkyv_table.specs.Controls.Finding.{found}
+use Rattle.rkyv_table.specs.Table.Header.{begin_told, cap_at, len_at}
+use Rattle.rkyv_table.specs.Lemmas.ItemPositions.{HeldPart, bucket_holds_within, told_controls, told_item, told_pos}
+use Rattle.rkyv_table.specs.Controls.Numbers.{control_count}
+use Rattle.rkyv_table.specs.Table.Places.{AllHold}
+use Rattle.rkyv_table.specs.Lemmas.PlaceLaws.{AllBelow, range_below}
+use Rattle.rkyv_table.specs.Controls.Placing.{Accepted, Written, walk}
+use Rattle.rkyv_table.specs.Table.Layout.{IsPart, TableAt, bucket_at, controls_at, table_shape}
+use Rattle.rkyv_table.specs.Lemmas.SameHeader.{begin_same, cap_same, item_same, len_same, pos_same}
+use Rattle.rkyv_table.specs.Lemmas.TableLaws.{bucket_inside, of_numbers}
 
 -- two buckets share no byte
 pub buckets_apart : (size begin cap i j : ℕ) → i < cap → j < cap → j ≢ i → Outside (bucket_at size begin cap i) size (bucket_at size begin cap j) (bucket_at size begin cap j + size)
@@ -134,9 +134,9 @@ module _ (w : Width) (s : Shape) (law : IsElement s) (b : List ℕ) (p i : ℕ) 
         holds = λ lo hi l o o' h. of_numbers s c (begin_same w b c p same s.size) (cap_same w b c p same) (len_same w b c p same) (at_kept lo hi l h);
         header = same;
         controls =
-            ap (λ z. slice_range c z (z + control_count (cap_at w c p))) (sym (place_same w b c p same))
-            ∙ ap (λ k. slice_range c (controls_place w b p) (controls_place w b p + control_count k)) caps
-            ∙ ap (λ z. slice_range c z (z + control_count (cap_at w b p))) (told_place w s.size b p whole.begin whole.part.begins)
+            ap (λ z. slice_range c z (z + control_count (cap_at w c p))) (sym (pos_same w b c p same))
+            ∙ ap (λ k. slice_range c (controls_pos w b p) (controls_pos w b p + control_count k)) caps
+            ∙ ap (λ z. slice_range c z (z + control_count (cap_at w b p))) (told_pos w s.size b p whole.begin whole.part.begins)
             ∙ sym (controls_kept s law b c whole.begin (cap_at w b p) i walked.0 sealed_at keeps_at)
             ∙ sym (told_controls w s.size b p whole.begin whole.part.begins);
         others = other_same;
@@ -152,7 +152,7 @@ module _ (w : Width) (s : Shape) (b c : List ℕ) (p i : ℕ) (kept : KeepsTable
       ap (λ x. found kind x (cap_at w c p) (len_at w c p) hash (λ j. accept (item_at w s.size c p j))) kept.controls
       ∙ ap (λ n. found kind (table_controls w b p) n (len_at w c p) hash (λ j. accept (item_at w s.size c p j))) (sym (cap_same w b c p kept.header))
       ∙ ap (λ n. found kind (table_controls w b p) (cap_at w b p) n hash (λ j. accept (item_at w s.size c p j))) (sym (len_same w b c p kept.header))
-      ∙ ap (λ n. found kind (table_controls w b p) (cap_at w b p) (len_at w b p) hash (λ j. accept (n - (j + 1) * s.size))) (sym (place_same w b c p kept.header))
+      ∙ ap (λ n. found kind (table_controls w b p) (cap_at w b p) (len_at w b p) hash (λ j. accept (n - (j + 1) * s.size))) (sym (pos_same w b c p kept.header))
 
   pub written_kept : (hashes homes : List ℕ) → WrittenAt w b p hashes homes → WrittenAt w c p hashes homes
   written_kept hashes homes x = record {
@@ -169,7 +169,7 @@ module _ (w : Width) (s : Shape) (b c : List ℕ) (p i : ℕ) (kept : KeepsTable
 
 -- a write of the value of an entry alone keeps the table and the key
 module _ (w : Width) (k v : Shape) (kl : IsElement k) (vl : IsElement v) (b : List ℕ) (p i : ℕ) (view : Viewed (table_shape w (entry_shape k v)) b p) (walked : IsWalked w b p i)
-    (c : List ℕ) (sealed : Sealed b (value_place k v (item_at w (entry_shape k v).size b p i)) v.size c) (keeps : Keeps v b c (value_place k v (item_at w (entry_shape k v).size b p i))) where
+    (c : List ℕ) (sealed : Sealed b (value_pos k v (item_at w (entry_shape k v).size b p i)) v.size c) (keeps : Keeps v b c (value_pos k v (item_at w (entry_shape k v).size b p i))) where
   pub value_kept : KeepsTable w (entry_shape k v) b c p i × SameValue k b c (item_at w (entry_shape k v).size b p i)
   value_kept =
       let s = entry_shape k v in
@@ -179,12 +179,12 @@ module _ (w : Width) (k v : Shape) (kl : IsElement k) (vl : IsElement v) (b : Li
       let small = size_of_small (whole_size k v) there.stands.1.0 in
       let inside = parts_inside k v in (
         table_kept w s law b p i view walked c
-            (sealed_wider b c (value_place k v q) v.size q s.size (omega arith) (omega (arith, small, inside.1)) sealed)
+            (sealed_wider b c (value_pos k v q) v.size q s.size (omega arith) (omega (arith, small, inside.1)) sealed)
             (entry_kept k v kl vl b c q sealed keeps),
         record {
-          fixed = same_outside b (value_place k v q) v.size c sealed q (q + k.size) (omega arith) (inl (omega (arith, inside.0)));
+          fixed = same_outside b (value_pos k v q) v.size c sealed q (q + k.size) (omega arith) (inl (omega (arith, inside.0)));
           parts = λ l h.
               let m : (0 ≤ l) × (l ≤ q) = kl.between b q 0 q l (omega arith) h in
-              same_outside b (value_place k v q) v.size c sealed 0 l (omega arith) (inl (omega (arith, m.1)));
+              same_outside b (value_pos k v q) v.size c sealed 0 l (omega arith) (inl (omega (arith, m.1)));
         },
       )

@@ -7,11 +7,11 @@ use Rattle.std.proofs.lemmas.Nat.{pow_pos, mod_below, div-add-mod'}
 use Rattle.std.proofs.lemmas.List.Folds.{find-append}
 use Rattle.std.proofs.lemmas.Option.{none-some, same_Some}
 use Rattle.std.proofs.lemmas.Bool.{cases_Bool, cases_lt, and_parts, or_left, or_right, or_from, eqb-true, eq-eqb, ltb-true, lt-ltb}
-use Rattle.rkyv_table.specs.Numbers.{start, modulus, control_count, probe_capacity}
-use Rattle.rkyv_table.specs.Probe.{probe_place, strides, buckets_at}
-use Rattle.rkyv_table.specs.Placing.{Repeats}
+use Rattle.rkyv_table.specs.Controls.Numbers.{start, modulus, control_count, probe_capacity}
+use Rattle.rkyv_table.specs.Controls.Probe.{probe_place, strides, buckets_at}
+use Rattle.rkyv_table.specs.Controls.Placing.{Repeats}
 use Rattle.rkyv_scan.specs.Groups.{Kind, IsKind}
-use Rattle.rkyv_table.specs.Finding.{marked, candidates, shows_empty, ends_at}
+use Rattle.rkyv_table.specs.Controls.Finding.{marked, candidates, shows_empty, ends_at}
 use Rattle.rkyv_table.proofs.Coverage.{has_stride, mod_more}
 use Rattle.rkyv_table.proofs.Modulus.{modulus_power}
 use Rattle.rkyv_table.proofs.Lists.{none_find, some_find}

@@ -10,15 +10,15 @@ use Rattle.rkyv_base.specs.Bytes.{Same, same_part}
 use Rattle.rkyv_base.specs.Format.{StandsNear}
 use Rattle.rkyv_base.specs.Shape.{IsElement, Shape}
 use Rattle.rkyv_table.proofs.WrittenStep.{home_below}
-use Rattle.rkyv_table.specs.Header.{cap_at}
-use Rattle.rkyv_table.specs.ItemPlaces.{bucket_holds_within}
-use Rattle.rkyv_table.specs.Numbers.{capacity, control_count}
-use Rattle.rkyv_table.specs.Placing.{Written}
-use Rattle.rkyv_table.specs.SameHeader.{begin_same, cap_same, len_same}
-use Rattle.rkyv_table.specs.Table.{ItemsHold, bucket_at, controls_at, part_size, table_shape}
-use Rattle.rkyv_table.specs.TableFormat.{BucketsStand, TableStands}
-use Rattle.rkyv_table.specs.TableLaws.{bucket_inside}
-use Rattle.rkyv_table.specs.Taking.{hashes_of, items_of}
+use Rattle.rkyv_table.specs.Table.Header.{cap_at}
+use Rattle.rkyv_table.specs.Lemmas.ItemPositions.{bucket_holds_within}
+use Rattle.rkyv_table.specs.Controls.Numbers.{capacity, control_count}
+use Rattle.rkyv_table.specs.Controls.Placing.{Written}
+use Rattle.rkyv_table.specs.Lemmas.SameHeader.{begin_same, cap_same, len_same}
+use Rattle.rkyv_table.specs.Table.Layout.{ItemsHold, bucket_at, controls_at, part_size, table_shape}
+use Rattle.rkyv_table.specs.Table.TableFormat.{BucketsStand, TableStands}
+use Rattle.rkyv_table.specs.Lemmas.TableLaws.{bucket_inside}
+use Rattle.rkyv_table.specs.Table.Taking.{hashes_of, items_of}
 
 module _ {X : Type 0} (w : Width) (s : Shape) (laws : IsElement s) (stands : List ℕ → ℕ → X → Type 0) (near : StandsNear s stands) (factor : ℕ × ℕ) where
   module _ (pairs : List (ℕ × X)) (b c : List ℕ) (lo last begin cap : ℕ) (some : 0 < length pairs) (o : lo ≤ begin) (items : ItemsHold s b begin cap lo last)

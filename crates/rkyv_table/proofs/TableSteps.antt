@@ -6,8 +6,8 @@ use Rattle.rkyv_base.specs.Writing.{Appended, Only, Output, end_of, Appends, Ste
 use Rattle.rkyv_base.specs.Format.{Format}
 use Rattle.rkyv_base.specs.Shape.{Shape}
 use Rattle.rkyv_base.proofs.GivingUp.{appends_after, end-appends, told_after, told_as}
-use Rattle.rkyv_table.specs.Buckets.{images_length}
-use Rattle.rkyv_table.specs.Slots.{SlotParts, SlotImages, PartsNext, BucketNext, TableNext, TableBytes, WroteBuckets}
+use Rattle.rkyv_table.specs.Table.Buckets.{images_length}
+use Rattle.rkyv_table.specs.Table.Slots.{SlotParts, SlotImages, PartsNext, BucketNext, TableNext, TableBytes, WroteBuckets}
 
 module _ (F : Type 0) {X R : Type 0} (s : Shape) (limit : ℕ) (f : Format X R) (sized : (x : X) (r : R) (p : ℕ) (out : List ℕ) → f.image x r p out → length out ≡ s.size)
     (slots : List (Option X)) (controls : List ℕ) (o : Output) where

@@ -8,17 +8,17 @@ use Rattle.std.proofs.lemmas.List.Elements.{All-append, All-cons, All-nil}
 use Rattle.std.proofs.lemmas.List.Folds.{list_any-append}
 use Rattle.std.proofs.lemmas.Option.{slice_get_within, same_Some, none-some}
 use Rattle.std.proofs.lemmas.Bool.{or_parts, not-true, not_from_false, both_ways, eq-eqb, leb-true}
-use Rattle.rkyv_table.specs.Numbers.{tag}
-use Rattle.rkyv_table.specs.Probe.{shown, strides}
-use Rattle.rkyv_table.specs.Controls.{HasRoom, fresh_controls, is_empty_at, with_control}
-use Rattle.rkyv_table.specs.Placing.{is_free, Written}
+use Rattle.rkyv_table.specs.Controls.Numbers.{tag}
+use Rattle.rkyv_table.specs.Controls.Probe.{shown, strides}
+use Rattle.rkyv_table.specs.Controls.Shown.{HasRoom, fresh_controls, is_empty_at, with_control}
+use Rattle.rkyv_table.specs.Controls.Placing.{is_free, Written}
 use Rattle.rkyv_table.proofs.Written.{shown_below}
 use Rattle.rkyv_table.proofs.WrittenStep.{one_more, fresh, room_left, free_empty}
 use Rattle.rkyv_table.proofs.Lists.{some_find}
-use Rattle.rkyv_table.specs.Slots.{filled}
+use Rattle.rkyv_table.specs.Table.Slots.{filled}
 use Rattle.std.proofs.Common.{add-one}
-use Rattle.rkyv_table.specs.Laws.{AreHashes}
-use Rattle.rkyv_table.specs.Taking.{Slotted, Placed, hashes_of, items_of}
+use Rattle.rkyv_table.specs.Controls.Laws.{AreHashes}
+use Rattle.rkyv_table.specs.Table.Taking.{Slotted, Placed, hashes_of, items_of}
 
 pub yields_more : {S A : Type 0} (steps : S → Option A → S → Type 0) (s t u : S) (xs : List A) (x : A) → Yields steps s xs t → steps t (Some x) u → Yields steps s (xs ++ x ∷ []) u
 yields_more steps s t u [] x y e = (u, subst (λ z. steps z (Some x) u) (sym y) e, refl)

@@ -7,11 +7,11 @@ use Rattle.std.proofs.lemmas.List.FromFn.{get_or-range_with_len, length-range_wi
 use Rattle.std.proofs.lemmas.List.Kept.{AllPairs-filter}
 use Rattle.std.proofs.lemmas.Map.Keys.{IsDistinct-from_apart}
 use Rattle.rkyv_scan.specs.Groups.{is_full}
-use Rattle.rkyv_table.specs.Controls.{IsFullBucket}
-use Rattle.rkyv_table.specs.Laws.{AreHashes}
-use Rattle.rkyv_table.specs.Placing.{Written, is_free, walk}
-use Rattle.rkyv_table.specs.Probe.{shown}
-use Rattle.rkyv_table.specs.WalkLaws.{VisitsHomes}
+use Rattle.rkyv_table.specs.Controls.Shown.{IsFullBucket}
+use Rattle.rkyv_table.specs.Controls.Laws.{AreHashes}
+use Rattle.rkyv_table.specs.Controls.Placing.{Written, is_free, walk}
+use Rattle.rkyv_table.specs.Controls.Probe.{shown}
+use Rattle.rkyv_table.specs.Table.WalkLaws.{VisitsHomes}
 use Rattle.rkyv_table.proofs.Lists.{contains_member, member_contains, some_find}
 use Rattle.rkyv_table.proofs.Walks.{full_walked, walked_full}
 use Rattle.rkyv_table.proofs.WrittenAccepted.{accepted_written}

@@ -5,14 +5,14 @@ use Rattle.std.proofs.lemmas.Bool.{cases_Bool, cases_lt, cases_eq, and_parts, an
 use Rattle.std.proofs.lemmas.Option.{none-some, same_Some}
 use Rattle.std.proofs.lemmas.List.Sums.{length-filter, count_by-le-length}
 use Rattle.std.proofs.lemmas.List.FromFn.{length-range_with_len}
-use Rattle.rkyv_table.specs.Numbers.{control_count}
-use Rattle.rkyv_table.specs.Placing.{walk}
+use Rattle.rkyv_table.specs.Controls.Numbers.{control_count}
+use Rattle.rkyv_table.specs.Controls.Placing.{walk}
 use Rattle.rkyv_scan.specs.Groups.{places_where}
-use Rattle.rkyv_table.specs.Walking.{IsWalk, full_from, left, first_place}
+use Rattle.rkyv_table.specs.Controls.Walking.{IsWalk, full_from, left, first_place}
 use Rattle.rkyv_table.proofs.Groups.{filter_shift}
 use Rattle.rkyv_table.proofs.FirstFree.{head_filter}
 use Rattle.rkyv_table.proofs.Lists.{FirstIn, first_range, any_filter, any_range, in_range, member_contains, contains_member}
-use Rattle.rkyv_table.specs.Controls.{IsFullBucket}
+use Rattle.rkyv_table.specs.Controls.Shown.{IsFullBucket}
 
 pub filter_agree_range : (P Q : ℕ → Bool) (a n : ℕ) → ((j : ℕ) → a ≤ j → j < a + n → P j ≡ Q j) → filter P (range_with_len a n) ≡ filter Q (range_with_len a n)
 filter_agree_range P Q a zero h = refl

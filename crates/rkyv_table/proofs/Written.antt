@@ -8,11 +8,11 @@ use Rattle.std.proofs.lemmas.List.Folds.{find-append, find_at, Any-from_list_any
 use Rattle.std.proofs.lemmas.List.Sums.{passes_at_first, fails_before_first}
 use Rattle.std.proofs.lemmas.Option.{none-some, same_Some, slice_get-get_or}
 use Rattle.std.proofs.lemmas.Bool.{cases_Bool, cases_lt, and_parts, and_from, and_cases, and_left, and_right, or_left, or_right, eqb-true, eq-eqb, ltb-true, lt-ltb, lt-leb, not-false, true≢false, false_from_ne_true, both_ways}
-use Rattle.rkyv_table.specs.Numbers.{start, tag, control_count, probe_capacity}
-use Rattle.rkyv_table.specs.Probe.{strides, buckets_at, shown}
-use Rattle.rkyv_table.specs.Placing.{is_free, Written}
+use Rattle.rkyv_table.specs.Controls.Numbers.{start, tag, control_count, probe_capacity}
+use Rattle.rkyv_table.specs.Controls.Probe.{strides, buckets_at, shown}
+use Rattle.rkyv_table.specs.Controls.Placing.{is_free, Written}
 use Rattle.rkyv_scan.specs.Groups.{Kind, IsKind}
-use Rattle.rkyv_table.specs.Finding.{marked, candidates, shows_empty, ends_at, found}
+use Rattle.rkyv_table.specs.Controls.Finding.{marked, candidates, shows_empty, ends_at, found}
 use Rattle.rkyv_table.proofs.Coverage.{has_stride}
 use Rattle.rkyv_table.proofs.Search.{cases_option, control_of, tail_shows_all, strides_head, mark_equal, mark_full, GoodStride, answer, answer_cons, walk_on, walk_all}
 use Rattle.rkyv_table.proofs.Lists.{any_map_filter, any_member, any_range, none_range, find_none, none_find, some_find, find_map_filter, FirstIn, first_range, range_first}

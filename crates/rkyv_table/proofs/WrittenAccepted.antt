@@ -8,8 +8,8 @@ use Rattle.std.proofs.lemmas.List.{get_or_default, length-replicate, get_or-repl
 use Rattle.std.proofs.lemmas.List.Folds.{list_any_at, Any-from_list_any}
 use Rattle.std.proofs.lemmas.List.FromFn.{length-range_with_len, get_or-range_with_len}
 use Rattle.std.proofs.lemmas.Bool.{and_parts, and_from, eqb-true, eq-eqb, ne_eqb, leb-false, ltb-true, lt-ltb, not-true, not-false, false_from_ne_true, both_ways}
-use Rattle.rkyv_table.specs.Probe.{shown}
-use Rattle.rkyv_table.specs.Placing.{is_free, Homes, Written, Accepted, walk}
+use Rattle.rkyv_table.specs.Controls.Probe.{shown}
+use Rattle.rkyv_table.specs.Controls.Placing.{is_free, Homes, Written, Accepted, walk}
 use Rattle.rkyv_table.proofs.Coverage.{same_tests}
 use Rattle.rkyv_table.proofs.Lists.{any_filter, any_range, in_range, some_find, distinct_filter}
 use Rattle.rkyv_table.proofs.WrittenStep.{free_empty, home_below}

@@ -10,10 +10,10 @@ use Rattle.std.proofs.lemmas.List.{take_all, take-append-le, get_or_append_left,
 use Rattle.std.proofs.lemmas.List.Folds.{list_any-append, find-append, Any-from_list_any}
 use Rattle.std.proofs.lemmas.Nat.{mod_below}
 use Rattle.std.proofs.lemmas.Bool.{cases_Bool, cases_eq, cases_lt, or_parts, eq-eqb, le-leb, lt-leb, leb-true, not-true, not-false, not_from_false, both_ways, ne_eqb, false_from_ne_true}
-use Rattle.rkyv_table.specs.Numbers.{tag, control_count}
-use Rattle.rkyv_table.specs.Probe.{strides, buckets_at, shown}
-use Rattle.rkyv_table.specs.Placing.{is_free, Homes, Written}
-use Rattle.rkyv_table.specs.Controls.{HasRoom, is_empty_at, with_control}
+use Rattle.rkyv_table.specs.Controls.Numbers.{tag, control_count}
+use Rattle.rkyv_table.specs.Controls.Probe.{strides, buckets_at, shown}
+use Rattle.rkyv_table.specs.Controls.Placing.{is_free, Homes, Written}
+use Rattle.rkyv_table.specs.Controls.Shown.{HasRoom, is_empty_at, with_control}
 use Rattle.rkyv_table.proofs.Written.{find_buckets, shown_below, taken_home}
 use Rattle.rkyv_table.proofs.Lists.{some_find, any_member}
 

@@ -4,22 +4,22 @@ use Rattle.std.specs.Int.{Width}
 use Rattle.std.proofs.lemmas.List.{get_or-map, length-map}
 use Rattle.std.proofs.lemmas.Option.{slice_get_within}
 use Rattle.rkyv_base.specs.Shape.{Shape}
-use Rattle.rkyv_table.specs.Header.{begin_told, cap_at}
-use Rattle.rkyv_table.specs.ItemPlaces.{told_controls, told_item}
-use Rattle.rkyv_table.specs.Numbers.{capacity}
-use Rattle.rkyv_table.specs.Placing.{Written}
-use Rattle.rkyv_table.specs.Reading.{IsWalked, WrittenAt, home_places, item_at, table_controls}
-use Rattle.rkyv_table.specs.Table.{bucket_at, controls_at}
-use Rattle.rkyv_table.specs.TableFormat.{BucketsStand, TableStands}
-use Rattle.rkyv_table.specs.TableSound.{capacity_above}
-use Rattle.rkyv_table.specs.Taking.{hashes_of, items_of}
-use Rattle.rkyv_table.specs.WrittenTables.{IsWrittenOf, StandingWereWritten}
+use Rattle.rkyv_table.specs.Table.Header.{begin_told, cap_at}
+use Rattle.rkyv_table.specs.Lemmas.ItemPositions.{told_controls, told_item}
+use Rattle.rkyv_table.specs.Controls.Numbers.{capacity}
+use Rattle.rkyv_table.specs.Controls.Placing.{Written}
+use Rattle.rkyv_table.specs.Table.Reading.{IsWalked, WrittenAt, home_positions, item_at, table_controls}
+use Rattle.rkyv_table.specs.Table.Layout.{bucket_at, controls_at}
+use Rattle.rkyv_table.specs.Table.TableFormat.{BucketsStand, TableStands}
+use Rattle.rkyv_table.specs.Lemmas.TableSound.{capacity_above}
+use Rattle.rkyv_table.specs.Table.Taking.{hashes_of, items_of}
+use Rattle.rkyv_table.specs.Table.WrittenTables.{IsWrittenOf, StandingWereWritten}
 use Rattle.rkyv_table.proofs.WrittenStep.{home_below}
 
 -- where the i-th item handed in stands
-pub home_place : (w : Width) (size : ℕ) (b : List ℕ) (p : ℕ) (homes : List ℕ) (i : ℕ) → i < length homes
-    → slice_index (home_places w size b p homes) i ≡ item_at w size b p (slice_index homes i)
-home_place w size b p homes i h = get_or-map (item_at w size b p) homes i 0 0 h
+pub home_pos : (w : Width) (size : ℕ) (b : List ℕ) (p : ℕ) (homes : List ℕ) (i : ℕ) → i < length homes
+    → slice_index (home_positions w size b p homes) i ≡ item_at w size b p (slice_index homes i)
+home_pos w size b p homes i h = get_or-map (item_at w size b p) homes i 0 0 h
 
 module _ (w : Width) (b : List ℕ) (p : ℕ) (hashes homes : List ℕ) (written : WrittenAt w b p hashes homes) where
   -- as many homes as hashes
@@ -70,7 +70,7 @@ module _ {X : Type 0} (w : Width) (s : Shape) (stands : List ℕ → ℕ → X �
           );
         }
 
-    item_there : (i : ℕ) (x : X) → slice_get (items_of pairs) i ≡ Some x → stands c (slice_index (home_places w s.size c p homes) i) x
+    item_there : (i : ℕ) (x : X) → slice_get (items_of pairs) i ≡ Some x → stands c (slice_index (home_positions w s.size c p homes) i) x
     item_there i x e =
         let inside = slice_get_within (items_of pairs) i x e in
         let hashes = length-map pairs (λ (y : ℕ × X). y.0) in
@@ -79,7 +79,7 @@ module _ {X : Type 0} (w : Width) (s : Shape) (stands : List ℕ → ℕ → X �
         let walked = home_walked w c p (hashes_of pairs) homes written i below in
         let at = told_item w s.size c p buckets.0 buckets.1 (slice_index homes i) walked.0 in
         subst (λ q. stands c q x)
-        (ap (λ n. bucket_at s.size buckets.0 n (slice_index homes i)) (sym t.cap) ∙ sym at ∙ sym (home_place w s.size c p homes i below)) (buckets.2.items i x e)
+        (ap (λ n. bucket_at s.size buckets.0 n (slice_index homes i)) (sym t.cap) ∙ sym at ∙ sym (home_pos w s.size c p homes i below)) (buckets.2.items i x e)
 
     some_written : IsWrittenOf w s.size stands c p pairs
     some_written = record { homes = homes; written = written; at = item_there }

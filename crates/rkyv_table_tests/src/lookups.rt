@@ -3,7 +3,7 @@
 use crate::archives::{
     FOUR_PAIRS, ONE_PAIR, SIXTEEN, archived, hash_of_i8, hash_of_u32, hash_of_usize,
 };
-use crate::reading::{counts, place_of, value_of};
+use crate::reading::{counts, pos_of, value_of};
 use rkyv_base::access::access;
 use rkyv_base::element::Element;
 use rkyv_base::entry::Entry;
@@ -78,7 +78,7 @@ fn a_pair_is_found_in_another_bucket_than_its_start(rt: HostRuntime) -> Result<(
     assert_eq!(rt; counts::<Entry<i8, i8>, Narrow>(bytes)?, (4, 5));
     assert_eq!(rt; hash_of_i8(5) % 5, 4);
     // bucket 0 is the last one before the controls, which begin at 10
-    let place = place_of::<i8, i8, Narrow>(bytes, hash_of_i8(5), 5)?;
+    let place = pos_of::<i8, i8, Narrow>(bytes, hash_of_i8(5), 5)?;
     assert_eq!(rt; place, Some(8));
     for (key, value) in [(1, 2), (3, 4), (5, 6), (7, 8)] {
         let found = value_of::<i8, i8, Narrow>(bytes, hash_of_i8(key), key)?;

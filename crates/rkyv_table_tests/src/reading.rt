@@ -50,7 +50,7 @@ pub(crate) fn value_of<K: Scalar + PartialEq, V: Scalar, W: Width>(
 }
 
 /// Where the pair stands that is found under a hash by its key.
-pub(crate) fn place_of<K: Scalar + PartialEq, V: Scalar, W: Width>(
+pub(crate) fn pos_of<K: Scalar + PartialEq, V: Scalar, W: Width>(
     bytes: &[u8],
     hash: u64,
     key: K,

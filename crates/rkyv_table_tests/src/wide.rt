@@ -1,7 +1,7 @@
 //! Tables in wide archives.
 
 use crate::archives::hash_of_u32;
-use crate::reading::{counts, place_of, value_of, walked};
+use crate::reading::{counts, pos_of, value_of, walked};
 use rkyv_base::access::access_in;
 use rkyv_base::element::{Element, PartRange};
 use rkyv_base::entry::Entry;
@@ -73,7 +73,7 @@ fn a_wide_pair_is_read(rt: HostRuntime) -> Result<(), Fail> {
     assert_eq!(rt; counts::<Entry<u32, u32>, Wide>(&ONE_WIDE_PAIR)?, (1, 2));
     let found = value_of::<u32, u32, Wide>(&ONE_WIDE_PAIR, hash_of_u32(1), 1)?;
     assert_eq!(rt; found, (Some(2), 1));
-    let place = place_of::<u32, u32, Wide>(&ONE_WIDE_PAIR, hash_of_u32(1), 1)?;
+    let place = pos_of::<u32, u32, Wide>(&ONE_WIDE_PAIR, hash_of_u32(1), 1)?;
     assert_eq!(rt; place, Some(0));
     let found = value_of::<u32, u32, Wide>(&ONE_WIDE_PAIR, hash_of_u32(2), 2)?;
     assert_eq!(rt; found, (None, 1));

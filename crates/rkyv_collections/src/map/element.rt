@@ -1,6 +1,6 @@
 //! The header of a map as an element.
 ghost use Rattle.rkyv_base.specs.Entry.{entry_element, entry_shape};
-ghost use Rattle.rkyv_table.specs.TableLaws.{table_element};
+ghost use Rattle.rkyv_table.specs.Lemmas.TableLaws.{table_element};
 ghost use Rattle.rkyv_collections.specs.Map.{map_shape};
 
 use crate::map::HashMapOf;

@@ -1,10 +1,10 @@
 //! Equality of maps.
 ghost use Rattle.std.specs.Prelude.{◌+◌, ◌≡◌};
 ghost use Rattle.rkyv_base.specs.Entry.{value_offset};
-ghost use Rattle.rkyv_base.specs.View.{IsAt, IsView, archive_of, bytes_of, place_of};
+ghost use Rattle.rkyv_base.specs.View.{IsAt, IsView, archive_of, bytes_of, pos_of};
 ghost use Rattle.rkyv_keys.specs.Places.{at_views};
 ghost use Rattle.rkyv_collections.specs.Equality.{map_equal, pair_matches};
-ghost use Rattle.rkyv_collections.specs.Map.{IsMap, hash_at, map_bytes, map_place, map_shape};
+ghost use Rattle.rkyv_collections.specs.Map.{IsMap, hash_at, map_bytes, map_pos, map_shape};
 
 use crate::map::{ArchivedHashMap, HashMapOf};
 use rkyv_base::view::View;
@@ -20,9 +20,9 @@ impl<'a, K: KeyElement, V: ElementEq, H: KeyHasher, W: Width> ArchivedHashMap<'a
         requires map { IsMap W.word K.shape V.shape self }
         requires key { IsView K.shape key }
         requires value { IsView V.shape value }
-        requires pair { IsAt value (archive_of key) (place_of key + value_offset K.shape V.shape) }
+        requires pair { IsAt value (archive_of key) (pos_of key + value_offset K.shape V.shape) }
         ensures { let key_hash = hash_at H.initial H.feed H.finish K.key_calls in
-            result ≡ pair_matches W.word K.shape V.shape key_hash K.same V.same (bytes_of key.entry) (place_of key.entry) (map_bytes self.entry) (map_place self.entry) }
+            result ≡ pair_matches W.word K.shape V.shape key_hash K.same V.same (bytes_of key.entry) (pos_of key.entry) (map_bytes self.entry) (map_pos self.entry) }
     {
         match self.get(&key) {
             Some(found) => V::same(value, found),
@@ -40,7 +40,7 @@ impl<'a, K: KeyElement, V: ElementEq, H: KeyHasher, W: Width> ArchivedHashMap<'a
         requires own { IsMap W.word K.shape V.shape self }
         requires other { IsMap W.word K.shape V.shape other }
         ensures { let key_hash = hash_at H.initial H.feed H.finish K.key_calls in
-            result ≡ map_equal W.word K.shape V.shape key_hash K.same V.same (map_bytes self.entry) (map_place self.entry) (map_bytes other.entry) (map_place other.entry) }
+            result ≡ map_equal W.word K.shape V.shape key_hash K.same V.same (map_bytes self.entry) (map_pos self.entry) (map_bytes other.entry) (map_pos other.entry) }
     {
         if self.len() != other.len() {
             return false;

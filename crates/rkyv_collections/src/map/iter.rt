@@ -3,8 +3,8 @@ ghost use Rattle.std.specs.Prelude.{IfSome, Some, length, ◌≡◌};
 ghost use Rattle.std.specs.Iterator.{UpTo, at_most};
 ghost use Rattle.std.specs.Iterator.SizeHint.{IsWithinCount};
 ghost use Rattle.rkyv_base.specs.Entry.{entry_shape};
-ghost use Rattle.rkyv_table.specs.RawItems.{AllStand};
-ghost use Rattle.rkyv_collections.specs.Map.{IsMap, key_places, map_archive, map_len};
+ghost use Rattle.rkyv_table.specs.Table.RawItems.{AllStand};
+ghost use Rattle.rkyv_collections.specs.Map.{IsMap, key_positions, map_archive, map_len};
 ghost use Rattle.rkyv_collections.specs.Walking.{TakesKey, TakesPair, TakesValue};
 
 use crate::map::ArchivedHashMap;
@@ -25,7 +25,7 @@ pub struct Iter<'a, K, V, H = FxHasher64, W = Narrow> {
 }
 
 impl<'a, K, V, H, W> Model for Iter<'a, K, V, H, W> {
-    ghost use Rattle.rkyv_table.specs.RawItems.{ItemsLeft};
+    ghost use Rattle.rkyv_table.specs.Table.RawItems.{ItemsLeft};
 
     ghost Value = { ItemsLeft };
 
@@ -73,7 +73,7 @@ pub struct Keys<'a, K, V, H = FxHasher64, W = Narrow> {
 }
 
 impl<'a, K, V, H, W> Model for Keys<'a, K, V, H, W> {
-    ghost use Rattle.rkyv_table.specs.RawItems.{ItemsLeft};
+    ghost use Rattle.rkyv_table.specs.Table.RawItems.{ItemsLeft};
 
     ghost Value = { ItemsLeft };
 
@@ -121,7 +121,7 @@ pub struct Values<'a, K, V, H = FxHasher64, W = Narrow> {
 }
 
 impl<'a, K, V, H, W> Model for Values<'a, K, V, H, W> {
-    ghost use Rattle.rkyv_table.specs.RawItems.{ItemsLeft};
+    ghost use Rattle.rkyv_table.specs.Table.RawItems.{ItemsLeft};
 
     ghost Value = { ItemsLeft };
 
@@ -168,7 +168,7 @@ impl<'a, K: Element, V: Element, H, W: Width> ArchivedHashMap<'a, K, V, H, W> {
     pub fn iter(self) -> Iter<'a, K, V, H, W>
         requires { IsMap W.word K.shape V.shape self }
         ensures archive { result.archive ≡ map_archive self.entry }
-        ensures places { result.places ≡ key_places W.word K.shape V.shape self.entry }
+        ensures places { result.places ≡ key_positions W.word K.shape V.shape self.entry }
         ensures count { length result.places ≡ map_len W.word self.entry }
         ensures stand { AllStand (entry_shape K.shape V.shape) result }
     {
@@ -184,7 +184,7 @@ impl<'a, K: Element, V: Element, H, W: Width> ArchivedHashMap<'a, K, V, H, W> {
     pub fn keys(self) -> Keys<'a, K, V, H, W>
         requires { IsMap W.word K.shape V.shape self }
         ensures archive { result.archive ≡ map_archive self.entry }
-        ensures places { result.places ≡ key_places W.word K.shape V.shape self.entry }
+        ensures places { result.places ≡ key_positions W.word K.shape V.shape self.entry }
         ensures count { length result.places ≡ map_len W.word self.entry }
         ensures stand { AllStand (entry_shape K.shape V.shape) result }
     {
@@ -196,7 +196,7 @@ impl<'a, K: Element, V: Element, H, W: Width> ArchivedHashMap<'a, K, V, H, W> {
     pub fn values(self) -> Values<'a, K, V, H, W>
         requires { IsMap W.word K.shape V.shape self }
         ensures archive { result.archive ≡ map_archive self.entry }
-        ensures places { result.places ≡ key_places W.word K.shape V.shape self.entry }
+        ensures places { result.places ≡ key_positions W.word K.shape V.shape self.entry }
         ensures count { length result.places ≡ map_len W.word self.entry }
         ensures stand { AllStand (entry_shape K.shape V.shape) result }
     {

@@ -3,16 +3,16 @@ ghost use Rattle.std.specs.Prelude.{IfSome, IsSome, IsTrue, drop, length, take, 
 ghost use Rattle.std.specs.Int.{byte_len};
 ghost use Rattle.rkyv_base.specs.Entry.{entry_shape};
 ghost use Rattle.rkyv_base.specs.Scalar.{scalar_shape};
-ghost use Rattle.rkyv_base.specs.Seal.{LiesIn, archive_in, bytes_in, place_in, pos_in};
-ghost use Rattle.rkyv_base.specs.Sealing.{value_place, with_value};
+ghost use Rattle.rkyv_base.specs.Seal.{LiesIn, archive_in, bytes_in, seal_pos, pos_in};
+ghost use Rattle.rkyv_base.specs.Sealing.{value_pos, with_value};
 ghost use Rattle.rkyv_base.specs.Shape.{Viewed};
-ghost use Rattle.rkyv_base.specs.View.{IsView, bytes_of, place_of};
-ghost use Rattle.rkyv_table.specs.Header.{cap_at, len_at};
-ghost use Rattle.rkyv_table.specs.Placing.{walk};
-ghost use Rattle.rkyv_table.specs.Reading.{table_controls};
-ghost use Rattle.rkyv_table.specs.SealedItems.{CountsDown, LendsArchive, SameArchive, StaysThere, WrittenBy, buckets_left, cursor_bytes, items_left};
+ghost use Rattle.rkyv_base.specs.View.{IsView, bytes_of, pos_of};
+ghost use Rattle.rkyv_table.specs.Table.Header.{cap_at, len_at};
+ghost use Rattle.rkyv_table.specs.Controls.Placing.{walk};
+ghost use Rattle.rkyv_table.specs.Table.Reading.{table_controls};
+ghost use Rattle.rkyv_table.specs.Table.SealedItems.{CountsDown, LendsArchive, SameArchive, StaysThere, WrittenBy, buckets_left, cursor_bytes, items_left};
 ghost use Rattle.rkyv_collections.specs.SealedMap.{IsMapSeal};
-ghost use Rattle.rkyv_collections.specs.SealedPairs.{IsPairIter, KeepsPairs, KeepsValues, LendsFirstPair, LendsFirstValue, MayWriteValue, StepsAndWritesValue, TakesKeyPlace, TakesValuePlace, entries_in, entries_of};
+ghost use Rattle.rkyv_collections.specs.SealedPairs.{IsPairIter, KeepsPairs, KeepsValues, LendsFirstPair, LendsFirstValue, MayWriteValue, StepsAndWritesValue, TakesKeyPos, TakesValuePos, entries_in, entries_of};
 
 use crate::map::{ArchivedHashMap, HashMapOf};
 use rkyv_base::element::{Element, PartRange};
@@ -47,11 +47,11 @@ fn pair_at<K: Element, V: Element>(
     archive: &mut [u8],
     pos: u64,
 ) -> Option<(View<'_, K>, Seal<'_, V>)>
-    requires { value_place K.shape V.shape pos + V.shape.size ≤ length archive.old }
+    requires { value_pos K.shape V.shape pos + V.shape.size ≤ length archive.old }
     ensures inside { IfSome result (λ pair. LiesIn V.shape pair.1) }
     ensures viewed { IfSome result (λ pair. IsView K.shape pair.0) }
-    ensures key { IfSome result (λ pair. (place_of pair.0 ≡ pos) × (bytes_of pair.0 ≡ take (value_place K.shape V.shape pos) archive.old)) }
-    ensures value { IfSome result (λ pair. (place_in pair.1 ≡ 0) × (bytes_in pair.1 ≡ drop (value_place K.shape V.shape pos) archive.old)) }
+    ensures key { IfSome result (λ pair. (pos_of pair.0 ≡ pos) × (bytes_of pair.0 ≡ take (value_pos K.shape V.shape pos) archive.old)) }
+    ensures value { IfSome result (λ pair. (seal_pos pair.1 ≡ 0) × (bytes_in pair.1 ≡ drop (value_pos K.shape V.shape pos) archive.old)) }
     ensures found { Viewed K.shape archive.old pos → IsSome result }
 {
     let begin = pos as usize + value_offset::<K, V>();
@@ -65,8 +65,8 @@ fn pair_at<K: Element, V: Element>(
 /// Where the value behind a key at a position stands, which lies in the bytes.
 #[inline]
 fn behind<K: Element, V: Element>(bytes: &[u8], pos: u64) -> u64
-    requires { value_place K.shape V.shape pos ≤ length bytes.now }
-    ensures { result ≡ value_place K.shape V.shape pos }
+    requires { value_pos K.shape V.shape pos ≤ length bytes.now }
+    ensures { result ≡ value_pos K.shape V.shape pos }
 {
     pos + value_offset::<K, V>() as u64
 }
@@ -95,8 +95,8 @@ impl<'a, K: Element, V: Element, H, W> IterMut<'a, K, V, H, W> {
     pub fn next_pos(&mut self) -> Option<u64>
         ensures archive { SameArchive (entries_in self.old) (entries_in self.new) }
         ensures counts { CountsDown (entries_in self.old) result (entries_in self.new) }
-        ensures inside { IfSome result (λ q. value_place K.shape V.shape q + V.shape.size ≤ length (cursor_bytes (entries_in self.old))) }
-        ensures takes { TakesKeyPlace K.shape V.shape (entries_in self.old) result (entries_in self.new) }
+        ensures inside { IfSome result (λ q. value_pos K.shape V.shape q + V.shape.size ≤ length (cursor_bytes (entries_in self.old))) }
+        ensures takes { TakesKeyPos K.shape V.shape (entries_in self.old) result (entries_in self.new) }
     {
         if whole_size::<K, V>() > LARGEST {
             return None;
@@ -109,7 +109,7 @@ impl<'a, K: Element, V: Element, H, W> IterMut<'a, K, V, H, W> {
     pub fn key_at(&self, pos: u64) -> View<'_, K>
         requires { Viewed K.shape (cursor_bytes (entries_in self.now)) pos }
         ensures bytes { bytes_of result ≡ cursor_bytes (entries_in self.now) }
-        ensures place { place_of result ≡ pos }
+        ensures place { pos_of result ≡ pos }
         ensures viewed { IsView K.shape result }
     {
         View::new(self.entries.bytes(), pos)
@@ -136,10 +136,10 @@ impl<'a, K: Element, N: Scalar, H, W> IterMut<'a, K, N, H, W> {
     /// Writes the value behind the key at a position.
     #[inline]
     pub fn set_at(&mut self, pos: u64, value: N)
-        requires { value_place K.shape (scalar_shape N.encoding) pos + byte_len N.encoding.word ≤ length (cursor_bytes (entries_in self.old)) }
+        requires { value_pos K.shape (scalar_shape N.encoding) pos + byte_len N.encoding.word ≤ length (cursor_bytes (entries_in self.old)) }
         ensures stays { StaysThere (entries_in self.old) (entries_in self.new) }
         ensures written { cursor_bytes (entries_in self.new)
-            ≡ with_value N.encoding (cursor_bytes (entries_in self.old)) (value_place K.shape (scalar_shape N.encoding) pos) value }
+            ≡ with_value N.encoding (cursor_bytes (entries_in self.old)) (value_pos K.shape (scalar_shape N.encoding) pos) value }
         ensures kept { KeepsPairs K.shape (scalar_shape N.encoding) (entries_in self.old) pos (entries_in self.new) }
     {
         self.entries.write_at(pos, value_offset::<K, N>(), value);
@@ -169,7 +169,7 @@ impl<'a, K: Element, V: Element, H, W> ValuesMut<'a, K, V, H, W> {
         ensures archive { SameArchive (entries_of self.old) (entries_of self.new) }
         ensures counts { CountsDown (entries_of self.old) result (entries_of self.new) }
         ensures inside { IfSome result (λ q. q + V.shape.size ≤ length (cursor_bytes (entries_of self.old))) }
-        ensures takes { TakesValuePlace K.shape V.shape (entries_of self.old) result (entries_of self.new) }
+        ensures takes { TakesValuePos K.shape V.shape (entries_of self.old) result (entries_of self.new) }
     {
         match self.pairs.next_pos() {
             Some(key) => Some(behind::<K, V>(self.pairs.entries.bytes(), key)),

@@ -1,7 +1,7 @@
 //! Finding a pair by its key.
 ghost use Rattle.std.specs.Prelude.{Bool, IfSome, IsSome, ℕ, ◌<◌, ◌^◌, ◌≡◌};
 ghost use Rattle.rkyv_base.specs.Entry.{entry_shape};
-ghost use Rattle.rkyv_base.specs.View.{IsAt, IsView, archive_of, place_of};
+ghost use Rattle.rkyv_base.specs.View.{IsAt, IsView, archive_of, pos_of};
 ghost use Rattle.rkyv_base.specs.declared.view.View.{View};
 ghost use Rattle.rkyv_scan.specs.Hash.{hash_of_calls};
 ghost use Rattle.rkyv_collections.specs.Map.{
@@ -19,12 +19,12 @@ ghost use Rattle.rkyv_collections.specs.Map.{
   IsValueIn,
   MayAskKeys,
   hash_at,
-  key_place_found,
+  key_pos_found,
   map_bytes,
-  map_place,
+  map_pos,
 };
 ghost use Rattle.rkyv_collections.specs.Misplaced.{FindsTheOne, map_misplaced};
-ghost use Rattle.rkyv_table.specs.Reading.{place_of_found};
+ghost use Rattle.rkyv_table.specs.Table.Reading.{pos_of_found};
 
 use crate::map::ArchivedHashMap;
 use rkyv_base::element::Element;
@@ -63,8 +63,8 @@ impl<'a, K: KeyElement, V: Element, H: KeyHasher, W: Width> ArchivedHashMap<'a, 
             hash,
             |entry|
                 requires entry { IsView (entry_shape K.shape V.shape) entry }
-                requires callable { (k : View K) → IsAt k (archive_of entry) (place_of entry) → IsView K.shape k → F.pre cmp key k }
-                ensures { (k : View K) × IsAt k (archive_of entry.entry) (place_of entry.entry) × IsView K.shape k × F.post cmp key.entry k result }
+                requires callable { (k : View K) → IsAt k (archive_of entry) (pos_of entry) → IsView K.shape k → F.pre cmp key k }
+                ensures { (k : View K) × IsAt k (archive_of entry.entry) (pos_of entry.entry) × IsView K.shape k × F.post cmp key.entry k result }
             { cmp(key, entry.key()) },
         )
     }
@@ -138,8 +138,8 @@ impl<'a, K: KeyElement, V: Element, H: KeyHasher, W: Width> ArchivedHashMap<'a, 
         ensures first { let key_hash = hash_at H.initial H.feed H.finish K.key_calls in
             FindsFirstKey W.word K.shape V.shape self.entry key_hash (Q.fits key.now (map_bytes self.entry)) (IsEntryAt result) }
         ensures complete { let key_hash = hash_at H.initial H.feed H.finish K.key_calls in
-            map_misplaced W.word K.shape V.shape key_hash K.same (map_bytes self.entry) (map_place self.entry) ≡ 0
-            → FindsTheOne W.word (entry_shape K.shape V.shape).size (map_bytes self.entry) (map_place self.entry) (Q.fits key.now (map_bytes self.entry)) (place_of_found result) }
+            map_misplaced W.word K.shape V.shape key_hash K.same (map_bytes self.entry) (map_pos self.entry) ≡ 0
+            → FindsTheOne W.word (entry_shape K.shape V.shape).size (map_bytes self.entry) (map_pos self.entry) (Q.fits key.now (map_bytes self.entry)) (pos_of_found result) }
     {
         self.find(
             key,
@@ -166,8 +166,8 @@ impl<'a, K: KeyElement, V: Element, H: KeyHasher, W: Width> ArchivedHashMap<'a, 
         ensures first { let key_hash = hash_at H.initial H.feed H.finish K.key_calls in
             FindsFirstKey W.word K.shape V.shape self.entry key_hash (Q.fits key.now (map_bytes self.entry)) (IsPairAt result) }
         ensures complete { let key_hash = hash_at H.initial H.feed H.finish K.key_calls in
-            map_misplaced W.word K.shape V.shape key_hash K.same (map_bytes self.entry) (map_place self.entry) ≡ 0
-            → FindsTheOne W.word (entry_shape K.shape V.shape).size (map_bytes self.entry) (map_place self.entry) (Q.fits key.now (map_bytes self.entry)) (key_place_found result) }
+            map_misplaced W.word K.shape V.shape key_hash K.same (map_bytes self.entry) (map_pos self.entry) ≡ 0
+            → FindsTheOne W.word (entry_shape K.shape V.shape).size (map_bytes self.entry) (map_pos self.entry) (Q.fits key.now (map_bytes self.entry)) (key_pos_found result) }
     {
         match self.find_key(key) {
             Some(found) => Some((found.key(), found.value())),

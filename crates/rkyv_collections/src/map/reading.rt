@@ -2,8 +2,8 @@
 ghost use Rattle.std.specs.Prelude.{IsTrue, ◌↔◌, ◌≡◌};
 ghost use Rattle.rkyv_base.specs.Entry.{entry_shape};
 ghost use Rattle.rkyv_base.specs.View.{IsAt, IsView};
-ghost use Rattle.rkyv_table.specs.Reading.{IsTable};
-ghost use Rattle.rkyv_collections.specs.Map.{IsMap, map_archive, map_cap, map_len, map_place, map_shape};
+ghost use Rattle.rkyv_table.specs.Table.Reading.{IsTable};
+ghost use Rattle.rkyv_collections.specs.Map.{IsMap, map_archive, map_cap, map_len, map_pos, map_shape};
 
 use crate::map::{ArchivedHashMap, HashMapOf};
 use rkyv_base::element::Element;
@@ -27,7 +27,7 @@ impl<'a, K: Element, V: Element, H, W: Width> ArchivedHashMap<'a, K, V, H, W> {
     #[inline]
     pub(crate) fn table(self) -> ArchivedHashTable<'a, Entry<K, V>, W>
         requires { IsMap W.word K.shape V.shape self }
-        ensures at { IsAt result.view (map_archive self.entry) (map_place self.entry) }
+        ensures at { IsAt result.view (map_archive self.entry) (map_pos self.entry) }
         ensures table { IsTable W.word (entry_shape K.shape V.shape) result }
     {
         ArchivedHashTable::of(self.view.at::<TableOf<Entry<K, V>, W>>(self.view.pos()))

@@ -1,12 +1,12 @@
 //! Writing the values of a map in place.
 ghost use Rattle.std.specs.Prelude.{Bool, IfSome, length, ℕ, ◌+◌, ◌≡◌, ◌≤◌};
 ghost use Rattle.rkyv_base.specs.Entry.{entry_shape};
-ghost use Rattle.rkyv_base.specs.Seal.{LiesIn, SealAt, archive_in, bytes_in, place_in, pos_in};
-ghost use Rattle.rkyv_base.specs.Sealing.{value_place};
+ghost use Rattle.rkyv_base.specs.Seal.{LiesIn, SealAt, archive_in, bytes_in, seal_pos, pos_in};
+ghost use Rattle.rkyv_base.specs.Sealing.{value_pos};
 ghost use Rattle.rkyv_base.specs.Shape.{Viewed};
 ghost use Rattle.rkyv_base.specs.View.{IsView};
 ghost use Rattle.rkyv_scan.specs.Hash.{hash_of_calls};
-ghost use Rattle.rkyv_collections.specs.Map.{AreUnderHashAt, FindsFirstKeyAt, FindsKeyAt, IsKeyPlaceAt, hash_at};
+ghost use Rattle.rkyv_collections.specs.Map.{AreUnderHashAt, FindsFirstKeyAt, FindsKeyAt, IsKeyPosAt, hash_at};
 ghost use Rattle.rkyv_collections.specs.SealedMap.{AnswersKeysAt, IsMapSeal, IsPairSeal, IsPairSealAt, IsValueSeal, IsValueSealAt, MayAskKeysAt};
 ghost use Rattle.rkyv_collections.specs.ValueWrites.{ValueWritesKeepMaps, ValuesWrittenStand};
 
@@ -26,8 +26,8 @@ fn value_seal<'a, K: Element, V: Element, H, W>(
     this: ArchiveSeal<'a, HashMapOf<K, V, H, W>>,
     pos: u64,
 ) -> Seal<'a, V>
-    requires { value_place K.shape V.shape pos + V.shape.size ≤ length (archive_in this) }
-    ensures at { SealAt result this.entry.archive (value_place K.shape V.shape pos) }
+    requires { value_pos K.shape V.shape pos + V.shape.size ≤ length (archive_in this) }
+    ensures at { SealAt result this.entry.archive (value_pos K.shape V.shape pos) }
     ensures inside { LiesIn V.shape result }
 {
     let (archive, _) = this.into_parts();
@@ -46,7 +46,7 @@ impl<'a, K: KeyElement, V: Element, H: KeyHasher, W: Width> ArchivedHashMap<'a, 
         requires map { IsMapSeal W.word K.shape V.shape this.now }
         requires query { Q.can_read key.now }
         requires callable { MayAskKeysAt W.word K.shape V.shape (archive_in this.now) (pos_in this.now) (F.pre cmp key) }
-        ensures walked { IfSome result (IsKeyPlaceAt W.word K.shape V.shape (archive_in this.now) (pos_in this.now)) }
+        ensures walked { IfSome result (IsKeyPosAt W.word K.shape V.shape (archive_in this.now) (pos_in this.now)) }
         ensures answer { let hash = hash_of_calls H.initial H.feed H.finish (Q.calls key.now) in
             (accept : ℕ → Bool) → AnswersKeysAt W.word K.shape V.shape (archive_in this.now) (pos_in this.now) (F.post cmp key.entry) accept
             → FindsKeyAt W.word K.shape V.shape (archive_in this.now) (pos_in this.now) hash accept (λ place. result ≡ place) }
@@ -70,7 +70,7 @@ impl<'a, K: KeyElement, V: Element, H: KeyHasher, W: Width> ArchivedHashMap<'a, 
     ) -> Option<u64>
         requires map { IsMapSeal W.word K.shape V.shape this.now }
         requires query { Q.can_read key.now }
-        ensures walked { IfSome result (IsKeyPlaceAt W.word K.shape V.shape (archive_in this.now) (pos_in this.now)) }
+        ensures walked { IfSome result (IsKeyPosAt W.word K.shape V.shape (archive_in this.now) (pos_in this.now)) }
         ensures answer { let hash = hash_of_calls H.initial H.feed H.finish (Q.calls key.now) in
             FindsKeyAt W.word K.shape V.shape (archive_in this.now) (pos_in this.now) hash (Q.fits key.now (archive_in this.now)) (λ place. result ≡ place) }
         ensures first { let key_hash = hash_at H.initial H.feed H.finish K.key_calls in
@@ -148,7 +148,7 @@ impl<'a, K: KeyElement, V: Element, H: KeyHasher, W: Width> ArchivedHashMap<'a, 
         requires query { Q.can_read key.now }
         requires callable { MayAskKeysAt W.word K.shape V.shape (archive_in this) (pos_in this) (F.pre cmp key) }
         ensures inside { IfSome result (LiesIn V.shape) }
-        ensures viewed { IfSome result (λ value. Viewed V.shape (bytes_in value) (place_in value)) }
+        ensures viewed { IfSome result (λ value. Viewed V.shape (bytes_in value) (seal_pos value)) }
         ensures walked { IfSome result (IsValueSeal W.word K.shape V.shape this.entry) }
         ensures answer { let hash = hash_of_calls H.initial H.feed H.finish (Q.calls key.now) in
             (accept : ℕ → Bool) → AnswersKeysAt W.word K.shape V.shape (archive_in this.entry) (pos_in this.entry) (F.post cmp key.entry) accept
@@ -174,7 +174,7 @@ impl<'a, K: KeyElement, V: Element, H: KeyHasher, W: Width> ArchivedHashMap<'a, 
         requires map { IsMapSeal W.word K.shape V.shape this }
         requires query { Q.can_read key.now }
         ensures inside { IfSome result (LiesIn V.shape) }
-        ensures viewed { IfSome result (λ value. Viewed V.shape (bytes_in value) (place_in value)) }
+        ensures viewed { IfSome result (λ value. Viewed V.shape (bytes_in value) (seal_pos value)) }
         ensures walked { IfSome result (IsValueSeal W.word K.shape V.shape this.entry) }
         ensures answer { let hash = hash_of_calls H.initial H.feed H.finish (Q.calls key.now) in
             FindsKeyAt W.word K.shape V.shape (archive_in this.entry) (pos_in this.entry) hash (Q.fits key.now (archive_in this.entry)) (IsValueSealAt K.shape V.shape result) }

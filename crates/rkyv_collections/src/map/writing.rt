@@ -3,9 +3,9 @@
 ghost use Rattle.std.specs.Prelude.{◌≡◌, ◌+◌, ◌<◌, ◌^◌, MatchResult, length};
 ghost use Rattle.std.specs.Iterator.{Drains};
 ghost use Rattle.rkyv_base.specs.Pairs.{written_as};
-ghost use Rattle.rkyv_table.specs.Counting.{GaveOther};
-ghost use Rattle.rkyv_table.specs.Header.{HeaderFar, IsHeader};
-ghost use Rattle.rkyv_table.specs.Numbers.{capacity};
+ghost use Rattle.rkyv_table.specs.Table.Counting.{GaveOther};
+ghost use Rattle.rkyv_table.specs.Table.Header.{HeaderFar, IsHeader};
+ghost use Rattle.rkyv_table.specs.Controls.Numbers.{capacity};
 ghost use Rattle.rkyv_collections.specs.Handing.{NoItems, WroteItems, lent_pairs};
 ghost use Rattle.rkyv_collections.specs.MapFormat.{hash_of, map_format};
 

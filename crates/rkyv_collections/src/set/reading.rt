@@ -4,10 +4,10 @@ ghost use Rattle.std.specs.Prelude.{IfSome, IsTrue, length, ◌↔◌, ◌≡◌
 ghost use Rattle.rkyv_base.specs.Empty.{unit_shape};
 ghost use Rattle.rkyv_base.specs.Entry.{entry_element, entry_shape};
 ghost use Rattle.rkyv_base.specs.Empty.{unit_element};
-ghost use Rattle.rkyv_base.specs.View.{IsView, archive_of, place_of};
+ghost use Rattle.rkyv_base.specs.View.{IsView, archive_of, pos_of};
 ghost use Rattle.rkyv_scan.specs.Hash.{hash_of_calls};
-ghost use Rattle.rkyv_table.specs.RawItems.{AllStand};
-ghost use Rattle.rkyv_table.specs.TableLaws.{table_element};
+ghost use Rattle.rkyv_table.specs.Table.RawItems.{AllStand};
+ghost use Rattle.rkyv_table.specs.Lemmas.TableLaws.{table_element};
 ghost use Rattle.rkyv_collections.specs.Map.{IsEntryAt, IsFoundAt, hash_at};
 ghost use Rattle.rkyv_collections.specs.Set.{
   FindsFirstMember,
@@ -15,16 +15,16 @@ ghost use Rattle.rkyv_collections.specs.Set.{
   IsMemberIn,
   IsSet,
   IsSetAt,
-  member_places,
+  member_positions,
   set_archive,
   set_bytes,
   set_len,
   set_misplaced,
-  set_place,
+  set_pos,
   set_shape,
 };
 ghost use Rattle.rkyv_collections.specs.Misplaced.{FindsTheOne};
-ghost use Rattle.rkyv_table.specs.Reading.{place_of_found};
+ghost use Rattle.rkyv_table.specs.Table.Reading.{pos_of_found};
 
 use crate::map::iter::Keys;
 use crate::map::{ArchivedHashMap, HashMapOf};
@@ -62,7 +62,7 @@ impl<'a, K: Element, H, W: Width> ArchivedHashSet<'a, K, H, W> {
     #[inline]
     pub fn of(view: View<'a, HashSetOf<K, H, W>>) -> ArchivedHashSet<'a, K, H, W>
         requires { IsView (set_shape W.word K.shape) view }
-        ensures at { IsSetAt result (archive_of view.entry) (place_of view.entry) }
+        ensures at { IsSetAt result (archive_of view.entry) (pos_of view.entry) }
         ensures set { IsSet W.word K.shape result }
     {
         ArchivedHashSet {
@@ -93,7 +93,7 @@ impl<'a, K: Element, H, W: Width> ArchivedHashSet<'a, K, H, W> {
     pub fn iter(self) -> Keys<'a, K, (), H, W>
         requires { IsSet W.word K.shape self }
         ensures archive { result.archive ≡ set_archive self.entry }
-        ensures places { result.places ≡ member_places W.word K.shape self.entry }
+        ensures places { result.places ≡ member_positions W.word K.shape self.entry }
         ensures count { length result.places ≡ set_len W.word self.entry }
         ensures stand { AllStand (entry_shape K.shape unit_shape) result }
     {
@@ -117,8 +117,8 @@ impl<'a, K: KeyElement, H: KeyHasher, W: Width> ArchivedHashSet<'a, K, H, W> {
         ensures first { let key_hash = hash_at H.initial H.feed H.finish K.key_calls in
             FindsFirstMember W.word K.shape self.entry key_hash (Q.fits key.now (set_bytes self.entry)) (IsEntryAt result) }
         ensures complete { let key_hash = hash_at H.initial H.feed H.finish K.key_calls in
-            set_misplaced W.word K.shape key_hash K.same (set_bytes self.entry) (set_place self.entry) ≡ 0
-            → FindsTheOne W.word (entry_shape K.shape unit_shape).size (set_bytes self.entry) (set_place self.entry) (Q.fits key.now (set_bytes self.entry)) (place_of_found result) }
+            set_misplaced W.word K.shape key_hash K.same (set_bytes self.entry) (set_pos self.entry) ≡ 0
+            → FindsTheOne W.word (entry_shape K.shape unit_shape).size (set_bytes self.entry) (set_pos self.entry) (Q.fits key.now (set_bytes self.entry)) (pos_of_found result) }
     {
         match self.map.get_key_value(key) {
             Some((stored, _)) => Some(stored),

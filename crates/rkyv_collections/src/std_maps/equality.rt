@@ -4,11 +4,11 @@ ghost use Rattle.std.specs.Prelude.{IsTrue, ◌↔◌};
 ghost use Rattle.rkyv_base.specs.Pairs.{written_as-format};
 ghost use Rattle.rkyv_base.specs.View.{IsView, StandsAt};
 ghost use Rattle.rkyv_collections.specs.Listed.{listed, listed_format};
-ghost use Rattle.rkyv_collections.specs.Map.{IsMap, hash_at, map_bytes, map_place, map_shape};
+ghost use Rattle.rkyv_collections.specs.Map.{IsMap, hash_at, map_bytes, map_pos, map_shape};
 ghost use Rattle.rkyv_collections.specs.MapFormat.{MapStands, hash_of, map_format};
-ghost use Rattle.rkyv_collections.specs.MapSound.{map_sound};
-ghost use Rattle.rkyv_collections.specs.StdAlone.{std_map_alone};
-ghost use Rattle.rkyv_collections.specs.StdEqualLaws.{entries_equal};
+ghost use Rattle.rkyv_collections.specs.Lemmas.MapSound.{map_sound};
+ghost use Rattle.rkyv_collections.specs.Lemmas.StdAlone.{std_map_alone};
+ghost use Rattle.rkyv_collections.specs.Lemmas.StdEqualLaws.{entries_equal};
 ghost use Rattle.rkyv_collections.specs.StdEquality.{EntriesEqual, FindsPair, StdMapEquals};
 ghost use Rattle.rkyv_collections.specs.StdMap.{of_entries};
 
@@ -33,7 +33,7 @@ impl<'a, K: KeyElement, V, H: KeyHasher, W: Width> ArchivedHashMap<'a, K, V, H, 
         requires map { IsMap W.word K.shape V.shape self }
         requires query { A.can_read key.now }
         ensures { let hash = hash_of H.initial H.feed H.finish A.calls in
-            IsTrue result ↔ FindsPair W.word K.shape V.shape hash A.fits V.equals (map_bytes self.entry) (map_place self.entry) (key.now, value.now) }
+            IsTrue result ↔ FindsPair W.word K.shape V.shape hash A.fits V.equals (map_bytes self.entry) (map_pos self.entry) (key.now, value.now) }
     {
         match self.get(key) {
             Some(found) => V::eq_native(found, value),
@@ -50,7 +50,7 @@ impl<'a, K: KeyElement, V, H: KeyHasher, W: Width> ArchivedHashMap<'a, K, V, H, 
         V: MatchesNative<B>,
         requires map { IsMap W.word K.shape V.shape self }
         ensures { let hash = hash_of H.initial H.feed H.finish A.calls in
-            IsTrue result ↔ StdMapEquals W.word K.shape V.shape hash A.fits V.equals (map_bytes self.entry) (map_place self.entry) other.now }
+            IsTrue result ↔ StdMapEquals W.word K.shape V.shape hash A.fits V.equals (map_bytes self.entry) (map_pos self.entry) other.now }
     {
         if self.len() != other.len() {
             return false;
@@ -155,7 +155,7 @@ impl<
 > EqArchived<ArchivedHashMap<'a, K, V, H, W>> for HashMap<A, B, T> {
     ghost can_compare = { IsMap W.word K.shape V.shape };
 
-    ghost equals_archived = { λ other m. StdMapEquals W.word K.shape V.shape (hash_of H.initial H.feed H.finish A.calls) A.fits V.equals (map_bytes other) (map_place other) m };
+    ghost equals_archived = { λ other m. StdMapEquals W.word K.shape V.shape (hash_of H.initial H.feed H.finish A.calls) A.fits V.equals (map_bytes other) (map_pos other) m };
 
     #[inline]
     fn eq_archived(&self, other: ArchivedHashMap<'a, K, V, H, W>) -> bool {

@@ -4,9 +4,9 @@ ghost use Rattle.rkyv_base.specs.Pairs.{written_as, written_as-format};
 ghost use Rattle.rkyv_collections.specs.Listed.{listed, listed_format};
 ghost use Rattle.rkyv_collections.specs.Map.{hash_at, map_shape};
 ghost use Rattle.rkyv_collections.specs.MapFormat.{MapStands, hash_of, map_format};
-ghost use Rattle.rkyv_collections.specs.MapSound.{map_sound};
+ghost use Rattle.rkyv_collections.specs.Lemmas.MapSound.{map_sound};
 ghost use Rattle.rkyv_collections.specs.StdMap.{EntriesStand, StdMapStands, of_entries};
-ghost use Rattle.rkyv_collections.specs.StdMapLaws.{entries_near, entries_sound};
+ghost use Rattle.rkyv_collections.specs.Lemmas.StdMapLaws.{entries_near, entries_sound};
 
 use crate::map::writing::HashMapResolver;
 use crate::map::{ArchivedHashMap, HashMapOf};

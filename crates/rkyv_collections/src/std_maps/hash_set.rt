@@ -1,20 +1,20 @@
 //! Std's hash sets as what stands in archives.
 
 ghost use Rattle.std.specs.Prelude.{IsTrue, MatchResult, ◌↔◌};
-ghost use Rattle.rkyv_base.specs.View.{IsView, StandsAt, bytes_of, place_of};
+ghost use Rattle.rkyv_base.specs.View.{IsView, StandsAt, bytes_of, pos_of};
 ghost use Rattle.rkyv_base.specs.Empty.{unit_element, unit_format, unit_is_format, unit_near, unit_shape, unit_stands};
 ghost use Rattle.rkyv_base.specs.Pairs.{written_as, written_as-format};
 ghost use Rattle.rkyv_collections.specs.Listed.{listed, listed_format};
 ghost use Rattle.rkyv_collections.specs.Map.{hash_at};
 ghost use Rattle.rkyv_collections.specs.MapFormat.{MapStands, hash_of, map_format};
-ghost use Rattle.rkyv_collections.specs.MapSound.{map_sound};
-ghost use Rattle.rkyv_collections.specs.Set.{IsSet, set_bytes, set_place, set_shape};
+ghost use Rattle.rkyv_collections.specs.Lemmas.MapSound.{map_sound};
+ghost use Rattle.rkyv_collections.specs.Set.{IsSet, set_bytes, set_pos, set_shape};
 ghost use Rattle.rkyv_collections.specs.SetFormat.{with_units};
-ghost use Rattle.rkyv_collections.specs.StdAlone.{std_set_alone};
-ghost use Rattle.rkyv_collections.specs.StdEqualLaws.{entries_equal};
+ghost use Rattle.rkyv_collections.specs.Lemmas.StdAlone.{std_set_alone};
+ghost use Rattle.rkyv_collections.specs.Lemmas.StdEqualLaws.{entries_equal};
 ghost use Rattle.rkyv_collections.specs.StdEquality.{EntriesEqual};
 ghost use Rattle.rkyv_collections.specs.StdMap.{EntriesStand, of_entries};
-ghost use Rattle.rkyv_collections.specs.StdMapLaws.{entries_near, entries_sound};
+ghost use Rattle.rkyv_collections.specs.Lemmas.StdMapLaws.{entries_near, entries_sound};
 ghost use Rattle.rkyv_collections.specs.StdSet.{InsertsKey, ReadsStdSet, StdSetEquals, StdSetStands, key_refuses, set_equal_written, std_set_refuses};
 
 use crate::set::writing::HashSetResolver;
@@ -116,8 +116,8 @@ fn insert_read<K: Deserialize<A>, A: Eq + Hash + Drop, T: BuildHasher>(
 ) -> Result<(), ReadError>
     requires { IsView K.shape key }
     ensures { MatchResult result
-        (λ _. InsertsKey A.eq (K.stands (bytes_of key.entry) (place_of key.entry)) set.old set.new)
-        (key_refuses K.refuses (bytes_of key.entry) (place_of key.entry)) }
+        (λ _. InsertsKey A.eq (K.stands (bytes_of key.entry) (pos_of key.entry)) set.old set.new)
+        (key_refuses K.refuses (bytes_of key.entry) (pos_of key.entry)) }
 {
     let read = K::deserialize(alloc, key)?;
     match set.insert(read) {
@@ -140,8 +140,8 @@ impl<'a, K: Element, H, W: Width> ArchivedHashSet<'a, K, H, W> {
         K: Deserialize<A>,
         requires set { IsSet W.word K.shape self }
         ensures { let stands = StdSetStands K.shape K.stands W.word A.eq in MatchResult result
-            (ReadsStdSet stands (set_bytes self.entry) (set_place self.entry) state)
-            (std_set_refuses W.word K.shape K.refuses (set_bytes self.entry) (set_place self.entry)) }
+            (ReadsStdSet stands (set_bytes self.entry) (set_pos self.entry) state)
+            (std_set_refuses W.word K.shape K.refuses (set_bytes self.entry) (set_pos self.entry)) }
     {
         let mut set = HashSet::with_hasher(alloc, state);
         for key in self.iter() {
@@ -162,7 +162,7 @@ impl<'a, K: KeyElement, H: KeyHasher, W: Width> ArchivedHashSet<'a, K, H, W> {
         K: StandsFor<A>,
         requires set { IsSet W.word K.shape self }
         ensures { let hash = hash_of H.initial H.feed H.finish A.calls in
-            IsTrue result ↔ StdSetEquals W.word K.shape hash A.fits (set_bytes self.entry) (set_place self.entry) other.now }
+            IsTrue result ↔ StdSetEquals W.word K.shape hash A.fits (set_bytes self.entry) (set_pos self.entry) other.now }
     {
         if self.len() != other.len() {
             return false;
@@ -224,7 +224,7 @@ impl<
 > EqArchived<ArchivedHashSet<'a, K, H, W>> for HashSet<A, T> {
     ghost can_compare = { IsSet W.word K.shape };
 
-    ghost equals_archived = { λ other s. StdSetEquals W.word K.shape (hash_of H.initial H.feed H.finish A.calls) A.fits (set_bytes other) (set_place other) s };
+    ghost equals_archived = { λ other s. StdSetEquals W.word K.shape (hash_of H.initial H.feed H.finish A.calls) A.fits (set_bytes other) (set_pos other) s };
 
     #[inline]
     fn eq_archived(&self, other: ArchivedHashSet<'a, K, H, W>) -> bool {

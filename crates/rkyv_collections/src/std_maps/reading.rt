@@ -3,8 +3,8 @@
 ghost use Rattle.std.specs.Prelude.{MatchResult, ◌+◌};
 ghost use Rattle.rkyv_base.specs.Entry.{value_offset};
 ghost use Rattle.rkyv_base.specs.Pairs.{PairStands};
-ghost use Rattle.rkyv_base.specs.View.{IsAt, IsView, StandsAt, archive_of, bytes_of, place_of};
-ghost use Rattle.rkyv_collections.specs.Map.{IsMap, map_bytes, map_place, map_shape};
+ghost use Rattle.rkyv_base.specs.View.{IsAt, IsView, StandsAt, archive_of, bytes_of, pos_of};
+ghost use Rattle.rkyv_collections.specs.Map.{IsMap, map_bytes, map_pos, map_shape};
 ghost use Rattle.rkyv_collections.specs.StdMap.{InsertsPair, ReadsStdMap, StdMapStands, insert_refuses, std_map_refuses};
 
 use crate::map::{ArchivedHashMap, HashMapOf};
@@ -28,10 +28,10 @@ fn insert_read<K: Deserialize<A>, V: Deserialize<B>, A: Eq + Hash + Drop, B: Dro
 ) -> Result<(), ReadError>
     requires key { IsView K.shape key }
     requires value { IsView V.shape value }
-    requires pair { IsAt value (archive_of key) (place_of key + value_offset K.shape V.shape) }
-    ensures { let stands = PairStands K.shape V.shape K.stands V.stands (bytes_of key.entry) (place_of key.entry) in MatchResult result
+    requires pair { IsAt value (archive_of key) (pos_of key + value_offset K.shape V.shape) }
+    ensures { let stands = PairStands K.shape V.shape K.stands V.stands (bytes_of key.entry) (pos_of key.entry) in MatchResult result
         (λ _. InsertsPair A.eq stands map.old map.new)
-        (insert_refuses K.shape V.shape K.refuses V.refuses (bytes_of key.entry) (place_of key.entry)) }
+        (insert_refuses K.shape V.shape K.refuses V.refuses (bytes_of key.entry) (pos_of key.entry)) }
 {
     let read = K::deserialize(alloc, key)?;
     let mapped = V::deserialize(alloc, value)?;
@@ -57,8 +57,8 @@ impl<'a, K: Element, V: Element, H, W: Width> ArchivedHashMap<'a, K, V, H, W> {
         V: Deserialize<B>,
         requires map { IsMap W.word K.shape V.shape self }
         ensures { let stands = StdMapStands K.shape V.shape K.stands V.stands W.word A.eq in MatchResult result
-            (ReadsStdMap stands (map_bytes self.entry) (map_place self.entry) state)
-            (std_map_refuses W.word K.shape V.shape K.refuses V.refuses (map_bytes self.entry) (map_place self.entry)) }
+            (ReadsStdMap stands (map_bytes self.entry) (map_pos self.entry) state)
+            (std_map_refuses W.word K.shape V.shape K.refuses V.refuses (map_bytes self.entry) (map_pos self.entry)) }
     {
         let mut map = HashMap::with_hasher(alloc, state);
         for (key, value) in self.iter() {

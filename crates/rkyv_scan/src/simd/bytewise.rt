@@ -2,7 +2,7 @@
 ghost use Rattle.std.specs.Prelude.{◌≡◌, ℕ, Bool, false, slice_index_or};
 ghost use Rattle.std.specs.Iterator.{YieldsFirst, item_count};
 ghost use Rattle.rkyv_scan.specs.Groups.{flag_places, bytewise_kind, IsFirstFlag};
-ghost use Rattle.rkyv_scan.specs.KindLaws.{equal_lawful};
+ghost use Rattle.rkyv_scan.specs.Lemmas.KindLaws.{equal_lawful};
 ghost use Rattle.std.proofs.Common.{refl, arith};
 
 use crate::simd::{GroupKind, Marks};

@@ -3,7 +3,7 @@ ghost use Rattle.std.specs.Prelude.{◌≡◌, ℕ, ◌*◌, bit_and};
 ghost use Rattle.std.specs.Iterator.{YieldsFirst, item_count};
 ghost use Rattle.std.specs.Int.{w64, to_le_bytes};
 ghost use Rattle.rkyv_scan.specs.Groups.{mask_places, generic_kind};
-ghost use Rattle.rkyv_scan.specs.KindLaws.{word_lawful};
+ghost use Rattle.rkyv_scan.specs.Lemmas.KindLaws.{word_lawful};
 ghost use Rattle.std.proofs.Common.{refl, arith};
 
 use crate::simd::{GroupKind, Marks};

@@ -3,7 +3,7 @@ ghost use Rattle.std.specs.Prelude.{◌≡◌, ℕ, ◌+◌, ◌*◌, ◌%◌, �
 ghost use Rattle.std.specs.Int.{bit_at};
 ghost use Rattle.rkyv_scan.specs.Groups.{places_where, mask_places};
 ghost use Rattle.rkyv_scan.specs.Halves.{halves_kind, halves_lawful, is_half_match_at};
-ghost use Rattle.rkyv_scan.specs.HalfBits.{bits_after, chain};
+ghost use Rattle.rkyv_scan.specs.Lemmas.HalfBits.{bits_after, chain};
 ghost use Rattle.std.proofs.Common.{refl};
 
 use crate::simd::GroupKind;

@@ -2,8 +2,8 @@
 ghost use Rattle.std.specs.Prelude.{◌≡◌, ℕ, length};
 ghost use Rattle.std.specs.Iterator.{YieldsFirst, item_count};
 ghost use Rattle.rkyv_scan.specs.Groups.{mask_places, lanes_kind};
-ghost use Rattle.rkyv_scan.specs.KindLaws.{equal_lawful};
-ghost use Rattle.rkyv_scan.specs.HalfBits.{TellsEqual};
+ghost use Rattle.rkyv_scan.specs.Lemmas.KindLaws.{equal_lawful};
+ghost use Rattle.rkyv_scan.specs.Lemmas.HalfBits.{TellsEqual};
 ghost use Rattle.std.proofs.Common.{refl, arith};
 
 use crate::simd::{GroupKind, Marks};

@@ -1,11 +1,11 @@
 //! Finding an item by the controls.
 ghost use Rattle.std.specs.Prelude.{Bool, IfSome, List, drop, length, map, slice_index, take, ℕ, ◌%◌, ◌*◌, ◌+◌, ◌/◌, ◌<◌, ◌^◌, ◌≡◌, ◌≤◌};
 ghost use Rattle.std.specs.List.{find};
-ghost use Rattle.rkyv_table.specs.Controls.{IsFullBucket};
-ghost use Rattle.rkyv_table.specs.Finding.{AnswersAs, ReadsWithin, end, found};
-ghost use Rattle.rkyv_table.specs.Numbers.{probe_capacity};
-ghost use Rattle.rkyv_table.specs.Placing.{Accepted};
-ghost use Rattle.rkyv_table.specs.Seen.{IsMarked, IsSeen, IsShown, IsShownIfAccepted};
+ghost use Rattle.rkyv_table.specs.Controls.Shown.{IsFullBucket};
+ghost use Rattle.rkyv_table.specs.Controls.Finding.{AnswersAs, ReadsWithin, end, found};
+ghost use Rattle.rkyv_table.specs.Controls.Numbers.{probe_capacity};
+ghost use Rattle.rkyv_table.specs.Controls.Placing.{Accepted};
+ghost use Rattle.rkyv_table.specs.Controls.Seen.{IsMarked, IsSeen, IsShown, IsShownIfAccepted};
 
 use crate::controls::numbers::{bucket_of, tag};
 use crate::controls::probe::Probe;

@@ -1,5 +1,5 @@
 //! Laws of the probe sequence and of written controls, over their definitions alone.
-ghost use Rattle.rkyv_table.specs.Laws.{BucketsAreShown, FoundOnWritten, HomesAreOneList, HomesExist, MarkedAreWalked, SearchIsBounded, StridesCover, WalkedAreFull, WrittenAreAccepted, WrittenAreOneList};
+ghost use Rattle.rkyv_table.specs.Controls.Laws.{BucketsAreShown, FoundOnWritten, HomesAreOneList, HomesExist, MarkedAreWalked, SearchIsBounded, StridesCover, WalkedAreFull, WrittenAreAccepted, WrittenAreOneList};
 
 /// The strides of a hash begin at each place below the probe capacity that is the start modulo
 /// 16, once each.

@@ -1,7 +1,7 @@
 //! The numbers of a table: how many buckets and control bytes it has, and the tag of a hash.
 ghost use Rattle.std.specs.Prelude.{◌≡◌, ◌%◌, ◌*◌, ◌+◌, ◌<◌, ◌^◌, ◌≤◌};
-ghost use Rattle.rkyv_table.specs.Capacity.{IsCapacity};
-ghost use Rattle.rkyv_table.specs.Numbers.{control_count, modulus, probe_capacity, tag};
+ghost use Rattle.rkyv_table.specs.Controls.Capacity.{IsCapacity};
+ghost use Rattle.rkyv_table.specs.Controls.Numbers.{control_count, modulus, probe_capacity, tag};
 
 /// Why a table can't have the capacity that is asked for.
 #[derive(Debug, Clone, Copy, PartialEq, Eq)]

@@ -1,10 +1,10 @@
 //! Placing items.
 ghost use Rattle.std.specs.Prelude.{IfErr, IfOk, IsOk, Some, [], length, ◌+◌, ◌<◌, ◌≡◌, ◌≤◌};
 ghost use Rattle.std.specs.List.{find};
-ghost use Rattle.rkyv_table.specs.Controls.{HasRoom, empty_place, fresh_controls, is_empty_at, with_control};
-ghost use Rattle.rkyv_table.specs.Numbers.{tag};
-ghost use Rattle.rkyv_table.specs.Placing.{Repeats, Written};
-ghost use Rattle.rkyv_table.specs.Probe.{shown};
+ghost use Rattle.rkyv_table.specs.Controls.Shown.{HasRoom, empty_place, fresh_controls, is_empty_at, with_control};
+ghost use Rattle.rkyv_table.specs.Controls.Numbers.{tag};
+ghost use Rattle.rkyv_table.specs.Controls.Placing.{Repeats, Written};
+ghost use Rattle.rkyv_table.specs.Controls.Probe.{shown};
 
 use crate::controls::numbers::{bucket_of, tag};
 use crate::controls::probe::Probe;

@@ -1,8 +1,8 @@
 //! The probe sequence of a hash.
 ghost use Rattle.std.specs.Prelude.{List, ℕ, ◌<◌, ◌^◌, ◌≡◌, ◌≤◌};
 ghost use Rattle.std.specs.Iterator.{YieldsFirst, item_count};
-ghost use Rattle.rkyv_table.specs.Numbers.{control_count};
-ghost use Rattle.rkyv_table.specs.Probe.{IsProbe, strides, strides_from};
+ghost use Rattle.rkyv_table.specs.Controls.Numbers.{control_count};
+ghost use Rattle.rkyv_table.specs.Controls.Probe.{IsProbe, strides, strides_from};
 
 use crate::controls::numbers;
 use std::marker::Model;

@@ -1,8 +1,8 @@
 //! Checking that the first controls are repeated behind the buckets.
 ghost use Rattle.std.specs.Prelude.{IfErr, IfOk, IsTrue, length, ◌+◌, ◌<◌, ◌*◌, ◌≡◌, ◌≤◌, ◌↔◌};
-ghost use Rattle.rkyv_table.specs.Numbers.{control_count};
-ghost use Rattle.rkyv_table.specs.Placing.{Repeats};
-ghost use Rattle.rkyv_table.specs.Repeating.{FirstUnlike, RepeatsAt};
+ghost use Rattle.rkyv_table.specs.Controls.Numbers.{control_count};
+ghost use Rattle.rkyv_table.specs.Controls.Placing.{Repeats};
+ghost use Rattle.rkyv_table.specs.Controls.Repeating.{FirstUnlike, RepeatsAt};
 
 // Whether the control at a place from `cap` on is as it must be.
 #[inline]

@@ -1,9 +1,9 @@
 //! Walking the full buckets, a group at a time.
 ghost use Rattle.std.specs.Prelude.{List, [], length, ℕ, ◌<◌, ◌≡◌, ◌≤◌};
 ghost use Rattle.std.specs.Iterator.{YieldsFirst, item_count};
-ghost use Rattle.rkyv_table.specs.Numbers.{control_count};
-ghost use Rattle.rkyv_table.specs.Placing.{walk};
-ghost use Rattle.rkyv_table.specs.Walking.{IsWalk, left};
+ghost use Rattle.rkyv_table.specs.Controls.Numbers.{control_count};
+ghost use Rattle.rkyv_table.specs.Controls.Placing.{walk};
+ghost use Rattle.rkyv_table.specs.Controls.Walking.{IsWalk, left};
 
 use rkyv_scan::simd::{GroupKind, MAX_GROUP_WIDTH, Marks};
 use std::marker::Model;

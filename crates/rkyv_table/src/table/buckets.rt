@@ -3,7 +3,7 @@
 ghost use Rattle.std.specs.Prelude.{◌≡◌, ◌+◌, ◌<◌, ◌≤◌, ◌^◌, IfSome, MatchResult, length};
 ghost use Rattle.rkyv_base.specs.Pairs.{written_as};
 ghost use Rattle.rkyv_base.specs.Writing.{Told, end_of};
-ghost use Rattle.rkyv_table.specs.Slots.{BucketNext, Filled, TooFar, WroteBuckets, filled};
+ghost use Rattle.rkyv_table.specs.Table.Slots.{BucketNext, Filled, TooFar, WroteBuckets, filled};
 
 use rkyv_base::archive::Archive;
 use rkyv_base::element::Element;

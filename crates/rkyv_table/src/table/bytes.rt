@@ -3,7 +3,7 @@
 ghost use Rattle.std.specs.Prelude.{◌≡◌, ◌≤◌, [], MatchResult, length, vec_capacity, List, ℕ};
 ghost use Rattle.rkyv_base.specs.Pairs.{written_as};
 ghost use Rattle.rkyv_base.specs.Writing.{Appended, Told, end_of};
-ghost use Rattle.rkyv_table.specs.Slots.{TableBytes, TableNext, filled};
+ghost use Rattle.rkyv_table.specs.Table.Slots.{TableBytes, TableNext, filled};
 
 use crate::table::buckets::write_buckets;
 use crate::table::parts::serialize_slots;

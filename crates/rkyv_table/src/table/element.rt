@@ -1,6 +1,6 @@
 //! The header of a table as an element.
-ghost use Rattle.rkyv_table.specs.Table.{table_shape};
-ghost use Rattle.rkyv_table.specs.TableLaws.{table_element};
+ghost use Rattle.rkyv_table.specs.Table.Layout.{table_shape};
+ghost use Rattle.rkyv_table.specs.Lemmas.TableLaws.{table_element};
 
 use crate::table::{ArchivedHashTable, TableOf};
 use rkyv_base::element::{Element, PartRange};

@@ -2,9 +2,9 @@
 
 ghost use Rattle.std.specs.Prelude.{◌≡◌, ℕ, ◌<◌, List, [], MatchResult, None, replicate, length};
 ghost use Rattle.std.specs.Iterator.{Drains};
-ghost use Rattle.rkyv_table.specs.Controls.{fresh_controls};
-ghost use Rattle.rkyv_table.specs.Counting.{GaveBoth, GaveOther, Uneven};
-ghost use Rattle.rkyv_table.specs.Taking.{Placed};
+ghost use Rattle.rkyv_table.specs.Controls.Shown.{fresh_controls};
+ghost use Rattle.rkyv_table.specs.Table.Counting.{GaveBoth, GaveOther, Uneven};
+ghost use Rattle.rkyv_table.specs.Table.Taking.{Placed};
 
 use crate::table::take::{take_none, take_pairs};
 use crate::table::take_two::take_two;

@@ -2,9 +2,9 @@
 ghost use Rattle.std.specs.Prelude.{length, pos as int, slice_range, unsigned_abs, ℕ, ◌*◌, ◌+ℤ◌, ◌+◌, ◌-ℤ◌, ◌<◌, ◌^◌, ◌≡◌, ◌≤◌};
 ghost use Rattle.std.specs.Int.{byte_len};
 ghost use Rattle.rkyv_base.specs.Bytes.{signed_at};
-ghost use Rattle.rkyv_table.specs.Header.{cap_at, len_at};
-ghost use Rattle.rkyv_table.specs.Numbers.{control_count};
-ghost use Rattle.rkyv_table.specs.Table.{bucket_at, part_size};
+ghost use Rattle.rkyv_table.specs.Table.Header.{cap_at, len_at};
+ghost use Rattle.rkyv_table.specs.Controls.Numbers.{control_count};
+ghost use Rattle.rkyv_table.specs.Table.Layout.{bucket_at, part_size};
 
 use crate::controls::numbers::control_count;
 use rkyv_base::width::Width;
@@ -74,7 +74,7 @@ pub(crate) fn bucket_position(begin: u64, cap: usize, bucket: usize, size: usize
 
 /// Where the first control stands, of a header at `pos` of a table with buckets.
 #[inline]
-pub(crate) fn controls_place(pos: u64, header: Header) -> usize
+pub(crate) fn controls_pos(pos: u64, header: Header) -> usize
     requires { (place : ℕ) × (int place ≡ int pos +ℤ header.distance) × (place < 2 ^ 64) }
     ensures { result ≡ unsigned_abs (int pos +ℤ header.distance) }
 {

@@ -1,12 +1,12 @@
 //! The items of a table whose header was read, and finding one of them.
 ghost use Rattle.std.specs.Prelude.{◌≡◌};
-ghost use Rattle.rkyv_table.specs.Header.{cap_at};
-ghost use Rattle.rkyv_table.specs.Placing.{walk};
-ghost use Rattle.rkyv_table.specs.Reading.{AreItems, IsItemIn, IsTable, IsWalked, table_bytes, table_controls, table_place};
+ghost use Rattle.rkyv_table.specs.Table.Header.{cap_at};
+ghost use Rattle.rkyv_table.specs.Controls.Placing.{walk};
+ghost use Rattle.rkyv_table.specs.Table.Reading.{AreItems, IsItemIn, IsTable, IsWalked, table_bytes, table_controls, table_pos};
 
 use crate::controls::walk::Walk;
 use crate::table::ArchivedHashTable;
-use crate::table::header::{controls_from, controls_place, read_header};
+use crate::table::header::{controls_from, controls_pos, read_header};
 use rkyv_base::element::Element;
 use rkyv_base::view::View;
 use rkyv_base::width::Width;
@@ -52,7 +52,7 @@ impl<'a, T: Element, W: Width> Items<'a, T, W> {
                 cap,
             };
         }
-        let place = controls_place(pos, header);
+        let place = controls_pos(pos, header);
         Items {
             table,
             place,
@@ -66,7 +66,7 @@ impl<'a, T: Element, W: Width> Items<'a, T, W> {
     #[inline]
     pub(crate) fn item(self, bucket: usize) -> View<'a, T>
         requires items { AreItems W.word T.shape self }
-        requires walked { IsWalked W.word (table_bytes self.table) (table_place self.table) bucket }
+        requires walked { IsWalked W.word (table_bytes self.table) (table_pos self.table) bucket }
         ensures { IsItemIn W.word T.shape self.entry.table bucket result }
     {
         let place = self.place - (bucket + 1) * T::size();
@@ -78,8 +78,8 @@ impl<'a, T: Element, W: Width> Items<'a, T, W> {
     pub(crate) fn walk<G: GroupKind>(self) -> Walk<'a, G>
         requires { AreItems W.word T.shape self }
         ensures { result ≡ walk
-            (table_controls W.word (table_bytes self.entry.table) (table_place self.entry.table))
-            (cap_at W.word (table_bytes self.entry.table) (table_place self.entry.table)) }
+            (table_controls W.word (table_bytes self.entry.table) (table_pos self.entry.table))
+            (cap_at W.word (table_bytes self.entry.table) (table_pos self.entry.table)) }
     {
         if self.cap == 0 {
             return Walk::empty();

@@ -1,7 +1,7 @@
 //! Finding an item.
 ghost use Rattle.std.specs.Prelude.{IfSome, ◌≡◌, ◌≤◌, ◌^◌};
 ghost use Rattle.rkyv_scan.specs.Groups.{generic_kind};
-ghost use Rattle.rkyv_table.specs.Reading.{AreItems, CountsEnd, CountsWithin, FindsBucket, FindsFirst, FindsFound, IsItem, IsItemIn, IsItemPlace, IsTable, IsWalked, MayAsk, bucket_of_found, place_of_found, table_bytes, table_place};
+ghost use Rattle.rkyv_table.specs.Table.Reading.{AreItems, CountsEnd, CountsWithin, FindsBucket, FindsFirst, FindsFound, IsItem, IsItemIn, IsItemPos, IsTable, IsWalked, MayAsk, bucket_of_found, pos_of_found, table_bytes, table_pos};
 ghost use Rattle.rkyv_base.specs.View.{IsView};
 
 use crate::controls::find::{Strides, find};
@@ -40,7 +40,7 @@ impl<'a, T: Element, W: Width> ArchivedHashTable<'a, T, W> {
             hash,
             |bucket|
                 requires items { AreItems W.word T.shape items }
-                requires walked { IsWalked W.word (table_bytes items.table) (table_place items.table) bucket }
+                requires walked { IsWalked W.word (table_bytes items.table) (table_pos items.table) bucket }
                 requires callable { MayAsk (F.pre cmp) W.word T.shape items.table }
                 ensures { (v : View T) × IsItemIn W.word T.shape items.entry.table bucket v × F.post cmp v result }
             { cmp(items.item(bucket)) },
@@ -66,8 +66,8 @@ impl<'a, T: Element, W: Width> ArchivedHashTable<'a, T, W> {
         requires table { IsTable W.word T.shape self }
         requires callable { MayAsk (F.pre cmp) W.word T.shape self }
         ensures walked { IfSome result (IsItem W.word T.shape self.entry) }
-        ensures answer { FindsFound (F.post cmp) generic_kind W.word T.shape self.entry hash (place_of_found result) }
-        ensures first { FindsFirst (F.post cmp) W.word T.shape self.entry hash (place_of_found result) }
+        ensures answer { FindsFound (F.post cmp) generic_kind W.word T.shape self.entry hash (pos_of_found result) }
+        ensures first { FindsFirst (F.post cmp) W.word T.shape self.entry hash (pos_of_found result) }
     {
         self.get_by::<Group, F>(hash, cmp)
     }
@@ -82,8 +82,8 @@ impl<'a, T: Element, W: Width> ArchivedHashTable<'a, T, W> {
         requires table { IsTable W.word T.shape self }
         requires callable { MayAsk (F.pre cmp) W.word T.shape self }
         ensures walked { IfSome result (IsItem W.word T.shape self.entry) }
-        ensures answer { FindsFound (F.post cmp) G.kind W.word T.shape self.entry hash (place_of_found result) }
-        ensures first { FindsFirst (F.post cmp) W.word T.shape self.entry hash (place_of_found result) }
+        ensures answer { FindsFound (F.post cmp) G.kind W.word T.shape self.entry hash (pos_of_found result) }
+        ensures first { FindsFirst (F.post cmp) W.word T.shape self.entry hash (pos_of_found result) }
     {
         match self.find::<G, F>(hash, cmp, &mut Strides::new()) {
             Some(found) => Some(found.item),
@@ -96,7 +96,7 @@ impl<'a, T: Element, W: Width> ArchivedHashTable<'a, T, W> {
     pub fn get_pos_with<F: Fn(View<'a, T>) -> bool>(self, hash: u64, cmp: F) -> Option<u64>
         requires table { IsTable W.word T.shape self }
         requires callable { MayAsk (F.pre cmp) W.word T.shape self }
-        ensures walked { IfSome result (IsItemPlace W.word T.shape self.entry) }
+        ensures walked { IfSome result (IsItemPos W.word T.shape self.entry) }
         ensures answer { FindsFound (F.post cmp) generic_kind W.word T.shape self.entry hash result }
         ensures first { FindsFirst (F.post cmp) W.word T.shape self.entry hash result }
     {
@@ -121,8 +121,8 @@ impl<'a, T: Element, W: Width> ArchivedHashTable<'a, T, W> {
         requires room { strides.old ≤ 2 ^ 63 }
         requires callable { MayAsk (F.pre cmp) W.word T.shape self }
         ensures walked { IfSome result (IsItem W.word T.shape self.entry) }
-        ensures answer { FindsFound (F.post cmp) generic_kind W.word T.shape self.entry hash (place_of_found result) }
-        ensures first { FindsFirst (F.post cmp) W.word T.shape self.entry hash (place_of_found result) }
+        ensures answer { FindsFound (F.post cmp) generic_kind W.word T.shape self.entry hash (pos_of_found result) }
+        ensures first { FindsFirst (F.post cmp) W.word T.shape self.entry hash (pos_of_found result) }
         ensures bounded { CountsWithin W.word self.entry strides.old strides.new }
         ensures counted { CountsEnd (F.post cmp) generic_kind W.word T.shape self.entry hash strides.old strides.new }
     {

@@ -1,9 +1,9 @@
 //! Counting the items that a lookup of their own doesn't answer.
 ghost use Rattle.std.specs.Prelude.{not, ◌≡◌};
 ghost use Rattle.rkyv_scan.specs.Groups.{generic_kind};
-ghost use Rattle.rkyv_table.specs.Misplaced.{is_answer, NoneMisplacedIsComplete, RepeatedAreMisplaced};
-ghost use Rattle.rkyv_table.specs.MisplacedIn.{AnswersOf, CountsMisplaced, FindsOwn, MayCompare};
-ghost use Rattle.rkyv_table.specs.Reading.{AreItems, IsTable, IsWalked, MayAsk, table_bytes, table_place};
+ghost use Rattle.rkyv_table.specs.Table.Misplaced.{is_answer, NoneMisplacedIsComplete, RepeatedAreMisplaced};
+ghost use Rattle.rkyv_table.specs.Table.MisplacedIn.{AnswersOf, CountsMisplaced, FindsOwn, MayCompare};
+ghost use Rattle.rkyv_table.specs.Table.Reading.{AreItems, IsTable, IsWalked, MayAsk, table_bytes, table_pos};
 
 use crate::controls::find::{Strides, find};
 use crate::table::ArchivedHashTable;
@@ -34,7 +34,7 @@ impl<'a, T: Element, W: Width> ArchivedHashTable<'a, T, W> {
         same: &S,
     ) -> Option<usize>
         requires items { AreItems W.word T.shape items }
-        requires walked { IsWalked W.word (table_bytes items.table) (table_place items.table) bucket }
+        requires walked { IsWalked W.word (table_bytes items.table) (table_pos items.table) bucket }
         requires comparable { MayCompare (S.pre same.now) W.word T.shape items.table }
         ensures { FindsOwn (S.post same.now) generic_kind W.word T.shape items.entry.table hash bucket result }
     {
@@ -45,8 +45,8 @@ impl<'a, T: Element, W: Width> ArchivedHashTable<'a, T, W> {
             hash,
             |other|
                 requires items { AreItems W.word T.shape items }
-                requires walked { IsWalked W.word (table_bytes items.table) (table_place items.table) bucket }
-                requires other { IsWalked W.word (table_bytes items.table) (table_place items.table) other }
+                requires walked { IsWalked W.word (table_bytes items.table) (table_pos items.table) bucket }
+                requires other { IsWalked W.word (table_bytes items.table) (table_pos items.table) other }
                 requires comparable { MayCompare (S.pre same.now) W.word T.shape items.table }
                 ensures { AnswersOf (S.post same.entry.now) W.word T.shape items.entry.table bucket other result }
             { same(items.item(bucket), items.item(other)) },

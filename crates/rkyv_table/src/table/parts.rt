@@ -3,7 +3,7 @@
 ghost use Rattle.std.specs.Prelude.{◌≡◌, ◌≤◌, [], MatchResult, vec_capacity, List, ℕ};
 ghost use Rattle.rkyv_base.specs.Pairs.{written_as};
 ghost use Rattle.rkyv_base.specs.Writing.{Appends, Told, Within, end_of};
-ghost use Rattle.rkyv_table.specs.Slots.{PartsNext, SlotParts, filled};
+ghost use Rattle.rkyv_table.specs.Table.Slots.{PartsNext, SlotParts, filled};
 
 use rkyv_base::archive::Serialize;
 use rkyv_base::errors::WriteError;

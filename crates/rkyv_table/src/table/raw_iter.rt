@@ -3,10 +3,10 @@ ghost use Rattle.std.specs.Prelude.{[], IfSome, MatchOption, Some, length, slice
 ghost use Rattle.rkyv_scan.specs.Groups.{is_full, mask_places, places_where};
 ghost use Rattle.std.specs.Iterator.{UpTo, at_most};
 ghost use Rattle.std.specs.Iterator.SizeHint.{IsWithinCount};
-ghost use Rattle.rkyv_base.specs.View.{IsAt, IsView, archive_of, place_of};
-ghost use Rattle.rkyv_table.specs.Header.{len_at};
-ghost use Rattle.rkyv_table.specs.RawItems.{AllStand, TakesPlace};
-ghost use Rattle.rkyv_table.specs.Reading.{IsTable, item_places, table_bytes, table_place};
+ghost use Rattle.rkyv_base.specs.View.{IsAt, IsView, archive_of, pos_of};
+ghost use Rattle.rkyv_table.specs.Table.Header.{len_at};
+ghost use Rattle.rkyv_table.specs.Table.RawItems.{AllStand, TakesPos};
+ghost use Rattle.rkyv_table.specs.Table.Reading.{IsTable, item_positions, table_bytes, table_pos};
 
 use crate::table::ArchivedHashTable;
 use crate::table::items::Items;
@@ -38,7 +38,7 @@ pub struct RawIter<'a, T> {
 
 impl<'a, T> Model for RawIter<'a, T> {
     ghost use Rattle.rkyv_scan.specs.Groups.{mask_places};
-    ghost use Rattle.rkyv_table.specs.RawItems.{IsRawIter, ItemsLeft, places_left};
+    ghost use Rattle.rkyv_table.specs.Table.RawItems.{IsRawIter, ItemsLeft, places_left};
 
     ghost Value = { ItemsLeft };
 
@@ -89,7 +89,7 @@ impl<'a, T: Element> RawIter<'a, T> {
         ensures archive { self.new.archive ≡ self.old.archive }
         ensures takes { MatchOption result
             ((self.old.places ≡ []) × (self.new.places ≡ []))
-            (λ v. (self.old.places ≡ place_of v ∷ self.new.places) × (archive_of v ≡ self.old.archive)) }
+            (λ v. (self.old.places ≡ pos_of v ∷ self.new.places) × (archive_of v ≡ self.old.archive)) }
         ensures viewed { IfSome result (IsView T.shape) }
         ensures stand { AllStand T.shape self.new }
     {
@@ -101,7 +101,7 @@ impl<'a, T: Element> RawIter<'a, T> {
 impl<'a, T> Iterator for RawIter<'a, T> {
     type Item = u64;
 
-    ghost next_gives = { TakesPlace };
+    ghost next_gives = { TakesPos };
 
     ghost remaining = { λ left. at_most (length left.places) };
 
@@ -143,8 +143,8 @@ impl<'a, T: Element, W: Width> ArchivedHashTable<'a, T, W> {
     pub fn raw_iter(self) -> RawIter<'a, T>
         requires { IsTable W.word T.shape self }
         ensures archive { result.archive ≡ archive_of self.entry.view }
-        ensures places { result.places ≡ item_places W.word T.shape.size (table_bytes self.entry) (table_place self.entry) }
-        ensures count { length result.places ≡ len_at W.word (table_bytes self.entry) (table_place self.entry) }
+        ensures places { result.places ≡ item_positions W.word T.shape.size (table_bytes self.entry) (table_pos self.entry) }
+        ensures count { length result.places ≡ len_at W.word (table_bytes self.entry) (table_pos self.entry) }
         ensures stand { AllStand T.shape result }
     {
         let items = Items::of(self);

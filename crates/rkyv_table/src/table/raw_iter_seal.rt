@@ -2,17 +2,17 @@
 ghost use Rattle.std.specs.Prelude.{IfSome, MatchOption, [], length, slice_index, slice_range, ◌*◌, ◌+◌, ◌-◌, ◌<◌, ◌∷◌, ◌≡◌, ◌≤◌};
 ghost use Rattle.std.specs.Int.{byte_len};
 ghost use Rattle.rkyv_base.specs.Scalar.{scalar_shape};
-ghost use Rattle.rkyv_base.specs.Seal.{LiesIn, SealStays, archive_in, bytes_in, place_in, pos_in};
+ghost use Rattle.rkyv_base.specs.Seal.{LiesIn, SealStays, archive_in, bytes_in, seal_pos, pos_in};
 ghost use Rattle.rkyv_base.specs.Sealing.{Keeps, Sealed, with_value};
-ghost use Rattle.rkyv_table.specs.Header.{cap_at, len_at};
-ghost use Rattle.rkyv_table.specs.Placing.{walk};
-ghost use Rattle.rkyv_table.specs.Reading.{table_controls};
-ghost use Rattle.rkyv_table.specs.SealedItems.{CountsDown, FindsFirstLeft, IsSealIter, KeepsCursor, LendsArchive, LendsFirst, MaySeal, MaySealNext, MayWriteAt, MayWriteNext, SameArchive, SealedBy, StaysThere, StepsAndWrites, TakesPosition, WrittenBy, buckets_left, cursor_bytes, items_left};
-ghost use Rattle.rkyv_table.specs.RawItems.{place_before};
-ghost use Rattle.rkyv_table.specs.SealedLookup.{IsTableSeal};
+ghost use Rattle.rkyv_table.specs.Table.Header.{cap_at, len_at};
+ghost use Rattle.rkyv_table.specs.Controls.Placing.{walk};
+ghost use Rattle.rkyv_table.specs.Table.Reading.{table_controls};
+ghost use Rattle.rkyv_table.specs.Table.SealedItems.{CountsDown, FindsFirstLeft, IsSealIter, KeepsCursor, LendsArchive, LendsFirst, MaySeal, MaySealNext, MayWriteAt, MayWriteNext, SameArchive, SealedBy, StaysThere, StepsAndWrites, TakesPosition, WrittenBy, buckets_left, cursor_bytes, items_left};
+ghost use Rattle.rkyv_table.specs.Table.RawItems.{pos_before};
+ghost use Rattle.rkyv_table.specs.Table.SealedLookup.{IsTableSeal};
 ghost use Rattle.rkyv_base.specs.Shape.{Viewed};
-ghost use Rattle.rkyv_table.specs.Table.{table_shape};
-ghost use Rattle.rkyv_table.specs.Walking.{full_from};
+ghost use Rattle.rkyv_table.specs.Table.Layout.{table_shape};
+ghost use Rattle.rkyv_table.specs.Controls.Walking.{full_from};
 
 use crate::table::items::Items;
 use crate::table::{ArchivedHashTable, TableOf};
@@ -52,10 +52,10 @@ fn part(bytes: &[u8], place: usize, count: usize) -> Option<&[u8]>
 
 /// Where a bucket stands before the first control, where there is room for it.
 #[inline]
-fn place_before(place: usize, bucket: usize, size: usize) -> Option<usize>
+fn pos_before(place: usize, bucket: usize, size: usize) -> Option<usize>
     requires { size ≤ 1073741824 }
     ensures { MatchOption result (place < (bucket + 1) * size)
-        (λ q. ((bucket + 1) * size ≤ place) × (q ≡ place_before place size bucket)) }
+        (λ q. ((bucket + 1) * size ≤ place) × (q ≡ pos_before place size bucket)) }
 {
     let behind = (bucket as u128 + 1) * size as u128;
     if behind > place as u128 {
@@ -113,7 +113,7 @@ impl<'a, T: Element> RawIterSeal<'a, T> {
             },
             None => return None,
         };
-        match place_before(self.place, bucket, T::size()) {
+        match pos_before(self.place, bucket, T::size()) {
             Some(at) => Some(Place { bucket, at }),
             None => None,
         }
@@ -315,8 +315,8 @@ pub fn set_all_by_seals<N: Scalar, W: Width>(archive: &mut [u8], pos: u64, value
         rest.next_seal_with(|seal: &mut Seal<'_, N>|
             requires { LiesIn (scalar_shape N.encoding) seal.old }
             ensures stays { SealStays seal.old seal.new }
-            ensures sealed { Sealed (bytes_in seal.old) (place_in seal.old) (byte_len N.encoding.word) (bytes_in seal.new) }
-            ensures holds { Keeps (scalar_shape N.encoding) (bytes_in seal.old) (bytes_in seal.new) (place_in seal.old) }
+            ensures sealed { Sealed (bytes_in seal.old) (seal_pos seal.old) (byte_len N.encoding.word) (bytes_in seal.new) }
+            ensures holds { Keeps (scalar_shape N.encoding) (bytes_in seal.old) (bytes_in seal.new) (seal_pos seal.old) }
         {
             seal.set(value);
         });

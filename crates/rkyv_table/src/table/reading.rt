@@ -3,9 +3,9 @@ ghost use Rattle.std.specs.Prelude.{IsTrue, MatchResult, length, ◌%◌, ◌*�
 ghost use Rattle.std.specs.Int.{byte_len};
 ghost use Rattle.rkyv_base.specs.Checking.{Fails, Passes};
 ghost use Rattle.rkyv_base.specs.View.{IsView};
-ghost use Rattle.rkyv_table.specs.Header.{cap_at, len_at};
-ghost use Rattle.rkyv_table.specs.Reading.{IsTable, table_bytes, table_place};
-ghost use Rattle.rkyv_table.specs.Table.{table_shape};
+ghost use Rattle.rkyv_table.specs.Table.Header.{cap_at, len_at};
+ghost use Rattle.rkyv_table.specs.Table.Reading.{IsTable, table_bytes, table_pos};
+ghost use Rattle.rkyv_table.specs.Table.Layout.{table_shape};
 
 use crate::table::header::read_header;
 use crate::table::verify::verify_by;
@@ -53,7 +53,7 @@ impl<'a, T: Element, W: Width> ArchivedHashTable<'a, T, W> {
     #[inline]
     pub fn is_empty(self) -> bool
         requires { IsTable W.word T.shape self }
-        ensures { IsTrue result ↔ (len_at W.word (table_bytes self.entry) (table_place self.entry) ≡ 0) }
+        ensures { IsTrue result ↔ (len_at W.word (table_bytes self.entry) (table_pos self.entry) ≡ 0) }
     {
         self.len() == 0
     }
@@ -62,7 +62,7 @@ impl<'a, T: Element, W: Width> ArchivedHashTable<'a, T, W> {
     #[inline]
     pub fn len(self) -> usize
         requires { IsTable W.word T.shape self }
-        ensures { result ≡ len_at W.word (table_bytes self.entry) (table_place self.entry) }
+        ensures { result ≡ len_at W.word (table_bytes self.entry) (table_pos self.entry) }
     {
         read_header::<W>(self.view.bytes(), self.view.pos()).len as usize
     }
@@ -71,7 +71,7 @@ impl<'a, T: Element, W: Width> ArchivedHashTable<'a, T, W> {
     #[inline]
     pub fn capacity(self) -> usize
         requires { IsTable W.word T.shape self }
-        ensures { result ≡ cap_at W.word (table_bytes self.entry) (table_place self.entry) }
+        ensures { result ≡ cap_at W.word (table_bytes self.entry) (table_pos self.entry) }
     {
         read_header::<W>(self.view.bytes(), self.view.pos()).cap as usize
     }

@@ -2,9 +2,9 @@
 
 ghost use Rattle.std.specs.Prelude.{◌≡◌, ◌+◌, ◌<◌, ◌≤◌, ◌^◌, FitsSigned, MatchResult, length};
 ghost use mir.Val.{bits};
-ghost use Rattle.rkyv_table.specs.Header.{HeaderFar, IsHeader, header_bytes};
-ghost use Rattle.rkyv_table.specs.Numbers.{IsLoadFactor, capacity};
-ghost use Rattle.rkyv_table.specs.TableFormat.{TableResolver, resolved_capacity};
+ghost use Rattle.rkyv_table.specs.Table.Header.{HeaderFar, IsHeader, header_bytes};
+ghost use Rattle.rkyv_table.specs.Controls.Numbers.{IsLoadFactor, capacity};
+ghost use Rattle.rkyv_table.specs.Table.TableFormat.{TableResolver, resolved_capacity};
 
 use crate::controls::numbers::capacity;
 use crate::table::ArchivedHashTable;

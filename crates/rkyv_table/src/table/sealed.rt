@@ -3,11 +3,11 @@ ghost use Rattle.std.specs.Prelude.{IfSome, List, ℕ};
 ghost use Rattle.rkyv_base.specs.Entry.{entry_shape};
 ghost use Rattle.rkyv_base.specs.Seal.{LiesIn};
 ghost use Rattle.rkyv_base.specs.Shape.{Viewed};
-ghost use Rattle.rkyv_table.specs.Reading.{IsWalked};
+ghost use Rattle.rkyv_table.specs.Table.Reading.{IsWalked};
 ghost use Rattle.rkyv_scan.specs.Groups.{generic_kind};
-ghost use Rattle.rkyv_table.specs.SealedLookup.{IsItemSeal, IsTableSeal, MayAskAt, SealsFirst, SealsFound, place_of_seal};
-ghost use Rattle.rkyv_table.specs.SealedTable.{KeepsTable, KeptByValueWrites, KeptByWrites, SameLookups};
-ghost use Rattle.rkyv_table.specs.Table.{table_shape};
+ghost use Rattle.rkyv_table.specs.Table.SealedLookup.{IsItemSeal, IsTableSeal, MayAskAt, SealsFirst, SealsFound, pos_of_seal};
+ghost use Rattle.rkyv_table.specs.Table.SealedTable.{KeepsTable, KeptByValueWrites, KeptByWrites, SameLookups};
+ghost use Rattle.rkyv_table.specs.Table.Layout.{table_shape};
 
 use crate::table::{ArchivedHashTable, TableOf};
 use rkyv_base::element::Element;
@@ -27,8 +27,8 @@ impl<'a, T: Element, W: Width> ArchivedHashTable<'a, T, W> {
         requires callable { MayAskAt (F.pre cmp) W.word T.shape this }
         ensures inside { IfSome result (LiesIn T.shape) }
         ensures walked { IfSome result (IsItemSeal W.word T.shape this.entry) }
-        ensures answer { SealsFound (F.post cmp) generic_kind W.word T.shape this.entry hash (place_of_seal result) }
-        ensures first { SealsFirst (F.post cmp) W.word T.shape this.entry hash (place_of_seal result) }
+        ensures answer { SealsFound (F.post cmp) generic_kind W.word T.shape this.entry hash (pos_of_seal result) }
+        ensures first { SealsFirst (F.post cmp) W.word T.shape this.entry hash (pos_of_seal result) }
     {
         match ArchivedHashTable::of(this.as_view()).get_pos_with(hash, cmp) {
             Some(pos) => Some(this.seal_at(pos)),

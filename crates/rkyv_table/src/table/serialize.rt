@@ -3,12 +3,12 @@
 ghost use Rattle.std.specs.Prelude.{◌≡◌, ◌+◌, ◌^◌, ◌⊎◌, ◌<◌, ◌≤◌, [], IfOk, MatchResult, None, length, replicate, vec_capacity, List, ℕ};
 ghost use Rattle.rkyv_base.specs.Pairs.{written_as};
 ghost use Rattle.rkyv_base.specs.Writing.{Appends, Told, end_of};
-ghost use Rattle.rkyv_table.specs.Capacity.{IsCapacity};
-ghost use Rattle.rkyv_table.specs.Controls.{fresh_controls};
-ghost use Rattle.rkyv_table.specs.Counting.{GaveBoth, GaveOther, Uneven};
-ghost use Rattle.rkyv_table.specs.Numbers.{capacity, control_count};
-ghost use Rattle.rkyv_table.specs.Serializing.{NoFilled, NoTable, WroteFilled, WroteTable};
-ghost use Rattle.rkyv_table.specs.TableFormat.{table_format};
+ghost use Rattle.rkyv_table.specs.Controls.Capacity.{IsCapacity};
+ghost use Rattle.rkyv_table.specs.Controls.Shown.{fresh_controls};
+ghost use Rattle.rkyv_table.specs.Table.Counting.{GaveBoth, GaveOther, Uneven};
+ghost use Rattle.rkyv_table.specs.Controls.Numbers.{capacity, control_count};
+ghost use Rattle.rkyv_table.specs.Table.Serializing.{NoFilled, NoTable, WroteFilled, WroteTable};
+ghost use Rattle.rkyv_table.specs.Table.TableFormat.{table_format};
 ghost use Rattle.std.specs.Iterator.{Drains};
 
 use crate::controls::numbers::{CapacityError, capacity, control_count};

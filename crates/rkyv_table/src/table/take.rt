@@ -2,9 +2,9 @@
 
 ghost use Rattle.std.specs.Prelude.{◌≡◌, ℕ, ◌+◌, ◌<◌, ◌≤◌, ◌^◌, List, [], MatchResult, None, Some, replicate, IfSome, length, slice_set};
 ghost use Rattle.std.specs.Iterator.{Drains};
-ghost use Rattle.rkyv_table.specs.Controls.{fresh_controls};
-ghost use Rattle.rkyv_table.specs.Counting.{GaveOther};
-ghost use Rattle.rkyv_table.specs.Taking.{Placed};
+ghost use Rattle.rkyv_table.specs.Controls.Shown.{fresh_controls};
+ghost use Rattle.rkyv_table.specs.Table.Counting.{GaveOther};
+ghost use Rattle.rkyv_table.specs.Table.Taking.{Placed};
 
 use crate::controls::place::place_one;
 use rkyv_scan::simd::GroupKind;

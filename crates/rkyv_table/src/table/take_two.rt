@@ -1,9 +1,9 @@
 //! Taking items and their hashes from two iterators, each item into the bucket that is its home.
 
 ghost use Rattle.std.specs.Prelude.{◌≡◌, ℕ, ◌+◌, ◌<◌, ◌≤◌, ◌^◌, List, MatchResult, None, replicate, length};
-ghost use Rattle.rkyv_table.specs.Controls.{fresh_controls};
-ghost use Rattle.rkyv_table.specs.Counting.{CountedOn, GaveBoth, Uneven};
-ghost use Rattle.rkyv_table.specs.Taking.{Placed};
+ghost use Rattle.rkyv_table.specs.Controls.Shown.{fresh_controls};
+ghost use Rattle.rkyv_table.specs.Table.Counting.{CountedOn, GaveBoth, Uneven};
+ghost use Rattle.rkyv_table.specs.Table.Taking.{Placed};
 
 use crate::controls::place::place_one;
 use crate::table::take::{next_item, put};

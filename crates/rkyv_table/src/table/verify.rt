@@ -2,10 +2,10 @@
 ghost use Rattle.std.specs.Prelude.{IfErr, IfOk, MatchResult, length, ◌%◌, ◌*◌, ◌+◌, ◌<◌, ◌≡◌, ◌≤◌};
 ghost use Rattle.std.specs.Int.{byte_len};
 ghost use Rattle.rkyv_base.specs.Checking.{Fails, Passes};
-ghost use Rattle.rkyv_table.specs.Numbers.{control_count};
-ghost use Rattle.rkyv_table.specs.Places.{FirstFails, SomeHold};
-ghost use Rattle.rkyv_table.specs.Placing.{walk};
-ghost use Rattle.rkyv_table.specs.Table.{FailsInside, IsPart, bucket_at, part_size, table_shape};
+ghost use Rattle.rkyv_table.specs.Controls.Numbers.{control_count};
+ghost use Rattle.rkyv_table.specs.Table.Places.{FirstFails, SomeHold};
+ghost use Rattle.rkyv_table.specs.Controls.Placing.{walk};
+ghost use Rattle.rkyv_table.specs.Table.Layout.{FailsInside, IsPart, bucket_at, part_size, table_shape};
 
 use crate::controls::numbers::control_count;
 use crate::controls::repeats::check_repeats;

@@ -3,10 +3,10 @@
 ghost use Rattle.std.specs.Prelude.{ℕ};
 ghost use Rattle.rkyv_base.specs.Format.{IsFormat, StandsNear};
 ghost use Rattle.rkyv_base.specs.Pairs.{written_as};
-ghost use Rattle.rkyv_table.specs.Lending.{lent_stands};
-ghost use Rattle.rkyv_table.specs.Table.{table_shape};
-ghost use Rattle.rkyv_table.specs.TableFormat.{TableStands, table_format};
-ghost use Rattle.rkyv_table.specs.WrittenTables.{StandingWereWritten};
+ghost use Rattle.rkyv_table.specs.Table.Lending.{lent_stands};
+ghost use Rattle.rkyv_table.specs.Table.Layout.{table_shape};
+ghost use Rattle.rkyv_table.specs.Table.TableFormat.{TableStands, table_format};
+ghost use Rattle.rkyv_table.specs.Table.WrittenTables.{StandingWereWritten};
 
 use rkyv_base::archive::Archive;
 use rkyv_base::lend::Lend;

@@ -2,7 +2,7 @@ use Rattle.std.proofs.Common.{◌≡◌, ℕ, ◌∙◌, ap, List}
 use Rattle.std.specs.Borrow.{Bor}
 use Rattle.std.specs.Iterator.{YieldsFirstBy}
 use Rattle.std.specs.Slice.Iter.{iter_rest}
-use Rattle.rkyv_collections.specs.Map.{map_bytes, map_place}
+use Rattle.rkyv_collections.specs.Map.{map_bytes, map_pos}
 use Rattle.rkyv_bench.specs.Archives.{root}
 use Rattle.rkyv_bench.specs.Cuts.{cut_from, texts}
 use Rattle.rkyv_bench.specs.Totals.{text_looked_up_at, total}
@@ -20,7 +20,7 @@ returns c =
     let rest : Cuts → List (List ℕ) = λ s. cut_from s.bytes.now s.from (iter_rest s.ends) in
     let all : rest c.cut.result ≡ asked = cc (c.cut.ensures.bytes, c.cut.ensures.from, c.cut.ensures.ends) in
     let bytes : map_bytes map ≡ archive = ap (λ (a : Bor (List ℕ)). a.now) c.map_in.ensures.at.0 in
-    let place : map_place map ≡ root archive = c.map_in.ensures.at.1 in
-    let count = text_looked_up_at (map_bytes map) (map_place map) in
+    let place : map_pos map ≡ root archive = c.map_in.ensures.at.1 in
+    let count = text_looked_up_at (map_bytes map) (map_pos map) in
     came.2 ∙ counted_all (YieldsFirstBy view rest) view rest (λ s x t h. h) (λ s t h. h.0) count came.0 c.cut.result came.1 ∙ ap (total count) all
-    ∙ ap (λ (b : List ℕ). total (text_looked_up_at b (map_place map)) asked) bytes ∙ ap (λ (p : ℕ). total (text_looked_up_at archive p) asked) place
+    ∙ ap (λ (b : List ℕ). total (text_looked_up_at b (map_pos map)) asked) bytes ∙ ap (λ (p : ℕ). total (text_looked_up_at archive p) asked) place

@@ -5,7 +5,7 @@ use Rattle.std.specs.List.{sum_by}
 use Rattle.rkyv_base.specs.Bytes.{number_at}
 use Rattle.rkyv_base.specs.Entry.{entry_shape, value_offset}
 use Rattle.rkyv_collections.specs.Map.{map_bytes}
-use Rattle.rkyv_table.specs.RawItems.{AllStand, ItemsLeft}
+use Rattle.rkyv_table.specs.Table.RawItems.{AllStand, ItemsLeft}
 use Rattle.rkyv_bench.specs.Archives.{number_shape}
 use Rattle.rkyv_bench.specs.Totals.{pair_weight}
 use Rattle.rkyv_bench.proofs.Sums.{rest_stands, sum_kept}

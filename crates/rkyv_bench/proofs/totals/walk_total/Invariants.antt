@@ -1,8 +1,8 @@
 use Rattle.std.proofs.Common.{◌≡◌, ◌+◌, ◌%◌, ◌^◌}
 use Rattle.std.specs.List.{sum_by}
 use Rattle.rkyv_base.specs.Entry.{entry_shape}
-use Rattle.rkyv_collections.specs.Map.{map_archive, map_bytes, map_place}
-use Rattle.rkyv_table.specs.RawItems.{AllStand}
+use Rattle.rkyv_collections.specs.Map.{map_archive, map_bytes, map_pos}
+use Rattle.rkyv_table.specs.Table.RawItems.{AllStand}
 use Rattle.rkyv_bench.specs.Archives.{number_shape}
 use Rattle.rkyv_bench.specs.Totals.{pair_weight, total, walked}
 use Rattle.rkyv_bench.proofs.totals.walk_total.Given as goal
@@ -15,4 +15,4 @@ invariant-loop-key g l =
     let weigh = pair_weight k g.K.Weigh.weight b in
     AllStand (entry_shape k number_shape) l.key-iterator
     × (l.key-iterator.archive ≡ map_archive l.map)
-    × (total weigh (walked k b (map_place l.map)) ≡ (l.total + sum_by weigh l.key-iterator.places) % 2 ^ 64)
+    × (total weigh (walked k b (map_pos l.map)) ≡ (l.total + sum_by weigh l.key-iterator.places) % 2 ^ 64)

@@ -3,7 +3,7 @@ use Rattle.std.specs.Option.{option_map}
 use Rattle.std.proofs.lemmas.Option.{none-some, same_Some}
 use Rattle.rkyv_scan.specs.Hash.{hash_of_calls}
 use Rattle.rkyv_base.specs.Scalar.{ScalarStands, scalar_element, scalar_shape}
-use Rattle.rkyv_base.specs.Sealing.{value_place}
+use Rattle.rkyv_base.specs.Sealing.{value_pos}
 use Rattle.rkyv_base.specs.Shape.{Viewed}
 use Rattle.rkyv_collections.proofs.SealedMap.{pair_place}
 use Rattle.rkyv_collections_tests.proofs.sealed.stored.Goals as goal
@@ -13,41 +13,41 @@ given : {V : Type 0} (f : ℕ → ℕ) (o : Option ℕ) (x : ℕ) (y : V) → So
 given f None x y e = absurd (none-some x (sym e))
 given f (Some z) x y e = refl
 
-pub value_pos-requires-2 : goal.value_pos-requires-2
-value_pos-requires-2 g c = record { map = c.write_value.ensures.kept.1.stands; query = c.requires.query }
+pub value_found-requires-2 : goal.value_found-requires-2
+value_found-requires-2 g c = record { map = c.write_value.ensures.kept.1.stands; query = c.requires.query }
 
 pub new-requires : goal.new-requires
 new-requires g c =
     let v = scalar_shape g.N.Scalar.encoding in
-    let t = c.in-Some-value_pos.ensures.walked in
+    let t = c.in-Some-value_found.ensures.walked in
     let at = pair_place g.W.Width.word g.K.Element.shape v g.met.K.Element.laws (scalar_element g.N.Scalar.encoding g.met.N.Scalar.word) c.write_value.new.bytes c.args.root c.write_value.ensures.kept.1.stands t.0 t.1 in
     subst (Viewed v c.write_value.new.bytes) (sym t.2) at.value
 
 pub to_native-requires : goal.to_native-requires
 to_native-requires g c =
     let v = scalar_shape g.N.Scalar.encoding in
-    let t = c.in-Some-value_pos.ensures.walked in
+    let t = c.in-Some-value_found.ensures.walked in
     let at = pair_place g.W.Width.word g.K.Element.shape v g.met.K.Element.laws (scalar_element g.N.Scalar.encoding g.met.N.Scalar.word) c.write_value.new.bytes c.args.root c.write_value.ensures.kept.1.stands t.0 t.1 in
     rw (c.new.ensures.0, c.new.ensures.1) (subst (Viewed v c.write_value.new.bytes) (sym t.2) at.value)
 
-pub returns-in-Some-value_pos : goal.returns-in-Some-value_pos
-returns-in-Some-value_pos g c =
+pub returns-in-Some-value_found : goal.returns-in-Some-value_found
+returns-in-Some-value_found g c =
     let e = g.N.Scalar.encoding in
     let h = g.H.KeyHasher in
-    let f : ℕ → ℕ = value_place g.K.Element.shape (scalar_shape e) in
+    let f : ℕ → ℕ = value_pos g.K.Element.shape (scalar_shape e) in
     let d = c.write_value.new.bytes in
     let hash = hash_of_calls h.initial h.feed h.finish (g.Q.KeyHash.calls c.args.key.now) in
     let one = c.write_value.ensures.kept.1.lookups hash (g.Q.Query.fits c.args.key.now) (subst (λ n. n < 2 ^ 64) c.hash_value-hash.ensures c.hash_value-hash.type_inv) c.requires.key in
     let first = c.in-Some.ensures.answer in
-    let place : c.in-Some-value_pos.found ≡ c.in-Some.pos = same_Some c.in-Some-value_pos.found c.in-Some.pos (c.in-Some-value_pos.ensures.answer ∙ ap (option_map f) one ∙ sym first) in
-    let read : ScalarStands e d c.in-Some-value_pos.found c.to_native.result = rw (c.new.ensures.0, c.new.ensures.1) at c.to_native.ensures in
+    let place : c.in-Some-value_found.found ≡ c.in-Some.pos = same_Some c.in-Some-value_found.found c.in-Some.pos (c.in-Some-value_found.ensures.answer ∙ ap (option_map f) one ∙ sym first) in
+    let read : ScalarStands e d c.in-Some-value_found.found c.to_native.result = rw (c.new.ensures.0, c.new.ensures.1) at c.to_native.ensures in
     let new : c.to_native.result ≡ c.args.value = sym (subst (λ n. ScalarStands e d n c.to_native.result) place read) ∙ c.write_value.ensures.reads in
     ap Some new ∙ sym (given f _ c.in-Some.pos c.args.value first)
 
-pub returns-in-None-value_pos : goal.returns-in-None-value_pos
-returns-in-None-value_pos g c =
+pub returns-in-None-value_found : goal.returns-in-None-value_found
+returns-in-None-value_found g c =
     let h = g.H.KeyHasher in
-    let f : ℕ → ℕ = value_place g.K.Element.shape (scalar_shape g.N.Scalar.encoding) in
+    let f : ℕ → ℕ = value_pos g.K.Element.shape (scalar_shape g.N.Scalar.encoding) in
     let hash = hash_of_calls h.initial h.feed h.finish (g.Q.KeyHash.calls c.args.key.now) in
     let one = c.write_value.ensures.kept.1.lookups hash (g.Q.Query.fits c.args.key.now) (subst (λ n. n < 2 ^ 64) c.hash_value-hash.ensures c.hash_value-hash.type_inv) c.requires.key in
-    absurd (none-some c.in-Some.pos (c.in-None-value_pos.ensures.answer ∙ ap (option_map f) one ∙ sym c.in-Some.ensures.answer))
+    absurd (none-some c.in-Some.pos (c.in-None-value_found.ensures.answer ∙ ap (option_map f) one ∙ sym c.in-Some.ensures.answer))

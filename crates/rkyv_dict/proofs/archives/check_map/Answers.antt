@@ -1,5 +1,5 @@
 use Rattle.std.proofs.Common.{◌∙◌, ap}
-use Rattle.rkyv_table.specs.Header.{len_at}
+use Rattle.rkyv_table.specs.Table.Header.{len_at}
 use Rattle.rkyv_dict.specs.Archives.{IsMapArchive, MapArchiveFails, pair_count}
 use Rattle.rkyv_dict.proofs.Roots.{read_at}
 use Rattle.rkyv_dict.proofs.archives.check_map.Goals as goal

@@ -10,7 +10,7 @@ returns-in-Some-clause-parts c =
     let next = c.in-Some.i + 1 in
     let all : take (length xs - next) (drop next xs) ≡ drop next xs = take_all _ _ (omega (arith, length-drop next xs)) in
     subst (λ (r : List ℕ). parts_of c.args.at xs ≡ take c.in-Some.i xs ∷ parts_of c.args.at r) (sym all)
-    (cut_at (λ b. b == c.args.at) xs c.in-Some.i (sym c.place_of.ensures ∙ c.in-Some.is))
+    (cut_at (λ b. b == c.args.at) xs c.in-Some.i (sym c.pos_of.ensures ∙ c.in-Some.is))
 
 pub returns-in-None-clause-parts : goal.returns-in-None-clause-parts
-returns-in-None-clause-parts c = cut_none (λ b. b == c.args.at) c.args.bytes.now (sym c.place_of.ensures ∙ c.in-None.is)
+returns-in-None-clause-parts c = cut_none (λ b. b == c.args.at) c.args.bytes.now (sym c.pos_of.ensures ∙ c.in-None.is)

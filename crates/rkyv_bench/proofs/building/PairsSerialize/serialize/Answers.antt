@@ -6,7 +6,7 @@ use Rattle.std.specs.Slice.Iter.{iter_rest}
 use Rattle.rkyv_collections.proofs.Listing.{all_came, answers_listed, no_other_came}
 use Rattle.rkyv_collections.specs.Handing.{lent_pairs}
 use Rattle.rkyv_collections.specs.MapFormat.{hash_of, map_format}
-use Rattle.rkyv_table.specs.Counting.{GaveOther}
+use Rattle.rkyv_table.specs.Table.Counting.{GaveOther}
 use Rattle.rkyv_bench.proofs.building.PairsSerialize.serialize.Goals as goal
 use Rattle.rkyv_bench.specs.declared.building.Both.{Both}
 

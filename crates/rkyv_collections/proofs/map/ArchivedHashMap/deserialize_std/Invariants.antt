@@ -2,8 +2,8 @@ use Rattle.std.proofs.Common.{◌≡◌}
 use Rattle.std.specs.HashMap.{IsUnique, get, hasher_of}
 use Rattle.std.specs.List.{All}
 use Rattle.rkyv_base.specs.Entry.{entry_shape}
-use Rattle.rkyv_table.specs.RawItems.{AllStand}
-use Rattle.rkyv_collections.specs.Map.{IsKeyPlaceAt, key_places, map_archive, map_bytes, map_place}
+use Rattle.rkyv_table.specs.Table.RawItems.{AllStand}
+use Rattle.rkyv_collections.specs.Map.{IsKeyPosAt, key_positions, map_archive, map_bytes, map_pos}
 use Rattle.rkyv_collections.proofs.StdReading.{LeadsOn}
 use Rattle.rkyv_collections.proofs.map.ArchivedHashMap.deserialize_std.Given as goal
 
@@ -15,7 +15,7 @@ invariant-loop-key g l =
     let v = g.V.Element.shape in
     AllStand (entry_shape k v) l.key-iterator
     × (l.key-iterator.archive ≡ map_archive l.self)
-    × All (IsKeyPlaceAt w k v (map_bytes l.self) (map_place l.self)) l.key-iterator.places
-    × LeadsOn k v g.K.StandsFor.stands g.V.StandsFor.stands g.A.PartialEq.eq (map_bytes l.self) (key_places w k v l.self) l.key-iterator.places (get g.A.PartialEq.eq l.map)
+    × All (IsKeyPosAt w k v (map_bytes l.self) (map_pos l.self)) l.key-iterator.places
+    × LeadsOn k v g.K.StandsFor.stands g.V.StandsFor.stands g.A.PartialEq.eq (map_bytes l.self) (key_positions w k v l.self) l.key-iterator.places (get g.A.PartialEq.eq l.map)
     × IsUnique g.A.PartialEq.eq l.map
     × (hasher_of l.map ≡ hasher_of l.initial.map)

@@ -1,5 +1,5 @@
 use Rattle.std.proofs.Common.{rules, subst}
-use Rattle.rkyv_collections.specs.Map.{map_bytes, map_place}
+use Rattle.rkyv_collections.specs.Map.{map_bytes, map_pos}
 use Rattle.rkyv_collections.specs.MapFormat.{hash_of}
 use Rattle.rkyv_collections.specs.StdEquality.{FindsPair}
 use Rattle.rkyv_collections.proofs.StdComparing.{Decides, decides_next}
@@ -8,6 +8,6 @@ use Rattle.rkyv_collections.proofs.map.ArchivedHashMap.eq_std.Goals as goal
 pub loop-key-preserved : goal.loop-key-preserved
 loop-key-preserved g c =
     let hash = hash_of g.H.KeyHasher.initial g.H.KeyHasher.feed g.H.KeyHasher.finish g.A.KeyHash.calls in
-    let P = FindsPair g.W.Width.word g.K.Element.shape g.V.Element.shape hash g.A.Query.fits g.V.MatchesNative.equals (map_bytes c.args.self) (map_place c.args.self) in
+    let P = FindsPair g.W.Width.word g.K.Element.shape g.V.Element.shape hash g.A.Query.fits g.V.MatchesNative.equals (map_bytes c.args.self) (map_pos c.args.self) in
     let m = c.args.other.now.entries in
     decides_next P m (c.in-Some.key.now, c.in-Some.value.now) c.next.new.self (subst (Decides P m) c.in-Some.ensures.steps c.loop-key.invariant) (c.finds_equal.ensures.0 (search rules))

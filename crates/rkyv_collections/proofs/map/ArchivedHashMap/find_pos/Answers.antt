@@ -3,7 +3,7 @@ use Rattle.rkyv_scan.specs.Groups.{generic_kind}
 use Rattle.rkyv_scan.specs.Hash.{hash_of_calls}
 use Rattle.rkyv_base.specs.Entry.{entry_shape}
 use Rattle.rkyv_base.specs.Seal.{archive_in, pos_in}
-use Rattle.rkyv_table.specs.Reading.{place_found}
+use Rattle.rkyv_table.specs.Table.Reading.{pos_found}
 use Rattle.rkyv_collections.specs.Map.{FindsFirstKeyAt, hash_at}
 use Rattle.rkyv_collections.proofs.SealedMap.{answers_read, as_read, under_read}
 use Rattle.rkyv_collections.proofs.map.ArchivedHashMap.find_pos.Goals as goal
@@ -17,7 +17,7 @@ returns-in-Some-clause-answer g c = λ accept answers.
     let hash = hash_of_calls g.H.KeyHasher.initial g.H.KeyHasher.feed g.H.KeyHasher.finish (g.Q.KeyHash.calls c.args.key.now) in
     let size = (entry_shape g.K.Element.shape g.V.Element.shape).size in
     ap Some c.pos.ensures
-    ∙ as_read c.of.result b p bytes place (λ d r. Some c.in-Some.entry.pos ≡ place_found generic_kind g.W.Width.word size d r hash accept)
+    ∙ as_read c.of.result b p bytes place (λ d r. Some c.in-Some.entry.pos ≡ pos_found generic_kind g.W.Width.word size d r hash accept)
     (c.in-Some.ensures.answer accept (answers_read c.of.result b p bytes place g.W.Width.word g.K.Element.shape g.V.Element.shape _ accept answers))
 
 pub returns-in-Some-clause-first : goal.returns-in-Some-clause-first
@@ -43,7 +43,7 @@ returns-in-None-clause-answer g c = λ accept answers.
     let hash = hash_of_calls g.H.KeyHasher.initial g.H.KeyHasher.feed g.H.KeyHasher.finish (g.Q.KeyHash.calls c.args.key.now) in
     let size = (entry_shape g.K.Element.shape g.V.Element.shape).size in
     let none : Option ℕ = None in
-    as_read c.of.result b p bytes place (λ d r. none ≡ place_found generic_kind g.W.Width.word size d r hash accept)
+    as_read c.of.result b p bytes place (λ d r. none ≡ pos_found generic_kind g.W.Width.word size d r hash accept)
     (c.in-None.ensures.answer accept (answers_read c.of.result b p bytes place g.W.Width.word g.K.Element.shape g.V.Element.shape _ accept answers))
 
 pub returns-in-None-clause-first : goal.returns-in-None-clause-first

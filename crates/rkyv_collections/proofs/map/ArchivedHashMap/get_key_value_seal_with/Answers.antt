@@ -18,11 +18,11 @@ returns-in-Some-clause-walked g c =
     let e = c.split_value.ensures in (
       walked.0,
       pair_lent w k v b p walked.0 c.in-Some.pos c.split_value.result (pair_place w k v g.met.K.Element.laws g.met.V.Element.laws b p c.requires.map c.in-Some.pos walked)
-          e.key_place e.viewed e.key e.value e.value_place,
+          e.key_pos e.viewed e.key e.value e.value_pos,
     )
 
 pub returns-in-Some-clause-first : goal.returns-in-Some-clause-first
-returns-in-Some-clause-first g c = λ accept answers under homes written. ap Some c.split_value.ensures.key_place ∙ c.in-Some.ensures.first accept answers under homes written
+returns-in-Some-clause-first g c = λ accept answers under homes written. ap Some c.split_value.ensures.key_pos ∙ c.in-Some.ensures.first accept answers under homes written
 
 pub returns-in-Some-clause-answer : goal.returns-in-Some-clause-answer
-returns-in-Some-clause-answer g c = λ accept answers. ap Some c.split_value.ensures.key_place ∙ c.in-Some.ensures.answer accept answers
+returns-in-Some-clause-answer g c = λ accept answers. ap Some c.split_value.ensures.key_pos ∙ c.in-Some.ensures.answer accept answers

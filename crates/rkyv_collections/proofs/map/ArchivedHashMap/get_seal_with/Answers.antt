@@ -1,7 +1,7 @@
 use Rattle.std.proofs.Common.{◌∙◌, Some, ap}
 use Rattle.std.specs.Option.{option_map}
 use Rattle.rkyv_base.specs.Seal.{archive_in, pos_in}
-use Rattle.rkyv_base.specs.Sealing.{value_place}
+use Rattle.rkyv_base.specs.Sealing.{value_pos}
 use Rattle.rkyv_collections.proofs.SealedMap.{pair_place}
 use Rattle.rkyv_collections.proofs.map.ArchivedHashMap.get_seal_with.Goals as goal
 
@@ -24,11 +24,11 @@ returns-in-Some-clause-walked g c =
     )
 
 pub returns-in-Some-clause-answer : goal.returns-in-Some-clause-answer
-returns-in-Some-clause-answer g c = λ accept answers. ap Some c.value_seal.ensures.at.place ∙ ap (option_map (value_place g.K.Element.shape g.V.Element.shape)) (c.in-Some.ensures.answer accept answers)
+returns-in-Some-clause-answer g c = λ accept answers. ap Some c.value_seal.ensures.at.place ∙ ap (option_map (value_pos g.K.Element.shape g.V.Element.shape)) (c.in-Some.ensures.answer accept answers)
 
 pub returns-in-Some-clause-first : goal.returns-in-Some-clause-first
 returns-in-Some-clause-first g c = λ accept answers under homes written.
-    ap Some c.value_seal.ensures.at.place ∙ ap (option_map (value_place g.K.Element.shape g.V.Element.shape)) (c.in-Some.ensures.first accept answers under homes written)
+    ap Some c.value_seal.ensures.at.place ∙ ap (option_map (value_pos g.K.Element.shape g.V.Element.shape)) (c.in-Some.ensures.first accept answers under homes written)
 
 pub returns-in-Some-clause-viewed : goal.returns-in-Some-clause-viewed
 returns-in-Some-clause-viewed g c =

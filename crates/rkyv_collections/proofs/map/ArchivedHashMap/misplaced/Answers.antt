@@ -5,9 +5,9 @@ use Rattle.rkyv_base.specs.Entry.{entry_shape}
 use Rattle.rkyv_base.specs.View.{bytes_of}
 use Rattle.rkyv_base.specs.declared.entry.Entry.{Entry}
 use Rattle.rkyv_base.specs.declared.view.View.{View}
-use Rattle.rkyv_table.specs.Header.{cap_at, len_at}
-use Rattle.rkyv_table.specs.Misplaced.{misplaced}
-use Rattle.rkyv_table.specs.Reading.{IsItem, item_at, table_controls, table_place}
+use Rattle.rkyv_table.specs.Table.Header.{cap_at, len_at}
+use Rattle.rkyv_table.specs.Table.Misplaced.{misplaced}
+use Rattle.rkyv_table.specs.Table.Reading.{IsItem, item_at, table_controls, table_pos}
 use Rattle.rkyv_collections.specs.Map.{hash_at, map_bytes}
 use Rattle.rkyv_collections.proofs.map.ArchivedHashMap.misplaced.Goals as goal
 
@@ -28,5 +28,5 @@ returns g c =
     c.misplaced_by.ensures hash_of same
     (λ x h item e. e.1 ∙ ap (λ a. key_hash a x.pos) (here x item))
     (λ x y r own other e. e.2 ∙ ap (λ a. same_key a x.pos (bytes_of y) y.pos) (here x own) ∙ ap (λ a. same_key b x.pos a y.pos) (here y other))
-    ∙ ap (λ (a : Bor (List ℕ)). of a.now (table_place t)) c.table.ensures.at.0
+    ∙ ap (λ (a : Bor (List ℕ)). of a.now (table_pos t)) c.table.ensures.at.0
     ∙ ap (of b) c.table.ensures.at.1

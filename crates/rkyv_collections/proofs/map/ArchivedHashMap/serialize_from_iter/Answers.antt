@@ -1,7 +1,7 @@
 use Rattle.std.proofs.Common.{MatchResult, subst}
 use Rattle.std.specs.Iterator.{Drains}
 use Rattle.rkyv_base.specs.Pairs.{written_as}
-use Rattle.rkyv_table.specs.Counting.{GaveOther}
+use Rattle.rkyv_table.specs.Table.Counting.{GaveOther}
 use Rattle.rkyv_collections.specs.Handing.{NoItems, WroteItems, lent_pairs}
 use Rattle.rkyv_collections.specs.MapFormat.{hash_of, map_format}
 use Rattle.rkyv_collections.proofs.HashedPairs.{answers_map}

@@ -1,4 +1,4 @@
-use Rattle.rkyv_collections.specs.MapSound.{map_sound}
+use Rattle.rkyv_collections.specs.Lemmas.MapSound.{map_sound}
 use Rattle.rkyv_collections.proofs.map.written.written_maps_stand.Goals as goal
 
 pub returns : goal.returns

@@ -6,9 +6,9 @@ use Rattle.std.proofs.lemmas.List.Elements.{All-head, All-tail}
 use Rattle.rkyv_base.specs.Empty.{unit_element, unit_shape, unit_stands}
 use Rattle.rkyv_base.specs.Entry.{entry_shape}
 use Rattle.rkyv_base.specs.Shape.{Viewed}
-use Rattle.rkyv_table.specs.RawItems.{AllStand, ItemsLeft}
-use Rattle.rkyv_collections.specs.Map.{IsKeyPlaceAt}
-use Rattle.rkyv_collections.specs.Set.{member_places, set_bytes, set_place}
+use Rattle.rkyv_table.specs.Table.RawItems.{AllStand, ItemsLeft}
+use Rattle.rkyv_collections.specs.Map.{IsKeyPosAt}
+use Rattle.rkyv_collections.specs.Set.{member_positions, set_bytes, set_pos}
 use Rattle.rkyv_collections.specs.SetFormat.{with_units}
 use Rattle.rkyv_collections.specs.StdSet.{keys_with_units}
 use Rattle.rkyv_collections.proofs.StdReading.{LeadsOn, key_inserted, keys_walked, leads_first, leads_last, leads_next}
@@ -19,13 +19,13 @@ loop-key-init g c =
     let w = g.W.Width.word in
     let k = g.K.Element.shape in
     let b = set_bytes c.args.self in
-    let all = member_places w k c.args.self in
+    let all = member_positions w k c.args.self in
     let found : List g.row.A.Denot → g.row.A.Denot → _ = λ keys q. lookup (g.A.PartialEq.eq q) (with_units keys) in
     let same = c.into_iter-key-iterator.ensures.into_iter_gives in
     let places = ap (λ (left : ItemsLeft). left.places) same ∙ c.iter-key-items.ensures.places in (
       subst (AllStand (entry_shape k unit_shape)) (sym same) c.iter-key-items.ensures.stand,
       ap (λ (left : ItemsLeft). left.archive) same ∙ c.iter-key-items.ensures.archive,
-      subst (All (IsKeyPlaceAt w k unit_shape b (set_place c.args.self))) (sym places) (keys_walked w k unit_shape g.met.K.Element.laws unit_element b (set_place c.args.self)),
+      subst (All (IsKeyPosAt w k unit_shape b (set_pos c.args.self))) (sym places) (keys_walked w k unit_shape g.met.K.Element.laws unit_element b (set_pos c.args.self)),
       subst (λ (left : List ℕ). LeadsOn k unit_shape g.K.StandsFor.stands unit_stands g.A.PartialEq.eq b all left (found c.with_hasher-set.result.keys)) (sym places)
           (leads_first k unit_shape g.K.StandsFor.stands unit_stands g.A.PartialEq.eq b all (found c.with_hasher-set.result.keys) (λ q. ap (λ (keys : List g.row.A.Denot). found keys q) c.with_hasher-set.ensures.empty)),
       c.with_hasher-set.ensures.unique,
@@ -37,8 +37,8 @@ loop-key-preserved g c =
     let w = g.W.Width.word in
     let k = g.K.Element.shape in
     let b = set_bytes c.args.self in
-    let p = set_place c.args.self in
-    let all = member_places w k c.args.self in
+    let p = set_pos c.args.self in
+    let all = member_positions w k c.args.self in
     let found : List g.row.A.Denot → g.row.A.Denot → _ = λ keys q. lookup (g.A.PartialEq.eq q) (with_units keys) in
     let inv = c.loop-key.invariant in
     let step = c.in-Some.ensures.steps in
@@ -49,7 +49,7 @@ loop-key-preserved g c =
       subst (λ (a : Bor (List ℕ)). All (Viewed (entry_shape k unit_shape) a.now) after.places) (sym step.0.archive)
           (All-tail (Viewed (entry_shape k unit_shape) before.archive.now) key.pos after.places (subst (All (Viewed (entry_shape k unit_shape) before.archive.now)) step.0.first inv.0)),
       step.0.archive ∙ inv.1,
-      All-tail (IsKeyPlaceAt w k unit_shape b p) key.pos after.places (subst (All (IsKeyPlaceAt w k unit_shape b p)) step.0.first inv.2),
+      All-tail (IsKeyPosAt w k unit_shape b p) key.pos after.places (subst (All (IsKeyPosAt w k unit_shape b p)) step.0.first inv.2),
       leads_next k unit_shape g.K.StandsFor.stands unit_stands g.A.PartialEq.eq b all key.pos after.places (found c.loop-key.set.keys) (found c.insert_read.new.set.keys) made.0 tt
           (subst (λ (left : List ℕ). LeadsOn k unit_shape g.K.StandsFor.stands unit_stands g.A.PartialEq.eq b all left (found c.loop-key.set.keys)) step.0.first inv.3)
           (subst (λ (a : Bor (List ℕ)). g.K.StandsFor.stands a.now key.pos made.0) (step.1.at.0 ∙ inv.1) made.1, tt)
@@ -63,7 +63,7 @@ returns-in-Err g c =
     let w = g.W.Width.word in
     let k = g.K.Element.shape in
     let b = set_bytes c.args.self in
-    let p = set_place c.args.self in
+    let p = set_pos c.args.self in
     let inv = c.loop-key.invariant in
     let step = c.in-Some.ensures.steps in
     let after = c.next.new.self in
@@ -72,7 +72,7 @@ returns-in-Err g c =
       | inl memory ↦ inl memory
       | inr part ↦ inr (
         key.pos,
-        All-head (IsKeyPlaceAt w k unit_shape b p) key.pos after.places (subst (All (IsKeyPlaceAt w k unit_shape b p)) step.0.first inv.2),
+        All-head (IsKeyPosAt w k unit_shape b p) key.pos after.places (subst (All (IsKeyPosAt w k unit_shape b p)) step.0.first inv.2),
         subst (λ (a : Bor (List ℕ)). g.K.Deserialize.refuses a.now key.pos c.in-Err.e) (step.1.at.0 ∙ inv.1) part,
       )
     ]
@@ -82,7 +82,7 @@ returns g c =
     let w = g.W.Width.word in
     let k = g.K.Element.shape in
     let b = set_bytes c.args.self in
-    let all = member_places w k c.args.self in
+    let all = member_positions w k c.args.self in
     let found : List g.row.A.Denot → g.row.A.Denot → _ = λ keys q. lookup (g.A.PartialEq.eq q) (with_units keys) in
     let inv = c.loop-key.invariant in
     let last = leads_last k unit_shape g.K.StandsFor.stands unit_stands g.A.PartialEq.eq b all (found c.loop-key.set.keys)

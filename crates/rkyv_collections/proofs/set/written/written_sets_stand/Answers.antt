@@ -1,4 +1,4 @@
-use Rattle.rkyv_collections.specs.SetSound.{set_sound}
+use Rattle.rkyv_collections.specs.Lemmas.SetSound.{set_sound}
 use Rattle.rkyv_collections.proofs.set.written.written_sets_stand.Goals as goal
 
 pub returns : goal.returns

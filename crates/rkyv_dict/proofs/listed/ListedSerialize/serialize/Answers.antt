@@ -2,7 +2,7 @@ use Rattle.std.proofs.Common.{◌≡◌, List, ap, length, rules, ◌∙◌}
 use Rattle.std.specs.Borrow.{Bor}
 use Rattle.std.specs.Iterator.{Drains, YieldsFirstBy}
 use Rattle.std.specs.Slice.Iter.{iter_rest}
-use Rattle.rkyv_table.specs.Counting.{GaveOther}
+use Rattle.rkyv_table.specs.Table.Counting.{GaveOther}
 use Rattle.rkyv_collections.specs.Handing.{lent_pairs}
 use Rattle.rkyv_collections.specs.MapFormat.{map_format}
 use Rattle.rkyv_collections.proofs.Listing.{all_came, answers_listed, no_other_came}

@@ -1,5 +1,5 @@
 use Rattle.std.proofs.Common.{refl}
-use Rattle.rkyv_scan.specs.HalfBits.{bits_after}
+use Rattle.rkyv_scan.specs.Lemmas.HalfBits.{bits_after}
 use Rattle.rkyv_scan.proofs.simd.halves.after.Goals as goal
 
 pub returns : goal.returns

@@ -1,11 +1,11 @@
 use Rattle.std.proofs.Common.{arith, ◌≡◌, ℕ, sym, ap, ◌∙◌, Bool, length, drop, length-take, length-drop, []}
 use Rattle.rkyv_scan.specs.Groups.{Kind}
-use Rattle.rkyv_table.specs.Controls.{IsFullBucket}
-use Rattle.rkyv_table.specs.Finding.{AnswersAs}
+use Rattle.rkyv_table.specs.Controls.Shown.{IsFullBucket}
+use Rattle.rkyv_table.specs.Controls.Finding.{AnswersAs}
 use Rattle.rkyv_table.proofs.Coverage.{count_strides, stride_below}
 use Rattle.rkyv_table.proofs.FirstFree.{member_front, member_rest}
-use Rattle.rkyv_table.specs.Numbers.{tag}
-use Rattle.rkyv_table.specs.Placing.{Accepted}
+use Rattle.rkyv_table.specs.Controls.Numbers.{tag}
+use Rattle.rkyv_table.specs.Controls.Placing.{Accepted}
 use Rattle.rkyv_table.proofs.Lookup.{place, ends_by_item, ends_by_empty, goes_on, ends_somewhere, found_is, end_is, few_strides, stride_full, shown_full}
 use Rattle.rkyv_table.proofs.controls.find.find.Goals as goal
 

@@ -1,9 +1,9 @@
 use Rattle.std.proofs.Common.{◌≡◌, ℕ, ◌+◌, ◌≤◌, Bool, eqb, true, length}
 use Rattle.std.specs.List.{list_any}
-use Rattle.rkyv_table.specs.Controls.{IsFullBucket}
-use Rattle.rkyv_table.specs.Finding.{AnswersAs}
-use Rattle.rkyv_table.specs.Numbers.{tag}
-use Rattle.rkyv_table.specs.Probe.{strides}
+use Rattle.rkyv_table.specs.Controls.Shown.{IsFullBucket}
+use Rattle.rkyv_table.specs.Controls.Finding.{AnswersAs}
+use Rattle.rkyv_table.specs.Controls.Numbers.{tag}
+use Rattle.rkyv_table.specs.Controls.Probe.{strides}
 use Rattle.rkyv_table.proofs.Search.{answer}
 use Rattle.rkyv_table.proofs.Lookup.{place}
 use Rattle.rkyv_table.proofs.controls.find.find.Given as goal

@@ -1,6 +1,6 @@
 use Rattle.std.proofs.Common.{eqb, refl}
 use Rattle.std.proofs.lemmas.Bool.{eq-eqb}
-use Rattle.rkyv_table.specs.Probe.{shown}
+use Rattle.rkyv_table.specs.Controls.Probe.{shown}
 use Rattle.rkyv_table.proofs.FirstFree.{free_shown}
 use Rattle.rkyv_table.proofs.Lists.{member_contains}
 use Rattle.rkyv_table.proofs.controls.laws.buckets_are_shown.Goals as goal

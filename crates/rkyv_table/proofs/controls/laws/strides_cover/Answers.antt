@@ -1,8 +1,8 @@
 use Rattle.std.proofs.Common.{◌%◌, eqb, ltb}
 use Rattle.std.proofs.lemmas.Bool.{and_parts, and_from, eqb-true, eq-eqb, ltb-true, lt-ltb}
 use Rattle.std.proofs.Common.{sym, ◌∙◌}
-use Rattle.rkyv_table.specs.Numbers.{probe_capacity, start}
-use Rattle.rkyv_table.specs.Probe.{strides}
+use Rattle.rkyv_table.specs.Controls.Numbers.{probe_capacity, start}
+use Rattle.rkyv_table.specs.Controls.Probe.{strides}
 use Rattle.rkyv_table.proofs.Coverage.{has_stride, distinct_strides, count_strides}
 use Rattle.rkyv_table.proofs.Lists.{member_contains, contains_member}
 use Rattle.rkyv_table.proofs.controls.laws.strides_cover.Goals as goal

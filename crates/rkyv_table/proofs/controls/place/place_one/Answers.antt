@@ -1,9 +1,9 @@
 use Rattle.std.proofs.Common.{arith, ◌≡◌, ◌*◌, ◌%◌, ◌<◌, get_or, set, length, inr, ℕ, sym, ap, ◌∙◌, Some, length-set}
 use Rattle.std.specs.List.{find}
 use Rattle.std.proofs.lemmas.Bool.{le-leb}
-use Rattle.rkyv_table.specs.Controls.{is_empty_at, with_control}
-use Rattle.rkyv_table.specs.Numbers.{tag}
-use Rattle.rkyv_table.specs.Probe.{shown}
+use Rattle.rkyv_table.specs.Controls.Shown.{is_empty_at, with_control}
+use Rattle.rkyv_table.specs.Controls.Numbers.{tag}
+use Rattle.rkyv_table.specs.Controls.Probe.{shown}
 use Rattle.rkyv_table.proofs.Coverage.{stride_below}
 use Rattle.rkyv_table.proofs.FirstFree.{some_shown, none_shown, begun, passes_on, first_at, later_started, member_front, member_rest, runs_out, empty_place_is, one_write}
 use Rattle.rkyv_table.proofs.controls.place.place_one.Goals as goal

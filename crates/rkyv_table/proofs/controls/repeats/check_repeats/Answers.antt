@@ -1,6 +1,6 @@
 use Rattle.std.proofs.Common.{◌∙◌, arith, inl, inr, subst, sym}
 use Rattle.std.proofs.lemmas.Bool.{cases_eq, true≢false}
-use Rattle.rkyv_table.specs.Repeating.{RepeatsAt}
+use Rattle.rkyv_table.specs.Controls.Repeating.{RepeatsAt}
 use Rattle.rkyv_table.proofs.controls.repeats.check_repeats.Goals as goal
 
 pub returns-then-not-is_repeated-clause-fails : goal.returns-then-not-is_repeated-clause-fails

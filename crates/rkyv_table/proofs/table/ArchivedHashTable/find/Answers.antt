@@ -1,5 +1,5 @@
 use Rattle.std.proofs.Common.{refl, ap, subst, ◌∙◌, ◌+◌, ℕ}
-use Rattle.rkyv_table.specs.Reading.{IsItem, bucket_found, item_at, lookup_end, table_bytes, table_place}
+use Rattle.rkyv_table.specs.Table.Reading.{IsItem, bucket_found, item_at, lookup_end, table_bytes, table_pos}
 use Rattle.rkyv_table.proofs.Items.{read_accepted, read_end, read_found, read_walked}
 use Rattle.rkyv_table.proofs.table.ArchivedHashTable.find.Goals as goal
 
@@ -23,10 +23,10 @@ returns-in-Some-clause-answer g c = λ accept alone.
     let items = c.of-items.result in
     let are = c.of-items.ensures.items in
     let same = c.of-items.ensures.table in
-    let at : ℕ → ℕ = item_at w s.size (table_bytes items.table) (table_place items.table) in
+    let at : ℕ → ℕ = item_at w s.size (table_bytes items.table) (table_pos items.table) in
     let h = c.in-Some.ensures.answer (λ i. accept (at i)) (λ b r full e. alone e.0 r (subst (λ t. IsItem w s t e.0) same (b, e.1)) e.2 ∙ ap accept e.1.place) in
     let f = read_found w s g.met.T.Element.laws items are g.G.GroupKind.kind c.args.hash (λ i. accept (at i)) in
-    h ∙ f ∙ ap (λ t. bucket_found g.G.GroupKind.kind w s.size (table_bytes t) (table_place t) c.args.hash accept) same
+    h ∙ f ∙ ap (λ t. bucket_found g.G.GroupKind.kind w s.size (table_bytes t) (table_pos t) c.args.hash accept) same
 
 pub returns-in-Some-clause-counted : goal.returns-in-Some-clause-counted
 returns-in-Some-clause-counted g c = λ accept alone.
@@ -35,10 +35,10 @@ returns-in-Some-clause-counted g c = λ accept alone.
     let items = c.of-items.result in
     let are = c.of-items.ensures.items in
     let same = c.of-items.ensures.table in
-    let at : ℕ → ℕ = item_at w s.size (table_bytes items.table) (table_place items.table) in
+    let at : ℕ → ℕ = item_at w s.size (table_bytes items.table) (table_pos items.table) in
     let h = c.in-Some.ensures.counted (λ i. accept (at i)) (λ b r full e. alone e.0 r (subst (λ t. IsItem w s t e.0) same (b, e.1)) e.2 ∙ ap accept e.1.place) in
     let f = read_end w s g.met.T.Element.laws items are g.G.GroupKind.kind c.args.hash (λ i. accept (at i)) in
-    h ∙ ap (λ n. c.args.strides.now + n) (f ∙ ap (λ t. lookup_end g.G.GroupKind.kind w s.size (table_bytes t) (table_place t) c.args.hash accept) same)
+    h ∙ ap (λ n. c.args.strides.now + n) (f ∙ ap (λ t. lookup_end g.G.GroupKind.kind w s.size (table_bytes t) (table_pos t) c.args.hash accept) same)
 
 pub returns-clause-answer : goal.returns-clause-answer
 returns-clause-answer g c = λ accept alone.
@@ -47,10 +47,10 @@ returns-clause-answer g c = λ accept alone.
     let items = c.of-items.result in
     let are = c.of-items.ensures.items in
     let same = c.of-items.ensures.table in
-    let at : ℕ → ℕ = item_at w s.size (table_bytes items.table) (table_place items.table) in
+    let at : ℕ → ℕ = item_at w s.size (table_bytes items.table) (table_pos items.table) in
     let h = c.in-None.ensures.answer (λ i. accept (at i)) (λ b r full e. alone e.0 r (subst (λ t. IsItem w s t e.0) same (b, e.1)) e.2 ∙ ap accept e.1.place) in
     let f = read_found w s g.met.T.Element.laws items are g.G.GroupKind.kind c.args.hash (λ i. accept (at i)) in
-    h ∙ f ∙ ap (λ t. bucket_found g.G.GroupKind.kind w s.size (table_bytes t) (table_place t) c.args.hash accept) same
+    h ∙ f ∙ ap (λ t. bucket_found g.G.GroupKind.kind w s.size (table_bytes t) (table_pos t) c.args.hash accept) same
 
 pub returns-clause-counted : goal.returns-clause-counted
 returns-clause-counted g c = λ accept alone.
@@ -59,7 +59,7 @@ returns-clause-counted g c = λ accept alone.
     let items = c.of-items.result in
     let are = c.of-items.ensures.items in
     let same = c.of-items.ensures.table in
-    let at : ℕ → ℕ = item_at w s.size (table_bytes items.table) (table_place items.table) in
+    let at : ℕ → ℕ = item_at w s.size (table_bytes items.table) (table_pos items.table) in
     let h = c.in-None.ensures.counted (λ i. accept (at i)) (λ b r full e. alone e.0 r (subst (λ t. IsItem w s t e.0) same (b, e.1)) e.2 ∙ ap accept e.1.place) in
     let f = read_end w s g.met.T.Element.laws items are g.G.GroupKind.kind c.args.hash (λ i. accept (at i)) in
-    h ∙ ap (λ n. c.args.strides.now + n) (f ∙ ap (λ t. lookup_end g.G.GroupKind.kind w s.size (table_bytes t) (table_place t) c.args.hash accept) same)
+    h ∙ ap (λ n. c.args.strides.now + n) (f ∙ ap (λ t. lookup_end g.G.GroupKind.kind w s.size (table_bytes t) (table_pos t) c.args.hash accept) same)

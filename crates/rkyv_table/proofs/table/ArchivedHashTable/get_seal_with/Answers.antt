@@ -1,6 +1,6 @@
 use Rattle.std.proofs.Common.{refl, ap, ◌∙◌, ◌+◌, ◌≤◌, length, Some, None}
 use Rattle.rkyv_scan.specs.Groups.{generic_kind}
-use Rattle.rkyv_table.specs.SealedLookup.{IsReadAt}
+use Rattle.rkyv_table.specs.Table.SealedLookup.{IsReadAt}
 use Rattle.rkyv_table.proofs.SealedLookup.{item_seal, place_viewed, seals_first, seals_found, table_stands}
 use Rattle.rkyv_table.proofs.table.ArchivedHashTable.get_seal_with.Goals as goal
 

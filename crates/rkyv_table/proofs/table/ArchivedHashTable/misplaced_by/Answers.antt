@@ -2,10 +2,10 @@ use Rattle.std.proofs.Common.{◌≡◌, ◌∙◌, arith, refl, sym, ap, subst,
 use Rattle.std.specs.List.{All}
 use Rattle.std.proofs.lemmas.List.Elements.{All-head, All-rest}
 use Rattle.rkyv_scan.specs.Groups.{generic_kind}
-use Rattle.rkyv_table.specs.Header.{cap_at}
-use Rattle.rkyv_table.specs.MisplacedIn.{bucket_misplaced}
-use Rattle.rkyv_table.specs.Placing.{walk}
-use Rattle.rkyv_table.specs.Reading.{IsItem, IsWalked, table_bytes, table_controls, table_place}
+use Rattle.rkyv_table.specs.Table.Header.{cap_at}
+use Rattle.rkyv_table.specs.Table.MisplacedIn.{bucket_misplaced}
+use Rattle.rkyv_table.specs.Controls.Placing.{walk}
+use Rattle.rkyv_table.specs.Table.Reading.{IsItem, IsWalked, table_bytes, table_controls, table_pos}
 use Rattle.rkyv_table.proofs.MisplacedIn.{bucket_told, count_passed, count_taken}
 use Rattle.rkyv_table.proofs.RawWalks.{walked_all}
 use Rattle.rkyv_table.proofs.Walks.{walk_small}
@@ -16,10 +16,10 @@ loop-bucket-init g c =
     let w = g.W.Width.word in
     let s = g.T.Element.shape in
     let b = table_bytes c.args.self in
-    let p = table_place c.args.self in
+    let p = table_pos c.args.self in
     let e : c.into_iter-bucket-iterator.result ≡ walk (table_controls w b p) (cap_at w b p) =
     c.into_iter-bucket-iterator.ensures.into_iter_gives ∙ c.walk-bucket-items.ensures
-    ∙ ap (λ t. walk (table_controls w (table_bytes t) (table_place t)) (cap_at w (table_bytes t) (table_place t))) c.of-items.ensures.table in
+    ∙ ap (λ t. walk (table_controls w (table_bytes t) (table_pos t)) (cap_at w (table_bytes t) (table_pos t))) c.of-items.ensures.table in
     let l = ap length e in
     let small = walk_small (table_controls w b p) (cap_at w b p) in
     record {
@@ -32,22 +32,22 @@ loop-bucket-init g c =
 pub item-requires-clause-walked : goal.item-requires-clause-walked
 item-requires-clause-walked g c =
     let w = g.W.Width.word in
-    let P = IsWalked w (table_bytes c.args.self) (table_place c.args.self) in
+    let P = IsWalked w (table_bytes c.args.self) (table_pos c.args.self) in
     let one = All-head P c.in-Some.bucket c.next.new.self (subst (All P) c.in-Some.ensures.steps c.loop-bucket.invariant.walked) in
-    subst (λ t. IsWalked w (table_bytes t) (table_place t) c.in-Some.bucket) (sym c.of-items.ensures.table) one
+    subst (λ t. IsWalked w (table_bytes t) (table_pos t) c.in-Some.bucket) (sym c.of-items.ensures.table) one
 
 pub own_lookup-requires : goal.own_lookup-requires
 own_lookup-requires g c κs =
     let w = g.W.Width.word in
     let s = g.T.Element.shape in
     let same = c.of-items.ensures.table in
-    let P = IsWalked w (table_bytes c.args.self) (table_place c.args.self) in
+    let P = IsWalked w (table_bytes c.args.self) (table_pos c.args.self) in
     let one = All-head P c.in-Some.bucket c.next.new.self (subst (All P) c.in-Some.ensures.steps c.loop-bucket.invariant.walked) in (
       (refl, tt),
       (
         c.of-items.ensures.items,
         (
-          subst (λ t. IsWalked w (table_bytes t) (table_place t) c.in-Some.bucket) (sym same) one,
+          subst (λ t. IsWalked w (table_bytes t) (table_pos t) c.in-Some.bucket) (sym same) one,
           λ x y hx hy. c.requires.comparable x y (subst (λ t. IsItem w s t x) same hx) (subst (λ t. IsItem w s t y) same hy),
         ),
       ),
@@ -57,7 +57,7 @@ pub loop-bucket-preserved-then-is_elsewhere : goal.loop-bucket-preserved-then-is
 loop-bucket-preserved-then-is_elsewhere g c =
     let w = g.W.Width.word in
     let s = g.T.Element.shape in
-    let P = IsWalked w (table_bytes c.args.self) (table_place c.args.self) in
+    let P = IsWalked w (table_bytes c.args.self) (table_pos c.args.self) in
     let steps = c.in-Some.ensures.steps in
     let l = ap length steps in
     let inv = c.loop-bucket.invariant in
@@ -78,7 +78,7 @@ pub loop-bucket-preserved : goal.loop-bucket-preserved
 loop-bucket-preserved g c =
     let w = g.W.Width.word in
     let s = g.T.Element.shape in
-    let P = IsWalked w (table_bytes c.args.self) (table_place c.args.self) in
+    let P = IsWalked w (table_bytes c.args.self) (table_pos c.args.self) in
     let steps = c.in-Some.ensures.steps in
     let l = ap length steps in
     let inv = c.loop-bucket.invariant in

@@ -2,10 +2,10 @@ use Rattle.std.proofs.Common.{◌≡◌, ◌+◌, ◌*◌, ◌<◌, ◌∙◌, �
 use Rattle.std.proofs.lemmas.List.Elements.{All-same}
 use Rattle.rkyv_scan.specs.Groups.{mask_places}
 use Rattle.rkyv_base.specs.Shape.{Viewed}
-use Rattle.rkyv_table.specs.Header.{cap_at}
-use Rattle.rkyv_table.specs.Placing.{walk}
-use Rattle.rkyv_table.specs.RawItems.{IsAhead, buckets_left, place_before, places_left}
-use Rattle.rkyv_table.specs.Reading.{item_places, table_bytes, table_controls, table_place}
+use Rattle.rkyv_table.specs.Table.Header.{cap_at}
+use Rattle.rkyv_table.specs.Controls.Placing.{walk}
+use Rattle.rkyv_table.specs.Table.RawItems.{IsAhead, buckets_left, pos_before, places_left}
+use Rattle.rkyv_table.specs.Table.Reading.{item_positions, table_bytes, table_controls, table_pos}
 use Rattle.rkyv_table.proofs.Items.{controls_accepted}
 use Rattle.rkyv_table.proofs.RawSteps.{some_capacity, start_left}
 use Rattle.rkyv_table.proofs.RawWalks.{places_count, places_viewed, read_ahead, read_places, walk_count}
@@ -19,7 +19,7 @@ first_marks-requires g c = λ some.
     let are = c.of-items.ensures.items in
     let law = g.met.T.Element.laws in
     let b : List ℕ = table_bytes items.table in
-    let p : ℕ = table_place items.table in
+    let p : ℕ = table_pos items.table in
     let cap = some_capacity (table_controls w b p) (cap_at w b p) items.len (are.len ∙ sym (walk_count w s law b p are.table)) some in
     let long = (controls_accepted w s law b p are.table cap).repeats.count in
     let e = ap length (are.controls (rw are.cap cap)) in
@@ -34,7 +34,7 @@ invariant_of-result g c =
     let are = c.of-items.ensures.items in
     let law = g.met.T.Element.laws in
     let b : List ℕ = table_bytes items.table in
-    let p : ℕ = table_place items.table in
+    let p : ℕ = table_pos items.table in
     let count : items.len ≡ length (walk (table_controls w b p) (cap_at w b p)) = are.len ∙ sym (walk_count w s law b p are.table) in
     let marks : List ℕ = mask_places 8 7 8 c.first_marks.result.bits in
     let cap = λ (some : 0 < items.len). some_capacity (table_controls w b p) (cap_at w b p) items.len count some in
@@ -56,7 +56,7 @@ returns-clause-places g c =
     let are = c.of-items.ensures.items in
     let law = g.met.T.Element.laws in
     let b : List ℕ = table_bytes items.table in
-    let p : ℕ = table_place items.table in
+    let p : ℕ = table_pos items.table in
     let count : items.len ≡ length (walk (table_controls w b p) (cap_at w b p)) = are.len ∙ sym (walk_count w s law b p are.table) in
     let marks : List ℕ = mask_places 8 7 8 c.first_marks.result.bits in
     let cap = λ (some : 0 < items.len). some_capacity (table_controls w b p) (cap_at w b p) items.len count some in
@@ -65,17 +65,17 @@ returns-clause-places g c =
     (λ some. rw (same some) (let long = (controls_accepted w s law b p are.table (cap some)).repeats.count in omega (arith, long))) c.first_marks.ensures in
     let z : items.place + 0 * s.size ≡ items.place = omega arith in
     ap (λ n. places_left items.place n items.len items.controls.now 0 marks) c.size.ensures
-    ∙ ap (λ q. map (place_before q s.size) (buckets_left items.len items.controls.now 0 marks)) z
-    ∙ ap (map (place_before items.place s.size)) left
+    ∙ ap (λ q. map (pos_before q s.size) (buckets_left items.len items.controls.now 0 marks)) z
+    ∙ ap (map (pos_before items.place s.size)) left
     ∙ read_places w s law b p items.place (λ h. are.place (rw are.cap h))
-    ∙ ap (λ t. item_places w s.size (table_bytes t) (table_place t)) c.of-items.ensures.table
+    ∙ ap (λ t. item_positions w s.size (table_bytes t) (table_pos t)) c.of-items.ensures.table
 
 pub returns-clause-count : goal.returns-clause-count
 returns-clause-count g c =
     let w = g.W.Width.word in
     let s = g.T.Element.shape in
     let t = c.args.self in
-    ap length (returns-clause-places g c) ∙ places_count w s g.met.T.Element.laws (table_bytes t) (table_place t) c.requires
+    ap length (returns-clause-places g c) ∙ places_count w s g.met.T.Element.laws (table_bytes t) (table_pos t) c.requires
 
 pub returns-clause-stand : goal.returns-clause-stand
 returns-clause-stand g c =
@@ -83,6 +83,6 @@ returns-clause-stand g c =
     let s = g.T.Element.shape in
     let t = c.args.self in
     let items = c.of-items.result in
-    let all = All-same (Viewed s (table_bytes t)) (places_left items.place c.size.result items.len items.controls.now 0 (mask_places 8 7 8 c.first_marks.result.bits)) (item_places w s.size (table_bytes t) (table_place t))
-    (returns-clause-places g c) (places_viewed w s g.met.T.Element.laws (table_bytes t) (table_place t) c.requires) in
+    let all = All-same (Viewed s (table_bytes t)) (places_left items.place c.size.result items.len items.controls.now 0 (mask_places 8 7 8 c.first_marks.result.bits)) (item_positions w s.size (table_bytes t) (table_pos t))
+    (returns-clause-places g c) (places_viewed w s g.met.T.Element.laws (table_bytes t) (table_pos t) c.requires) in
     rw c.bytes.ensures all

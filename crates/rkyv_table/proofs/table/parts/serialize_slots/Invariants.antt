@@ -1,7 +1,7 @@
 use Rattle.std.proofs.Common.{ℕ, List, take, vec_capacity, ◌≤◌}
 use Rattle.rkyv_base.specs.Pairs.{written_as}
 use Rattle.rkyv_base.specs.Writing.{end_of, Appends, Within}
-use Rattle.rkyv_table.specs.Slots.{SlotParts, filled}
+use Rattle.rkyv_table.specs.Table.Slots.{SlotParts, filled}
 use Rattle.rkyv_table.proofs.table.parts.serialize_slots.Given as goal
 
 abbrev pub invariant-loop-slot : goal.invariant-loop-slot

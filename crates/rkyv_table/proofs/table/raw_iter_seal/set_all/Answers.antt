@@ -1,8 +1,8 @@
 use Rattle.std.proofs.Common.{rules, ◌≡◌, ◌∙◌, sym, subst, List, ℕ}
 use Rattle.rkyv_base.specs.Scalar.{scalar_shape}
 use Rattle.rkyv_base.specs.Shape.{Viewed}
-use Rattle.rkyv_table.specs.SealedItems.{IsItemAt}
-use Rattle.rkyv_table.specs.Table.{table_shape}
+use Rattle.rkyv_table.specs.Table.SealedItems.{IsItemAt}
+use Rattle.rkyv_table.specs.Table.Layout.{table_shape}
 use Rattle.rkyv_table.proofs.table.raw_iter_seal.set_all.Goals as goal
 
 pub loop-next-preserved : goal.loop-next-preserved

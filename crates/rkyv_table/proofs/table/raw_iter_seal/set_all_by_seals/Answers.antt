@@ -3,8 +3,8 @@ use Rattle.std.specs.Int.{Width}
 use Rattle.rkyv_base.specs.Scalar.{scalar_shape}
 use Rattle.rkyv_base.specs.Sealing.{Sealed, Keeps}
 use Rattle.rkyv_base.specs.Shape.{Shape, Viewed}
-use Rattle.rkyv_table.specs.SealedItems.{IsItemAt, IsSealIter, StepsAndWrites}
-use Rattle.rkyv_table.specs.Table.{table_shape}
+use Rattle.rkyv_table.specs.Table.SealedItems.{IsItemAt, IsSealIter, StepsAndWrites}
+use Rattle.rkyv_table.specs.Table.Layout.{table_shape}
 use Rattle.rkyv_table.specs.declared.table.raw_iter_seal.RawIterSeal.{RawIterSeal}
 use Rattle.rkyv_table.proofs.SealedItems.{cursor_kept}
 use Rattle.rkyv_table.proofs.table.raw_iter_seal.set_all_by_seals.Goals as goal

@@ -1,6 +1,6 @@
 use Rattle.std.proofs.Common.{◌≡◌}
 use Rattle.rkyv_base.specs.Scalar.{scalar_shape}
-use Rattle.rkyv_table.specs.SealedItems.{IsSealIter}
+use Rattle.rkyv_table.specs.Table.SealedItems.{IsSealIter}
 use Rattle.rkyv_table.proofs.table.raw_iter_seal.set_all_by_seals.Given as goal
 
 abbrev pub invariant-loop : goal.invariant-loop

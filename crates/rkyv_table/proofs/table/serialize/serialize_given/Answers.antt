@@ -2,8 +2,8 @@ use Rattle.std.proofs.Common.{arith, ◌<◌, ◌^◌}
 use mir.Val.{bits}
 use Rattle.rkyv_base.specs.Pairs.{written_as}
 use Rattle.rkyv_table.proofs.Given.{gave_up_some, wrote_some}
-use Rattle.rkyv_table.specs.Numbers.{capacity}
-use Rattle.rkyv_table.specs.Serializing.{HasCapacity}
+use Rattle.rkyv_table.specs.Controls.Numbers.{capacity}
+use Rattle.rkyv_table.specs.Table.Serializing.{HasCapacity}
 use Rattle.rkyv_table.proofs.table.serialize.serialize_given.Goals as goal
 
 pub returns-in-Ok-serialize_filled : goal.returns-in-Ok-serialize_filled

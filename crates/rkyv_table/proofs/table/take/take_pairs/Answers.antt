@@ -1,7 +1,7 @@
 use Rattle.std.proofs.Common.{arith, ◌≡◌, ◌<◌, ◌^◌, ◌+◌, ◌++◌, ◌∷◌, [], refl, ap, ◌∙◌, inr, rules}
 use Rattle.std.proofs.lemmas.List.{length_push}
-use Rattle.rkyv_table.specs.Controls.{is_empty_at}
-use Rattle.rkyv_table.specs.Probe.{strides}
+use Rattle.rkyv_table.specs.Controls.Shown.{is_empty_at}
+use Rattle.rkyv_table.specs.Controls.Probe.{strides}
 use Rattle.rkyv_table.proofs.Taking.{placed_more, placed_none, placed_room, yields_more}
 use Rattle.rkyv_table.proofs.Written.{shown_below}
 use Rattle.rkyv_table.proofs.table.take.take_pairs.Goals as goal

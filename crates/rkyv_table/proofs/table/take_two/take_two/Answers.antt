@@ -1,11 +1,11 @@
 use Rattle.std.proofs.Common.{arith, ◌≡◌, ◌<◌, ◌^◌, ◌+◌, ◌++◌, ◌∷◌, [], ℕ, List, length, refl, ap, ◌∙◌, inl, inr, rules, length-append, Option, Some}
 use Rattle.std.specs.Iterator.{Yields}
 use Rattle.std.proofs.lemmas.List.{length_push, length-map, map-append}
-use Rattle.rkyv_table.specs.Probe.{strides}
-use Rattle.rkyv_table.specs.Controls.{is_empty_at}
+use Rattle.rkyv_table.specs.Controls.Probe.{strides}
+use Rattle.rkyv_table.specs.Controls.Shown.{is_empty_at}
 use Rattle.rkyv_table.proofs.Written.{shown_below}
-use Rattle.rkyv_table.specs.Counting.{Counted, CountedOn}
-use Rattle.rkyv_table.specs.Taking.{items_of, hashes_of}
+use Rattle.rkyv_table.specs.Table.Counting.{Counted, CountedOn}
+use Rattle.rkyv_table.specs.Table.Taking.{items_of, hashes_of}
 use Rattle.rkyv_table.proofs.Taking.{yields_more, yields_join, placed_more, placed_none, placed_room}
 use Rattle.rkyv_table.proofs.table.take_two.take_two.Goals as goal
 

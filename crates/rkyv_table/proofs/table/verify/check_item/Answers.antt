@@ -1,4 +1,4 @@
-use Rattle.rkyv_table.specs.TableLaws.{bucket_aligned}
+use Rattle.rkyv_table.specs.Lemmas.TableLaws.{bucket_aligned}
 use Rattle.rkyv_table.proofs.table.verify.check_item.Goals as goal
 
 pub check-requires-clause-aligned : goal.check-requires-clause-aligned

@@ -1,5 +1,5 @@
 use Rattle.std.proofs.Common.{◌≡◌, ◌∙◌, ◌+◌, ◌≤◌, List, ap, arith, drop, ℕ, sym}
-use Rattle.rkyv_table.specs.Walking.{full_from}
+use Rattle.rkyv_table.specs.Controls.Walking.{full_from}
 use Rattle.rkyv_table.proofs.ItemSteps.{below_head, below_rest, fewer, goes_end, goes_fails, goes_init, goes_same, goes_small, goes_step, marks_and_rest, marks_below, rest_group, rest_head, rest_none}
 use Rattle.rkyv_table.proofs.Search.{width_some}
 use Rattle.rkyv_table.proofs.SealedItems.{full_end, full_skipped, full_taken}

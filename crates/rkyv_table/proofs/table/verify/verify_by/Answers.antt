@@ -1,6 +1,6 @@
 use Rattle.std.proofs.Common.{rules, inl, inr, FitsSigned}
 use Rattle.std.specs.Int.{w128}
-use Rattle.rkyv_table.specs.TableLaws.{fails_of_numbers}
+use Rattle.rkyv_table.specs.Lemmas.TableLaws.{fails_of_numbers}
 use Rattle.rkyv_table.proofs.Headers.{begin_is}
 use Rattle.rkyv_table.proofs.table.verify.verify_by.Goals as goal
 

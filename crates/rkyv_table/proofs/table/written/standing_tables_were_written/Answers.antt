@@ -1,5 +1,5 @@
 use Rattle.rkyv_table.proofs.WrittenTables.{table_written}
-use Rattle.rkyv_table.specs.Lending.{lent_stands}
+use Rattle.rkyv_table.specs.Table.Lending.{lent_stands}
 use Rattle.rkyv_table.proofs.table.written.standing_tables_were_written.Goals as goal
 
 pub returns : goal.returns

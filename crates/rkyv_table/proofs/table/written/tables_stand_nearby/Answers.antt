@@ -1,5 +1,5 @@
 use Rattle.rkyv_table.proofs.TableNear.{table_near}
-use Rattle.rkyv_table.specs.Lending.{lent_stands}
+use Rattle.rkyv_table.specs.Table.Lending.{lent_stands}
 use Rattle.rkyv_table.proofs.table.written.tables_stand_nearby.Goals as goal
 
 pub returns : goal.returns

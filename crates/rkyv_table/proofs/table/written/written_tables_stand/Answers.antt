@@ -1,6 +1,6 @@
 use Rattle.rkyv_base.specs.Pairs.{written_as, written_as-format}
-use Rattle.rkyv_table.specs.Lending.{lent_stands}
-use Rattle.rkyv_table.specs.TableSound.{table_is_format}
+use Rattle.rkyv_table.specs.Table.Lending.{lent_stands}
+use Rattle.rkyv_table.specs.Lemmas.TableSound.{table_is_format}
 use Rattle.rkyv_table.proofs.table.written.written_tables_stand.Goals as goal
 
 pub returns : goal.returns

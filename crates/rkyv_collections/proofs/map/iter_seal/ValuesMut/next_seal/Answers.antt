@@ -1,5 +1,5 @@
 use Rattle.std.proofs.Common.{◌∙◌}
-use Rattle.rkyv_table.specs.SealedItems.{buckets_left}
+use Rattle.rkyv_table.specs.Table.SealedItems.{buckets_left}
 use Rattle.rkyv_collections.proofs.map.iter_seal.ValuesMut.next_seal.Goals as goal
 
 pub returns-in-Some-clause-first : goal.returns-in-Some-clause-first

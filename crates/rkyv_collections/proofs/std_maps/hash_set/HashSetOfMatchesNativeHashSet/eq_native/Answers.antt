@@ -2,7 +2,7 @@ use Rattle.std.proofs.Common.{ℕ, subst, ◌↔◌, List}
 use Rattle.std.specs.Borrow.{Bor}
 use Rattle.std.specs.Prelude.{IsTrue}
 use Rattle.rkyv_collections.specs.MapFormat.{hash_of}
-use Rattle.rkyv_collections.specs.Set.{set_place}
+use Rattle.rkyv_collections.specs.Set.{set_pos}
 use Rattle.rkyv_collections.specs.StdSet.{StdSetEquals}
 use Rattle.rkyv_collections.proofs.std_maps.hash_set.HashSetOfMatchesNativeHashSet.eq_native.Goals as goal
 
@@ -12,4 +12,4 @@ returns g c =
     let value = c.args.value.now in
     let at = c.of.ensures.at in
     let told : List ℕ → ℕ → Type 0 = λ b p. IsTrue c.eq_std.result ↔ StdSetEquals g.W.Width.word g.K.Element.shape hash g.A.Query.fits b p value in
-    subst (λ (q : ℕ). told c.args.view.archive.now q) at.1 (subst (λ (a : Bor (List ℕ)). told a.now (set_place c.of.result)) at.0 c.eq_std.ensures)
+    subst (λ (q : ℕ). told c.args.view.archive.now q) at.1 (subst (λ (a : Bor (List ℕ)). told a.now (set_pos c.of.result)) at.0 c.eq_std.ensures)

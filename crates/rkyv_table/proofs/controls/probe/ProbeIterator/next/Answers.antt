@@ -1,6 +1,6 @@
 use Rattle.std.proofs.Common.{◌≡◌, ◌∙◌, ℕ, ◌+◌, ◌*◌, ◌-◌, ◌∷◌, ◌<◌, ap, sym, arith, bit_and, length, rules}
-use Rattle.rkyv_table.specs.Numbers.{modulus, probe_capacity}
-use Rattle.rkyv_table.specs.Probe.{strides_from}
+use Rattle.rkyv_table.specs.Controls.Numbers.{modulus, probe_capacity}
+use Rattle.rkyv_table.specs.Controls.Probe.{strides_from}
 use Rattle.rkyv_table.proofs.ProbeSteps.{modulus_small, masked_below, offset_below, stepped, place_is, takes, skips, ends, first_taken}
 use Rattle.rkyv_table.proofs.controls.probe.ProbeIterator.next.Goals as goal
 

@@ -1,5 +1,5 @@
 use Rattle.std.proofs.Common.{◌≡◌, ◌+◌, ◌∷◌, ◌∙◌, ap, arith, sym, length, rules}
-use Rattle.rkyv_table.specs.Walking.{left, full_from}
+use Rattle.rkyv_table.specs.Controls.Walking.{left, full_from}
 use Rattle.rkyv_table.proofs.Groups.{width_small}
 use Rattle.rkyv_table.proofs.Walks.{group_walk, left_group, left_none, takes_place, keeps_walk, ends_past, ends_last, ends_full, head_inside, walk_of, walk_from}
 use Rattle.rkyv_table.proofs.controls.walk.WalkIterator.next.Goals as goal

@@ -1,5 +1,5 @@
 use Rattle.std.proofs.Common.{◌≡◌, ◌∙◌, ◌<◌, ◌-◌, ◌*◌, ◌+◌, ap, arith}
-use Rattle.rkyv_table.specs.Reading.{item_at}
+use Rattle.rkyv_table.specs.Table.Reading.{item_at}
 use Rattle.rkyv_table.proofs.Items.{item_before, item_viewed}
 use Rattle.rkyv_table.proofs.table.items.Items.item.Goals as goal
 

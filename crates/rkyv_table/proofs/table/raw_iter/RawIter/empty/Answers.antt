@@ -1,7 +1,7 @@
 use Rattle.std.proofs.Common.{◌≡◌, [], ap, length, refl, sym}
 use Rattle.std.proofs.lemmas.List.Elements.{All-same, All-nil}
 use Rattle.rkyv_scan.specs.Groups.{mask_places}
-use Rattle.rkyv_table.specs.RawItems.{IsAhead, buckets_left}
+use Rattle.rkyv_table.specs.Table.RawItems.{IsAhead, buckets_left}
 use Rattle.rkyv_table.proofs.RawSteps.{end_left, end_places}
 use Rattle.rkyv_table.proofs.table.raw_iter.RawIter.empty.Goals as goal
 

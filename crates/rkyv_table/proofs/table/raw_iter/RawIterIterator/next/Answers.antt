@@ -1,6 +1,6 @@
 use Rattle.std.proofs.Common.{◌∙◌, ◌+◌, ◌-◌, ◌*◌, ◌∷◌, ap, arith, get_or, length, List, ltb, ℕ, rules, sym}
 use Rattle.rkyv_scan.specs.Groups.{mask_places, places_where}
-use Rattle.rkyv_table.specs.RawItems.{places_left}
+use Rattle.rkyv_table.specs.Table.RawItems.{places_left}
 use Rattle.rkyv_table.proofs.RawSteps.{end_places, head_before, head_keeps, head_places, next_inside, next_keeps, next_places}
 use Rattle.rkyv_table.proofs.table.raw_iter.RawIterIterator.next.Goals as goal
 

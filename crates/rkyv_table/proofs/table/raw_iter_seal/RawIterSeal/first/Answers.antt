@@ -1,5 +1,5 @@
 use Rattle.std.proofs.Common.{◌≡◌, ℕ, ◌+◌, ◌-◌, ◌*◌, ◌<◌, ◌∙◌, arith, sym, ap, subst, slice_index, slice_range, List, ◌∷◌, length}
-use Rattle.rkyv_table.specs.Walking.{full_from}
+use Rattle.rkyv_table.specs.Controls.Walking.{full_from}
 use Rattle.rkyv_table.proofs.SealedItems.{bucket_before, first_item, full_same, part_there}
 use Rattle.rkyv_table.proofs.table.raw_iter_seal.RawIterSeal.first.Goals as goal
 
@@ -18,8 +18,8 @@ returns-in-None-clause-first g c = λ w p is.
     let e : length r.archive.now < r.place + r.cap = c.in-None.ensures in
     absurd (omega arith)
 
-pub returns-in-Some-place_before-clause-first : goal.returns-in-Some-place_before-clause-first
-returns-in-Some-place_before-clause-first g c = λ w p is.
+pub returns-in-Some-pos_before-clause-first : goal.returns-in-Some-pos_before-clause-first
+returns-in-Some-pos_before-clause-first g c = λ w p is.
     let r = c.args.self.now in
     let i = c.in-Some-next_full.bucket in
     let some : 0 < r.left = omega (arith, c.if-self-eq0.false) in
@@ -28,16 +28,16 @@ returns-in-Some-place_before-clause-first g c = λ w p is.
     let full : slice_index (slice_range r.archive.now r.place (r.place + r.cap)) i < 128 = subst (λ (xs : List ℕ). slice_index xs i < 128) c.in-Some.ensures.1 f.1 in
     let taken : full_from (slice_range r.archive.now r.place (r.place + r.cap)) r.cap r.next ≡ i ∷ full_from (slice_range r.archive.now r.place (r.place + r.cap)) r.cap (i + 1) =
     subst (λ (xs : List ℕ). full_from xs r.cap r.next ≡ i ∷ full_from xs r.cap (i + 1)) c.in-Some.ensures.1 f.2 in
-    let at : c.in-Some-place_before.at ≡ r.place - (i + 1) * g.T.Element.shape.size = rw (sym c.size.ensures) c.in-Some-place_before.ensures.1 in (
+    let at : c.in-Some-pos_before.at ≡ r.place - (i + 1) * g.T.Element.shape.size = rw (sym c.size.ensures) c.in-Some-pos_before.ensures.1 in (
       sym (same r.next) ∙ taken ∙ ap (λ xs. i ∷ xs) (same (i + 1)),
-      first_item w g.T.Element.shape g.met.T.Element.laws p r is some i c.in-Some-place_before.at f.0 full at,
+      first_item w g.T.Element.shape g.met.T.Element.laws p r is some i c.in-Some-pos_before.at f.0 full at,
     )
 
-pub returns-in-None-place_before-clause-first : goal.returns-in-None-place_before-clause-first
-returns-in-None-place_before-clause-first g c = λ w p is.
+pub returns-in-None-pos_before-clause-first : goal.returns-in-None-pos_before-clause-first
+returns-in-None-pos_before-clause-first g c = λ w p is.
     let r = c.args.self.now in
     let i = c.in-Some-next_full.bucket in
     let some : 0 < r.left = omega (arith, c.if-self-eq0.false) in
     let k = bucket_before w g.T.Element.shape g.met.T.Element.laws p r is some i c.in-Some-next_full.ensures.0 in
-    let e : r.place < (i + 1) * g.T.Element.shape.size = rw (sym c.size.ensures) c.in-None-place_before.ensures in
+    let e : r.place < (i + 1) * g.T.Element.shape.size = rw (sym c.size.ensures) c.in-None-pos_before.ensures in
     absurd (omega arith)

@@ -1,0 +1,31 @@
+-- The laws that an archived list of keys keeps as a set.
+use Rattle.std.specs.Prelude.{◌≡◌, ℕ, Bool, true, List}
+use Rattle.std.specs.Int.{Width}
+use Rattle.rkyv_base.specs.Empty.{unit_element, unit_format, unit_is_format, unit_near, unit_shape, unit_stands}
+use Rattle.rkyv_base.specs.Format.{Format, IsFormat, StandsNear}
+use Rattle.rkyv_base.specs.Pairs.{written_as-format}
+use Rattle.rkyv_base.specs.Shape.{IsElement, Shape}
+use Rattle.rkyv_base.specs.Text.{IsArchiveWord}
+use Rattle.rkyv_scan.specs.Hash.{HasherCall}
+use Rattle.rkyv_keys.specs.Equality.{Comparison}
+use Rattle.rkyv_keys.specs.Keys.{FitsItsEqual, IsKey, IsQuery}
+use Rattle.rkyv_collections.specs.Map.{hash_at}
+use Rattle.rkyv_collections.specs.MapFormat.{MapStands, hash_of, map_format}
+use Rattle.rkyv_collections.specs.Lemmas.MapSound.{map_near, map_sound}
+use Rattle.rkyv_collections.specs.Set.{set_shape}
+use Rattle.rkyv_collections.specs.SetFormat.{SetStands, set_format, with_units}
+
+module _ {State : Type 0} (initial : State) (feed : State → HasherCall → State) (finish : State → ℕ) (w : Width) {k : Shape} (kl : IsElement k)
+    {A : Type 0} {key : List ℕ → ℕ → A → Type 0} {same : Comparison} {key_calls : List ℕ → ℕ → List HasherCall} (factor : ℕ × ℕ) where
+  -- what stands as a set rests on the bytes on which it rests that the set holds
+  pub set_near : IsKey k same key_calls → StandsNear k key → StandsNear (set_shape w k) (SetStands w k key (hash_at initial feed finish key_calls) factor)
+  set_near law kn keys = map_near initial feed finish w kl unit_element factor law kn unit_near (with_units keys)
+
+  -- in every archive in which what was written of a set sits, and its header, the set holds and stands
+  pub set_sound : IsArchiveWord w → {can_read : A → Type 0} {calls : A → List HasherCall} {fits : A → List ℕ → ℕ → Bool} {equal : A → A → Bool} {R : Type 0} {kf : Format A R}
+      → IsQuery k same key_calls can_read calls fits → FitsItsEqual k key equal fits → ((a : A) → equal a a ≡ true) → ((a : A) → can_read a) → IsFormat k key kf
+      → IsFormat (set_shape w k) (SetStands w k key (hash_at initial feed finish key_calls) factor) (set_format w k kf (hash_of initial feed finish calls) factor)
+  set_sound kind {can_read} {calls} {fits} {equal} {R} {kf} query native itself reads kw =
+      written_as-format with_units (set_shape w k) (MapStands w k unit_shape key unit_stands (hash_at initial feed finish key_calls) factor)
+      (map_format w k unit_shape kf unit_format (hash_of initial feed finish calls) factor)
+      (map_sound initial feed finish w kl unit_element factor kind query native itself reads kw unit_is_format)

@@ -1,0 +1,11 @@
+-- What `capacity` answers.
+use Rattle.std.specs.Prelude.{◌≡◌, ℕ, ◌<◌, ◌≤◌, Result, Ok, Err}
+use Rattle.rkyv_table.specs.Controls.Numbers.{IsLoadFactor, capacity}
+use Rattle.rkyv_table.specs.declared.controls.numbers.CapacityError.{CapacityError}
+use Rattle.rkyv_table.specs.declared.controls.numbers.CapacityError.TheVariants.{InvalidLoadFactor, CapacityTooLarge}
+
+-- the capacity where the load factor is one and the limit is kept; else what is wrong, the load factor first
+abbrev pub IsCapacity : ℕ → ℕ × ℕ → ℕ → Result ℕ CapacityError → Type 0
+IsCapacity len factor limit (Ok cap) = IsLoadFactor factor × (cap ≡ capacity len factor) × (cap ≤ limit)
+IsCapacity len factor limit (Err InvalidLoadFactor) = IsLoadFactor factor → ⊥
+IsCapacity len factor limit (Err CapacityTooLarge) = IsLoadFactor factor × (limit < capacity len factor)

@@ -1,0 +1,30 @@
+-- The probe sequence of a hash, and the buckets that it shows.
+use Rattle.std.specs.Prelude.{◌≡◌, ℕ, ◌+◌, ◌*◌, ◌-◌, ◌/◌, ◌%◌, ◌<◌, ◌≤◌, ◌^◌, List, map, filter, ltb}
+use Rattle.std.specs.List.{range_with_len, flat_map}
+use Rattle.rkyv_table.specs.Controls.Numbers.{start, probe_capacity, control_count, modulus}
+
+-- the k-th place of the probe sequence that begins at s, modulo m
+abbrev pub probe_place : ℕ → ℕ → ℕ → ℕ
+probe_place s m k = (s + 16 * (k * (k + 1) / 2)) % m
+
+-- the strides begin at the probe places below the probe capacity, in that order
+unfoldable pub strides : ℕ → ℕ → List ℕ
+strides hash cap = filter (λ p. ltb p (probe_capacity cap)) (map (probe_place (start hash cap) (modulus cap)) (range_with_len 0 (modulus cap / 16)))
+
+-- those of them that come from the k-th place on, where the sequence begins at s
+unfoldable pub strides_from : ℕ → ℕ → ℕ → List ℕ
+strides_from cap s k = filter (λ p. ltb p (probe_capacity cap)) (map (probe_place s (modulus cap)) (range_with_len k (modulus cap / 16 - k)))
+
+-- the buckets of the sixteen places from p on, in order
+unfoldable pub buckets_at : ℕ → ℕ → List ℕ
+buckets_at cap p = map (λ q. q % cap) (filter (λ q. ltb q (2 * cap)) (range_with_len p 16))
+
+-- the buckets that the strides of a hash show, in order
+abbrev pub shown : ℕ → ℕ → List ℕ
+shown hash cap = flat_map (buckets_at cap) (strides hash cap)
+
+-- what a `Probe` keeps: the offset is that of the last place that was given, `index` being the number of places looked at
+pub record IsProbe (cap start offset index : ℕ) : Type 0 where
+  pub begun : start < cap
+  pub fits : control_count cap ≤ 2 ^ 63
+  pub at : offset ≡ 16 * (index * (index - 1) / 2) % modulus cap

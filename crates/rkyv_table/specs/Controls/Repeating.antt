@@ -1,0 +1,14 @@
+-- Where controls fail to repeat.
+use Rattle.std.specs.Prelude.{◌≡◌, ℕ, ◌*◌, ◌-◌, ◌<◌, ◌≤◌, List, slice_index}
+use Rattle.rkyv_table.specs.Controls.Numbers.{control_count}
+
+-- the control at the place repeats that of its bucket, or is empty from 2 * cap on
+abbrev pub RepeatsAt : ℕ → List ℕ → ℕ → Type 0
+RepeatsAt cap controls q = (q < 2 * cap → slice_index controls q ≡ slice_index controls (q - cap)) × (2 * cap ≤ q → 128 ≤ slice_index controls q)
+
+-- the least place from cap on that fails
+pub record FirstUnlike (cap : ℕ) (controls : List ℕ) (place : ℕ) : Type 0 where
+  pub from : cap ≤ place
+  pub below : place < control_count cap
+  pub unlike : RepeatsAt cap controls place → ⊥
+  pub least : (q : ℕ) → cap ≤ q → q < place → RepeatsAt cap controls q

@@ -1,0 +1,27 @@
+-- What one stride says of a lookup.
+use Rattle.std.specs.Prelude.{◌≡◌, ℕ, ◌+◌, ◌%◌, ◌<◌, ⊤, List, Bool, true, false, length, slice_index, Some, None}
+use Rattle.std.specs.List.{find}
+use Rattle.rkyv_scan.specs.Groups.{Kind}
+use Rattle.rkyv_table.specs.Controls.Finding.{candidates, shows_empty}
+use Rattle.rkyv_table.specs.declared.controls.find.Seen.{Seen}
+use Rattle.rkyv_table.specs.declared.controls.find.Seen.TheVariants.{Accepted, Empty, Full}
+
+-- b is the bucket of one of the marked places of the group that begins at p
+abbrev pub IsMarked : ℕ → ℕ → List ℕ → ℕ → Type 0
+IsMarked p cap places b = (k : ℕ) × (k < length places) × (b ≡ (p + slice_index places k) % cap)
+
+-- b is the bucket of a full control of the stride that begins at p
+abbrev pub IsShown : List ℕ → ℕ → ℕ → ℕ → Type 0
+IsShown stride p cap b = (q : ℕ) × (q < 16) × (slice_index stride q < 128) × (b ≡ (p + q) % cap)
+
+-- an accepted bucket is that of a full control of the stride
+abbrev pub IsShownIfAccepted : List ℕ → ℕ → ℕ → Seen → Type 0
+IsShownIfAccepted stride p cap (Accepted b) = IsShown stride p cap b
+IsShownIfAccepted stride p cap Empty = ⊤
+IsShownIfAccepted stride p cap Full = ⊤
+
+-- the first candidate that is accepted; without one, whether an empty control is shown
+abbrev pub IsSeen : Kind → List ℕ → ℕ → ℕ → ℕ → (ℕ → Bool) → Seen → Type 0
+IsSeen kind controls cap t p accept (Accepted b) = find accept (candidates kind controls cap t p) ≡ Some b
+IsSeen kind controls cap t p accept Empty = (find accept (candidates kind controls cap t p) ≡ None) × (shows_empty controls p ≡ true)
+IsSeen kind controls cap t p accept Full = (find accept (candidates kind controls cap t p) ≡ None) × (shows_empty controls p ≡ false)

@@ -1,0 +1,33 @@
+-- Headers whose bytes are the same tell the same numbers, and lead to the same places.
+use Rattle.std.specs.Prelude.{◌≡◌, ℕ, ◌+◌, ◌-◌, ◌*◌, ◌≤◌, pos, ◌+ℤ◌, ◌-ℤ◌, List, unsigned_abs}
+use Rattle.std.specs.Int.{Width, byte_len, cast_signed, from_le_bytes}
+use Rattle.std.proofs.Common.{arith, ap, subst, ◌∙◌}
+use Rattle.rkyv_base.specs.Bytes.{Same, number_at, same_part, signed_at}
+use Rattle.rkyv_table.specs.Table.Header.{begin_told, cap_at, len_at}
+use Rattle.rkyv_table.specs.Table.Reading.{controls_pos, item_at}
+
+module _ (w : Width) (b c : List ℕ) (p : ℕ) (same : Same b c p (p + 3 * byte_len w)) where
+  number_same : (k : ℕ) → k + byte_len w ≤ 3 * byte_len w → number_at w b (p + k) ≡ number_at w c (p + k)
+  number_same k fits = ap (from_le_bytes w) (same_part b c p (p + 3 * byte_len w) (p + k) (p + k + byte_len w) (omega arith) (omega arith) (omega arith) same)
+
+  pub len_same : len_at w b p ≡ len_at w c p
+  len_same = number_same (byte_len w) (omega arith)
+
+  pub cap_same : cap_at w b p ≡ cap_at w c p
+  cap_same = number_same (2 * byte_len w) (omega arith)
+
+  distance_same : signed_at w b p ≡ signed_at w c p
+  distance_same =
+      let z : p + 0 ≡ p = omega arith in
+      ap (cast_signed w) (subst (λ n. number_at w b n ≡ number_at w c n) z (number_same 0 (omega arith)))
+
+  pub begin_same : (size : ℕ) → begin_told w size b p ≡ begin_told w size c p
+  begin_same size =
+      ap (λ d. (pos p +ℤ d) -ℤ pos (cap_at w b p * size)) distance_same
+      ∙ ap (λ n. (pos p +ℤ signed_at w c p) -ℤ pos (n * size)) cap_same
+
+  pub pos_same : controls_pos w b p ≡ controls_pos w c p
+  pos_same = ap (λ d. unsigned_abs (pos p +ℤ d)) distance_same
+
+  pub item_same : (size i : ℕ) → item_at w size b p i ≡ item_at w size c p i
+  item_same size i = ap (λ n. n - (i + 1) * size) pos_same

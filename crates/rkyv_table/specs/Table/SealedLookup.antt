@@ -1,0 +1,57 @@
+-- What a lookup answers that lends its item to be written.
+use Rattle.std.specs.Prelude.{◌≡◌, ℕ, Bool, List, Option}
+use Rattle.std.specs.Int.{Width}
+use Rattle.std.specs.List.{find}
+use Rattle.std.specs.Option.{option_map}
+use Rattle.rkyv_base.specs.Seal.{SealAt, archive_in, seal_pos, pos_in}
+use Rattle.rkyv_base.specs.Shape.{Shape, Viewed}
+use Rattle.rkyv_base.specs.declared.seal.ArchiveSeal.{ArchiveSeal}
+use Rattle.rkyv_base.specs.declared.seal.Seal.{Seal}
+use Rattle.rkyv_base.specs.declared.view.View.{View}
+use Rattle.rkyv_scan.specs.Groups.{Kind}
+use Rattle.rkyv_table.specs.Controls.Laws.{IsUnderHash}
+use Rattle.rkyv_table.specs.Table.Reading.{Answers, IsWalked, MayAsk, WrittenAt, home_positions, item_at, pos_found, table_bytes, table_pos}
+use Rattle.rkyv_table.specs.Table.SealedTable.{KeptByWrites}
+use Rattle.rkyv_table.specs.Table.Layout.{table_shape}
+use Rattle.rkyv_table.specs.declared.table.ArchivedHashTable.{ArchivedHashTable}
+use Rattle.rkyv_table.specs.declared.table.TableOf.{TableOf}
+
+-- the header of a table of such items stands where the seal is
+abbrev pub IsTableSeal : {T W : Type 0} → Width → Shape → ArchiveSeal (TableOf T W) → Type 0
+IsTableSeal w s a = Viewed (table_shape w s) (archive_in a) (pos_in a)
+
+-- the table is read where the seal is
+abbrev pub IsReadAt : {T W : Type 0} → ArchiveSeal (TableOf T W) → ArchivedHashTable T W → Type 0
+IsReadAt a t = (table_bytes t ≡ archive_in a) × (table_pos t ≡ pos_in a)
+
+-- the comparison may be asked of each item
+abbrev pub MayAskAt : {T W : Type 0} → (View T → Type 0) → Width → Shape → ArchiveSeal (TableOf T W) → Type 0
+MayAskAt {T} {W} pre w s a = (t : ArchivedHashTable T W) → IsReadAt a t → MayAsk pre w s t
+
+-- of each item the comparison answers what accept tells of its position
+abbrev pub AnswersAt : {T W : Type 0} → (View T → Bool → Type 0) → Width → Shape → ArchiveSeal (TableOf T W) → (ℕ → Bool) → Type 0
+AnswersAt {T} {W} post w s a accept = (t : ArchivedHashTable T W) → IsReadAt a t → Answers post w s t accept
+
+-- the seal is at an item of the table, and each write through it alone that keeps the item keeps the table
+pub record IsItemSeal {T W : Type 0} (w : Width) (s : Shape) (a : ArchiveSeal (TableOf T W)) (x : Seal T) : Type 0 where
+  pub bucket : ℕ
+  pub walked : IsWalked w (archive_in a) (pos_in a) bucket
+  pub at : SealAt x a.archive (item_at w s.size (archive_in a) (pos_in a) bucket)
+  pub viewed : Viewed s (archive_in a) (seal_pos x)
+  pub kept : KeptByWrites w s (archive_in a) (pos_in a) bucket
+
+-- the place of a seal that may have been given
+abbrev pub pos_of_seal : {T : Type 0} → Option (Seal T) → Option ℕ
+pos_of_seal seal = option_map seal_pos seal
+
+-- what a lookup answers by position, on any accepted table
+abbrev pub SealsFound : {T W : Type 0} → (View T → Bool → Type 0) → Kind → Width → Shape → ArchiveSeal (TableOf T W) → ℕ → Option ℕ → Type 0
+SealsFound post kind w s a hash result =
+    (accept : ℕ → Bool) → AnswersAt post w s a accept → result ≡ pos_found kind w s.size (archive_in a) (pos_in a) hash accept
+
+-- and on a written one, where only items under the asked hash are accepted: the first accepted one in the order handed in
+abbrev pub SealsFirst : {T W : Type 0} → (View T → Bool → Type 0) → Width → Shape → ArchiveSeal (TableOf T W) → ℕ → Option ℕ → Type 0
+SealsFirst post w s a hash result =
+    (hashes homes : List ℕ) (accept : ℕ → Bool) → WrittenAt w (archive_in a) (pos_in a) hashes homes → AnswersAt post w s a accept
+    → IsUnderHash hash hashes (home_positions w s.size (archive_in a) (pos_in a) homes) accept
+    → result ≡ find accept (home_positions w s.size (archive_in a) (pos_in a) homes)
