@@ -8,6 +8,7 @@ use Rattle.rkyv_base.specs.Scalar.{Encoding}
 abbrev pub unsigned : Width → Encoding ℕ
 unsigned w = record { word = w; code = λ n. n; value = λ n. n; IsCode = λ n. ⊤ }
 
+-- a signed number has the code of the unsigned number of its width
 abbrev pub signed : Width → Encoding ℤ
 signed w = record { word = w; code = λ z. cast_unsigned w z; value = λ n. cast_signed w n; IsCode = λ n. ⊤ }
 

@@ -10,6 +10,7 @@ use Rattle.rkyv_base.specs.Text.{fixed_bytes, inline_text, is_far}
 abbrev pub IsElsewhere : Width → List ℕ → ℕ → Type 0
 IsElsewhere w b p = is_far (fixed_bytes w b p) ≡ true
 
+-- the text at p stands inline
 abbrev pub IsInline : Width → List ℕ → ℕ → Type 0
 IsInline w b p = is_far (fixed_bytes w b p) ≡ false
 

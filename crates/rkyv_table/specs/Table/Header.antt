@@ -7,6 +7,7 @@ use Rattle.rkyv_base.specs.Bytes.{number_at, signed_at}
 abbrev pub len_at : Width → List ℕ → ℕ → ℕ
 len_at w b p = number_at w b (p + byte_len w)
 
+-- how many buckets the header at p tells
 abbrev pub cap_at : Width → List ℕ → ℕ → ℕ
 cap_at w b p = number_at w b (p + 2 * byte_len w)
 

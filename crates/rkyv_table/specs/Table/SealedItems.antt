@@ -18,6 +18,7 @@ use Rattle.rkyv_table.specs.declared.table.raw_iter_seal.RawIterSeal.{RawIterSea
 abbrev pub cursor_bytes : {T : Type 0} → RawIterSeal T → List ℕ
 cursor_bytes r = r.archive.now
 
+-- how many items a cursor still gives
 abbrev pub items_left : {T : Type 0} → RawIterSeal T → ℕ
 items_left r = r.left
 
