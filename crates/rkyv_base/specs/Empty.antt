@@ -9,11 +9,11 @@ use Rattle.rkyv_base.specs.Format.{Format, IsFormat, StandsNear, nothing_next, n
 abbrev pub unit_shape : Shape
 unit_shape = any_bytes 0 1
 
--- it stands everywhere
+-- a unit value stands everywhere
 abbrev pub unit_stands : List ℕ → ℕ → Unit {0} → Type 0
 unit_stands b p v = Unit {0}
 
--- how it is written: nothing is appended, and it has no bytes of its own
+-- how a unit value is written: nothing is appended, and it has no bytes of its own
 abbrev pub unit_format : Format (Unit {0}) (Unit {0})
 unit_format = record {
   parts = λ v p part r. part ≡ [];

@@ -22,11 +22,11 @@ unit_same b p c q = true
 abbrev pub no_calls : Unit {0} → List HasherCall
 no_calls v = []
 
--- one that stands makes none either
+-- a unit value that stands makes no call either
 abbrev pub unit_calls : List ℕ → ℕ → List HasherCall
 unit_calls b p = []
 
--- a unit value asks for every one
+-- a unit value asks for every unit value
 abbrev pub unit_fits : Unit {0} → List ℕ → ℕ → Bool
 unit_fits q b p = true
 

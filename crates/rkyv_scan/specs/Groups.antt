@@ -11,7 +11,7 @@ places_where test n = filter test (range_with_len 0 n)
 abbrev pub is_empty : ℕ → Bool
 is_empty control = nat_le 128 control
 
--- one below 128 is full, and is the tag of its item
+-- a control byte below 128 is full, and is the tag of its item
 abbrev pub is_full : ℕ → Bool
 is_full control = nat_lt control 128
 
