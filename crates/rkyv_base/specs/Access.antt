@@ -12,7 +12,7 @@ pub record Accepted (limit : ℕ) (s : Shape) (b : List ℕ) : Type 0 where
   pub aligned : (length b - s.size) % s.align ≡ 0
   pub stands : Standing s b (length b - s.size)
 
--- the first point at which it isn't: it is too short or too long, or else the root isn't aligned, or else it fails
+-- why it isn't accepted: it is too short or too long, or else its root is unaligned, or else fails
 abbrev pub AccessFails : ℕ → Shape → List ℕ → VerifyError → Type 0
 AccessFails limit s b e =
     (((length b < s.size) ⊎ (limit < length b)) × (e ≡ OutOfRange (pos (length b) -ℤ pos s.size) s.size))

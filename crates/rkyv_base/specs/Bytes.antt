@@ -9,7 +9,7 @@ use Rattle.std.proofs.Math.Seq.{take-append_seam, drop-append_seam}
 abbrev pub number_at : Width → List ℕ → ℕ → ℕ
 number_at w b p = from_le_bytes w (slice_range b p (p + byte_len w))
 
--- the signed one
+-- the signed number of width w that stands at place p
 abbrev pub signed_at : Width → List ℕ → ℕ → ℤ
 signed_at w b p = cast_signed w (number_at w b p)
 

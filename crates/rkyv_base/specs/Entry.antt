@@ -39,6 +39,7 @@ EntryFails k v b p lo hi e =
     ((1073741824 < whole_size k v) × (e ≡ Refused 0))
     ⊎ (IsSmall k v × (k.fails b p lo hi e ⊎ ((m : ℕ) × k.holds b p lo hi m × v.fails b (p + value_offset k v) m hi e)))
 
+-- the entry of a key and a value of these shapes, as an element
 abbrev pub entry_shape : Shape → Shape → Shape
 entry_shape k v = record { size = size_of_whole (whole_size k v); align = max k.align v.align; holds = EntryHolds k v; fails = EntryFails k v }
 

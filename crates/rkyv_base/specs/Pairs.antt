@@ -41,6 +41,7 @@ module _ {V W R Q : Type 0} (k v : Shape) (kf : Format V R) (vf : Format W Q) wh
   abbrev pub PairFar : V × W → EntryResolver R Q → ℕ → Type 0
   PairFar pair r p = IsSmall k v × (kf.far pair.0 r.key p ⊎ vf.far pair.1 r.value (p + value_offset k v))
 
+  -- how a pair is written: the parts of both, and then one entry
   abbrev pub pair_format : Format (V × W) (EntryResolver R Q)
   pair_format = record { parts = PairParts; next = PairNext; image = PairImage; far = PairFar }
 

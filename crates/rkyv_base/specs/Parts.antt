@@ -12,7 +12,7 @@ pub record PartIn (begin : ℤ) (size align lo hi at : ℕ) : Type 0 where
   pub below : at + size ≤ hi
   pub aligned : at % align ≡ 0
 
--- it doesn't lie from lo to hi, or else it isn't aligned
+-- a part of this begin and size doesn't lie from lo to hi, or else it isn't aligned
 abbrev pub PartFails : ℤ → ℕ → ℕ → ℕ → ℕ → VerifyError → Type 0
 PartFails begin size align lo hi e =
     (((begin <ℤ pos lo) ⊎ (pos hi <ℤ (begin +ℤ pos size))) × (e ≡ OutOfRange begin size))

@@ -36,6 +36,7 @@ ScalarHolds e b p lo hi l = (l ≡ lo) × e.IsCode (number_at e.word b p)
 abbrev pub ScalarFails : {V : Type 0} → Encoding V → List ℕ → ℕ → ℕ → ℕ → VerifyError → Type 0
 ScalarFails e b p lo hi error = (error ≡ InvalidValue p) × (e.IsCode (number_at e.word b p) → ⊥)
 
+-- a scalar as an element: one word, at a multiple of it, whose number is that of a value
 abbrev pub scalar_shape : {V : Type 0} → Encoding V → Shape
 scalar_shape e = record { size = byte_len e.word; align = byte_len e.word; holds = ScalarHolds e; fails = ScalarFails e }
 

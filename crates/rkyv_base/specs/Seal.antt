@@ -5,9 +5,11 @@ use Rattle.rkyv_base.specs.declared.seal.ArchiveSeal.{ArchiveSeal}
 use Rattle.rkyv_base.specs.declared.seal.Seal.{Seal}
 use Rattle.rkyv_base.specs.Shape.{Shape}
 
+-- the bytes in which a seal lies
 abbrev pub bytes_in : {T : Type 0} → Seal T → List ℕ
 bytes_in s = s.bytes.now
 
+-- the place of a seal in its bytes
 abbrev pub seal_pos : {T : Type 0} → Seal T → ℕ
 seal_pos s = s.place
 
@@ -26,9 +28,11 @@ pub record SealStays {T : Type 0} (s s' : Seal T) : Type 0 where
 abbrev pub LiesIn : {T : Type 0} → Shape → Seal T → Type 0
 LiesIn s x = x.place + s.size ≤ length x.bytes.now
 
+-- the bytes that an archive's seal lends
 abbrev pub archive_in : {T : Type 0} → ArchiveSeal T → List ℕ
 archive_in s = s.archive.now
 
+-- the position of an archive's seal
 abbrev pub pos_in : {T : Type 0} → ArchiveSeal T → ℕ
 pos_in s = s.pos
 

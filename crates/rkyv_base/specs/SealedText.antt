@@ -6,10 +6,11 @@ use Rattle.std.specs.Str.{IsUtf8}
 use Rattle.rkyv_base.specs.Sealing.{with_bytes}
 use Rattle.rkyv_base.specs.Text.{fixed_bytes, inline_text, is_far}
 
--- the text at p stands elsewhere; it stands in its fixed bytes
+-- the text at p stands elsewhere
 abbrev pub IsElsewhere : Width → List ℕ → ℕ → Type 0
 IsElsewhere w b p = is_far (fixed_bytes w b p) ≡ true
 
+-- the text at p stands inline
 abbrev pub IsInline : Width → List ℕ → ℕ → Type 0
 IsInline w b p = is_far (fixed_bytes w b p) ≡ false
 

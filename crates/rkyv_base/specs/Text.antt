@@ -83,6 +83,7 @@ FixedFails w s b p lo hi e =
     ((is_far s ≡ false) × (IsUtf8 (inline_text s) → ⊥) × (e ≡ InvalidValue p))
     ⊎ ((is_far s ≡ true) × FarFails w s b p lo hi e)
 
+-- text as an element: two words, at a multiple of one
 abbrev pub text_shape : Width → Shape
 text_shape w = record {
   size = text_size w;

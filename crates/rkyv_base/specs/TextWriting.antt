@@ -69,6 +69,7 @@ TextImage w t r p out =
 abbrev pub TextFar : Width → List ℕ → TextResolver → ℕ → Type 0
 TextFar w t r p = IsLong w t × (FitsSigned w (pos r.pos -ℤ pos p) → ⊥)
 
+-- how a text is written: inline, or its bytes in one piece and then two words that tell of them
 abbrev pub text_format : Width → Format (List ℕ) TextResolver
 text_format w = record { parts = TextParts w; next = TextNext w; image = TextImage w; far = TextFar w }
 

@@ -4,12 +4,15 @@ use Rattle.std.specs.Borrow.{Bor}
 use Rattle.rkyv_base.specs.declared.view.View.{View}
 use Rattle.rkyv_base.specs.Shape.{Shape, Viewed}
 
+-- the position of a view
 abbrev pub pos_of : {T : Type 0} → View T → ℕ
 pos_of v = v.pos
 
+-- the archive that a view lends
 abbrev pub archive_of : {T : Type 0} → View T → Bor (List ℕ)
 archive_of v = v.archive
 
+-- the bytes of a view's archive
 abbrev pub bytes_of : {T : Type 0} → View T → List ℕ
 bytes_of v = v.archive.now
 

@@ -9,6 +9,7 @@ pub record Output : Type 0 where
   pub bytes : List ℕ
   pub failures : ℕ
 
+-- the position behind what a writer holds
 abbrev pub end_of : Output → ℕ
 end_of o = o.start + length o.bytes
 
@@ -105,6 +106,7 @@ PieceGaveUp limit bytes o o' e = Told limit (Only (piece bytes)) o o' e
 abbrev pub padding : ℕ → ℕ → ℕ
 padding a p = (a - p % a) % a
 
+-- n bytes that are 0
 abbrev pub zeros : ℕ → List ℕ
 zeros n = replicate n 0
 

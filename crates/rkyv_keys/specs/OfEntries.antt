@@ -36,6 +36,7 @@ module _ (k v : Shape) where
 abbrev pub pair_calls : {A B : Type 0} → (A → List HasherCall) → (B → List HasherCall) → A × B → List HasherCall
 pair_calls first second q = first q.0 ++ second q.1
 
+-- both parts of a pair of queries can be read
 abbrev pub BothRead : {A B : Type 0} → (A → Type 0) → (B → Type 0) → A × B → Type 0
 BothRead first second q = first q.0 × second q.1
 

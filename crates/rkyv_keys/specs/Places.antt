@@ -7,5 +7,6 @@ use Rattle.rkyv_base.specs.View.{bytes_of, pos_of}
 abbrev pub at_view : {T X : Type 0} → (List ℕ → ℕ → X) → View T → X
 at_view f v = f (bytes_of v) (pos_of v)
 
+-- what is told of the bytes and positions of two views
 abbrev pub at_views : {T X : Type 0} → (List ℕ → ℕ → List ℕ → ℕ → X) → View T → View T → X
 at_views f v w = f (bytes_of v) (pos_of v) (bytes_of w) (pos_of w)

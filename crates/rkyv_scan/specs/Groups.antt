@@ -11,7 +11,7 @@ places_where test n = filter test (range_with_len 0 n)
 abbrev pub is_empty : ℕ → Bool
 is_empty control = nat_le 128 control
 
--- one below 128 is full, and is the tag of its item
+-- a control byte below 128 is full, and is the tag of its item
 abbrev pub is_full : ℕ → Bool
 is_full control = nat_lt control 128
 
@@ -48,13 +48,15 @@ pub record IsKind (kind : Kind) : Type 0 where
   pub lowest : (controls : List ℕ) (byte place : ℕ) → kind.marks controls byte place ≡ true
       → ((lower : ℕ) → lower < place → kind.marks controls byte lower ≡ false) → slice_index controls place ≡ byte
 
--- the three kinds
+-- eight controls, of which those are marked that hold the byte
 abbrev pub bytewise_kind : Kind
 bytewise_kind = record { width = 8; marks = is_equal_at }
 
+-- eight controls as one word, in which a mark may stand above an equal one
 abbrev pub generic_kind : Kind
 generic_kind = record { width = 8; marks = is_word_match_at }
 
+-- sixteen controls, of which those are marked that hold the byte
 abbrev pub lanes_kind : Kind
 lanes_kind = record { width = 16; marks = is_equal_at }
 

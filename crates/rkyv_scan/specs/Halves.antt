@@ -11,6 +11,7 @@ half_of controls place = take 8 (drop (place / 8 * 8) controls)
 abbrev pub is_half_match_at : List ℕ → ℕ → ℕ → Bool
 is_half_match_at controls byte place = is_word_match_at (half_of controls place) byte (place % 8)
 
+-- sixteen controls as two words of eight
 abbrev pub halves_kind : Kind
 halves_kind = record { width = 16; marks = is_half_match_at }
 

@@ -30,7 +30,7 @@ abbrev pub FixedCallsAgree : Type 0
 FixedCallsAgree = (one other : SizeWords) (call : HasherCall) → IsFixed call
     → call_words one call ≡ call_words other call
 
--- and answer the same number after a list of such calls
+-- any two rules answer the same number after a list of such calls
 abbrev pub FixedCallsHashAlike : Type 0
 FixedCallsHashAlike = (one other : SizeWords) (calls : List HasherCall) → All IsFixed calls
     → fx_hash one calls ≡ fx_hash other calls

@@ -68,6 +68,7 @@ IsTable w s t = IsView (table_shape w s) t.view
 abbrev pub table_bytes : {T W : Type 0} → ArchivedHashTable T W → List ℕ
 table_bytes t = bytes_of t.view
 
+-- the position of the table's header
 abbrev pub table_pos : {T W : Type 0} → ArchivedHashTable T W → ℕ
 table_pos t = pos_of t.view
 
