@@ -42,6 +42,12 @@ pub record ArchiveAt {T : Type 0} (s : ArchiveSeal T) (lender : MutBor (List ℕ
   pub bytes : s.archive.now ≡ lender.now
   pub pos : s.pos ≡ p
 
+-- the archive's seal is at the same position of what the same reference lends, whatever its bytes
+-- are by now
+pub record ArchiveStays {T : Type 0} (s s' : ArchiveSeal T) : Type 0 where
+  pub same_reference : s'.archive.ghost_name ≡ s.archive.ghost_name
+  pub pos : s'.pos ≡ s.pos
+
 -- the archive ends as its front and its back, as they are left
 abbrev pub LendsHalves : MutBor (List ℕ) → MutBor (List ℕ) × MutBor (List ℕ) → Fml
 LendsHalves s r = LendsBoth (Array u8 0) (Array u8 0) (Array u8 0) s r ◌++◌

@@ -6,7 +6,8 @@ ghost use Rattle.std.specs.Int.{byte_len};
 ghost use Rattle.rkyv_base.specs.View.{IsView, bytes_of, pos_of};
 ghost use Rattle.rkyv_base.specs.Entry.{entry_shape};
 ghost use Rattle.rkyv_base.specs.Scalar.{scalar_shape};
-ghost use Rattle.rkyv_base.specs.Seal.{ArchiveAt, LendsHalves, LiesIn, SealAt, SealStays, archive_in, bytes_in, seal_pos, pos_in};
+ghost use Rattle.rkyv_base.specs.Lending.{MayWrite, Wrote};
+ghost use Rattle.rkyv_base.specs.Seal.{ArchiveAt, ArchiveStays, LendsHalves, LiesIn, SealAt, SealStays, archive_in, bytes_in, seal_pos, pos_in};
 ghost use Rattle.rkyv_base.specs.Sealing.{IsValueAt, Keeps, KeepsEntry, Sealed, value_at, value_pos, with_value};
 ghost use Rattle.rkyv_base.specs.Shape.{Viewed};
 
@@ -46,6 +47,21 @@ impl<'a, T> Seal<'a, T> {
             place,
             kind: PhantomData,
         }
+    }
+
+    /// The bytes that are lent as a whole archive, with the value's position in them.
+    ///
+    /// So a map that stands as the value of another is looked up in as one that stands alone.
+    #[inline]
+    pub fn into_archive(self) -> ArchiveSeal<'a, T>
+        ensures { ArchiveAt result self.entry.bytes (seal_pos self.entry) }
+    {
+        let Seal {
+            bytes,
+            place,
+            kind: _,
+        } = self;
+        ArchiveSeal::new(bytes, place as u64)
     }
 }
 
@@ -157,6 +173,19 @@ impl<'a, T> ArchiveSeal<'a, T> {
         let pos = self.pos;
         let archive = &mut *self.archive;
         ArchiveSeal::new(archive, pos)
+    }
+
+    /// Gives the archive and the value's position to `write`, which may change any byte.
+    #[inline]
+    pub fn write_with<F: FnOnce(&mut [u8], u64)>(&mut self, write: F)
+        requires { MayWrite F.pre write (archive_in self.old) (pos_in self.old) }
+        ensures stays { ArchiveStays self.old self.new }
+        ensures written { Wrote F.post write tt (archive_in self.old) (pos_in self.old)
+            (archive_in self.new) }
+    {
+        let pos = self.pos;
+        let archive = &mut *self.archive;
+        write(archive, pos);
     }
 
     /// A value at another position of the archive.

@@ -1,11 +1,12 @@
 -- What native keys and queries answer of keys that were written.
-use Rattle.std.specs.Prelude.{◌≡◌, ℕ, Bool, true, List}
-use Rattle.std.proofs.Common.{sym, ◌∙◌}
+use Rattle.std.specs.Prelude.{◌≡◌, ℕ, ◌+◌, Bool, true, List}
+use Rattle.std.proofs.Common.{sym, ◌∙◌, arith}
 use Rattle.std.proofs.lemmas.Bool.Decides.{same_from_decides}
 use Rattle.rkyv_scan.specs.Hash.{HasherCall}
-use Rattle.rkyv_base.specs.Shape.{Shape, Standing}
+use Rattle.rkyv_base.specs.Bytes.{Same}
+use Rattle.rkyv_base.specs.Shape.{IsElement, Shape, Standing}
 use Rattle.rkyv_keys.specs.Equality.{Comparison, IsEquivalence, StandsOnce}
-use Rattle.rkyv_keys.specs.Keys.{IsQuery, FitsItsEqual}
+use Rattle.rkyv_keys.specs.Keys.{FitsItsEqual, IsKey, IsQuery}
 
 -- a value makes the calls of each key that was written of it
 abbrev pub HashesAsWritten : {V : Type 0} → Shape → (List ℕ → ℕ → V → Type 0) → (List ℕ → ℕ → List HasherCall)
@@ -47,3 +48,24 @@ module _ {V : Type 0} (s : Shape) (same : Comparison) (key_calls : List ℕ → 
 pub native_alone : {V : Type 0} (s : Shape) (stands : List ℕ → ℕ → V → Type 0) (equal : V → V → Bool) (fits : V → List ℕ → ℕ → Bool)
     → FitsItsEqual s stands equal fits → ((v : V) → equal v v ≡ true) → StandsOnce s stands equal
 native_alone s stands equal fits native itself v x b p h st st' = sym (native v x b p h st') ∙ native v v b p h st ∙ itself v
+
+-- Whether a key fits rests on the bytes on which it rests that the key holds: its own, and those of
+-- its parts.
+abbrev pub RestsOnKeys : {Q : Type 0} → Shape → (Q → Type 0) → (Q → List ℕ → ℕ → Bool) → Type 0
+RestsOnKeys {Q = Q} s can_read fits =
+    (q : Q) (b c : List ℕ) (p l : ℕ) → can_read q → s.holds b p 0 p l → Same b c p (p + s.size)
+    → Same b c 0 l → fits q c p ≡ fits q b p
+
+-- a query rests on the keys, since a copy of a key is the same as the key
+pub rests_on_keys : {Q : Type 0} {s : Shape} {same : Comparison}
+    {key_calls : List ℕ → ℕ → List HasherCall} {can_read : Q → Type 0} {calls : Q → List HasherCall}
+    {fits : Q → List ℕ → ℕ → Bool} → IsElement s → IsEquivalence s same → IsKey s same key_calls
+    → IsQuery s same key_calls can_read calls fits → RestsOnKeys s can_read fits
+rests_on_keys {s = s} {same = same} {fits = fits} laws equivalence key query q b c p l can h fixed part =
+    let st : Standing s b p = (l, h) in
+    let st' : Standing s c p = (l, laws.near b c p 0 p l (omega arith) fixed part h) in
+    let there : same b p c p ≡ true = key.copied b c p 0 p l (omega arith) h fixed part in
+    let back : same c p b p ≡ true = equivalence.symmetric b c p p st st' there in
+    same_from_decides (fits q c p) (fits q b p)
+    (λ x. query.class q c b p p can st' st x ∙ back, λ x. query.class q b c p p can st st' x ∙ there)
+    (λ x. x, λ x. x)

@@ -5,10 +5,12 @@ use Rattle.rkyv_base.specs.Bytes.{Same}
 use Rattle.rkyv_base.specs.Shape.{Shape, Standing}
 use Rattle.rkyv_keys.specs.Equality.{Comparison}
 
--- same keys make the same calls, which rest on the bytes on which it rests that the key holds
+-- same keys make the same calls, which rest on the bytes on which it rests that the key holds; and
+-- where these bytes are the same, the key is
 pub record IsKey (s : Shape) (same : Comparison) (calls : List ℕ → ℕ → List HasherCall) : Type 0 where
   pub alike : (b c : List ℕ) (p q : ℕ) → Standing s b p → Standing s c q → same b p c q ≡ true → calls b p ≡ calls c q
   pub near : (b c : List ℕ) (p lo hi l : ℕ) → lo ≤ hi → s.holds b p lo hi l → Same b c p (p + s.size) → Same b c lo l → calls b p ≡ calls c p
+  pub copied : (b c : List ℕ) (p lo hi l : ℕ) → lo ≤ hi → s.holds b p lo hi l → Same b c p (p + s.size) → Same b c lo l → same b p c p ≡ true
 
 -- a value that needs nothing else to be read
 abbrev pub ReadsAnywhere : {Q : Type 0} → Q → Type 0

@@ -87,6 +87,14 @@ module _ {k v : Shape} (kl : IsElement k) (vl : IsElement v) where
                 let ke = kk.near b c p lo hi h.1 o h.2 (same_key k v kl vl b c p h.0 fixed) px in
                 let ve = vk.near b c (p + off) h.1 hi l x.1 h.3 (same_value k v kl vl b c p h.0 fixed) py in
                 cc;
+            copied = λ b c p lo hi l o h fixed part.
+                let x : (lo ≤ h.1) × (h.1 ≤ hi) = kl.between b p lo hi h.1 o h.2 in
+                let y : (h.1 ≤ l) × (l ≤ hi) = vl.between b (p + off) h.1 hi l x.1 h.3 in
+                let px : Same b c lo h.1 = same_part b c lo l lo h.1 (omega arith) y.0 x.0 part in
+                let py : Same b c h.1 l = same_part b c lo l h.1 l x.0 (omega arith) y.0 part in
+                and_from (ks b p c p) (vs b (p + off) c (p + off))
+                (kk.copied b c p lo hi h.1 o h.2 (same_key k v kl vl b c p h.0 fixed) px)
+                (vk.copied b c (p + off) h.1 hi l x.1 h.3 (same_value k v kl vl b c p h.0 fixed) py);
           }
 
       module _ {A B : Type 0} {kr : A → Type 0} {vr : B → Type 0} {ac : A → List HasherCall} {bc : B → List HasherCall}

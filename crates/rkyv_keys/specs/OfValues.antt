@@ -44,6 +44,7 @@ module _ {V : Type 0} (s : Shape) (value_at : List ℕ → ℕ → V) (equal : V
     value_key rests = record {
       alike = λ b c p q h g s. ap calls (same_value (value_at b p) (value_at c q) s);
       near = λ b c p lo hi l o h fixed part. ap calls (sym (rests (value_at b p) b c p lo hi l o h fixed part refl));
+      copied = λ b c p lo hi l o h fixed part. value_same (value_at b p) (value_at c p) (sym (rests (value_at b p) b c p lo hi l o h fixed part refl));
     }
 
     pub value_query : {Q : Type 0} (seen : Q → V)
