@@ -9,7 +9,15 @@ use Rattle.rkyv_keys.specs.Calls.{text_calls}
 use Rattle.rkyv_keys.specs.Equality.{Comparison, IsEquivalence}
 use Rattle.rkyv_keys.specs.Keys.{FitsItsEqual, IsKey, IsQuery, ReadsAnywhere}
 use Rattle.rkyv_keys.specs.Fixed.{MakesFixedCalls, text_fixed}
-use Rattle.rkyv_keys.specs.OfValues.{values_same, value_calls, value_fits, value_equivalence, value_key, value_query, value_fits_its_equal}
+use Rattle.rkyv_keys.specs.OfValues.{
+  values_same,
+  value_calls,
+  value_fits,
+  value_equivalence,
+  value_key,
+  value_query,
+  value_fits_its_equal,
+}
 
 -- two texts have the same bytes
 abbrev pub same_bytes : List ℕ → List ℕ → Bool
@@ -45,8 +53,10 @@ module _ (w : Width) where
   text_key_fixed b p h = text_fixed (text_at w b p)
 
   module _ {Q : Type 0} (seen : Q → List ℕ) where
-    pub text_query : IsQuery (text_shape w) text_same text_key_calls ReadsAnywhere (λ q. text_calls (seen q)) (text_fits seen)
+    pub text_query : IsQuery (text_shape w) text_same text_key_calls ReadsAnywhere
+        (λ q. text_calls (seen q)) (text_fits seen)
     text_query = value_query (text_shape w) (text_at w) same_bytes bytes_decides text_calls seen
 
-    pub text_fits_its_equal : FitsItsEqual (text_shape w) (IsTextOf seen) (λ q v. same_bytes (seen q) (seen v)) (text_fits seen)
+    pub text_fits_its_equal : FitsItsEqual (text_shape w) (IsTextOf seen)
+        (λ q v. same_bytes (seen q) (seen v)) (text_fits seen)
     text_fits_its_equal = value_fits_its_equal (text_shape w) (text_at w) same_bytes seen

@@ -4,7 +4,7 @@ ghost use Rattle.std.specs.Prelude.{◌≡◌, ℕ, Bool, List, IsTrue, ◌↔�
 ghost use Rattle.rkyv_base.specs.Format.{IsFormat};
 ghost use Rattle.rkyv_base.specs.View.{IsView, StandsAt};
 ghost use Rattle.rkyv_keys.specs.Places.{at_views};
-ghost use Rattle.rkyv_keys.specs.Equality.{Comparison, IsEquivalence, StandsOnce};
+ghost use Rattle.rkyv_keys.specs.Equality.{Comparison, EqualsOnce, IsEquivalence, StandsOnce};
 
 use rkyv_base::archive::Archive;
 use rkyv_base::element::{Element, StandsFor};
@@ -46,6 +46,15 @@ where
 {
     // In every archive in which what was written of a value sits, the value there equals it.
     ghost equal: { IsFormat Self.Archived.shape Self.Archived.equals Self.format };
+}
+
+/// An element that equals, where a value stands, that value's equals alone: so what `eq_native`
+/// answers of a value that was written is `==` of both native values.
+///
+/// Std's maps and sets don't have it: that the keys of one are distinct is known where a call is
+/// made, and no law can know it.
+pub trait EqualsAlone<V: PartialEq>: MatchesNative<V> {
+    ghost exact: { EqualsOnce Self.shape Self.stands Self.equals V.eq };
 }
 
 /// An element as which equal values alone stand at one place: what is read back of what was written
