@@ -1,9 +1,9 @@
--- When the values that stand at two places are the same.
+-- When the values that stand at two positions are the same.
 use Rattle.std.specs.Prelude.{◌≡◌, ℕ, Bool, true, List}
 use Rattle.std.specs.Bool.{Decides}
 use Rattle.rkyv_base.specs.Shape.{Shape, Standing}
 
--- whether the value at a place of some bytes is the same as that at a place of others
+-- whether the value at a position of some bytes is the same as that at a position of others
 abbrev pub Comparison : Type 0
 Comparison = List ℕ → ℕ → List ℕ → ℕ → Bool
 
@@ -19,13 +19,13 @@ pub record IsEquivalence (s : Shape) (same : Comparison) : Type 0 where
 abbrev pub TellsApart : {V : Type 0} → (V → V → Bool) → Type 0
 TellsApart {V = V} equal = (v w : V) → Decides (equal v w) (v ≡ w)
 
--- what stands at a place and what the value there equals are equal
+-- what stands at a position and what the value there equals are equal
 abbrev pub EqualsOnce : {V : Type 0} → Shape → (List ℕ → ℕ → V → Type 0)
     → (List ℕ → ℕ → V → Type 0) → (V → V → Bool) → Type 0
 EqualsOnce {V = V} s stands equals equal =
     (v x : V) (b : List ℕ) (p : ℕ) → Standing s b p → stands b p v → equals b p x
     → equal v x ≡ true
 
--- values that stand at one place are equal
+-- values that stand at one position are equal
 abbrev pub StandsOnce : {V : Type 0} → Shape → (List ℕ → ℕ → V → Type 0) → (V → V → Bool) → Type 0
 StandsOnce s stands equal = EqualsOnce s stands stands equal

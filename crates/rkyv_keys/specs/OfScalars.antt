@@ -1,4 +1,4 @@
--- Scalars, whose value at a place is the one that the number there is read as.
+-- Scalars, whose value at a position is the one that the number there is read as.
 use Rattle.std.specs.Prelude.{ℕ, Bool, List, [], ◌∷◌}
 use Rattle.rkyv_scan.specs.Hash.{HasherCall}
 use Rattle.rkyv_scan.specs.Laws.{IsFixed}
@@ -22,19 +22,19 @@ abbrev pub one_call : {V : Type 0} → (V → HasherCall) → V → List HasherC
 one_call call v = call v ∷ []
 
 module _ {V : Type 0} (e : Encoding V) where
-  -- the scalar that stands at a place
+  -- the scalar that stands at a position
   abbrev pub scalar_at : List ℕ → ℕ → V
   scalar_at b p = e.value (number_at e.word b p)
 
-  -- the scalars at both places are equal
+  -- the scalars at both positions are equal
   abbrev pub scalar_same : (V → V → Bool) → Comparison
   scalar_same equal = values_same scalar_at equal
 
-  -- the one call of the scalar at a place
+  -- the one call of the scalar at a position
   abbrev pub scalar_calls : (V → HasherCall) → List ℕ → ℕ → List HasherCall
   scalar_calls call = value_calls scalar_at (one_call call)
 
-  -- the scalar at a place is equal to the one that is asked for
+  -- the scalar at a position is equal to the one that is asked for
   abbrev pub scalar_fits : (V → V → Bool) → V → List ℕ → ℕ → Bool
   scalar_fits equal = value_fits scalar_at equal (λ v. v)
 

@@ -1,4 +1,4 @@
--- Text, whose value at a place is its bytes, wherever they stand.
+-- Text, whose value at a position is its bytes, wherever they stand.
 use Rattle.std.specs.Prelude.{◌≡◌, ℕ, Bool, true, nat_eq, List}
 use Rattle.std.proofs.Common.{refl}
 use Rattle.std.specs.Int.{Width}
@@ -27,19 +27,19 @@ pub bytes_equal_themselves : (x : List ℕ) → same_bytes x x ≡ true
 bytes_equal_themselves x = (bytes_decides x x).1 refl
 
 module _ (w : Width) where
-  -- the texts at both places have the same bytes
+  -- the texts at both positions have the same bytes
   abbrev pub text_same : Comparison
   text_same = values_same (text_at w) same_bytes
 
-  -- the calls of the text at a place
+  -- the calls of the text at a position
   abbrev pub text_key_calls : List ℕ → ℕ → List HasherCall
   text_key_calls = value_calls (text_at w) text_calls
 
-  -- the text at a place has the bytes that are asked for
+  -- the text at a position has the bytes that are asked for
   abbrev pub text_fits : {Q : Type 0} → (Q → List ℕ) → Q → List ℕ → ℕ → Bool
   text_fits seen = value_fits (text_at w) same_bytes seen
 
-  -- the text at a place is that of the value
+  -- the text at a position is that of the value
   abbrev pub IsTextOf : {Q : Type 0} → (Q → List ℕ) → List ℕ → ℕ → Q → Type 0
   IsTextOf seen b p q = TextReads w b p (seen q)
 

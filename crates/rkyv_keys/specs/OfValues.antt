@@ -1,5 +1,5 @@
--- Elements at whose places one value stands, which is compared and hashed as a whole: scalars, text
--- and the unit value.
+-- Elements at whose positions one value stands, which is compared and hashed as a whole: scalars,
+-- text-- and the unit value.
 use Rattle.std.specs.Prelude.{◌≡◌, ℕ, Bool, true, List}
 use Rattle.std.proofs.Common.{refl, sym, ◌∙◌, ap}
 use Rattle.rkyv_scan.specs.Hash.{HasherCall}
@@ -9,19 +9,19 @@ use Rattle.rkyv_keys.specs.Equality.{Comparison, IsEquivalence, TellsApart}
 use Rattle.rkyv_keys.specs.Keys.{IsKey, IsQuery, FitsItsEqual, ReadsAnywhere}
 
 module _ {V : Type 0} (value_at : List ℕ → ℕ → V) where
-  -- the values at both places are equal
+  -- the values at both positions are equal
   abbrev pub values_same : (V → V → Bool) → Comparison
   values_same equal b p c q = equal (value_at b p) (value_at c q)
 
-  -- the calls of the value at a place
+  -- the calls of the value at a position
   abbrev pub value_calls : (V → List HasherCall) → List ℕ → ℕ → List HasherCall
   value_calls calls b p = calls (value_at b p)
 
-  -- the value at a place is equal to the one that is asked for
+  -- the value at a position is equal to the one that is asked for
   abbrev pub value_fits : {Q : Type 0} → (V → V → Bool) → (Q → V) → Q → List ℕ → ℕ → Bool
   value_fits equal seen q b p = equal (seen q) (value_at b p)
 
-  -- the value at a place is this one
+  -- the value at a position is this one
   abbrev pub IsValueAt : {Q : Type 0} → (Q → V) → List ℕ → ℕ → Q → Type 0
   IsValueAt seen b p q = value_at b p ≡ seen q
 

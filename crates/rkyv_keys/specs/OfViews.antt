@@ -13,7 +13,7 @@ use Rattle.rkyv_keys.specs.Keys.{IsKey, IsQuery}
 abbrev pub view_calls : {K : Type 0} → (List ℕ → ℕ → List HasherCall) → View K → List HasherCall
 view_calls calls view = calls (bytes_of view) (pos_of view)
 
--- the key at a place is the same as the view's
+-- the key at a position is the same as the view's
 abbrev pub view_fits : {K : Type 0} → Comparison → View K → List ℕ → ℕ → Bool
 view_fits same view b p = same (bytes_of view) (pos_of view) b p
 

@@ -13,7 +13,7 @@ use rkyv_base::width::Width;
 
 /// An element whose values can be compared in place, in one archive or in two.
 pub trait ElementEq: Element {
-    // Whether the values at two places are the same.
+    // Whether the values at two positions are the same.
     ghost same: { Comparison };
 
     /// Whether both values are the same.
@@ -30,7 +30,7 @@ pub trait ElementEquiv: ElementEq {
 
 /// An element whose values can be compared with the values of the type V in place.
 pub trait MatchesNative<V>: StandsFor<V> {
-    // The value at a place equals another.
+    // The value at a position equals another.
     ghost equals: { List ℕ → ℕ → V → Type 0 };
 
     /// Whether the value equals the other.
@@ -57,8 +57,8 @@ pub trait EqualsAlone<V: PartialEq>: MatchesNative<V> {
     ghost exact: { EqualsOnce Self.shape Self.stands Self.equals V.eq };
 }
 
-/// An element as which equal values alone stand at one place: what is read back of what was written
-/// of a value equals it.
+/// An element as which equal values alone stand at one position: what is read back of what was
+/// written of a value equals it.
 pub trait StandsAlone<V: PartialEq>: StandsFor<V> {
     ghost alone: { StandsOnce Self.shape Self.stands V.eq };
 }
