@@ -1,5 +1,5 @@
 -- Elements at whose positions one value stands, which is compared and hashed as a whole: scalars,
--- text-- and the unit value.
+-- text and the unit value.
 use Rattle.std.specs.Prelude.{◌≡◌, ℕ, Bool, true, List}
 use Rattle.std.proofs.Common.{refl, sym, ◌∙◌, ap}
 use Rattle.rkyv_scan.specs.Hash.{HasherCall}
