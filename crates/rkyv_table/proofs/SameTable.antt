@@ -21,6 +21,22 @@ module _ (w : Width) (size : ℕ) (b c : List ℕ) (p : ℕ) (fixed : Same b c p
   pub same_homes : (homes : List ℕ) → home_positions w size b p homes ≡ home_positions w size c p homes
   same_homes homes = same_items homes
 
+-- a table that was written of some hashes was so where the header's bytes and the controls are the same
+pub written_there : (w : Width) (b c : List ℕ) (p : ℕ) → Same b c p (p + 3 * byte_len w) → (0 < cap_at w b p → table_controls w b p ≡ table_controls w c p)
+    → (hashes homes : List ℕ) → WrittenAt w b p hashes homes → WrittenAt w c p hashes homes
+written_there w b c p fixed controls hashes homes written = record {
+  count = sym (len_same w b c p fixed) ∙ written.count;
+  fit = written.fit;
+  placed = elim written.placed [
+    | inl none ↦ inl none
+    | inr some ↦ inr (
+      subst (λ n. length hashes < n) (cap_same w b c p fixed) some.0,
+      subst (λ n. Written n hashes homes (table_controls w c p)) (cap_same w b c p fixed)
+          (subst (λ (xs : List ℕ). Written (cap_at w b p) hashes homes xs) (controls (omega (arith, some.0))) some.1),
+    )
+  ];
+}
+
 -- the header's bytes are the same, and those from the lower end up to the new one
 module _ (w : Width) (s : Shape) (law : IsElement s) (b c : List ℕ) (p lo hi l : ℕ) (h : TableHolds w s b p lo hi l)
     (fixed : Same b c p (p + 3 * byte_len w)) (part : Same b c lo l) where
@@ -52,18 +68,7 @@ module _ (w : Width) (s : Shape) (law : IsElement s) (b c : List ℕ) (p lo hi l
 
   -- a table that was written of some hashes was so in both
   pub same_written : (hashes homes : List ℕ) → WrittenAt w b p hashes homes → WrittenAt w c p hashes homes
-  same_written hashes homes written = record {
-    count = sym (len_same w b c p fixed) ∙ written.count;
-    fit = written.fit;
-    placed = elim written.placed [
-      | inl none ↦ inl none
-      | inr some ↦ inr (
-        subst (λ n. length hashes < n) (cap_same w b c p fixed) some.0,
-        subst (λ n. Written n hashes homes (table_controls w c p)) (cap_same w b c p fixed)
-            (subst (λ (xs : List ℕ). Written (cap_at w b p) hashes homes xs) (same_controls (omega (arith, some.0))) some.1),
-      )
-    ];
-  }
+  same_written hashes homes written = written_there w b c p fixed same_controls hashes homes written
 
   -- the bytes of an item are the same in both
   pub same_item : (i : ℕ) → IsWalked w b p i → Same b c (item_at w s.size b p i) (item_at w s.size b p i + s.size)
