@@ -30,6 +30,7 @@ pub mod FirstItem
 pub mod Passing
 pub mod OneWay
 pub mod ReadyOneWay
+pub mod Bare
 pub mod WalkedHomes
 pub mod TableNear
 pub mod SealedLookup

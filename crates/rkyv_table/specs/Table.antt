@@ -19,5 +19,6 @@ pub mod WrittenTables
 pub mod FirstItem
 pub mod Passing
 pub mod OneWay
+pub mod Bare
 pub mod SealedItems
 pub mod MisplacedIn
