@@ -24,8 +24,10 @@ IsSealedText w b p = IsInline w b p → IsUtf8 (inline_at w b p)
 
 -- the bytes b, with the inline text at p in upper case
 abbrev pub with_uppercase : Width → List ℕ → ℕ → List ℕ
-with_uppercase w b p = with_bytes b p (length (inline_at w b p)) (map to_ascii_uppercase (inline_at w b p))
+with_uppercase w b p = with_bytes b p (length (inline_at w b p))
+    (map to_ascii_uppercase (inline_at w b p))
 
 -- the inline text at p is raised to upper case, or the text stands elsewhere and nothing changes
 abbrev pub Raised : Width → List ℕ → ℕ → List ℕ → Bool → Type 0
-Raised w b p c inline = MatchBool inline (IsInline w b p × (c ≡ with_uppercase w b p)) (IsElsewhere w b p × (c ≡ b))
+Raised w b p c inline = MatchBool inline (IsInline w b p × (c ≡ with_uppercase w b p))
+    (IsElsewhere w b p × (c ≡ b))

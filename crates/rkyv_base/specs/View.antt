@@ -20,7 +20,7 @@ bytes_of v = v.archive.now
 abbrev pub IsView : {T : Type 0} → Shape → View T → Type 0
 IsView s v = Viewed s v.archive.now v.pos
 
--- the view is at this place of this archive
+-- the view is at this position of this archive
 abbrev pub IsAt : {T : Type 0} → View T → Bor (List ℕ) → ℕ → Type 0
 IsAt v archive p = (v.archive ≡ archive) × (v.pos ≡ p)
 

@@ -21,7 +21,8 @@ use crate::width::{Narrow, Width};
 #[inline]
 pub fn access_in<'a, W: Width, T: Element>(bytes: &'a [u8]) -> Result<View<'a, T>, VerifyError>
     ensures root { MatchResult result
-        (λ v. Accepted W.LIMIT T.shape bytes.now × IsAt v bytes.entry (length bytes.now - T.shape.size))
+        (λ v. Accepted W.LIMIT T.shape bytes.now
+        × IsAt v bytes.entry (length bytes.now - T.shape.size))
         (AccessFails W.LIMIT T.shape bytes.now) }
     ensures accepts { Accepted W.LIMIT T.shape bytes.now → IsOk result }
     ensures viewed { IfOk result (IsView T.shape) }
@@ -52,7 +53,8 @@ pub fn access_in<'a, W: Width, T: Element>(bytes: &'a [u8]) -> Result<View<'a, T
 #[inline]
 pub fn access<'a, T: Element>(bytes: &'a [u8]) -> Result<View<'a, T>, VerifyError>
     ensures root { MatchResult result
-        (λ v. Accepted 4294967295 T.shape bytes.now × IsAt v bytes.entry (length bytes.now - T.shape.size))
+        (λ v. Accepted 4294967295 T.shape bytes.now
+        × IsAt v bytes.entry (length bytes.now - T.shape.size))
         (AccessFails 4294967295 T.shape bytes.now) }
     ensures accepts { Accepted 4294967295 T.shape bytes.now → IsOk result }
     ensures viewed { IfOk result (IsView T.shape) }
@@ -133,7 +135,7 @@ pub fn access_mut_with_in<W: Width, T: Element, R, F: FnOnce(&mut [u8], u64) -> 
             let pos = root.pos();
             Ok(write(bytes, pos))
         }
-        Err(e) => Err(e),
+        Err(refused) => Err(refused),
     }
 }
 

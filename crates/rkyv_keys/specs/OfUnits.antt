@@ -37,7 +37,8 @@ pub unit_equivalence : IsEquivalence unit_shape unit_same
 unit_equivalence = value_equivalence unit_shape unit_at units_equal units_tell
 
 pub unit_key : IsKey unit_shape unit_same unit_calls
-unit_key = value_key unit_shape unit_at units_equal units_tell no_calls (λ v b c p lo hi l o h fixed part st. st)
+unit_key = value_key unit_shape unit_at units_equal units_tell no_calls
+    (λ v b c p lo hi l o h fixed part st. st)
 
 pub unit_fixed : MakesFixedCalls unit_shape unit_calls
 unit_fixed b p h = none_fixed

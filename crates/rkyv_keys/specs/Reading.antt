@@ -3,7 +3,7 @@ use Rattle.std.specs.Prelude.{◌≡◌, ℕ, List}
 use Rattle.rkyv_base.specs.declared.errors.ReadError.{ReadError}
 use Rattle.rkyv_base.specs.declared.errors.ReadError.TheVariants.{Memory}
 
--- which errors reading the value at a place may answer
+-- which errors reading the value at a position may answer
 abbrev pub Refusals : Type 1
 Refusals = List ℕ → ℕ → ReadError → Type 0
 

@@ -1,5 +1,27 @@
 -- Which places of a group of control bytes a mask marks.
-use Rattle.std.specs.Prelude.{◌≡◌, ℕ, zero, suc, ◌+◌, ◌*◌, ◌^◌, ◌<◌, ◌≤◌, ◌==◌, ◌||◌, ◌&&◌, Bool, true, false, List, slice_index, slice_index_or, nat_le, nat_lt, bit_xor}
+use Rattle.std.specs.Prelude.{
+  ◌≡◌,
+  ℕ,
+  zero,
+  suc,
+  ◌+◌,
+  ◌*◌,
+  ◌^◌,
+  ◌<◌,
+  ◌≤◌,
+  ◌==◌,
+  ◌||◌,
+  ◌&&◌,
+  Bool,
+  true,
+  false,
+  List,
+  slice_index,
+  slice_index_or,
+  nat_le,
+  nat_lt,
+  bit_xor,
+}
 use Rattle.std.specs.List.{filter, range_with_len}
 use Rattle.std.specs.Int.{bit_at}
 
@@ -43,10 +65,13 @@ pub record Kind : Type 0 where
 -- lowest marked place holds the byte, and for a byte below 128 each marked place is full
 pub record IsKind (kind : Kind) : Type 0 where
   pub power : (k : ℕ) × (k ≤ 4) × (kind.width ≡ 2 ^ k)
-  pub equal : (controls : List ℕ) (byte place : ℕ) → place < kind.width → slice_index controls place ≡ byte → kind.marks controls byte place ≡ true
-  pub full : (controls : List ℕ) (byte place : ℕ) → byte < 128 → kind.marks controls byte place ≡ true → slice_index controls place < 128
+  pub equal : (controls : List ℕ) (byte place : ℕ) → place < kind.width
+      → slice_index controls place ≡ byte → kind.marks controls byte place ≡ true
+  pub full : (controls : List ℕ) (byte place : ℕ) → byte < 128
+      → kind.marks controls byte place ≡ true → slice_index controls place < 128
   pub lowest : (controls : List ℕ) (byte place : ℕ) → kind.marks controls byte place ≡ true
-      → ((lower : ℕ) → lower < place → kind.marks controls byte lower ≡ false) → slice_index controls place ≡ byte
+      → ((lower : ℕ) → lower < place → kind.marks controls byte lower ≡ false)
+      → slice_index controls place ≡ byte
 
 -- eight controls, of which those are marked that hold the byte
 abbrev pub bytewise_kind : Kind

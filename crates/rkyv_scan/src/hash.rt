@@ -5,7 +5,35 @@
 //! rest on it.
 ghost use Rattle.std.specs.Prelude.{◌≡◌, ℕ, ◌+◌, ◌≤◌, ◌%◌, ◌^◌, length, List};
 ghost use Rattle.std.specs.Int.{w8, w16, w32, w64};
-ghost use Rattle.rkyv_scan.specs.Hash.{HasherCall, Bytes, U8, U16, U32, U64, U128, Usize, I8, I16, I32, I64, I128, Isize, NumbersFit, SizeWords, low_halves, all_bits, number_from, four_bytes, two_bytes, last_byte, byte_words, rest_words, hash_word, hash_words, fx_feed};
+ghost use Rattle.rkyv_scan.specs.Hash.{
+  HasherCall,
+  Bytes,
+  U8,
+  U16,
+  U32,
+  U64,
+  U128,
+  Usize,
+  I8,
+  I16,
+  I32,
+  I64,
+  I128,
+  Isize,
+  NumbersFit,
+  SizeWords,
+  low_halves,
+  all_bits,
+  number_from,
+  four_bytes,
+  two_bytes,
+  last_byte,
+  byte_words,
+  rest_words,
+  hash_word,
+  hash_words,
+  fx_feed,
+};
 ghost use Rattle.rkyv_scan.specs.Lemmas.Numbers.{fx_fits};
 
 use std::marker::{Model, PhantomData};

@@ -3,7 +3,13 @@
 ghost use Rattle.std.specs.Prelude.{◌≡◌, ◌+◌, ◌≤◌, List, [], drop, length, take};
 ghost use Rattle.rkyv_scan.specs.Groups.{is_word_match_at, places_where};
 ghost use Rattle.rkyv_scan.specs.Hash.{HasherCall, all_bits, fx_hash, hash_of_calls, low_halves};
-ghost use Rattle.rkyv_scan.specs.Laws.{CallsHashTheirWords, WritesJoin, EightBytesAreOneWord, FixedCallsAgree, FixedCallsHashAlike};
+ghost use Rattle.rkyv_scan.specs.Laws.{
+  CallsHashTheirWords,
+  WritesJoin,
+  EightBytesAreOneWord,
+  FixedCallsAgree,
+  FixedCallsHashAlike,
+};
 
 use crate::hash::{FxHasher64, FxHasher64Wide, KeyHasher};
 use crate::simd::{GroupKind, MAX_GROUP_WIDTH, Marks, bytewise, generic, lanes};

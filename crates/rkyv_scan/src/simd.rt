@@ -1,5 +1,23 @@
 //! Groups of control bytes, which are matched at once. `generic` is the kind at the crate's root.
-ghost use Rattle.std.specs.Prelude.{◌≡◌, ℕ, ◌+◌, ◌*◌, ◌^◌, ◌<◌, ◌≤◌, ◌↔◌, Bool, List, Option, length, take, drop, slice_get, slice_index, IsTrue};
+ghost use Rattle.std.specs.Prelude.{
+  ◌≡◌,
+  ℕ,
+  ◌+◌,
+  ◌*◌,
+  ◌^◌,
+  ◌<◌,
+  ◌≤◌,
+  ◌↔◌,
+  Bool,
+  List,
+  Option,
+  length,
+  take,
+  drop,
+  slice_get,
+  slice_index,
+  IsTrue,
+};
 ghost use Rattle.std.specs.Iterator.{YieldsFirst, Count, item_count};
 ghost use Rattle.std.specs.List.Sorted.{IsStrictlyIncreasing};
 ghost use Rattle.rkyv_scan.specs.Groups.{places_where, is_empty, is_full, Kind, IsKind};

@@ -1,7 +1,15 @@
 -- The number that either hasher answers fits 64 bits.
 use Rattle.std.proofs.Common.{ℕ, ◌^◌, ◌<◌, List, [], ◌∷◌, arith}
 use Rattle.std.specs.List.{fold}
-use Rattle.rkyv_scan.specs.Hash.{HasherCall, NumbersFit, SizeWords, call_words, fx_feed, hash_word, hash_words}
+use Rattle.rkyv_scan.specs.Hash.{
+  HasherCall,
+  NumbersFit,
+  SizeWords,
+  call_words,
+  fx_feed,
+  hash_word,
+  hash_words,
+}
 
 word_fits : (held word : ℕ) → hash_word held word < 2 ^ 64
 unfolding hash_word
