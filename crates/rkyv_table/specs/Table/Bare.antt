@@ -10,8 +10,8 @@ use Rattle.rkyv_table.specs.Table.Reading.{IsWalked, WrittenAt, home_positions, 
 use Rattle.rkyv_table.specs.Table.Reading.{pos_found}
 
 -- the view is that of an item of the table whose header stands at p in b
-pub record IsItemOf {T : Type 0} (w : Width) (s : Shape) (b : List ℕ) (p : ℕ) (v : View T) : Type 0
-where
+pub record IsItemOf {T : Type 0} (w : Width) (s : Shape) (b : List ℕ) (p : ℕ)
+    (v : View T) : Type 0 where
   pub archive : v.archive.now ≡ b
   pub bucket : ℕ
   pub walked : IsWalked w b p bucket
