@@ -1,0 +1,38 @@
+//! An interning table: texts with numbers.
+
+use rkyv_base::access::access;
+use rkyv_base::errors::VerifyError;
+use rkyv_base::root::to_bytes;
+use rkyv_base::text::Text;
+use rkyv_index::{ArchivedIndexSet, IndexSetOf, OrderedItems};
+use std::test::Fail;
+
+// The number of a text, in the table of a stranger.
+fn number(table: &[u8], text: &str) -> Result<Option<usize>, VerifyError> {
+    let set = ArchivedIndexSet::of(access::<IndexSetOf<Text>>(table)?);
+    Ok(set.get_index_of(&text))
+}
+
+// Whether the text has the number.
+fn has_number(table: &[u8], number: usize, text: &str) -> Result<bool, VerifyError> {
+    let set = ArchivedIndexSet::of(access::<IndexSetOf<Text>>(table)?);
+    match set.get_index(number) {
+        Some(stored) => Ok(stored.as_str() == text),
+        None => Ok(false),
+    }
+}
+
+#[test]
+fn texts_have_numbers(rt: HostRuntime) -> Result<(), Fail> {
+    let alloc = rt.alloc();
+    let texts = OrderedItems(vec![in alloc; "wonderful", "foo", "excellent"]?);
+    let bytes = to_bytes(alloc, &texts)?;
+    let table = bytes.as_slice();
+    let found = number(table, "excellent")?;
+    let none = number(table, "bar")?;
+    assert!(rt; found == Some(2) && none.is_none());
+    let first = has_number(table, 0, "wonderful")?;
+    let other = has_number(table, 1, "wonderful")?;
+    assert!(rt; first && !other);
+    Ok(())
+}
