@@ -29,6 +29,5 @@ pub root_viewed : (limit : ℕ) (s : Shape) (b : List ℕ) → Accepted limit s 
 root_viewed limit s b a = record {
   inside = omega (arith, a.inside);
   aligned = a.aligned;
-  stands =
-      a.stands;
+  stands = a.stands;
 }

@@ -206,8 +206,7 @@ module _ (k v : Shape) (kl : IsElement k) (vl : IsElement v) where
       record {
         inside = omega (arith, h.inside, size, i.0, i.1);
         aligned = als.0;
-        stands =
-            (h.stands.1.1, h.stands.1.2);
+        stands = (h.stands.1.1, h.stands.1.2);
       }
 
   pub viewed_value : (b : List ℕ) (p : ℕ) → Viewed (entry_shape k v) b p

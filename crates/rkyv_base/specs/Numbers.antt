@@ -14,8 +14,7 @@ signed w = record {
   word = w;
   code = λ z. cast_unsigned w z;
   value = λ n. cast_signed w n;
-  IsCode =
-      λ n. ⊤;
+  IsCode = λ n. ⊤;
 }
 
 -- false is 0 and true is 1
@@ -24,8 +23,7 @@ bool_encoding = record {
   word = w8;
   code = λ v. if v then 1 else 0;
   value = λ n. n == 1;
-  IsCode =
-      λ n. n ≤ 1;
+  IsCode = λ n. n ≤ 1;
 }
 
 -- a char is its number, which is a Unicode scalar value

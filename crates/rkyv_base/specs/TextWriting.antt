@@ -128,8 +128,7 @@ text_format w = record {
   parts = TextParts w;
   next = TextNext w;
   image = TextImage w;
-  far =
-      TextFar w;
+  far = TextFar w;
 }
 
 -- what serializing a text answers
@@ -284,8 +283,7 @@ module _ (w : Width) (kind : IsArchiveWord w) where
         begins = begins;
         above = omega arith;
         below = omega (arith, len);
-        aligned =
-            omega arith;
+        aligned = omega arith;
       } in (
         p0 + far_length w s,
         inr (far, omega (arith, len, long.0), p0, part, subst IsUtf8 (sym text) u, refl),

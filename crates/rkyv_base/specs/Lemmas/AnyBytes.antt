@@ -9,8 +9,7 @@ any_bytes size align = record {
   size = size;
   align = align;
   holds = λ b p lo hi l. l ≡ lo;
-  fails =
-      λ b p lo hi e. ⊥;
+  fails = λ b p lo hi e. ⊥;
 }
 
 pub any_bytes-element : (size align : ℕ) → IsAlign align → size % align ≡ 0 → size ≤ 1073741824
