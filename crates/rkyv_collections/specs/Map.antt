@@ -114,6 +114,15 @@ module _ {K V H W : Type 0} (w : Width) (k v : Shape) (m : ArchivedHashMap K V H
   abbrev pub FindsFirstKey : (List ℕ → ℕ → ℕ) → (ℕ → Bool) → (Option ℕ → Type 0) → Type 0
   FindsFirstKey key_hash accept Told = FindsFirstKeyAt w k v (map_bytes m) (map_pos m) key_hash accept Told
 
+  -- what is told of what a lookup by a comparison finds, for each function of positions as which the comparison answers
+  abbrev pub FindsBy : (View K → Bool → Type 0) → ℕ → (Option ℕ → Type 0) → Type 0
+  FindsBy post hash Told = (accept : ℕ → Bool) → AnswersKeys post accept → FindsKey hash accept Told
+
+  -- and on a written map, where it accepts keys under the hash alone
+  abbrev pub FindsFirstBy : (View K → Bool → Type 0) → ℕ → (List ℕ → ℕ → ℕ) → (Option ℕ → Type 0) → Type 0
+  FindsFirstBy post hash key_hash Told =
+      (accept : ℕ → Bool) → AnswersKeys post accept → AreUnderHash hash key_hash accept → FindsFirstKey key_hash accept Told
+
 -- the view is that of an entry of the map
 abbrev pub IsEntryIn : {K V H W : Type 0} → Width → Shape → Shape → ArchivedHashMap K V H W → View (Entry K V) → Type 0
 IsEntryIn w k v m entry = (entry.archive ≡ map_archive m) × IsView (entry_shape k v) entry × IsKeyPos w k v m entry.pos
