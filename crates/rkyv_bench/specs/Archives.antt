@@ -16,6 +16,7 @@ use Rattle.rkyv_table.specs.Table.Header.{len_at}
 abbrev pub number_shape : Shape
 number_shape = scalar_shape (unsigned w32)
 
+-- text in a narrow archive
 abbrev pub short_text : Shape
 short_text = text_shape w32
 

@@ -22,5 +22,6 @@ AreTextsFrom bytes from (end ∷ ends) = IsText bytes from end × AreTextsFrom b
 abbrev pub texts : List ℕ → List ℕ → List (List ℕ)
 texts bytes ends = cut_from bytes 0 ends
 
+-- the ends ascend and lie within the bytes, and what lies between them are texts
 abbrev pub AreTexts : List ℕ → List ℕ → Type 0
 AreTexts bytes ends = AreTextsFrom bytes 0 ends

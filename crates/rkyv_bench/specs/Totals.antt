@@ -21,9 +21,11 @@ total count xs = sum_by count xs % 2 ^ 64
 abbrev pub hash_by : List HasherCall → ℕ
 hash_by calls = fx_hash low_halves calls
 
+-- the hash of a number as a key
 abbrev pub number_hash : ℕ → ℕ
 number_hash number = hash_by (U32 number ∷ [])
 
+-- the hash of a text as a key
 abbrev pub text_hash : List ℕ → ℕ
 text_hash text = hash_by (text_calls text)
 
@@ -43,9 +45,11 @@ number_looked_up_at b p number = looked_up number_shape b p (number_hash number)
 abbrev pub text_looked_up_at : List ℕ → ℕ → List ℕ → ℕ
 text_looked_up_at b p text = looked_up short_text b p (text_hash text) (λ q. same_bytes text (text_at w32 b q))
 
+-- what is counted of an asked number, in the map at the root
 abbrev pub number_looked_up : List ℕ → ℕ → ℕ
 number_looked_up b number = number_looked_up_at b (root b) number
 
+-- what is counted of an asked text, in the map at the root
 abbrev pub text_looked_up : List ℕ → List ℕ → ℕ
 text_looked_up b text = text_looked_up_at b (root b) text
 
@@ -61,5 +65,6 @@ walked key b p = item_positions w32 (entry_shape key number_shape).size b p
 abbrev pub number_weight : List ℕ → ℕ → ℕ
 number_weight b q = number_at w32 b q
 
+-- a walk counts the length of a text
 abbrev pub text_weight : List ℕ → ℕ → ℕ
 text_weight b q = length (text_at w32 b q)

@@ -23,6 +23,7 @@ module _ {K V H W : Type 0} where
   abbrev pub entries_in : IterMut K V H W → RawIterSeal (Entry K V)
   entries_in pairs = pairs.entries
 
+  -- the cursor over entries in a cursor over values
   abbrev pub entries_of : ValuesMut K V H W → RawIterSeal (Entry K V)
   entries_of values = values.pairs.entries
 
@@ -55,6 +56,7 @@ module _ {K V : Type 0} (k v : Shape) where
   TakesKeyPos before result after =
       (w : Width) (p : ℕ) → IsPairIter w p before → MatchOption result (IsDone w p before after) (TakesPairAt w p before after)
 
+  -- a step answers where the value of the first pair that is left stands, or none is left
   abbrev pub TakesValuePos : RawIterSeal (Entry K V) → Option ℕ → RawIterSeal (Entry K V) → Type 0
   TakesValuePos before result after =
       (w : Width) (p : ℕ) → IsPairIter w p before

@@ -26,9 +26,11 @@ module _ {K H W : Type 0} where
   abbrev pub set_archive : ArchivedHashSet K H W → Bor (List ℕ)
   set_archive s = map_archive s.map
 
+  -- the bytes of the set's archive
   abbrev pub set_bytes : ArchivedHashSet K H W → List ℕ
   set_bytes s = map_bytes s.map
 
+  -- the position of the set's header
   abbrev pub set_pos : ArchivedHashSet K H W → ℕ
   set_pos s = map_pos s.map
 

@@ -16,7 +16,11 @@ ghost use Rattle.rkyv_collections.specs.SealedMap.{
   IsValueSealAt,
   MayAskKeysAt,
 };
-ghost use Rattle.rkyv_collections.specs.ValueWrites.{ValueWritesKeepMaps, ValuesWrittenStand};
+ghost use Rattle.rkyv_collections.specs.ValueWrites.{
+  ValueWritesKeepAnswers,
+  ValueWritesKeepMaps,
+  ValuesWrittenStand,
+};
 
 use crate::map::{ArchivedHashMap, HashMapOf};
 use rkyv_base::element::{Element, StandsFor};
@@ -216,6 +220,18 @@ impl<'a, K: KeyElement, V: Element, H: KeyHasher, W: Width> ArchivedHashMap<'a, 
 pub fn value_writes_keep_maps<K: KeyElement, V: Element, H: KeyHasher, W: Width>()
     ensures { ValueWritesKeepMaps W.word K.shape V.shape
         (hash_at H.initial H.feed H.finish K.key_calls) }
+{}
+
+/// After such a write each query finds the same key.
+pub fn value_writes_keep_answers<
+    K: KeyElement,
+    V: Element,
+    Q: Query<K>,
+    H: KeyHasher,
+    W: Width,
+>()
+    ensures { let hash = hash_of H.initial H.feed H.finish Q.calls in
+        ValueWritesKeepAnswers W.word K.shape V.shape Q.can_read hash Q.fits }
 {}
 
 /// A map that stands for a list of pairs stands, once a value of it was written in place, for the
