@@ -1,5 +1,6 @@
 -- A write of the first pair of a list whose key is asked for.
 use Rattle.std.proofs.Common.{◌≡◌, ℕ, suc, ◌<◌, ◌∙◌, ap, arith, inl, inr, ◌⊎◌, Bool, true, false, List, [], ◌∷◌, length, slice_get, slice_index, Option, None, Some, refl, subst, sym}
+use Rattle.std.specs.Borrow.{MutBor}
 use Rattle.std.specs.Int.{Width}
 use Rattle.std.specs.List.{find}
 use Rattle.std.specs.Option.{is_some, option_map}
@@ -13,7 +14,7 @@ use Rattle.rkyv_base.specs.Sealing.{Keeps, Sealed, value_pos}
 use Rattle.rkyv_base.specs.Shape.{IsElement, Shape, Standing, Viewed}
 use Rattle.rkyv_keys.specs.OfEntries.{standing_key}
 use Rattle.rkyv_table.specs.Table.Reading.{home_positions, item_at}
-use Rattle.rkyv_collections.specs.InPlace.{with_first}
+use Rattle.rkyv_collections.specs.InPlace.{WritesFound, with_first}
 use Rattle.rkyv_collections.specs.Lemmas.MapLaws.{HashNear}
 use Rattle.rkyv_collections.specs.ListedLookups.{AsksFor, first_pair}
 use Rattle.rkyv_collections.specs.Map.{MapWrittenAt, map_shape}
@@ -130,3 +131,12 @@ module _ (w : Width) (k v : Shape) (kl : IsElement k) (vl : IsElement v) {A B : 
       let t = some_place (value_pos k v) (find accept places) pos found in
       first_written kn vn near c t.0 t.1 (record { sealed = subst (λ n. Sealed b n v.size c) t.2 sealed; keeps = subst (λ n. Keeps v b c n) t.2 keeps })
       (subst (λ n. value c n new) t.2 stands)
+
+-- what a writer made of an archive, by the place of the value that was found
+pub found_written : {F R : Type 0} (post : F → MutBor (List ℕ) → ℕ → R → MutBor (List ℕ) → Type 0) (write : F) (x y : MutBor (List ℕ)) (r : R) (pos : ℕ) (place : Option ℕ)
+    → Some pos ≡ place → post write x pos r y → WritesFound post write x.now (Some r) y.now place
+found_written post write x y r pos place e h = subst (WritesFound post write x.now (Some r) y.now) e (r, refl, (x, y, refl, refl, h))
+
+pub nothing_written : {F R : Type 0} (post : F → MutBor (List ℕ) → ℕ → R → MutBor (List ℕ) → Type 0) (write : F) (b : List ℕ) (place : Option ℕ)
+    → None ≡ place → WritesFound post write b None b place
+nothing_written {R = R} post write b place e = subst (WritesFound {R = R} post write b None b) e (refl, refl)

@@ -16,7 +16,11 @@ ghost use Rattle.rkyv_collections.specs.SealedMap.{
   IsValueSealAt,
   MayAskKeysAt,
 };
-ghost use Rattle.rkyv_collections.specs.ValueWrites.{ValueWritesKeepAnswers, ValueWritesKeepMaps, ValuesWrittenStand};
+ghost use Rattle.rkyv_collections.specs.ValueWrites.{
+  ValueWritesKeepAnswers,
+  ValueWritesKeepMaps,
+  ValuesWrittenStand,
+};
 
 use crate::map::{ArchivedHashMap, HashMapOf};
 use rkyv_base::element::{Element, StandsFor};

@@ -20,8 +20,8 @@ returns-in-Some-clause-answer g c =
     let t = c.in-Some.ensures.walked in
     let kept = map_kept_at k (scalar_shape e) g.met.K.Element.laws (scalar_element e g.met.N.Scalar.word) g.W.Width.word key_hash
     (λ x y q lo hi l o holds fixed part. ap (hash_of_calls h.initial h.feed h.finish) (g.met.K.KeyElement.key.near x y q lo hi l o holds fixed part))
-    b _ c.args.root t.0 c.in-Some.pos c.requires.map t.1 t.2 c.set_at.ensures.sealed c.set_at.ensures.holds in
-    subst (SetsFound g.W.Width.word k e key_hash b c.args.root c.args.value true _) c.in-Some.ensures.answer (refl, c.set_at.ensures.written, (t.1.0, kept))
+    b c.set_at.new.bytes c.args.root t.0 c.in-Some.pos c.requires.map t.1 t.2 c.set_at.ensures.sealed c.set_at.ensures.holds in
+    subst (SetsFound g.W.Width.word k e key_hash b c.args.root c.args.value true c.set_at.new.bytes) c.in-Some.ensures.answer (refl, c.set_at.ensures.written, (t.1.0, kept))
 
 pub returns-in-Some-clause-listed : goal.returns-in-Some-clause-listed
 returns-in-Some-clause-listed g c = λ factor pairs st.
@@ -35,7 +35,7 @@ returns-in-Some-clause-listed g c = λ factor pairs st.
     (hash_at h.initial h.feed h.finish g.K.KeyElement.key_calls) factor b c.args.root pairs c.args.value fits (g.A.PartialEq.eq c.args.key.now) c.requires.map
     (λ a q s there. g.met.A.NativeKey.native c.args.key.now a b q s there) st g.met.K.StandsFor.near (scalar_near e g.met.N.Scalar.word)
     (λ x y q lo hi l o holds fixed part. ap (hash_of_calls h.initial h.feed h.finish) (g.met.K.KeyElement.key.near x y q lo hi l o holds fixed part))
-    _ c.in-Some.pos (c.in-Some.ensures.first st.homes st.written) set.sealed set.holds set.reads
+    c.set_at.new.bytes c.in-Some.pos (c.in-Some.ensures.first st.homes st.written) set.sealed set.holds set.reads
 
 pub returns-in-None-clause-answer : goal.returns-in-None-clause-answer
 returns-in-None-clause-answer g c =
