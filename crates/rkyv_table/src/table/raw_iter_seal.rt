@@ -9,10 +9,12 @@ ghost use Rattle.rkyv_table.specs.Controls.Placing.{walk};
 ghost use Rattle.rkyv_table.specs.Table.Reading.{table_controls};
 ghost use Rattle.rkyv_table.specs.Table.SealedItems.{CountsDown, FindsFirstLeft, IsSealIter};
 ghost use Rattle.rkyv_table.specs.Table.SealedItems.{KeepsCursor, LendsArchive, LendsFirst, MaySeal};
-ghost use Rattle.rkyv_table.specs.Table.SealedItems.{MaySealNext, MayWriteAt, MayWriteNext};
+ghost use Rattle.rkyv_table.specs.Table.SealedItems.{MaySealIn, MaySealNext, MayWriteAt, MayWriteNext};
 ghost use Rattle.rkyv_table.specs.Table.SealedItems.{SameArchive, SealedBy, StaysThere, StepsAndWrites};
 ghost use Rattle.rkyv_table.specs.Table.SealedItems.{TakesPosition, WrittenBy, buckets_left};
 ghost use Rattle.rkyv_table.specs.Table.SealedItems.{cursor_bytes, items_left};
+ghost use Rattle.rkyv_scan.specs.Groups.{generic_kind};
+ghost use Rattle.rkyv_table.specs.Table.Bare.{LendsFound, MayAskOf};
 ghost use Rattle.rkyv_table.specs.Table.RawItems.{pos_before};
 ghost use Rattle.rkyv_table.specs.Table.SealedLookup.{IsTableSeal};
 ghost use Rattle.rkyv_base.specs.Shape.{Viewed};
@@ -297,6 +299,32 @@ impl<'a, T: Element, W: Width> ArchivedHashTable<'a, T, W> {
             next: 0,
             left,
             kind: PhantomData,
+        }
+    }
+}
+
+impl<'a, T: Element, W: Width> ArchivedHashTable<'a, T, W> {
+    /// Lends the item that a lookup in the table at `pos` of the archive answers to `write`, and
+    /// answers what that gives.
+    ///
+    /// Where none is found, nothing is written.
+    #[inline]
+    pub fn found_with<R, F: Fn(View<'_, T>) -> bool, G: FnOnce(&mut Seal<'_, T>) -> R>(
+        archive: &mut [u8],
+        pos: u64,
+        hash: u64,
+        cmp: F,
+        write: G,
+    ) -> Option<R>
+        requires table { Viewed (table_shape W.word T.shape) archive.old pos }
+        requires callable { MayAskOf (F.pre cmp) W.word T.shape archive.old pos }
+        requires writable { MaySealIn G.pre T.shape write archive.old }
+        ensures { LendsFound (F.post cmp) (SealedBy G.post write) generic_kind W.word T.shape archive.old pos hash result archive.new }
+    {
+        let table = ArchivedHashTable::<T, W>::of(View::new(&*archive, pos));
+        match table.get_pos_with(hash, cmp) {
+            Some(place) => Some(lend_seal(archive, place as usize, write)),
+            None => None,
         }
     }
 }
