@@ -9,7 +9,10 @@ use Rattle.rkyv_scan.specs.Groups.{Kind}
 use Rattle.rkyv_table.specs.Controls.Laws.{IsUnderHash}
 use Rattle.rkyv_table.specs.Table.Bare.{AcceptedOf, AnswersOf, IsItemOf, LooksUp, MayAskOf, ReadsExactly}
 use Rattle.rkyv_table.specs.Table.Layout.{table_shape}
-use Rattle.rkyv_table.specs.Table.Reading.{Answers, CountsEnd, FindsFirst, FindsFound, IsAcceptedAt, IsItem, IsTable, IsWalked, MayAsk, WrittenAt, home_positions, item_at, lookup_end, pos_found}
+use Rattle.rkyv_table.specs.Table.Reading.{Answers, CountsEnd, FindsFirst, FindsFound, IsAcceptedAt, IsItem, IsItemPos, IsTable, IsWalked, MayAsk, WrittenAt, home_positions, item_at, lookup_end, pos_found}
+use Rattle.rkyv_table.specs.Table.SealedItems.{IsItemAt}
+use Rattle.rkyv_table.proofs.Items.{item_viewed}
+use Rattle.rkyv_table.proofs.SealedTable.{table_kept}
 use Rattle.rkyv_table.specs.declared.table.ArchivedHashTable.{ArchivedHashTable}
 
 module _ {T W : Type 0} (w : Width) (s : Shape) (b : List ℕ) (p : ℕ) (t : ArchivedHashTable T W) (bytes : t.view.archive.now ≡ b) (place : t.view.pos ≡ p) where
@@ -69,3 +72,18 @@ module _ {T W : Type 0} (w : Width) (s : Shape) (b : List ℕ) (p : ℕ) (t : Ar
         let P = λ (c : List ℕ) (q : ℕ). after ≡ lookup_end kind w s.size c q hash accept in
         subst (P b) place (subst (λ (c : List ℕ). P c t.view.pos) bytes
         (counts accept (answers_of accept answers) ∙ ap (λ n. n + lookup_end kind w s.size t.view.archive.now t.view.pos hash accept) none ∙ zero-add _))
+
+  -- where an item of the table stands, each write of it alone that keeps it keeps the table
+  pub item_at_found : IsElement s → Viewed (table_shape w s) b p → (q : ℕ) → IsItemPos w s t q → (i : ℕ) × IsItemAt w s b p i q
+  item_at_found law stands q is =
+      let i = is.0 in
+      let P = λ (c : List ℕ) (r : ℕ). IsWalked w c r i × (q ≡ item_at w s.size c r i) in
+      let there : P b p = subst (P b) place (subst (λ (c : List ℕ). P c t.view.pos) bytes (is.1, is.2)) in (
+        i,
+        record {
+          walked = there.0;
+          place = there.1;
+          viewed = subst (Viewed s b) (sym there.1) (item_viewed w s law b p stands i there.0);
+          kept = λ c sealed keeps. table_kept w s law b p i stands there.0 c sealed keeps;
+        },
+      )

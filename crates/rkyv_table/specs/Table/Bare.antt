@@ -8,6 +8,7 @@ use Rattle.rkyv_scan.specs.Groups.{Kind}
 use Rattle.rkyv_table.specs.Controls.Laws.{IsUnderHash}
 use Rattle.rkyv_table.specs.Table.Reading.{IsWalked, WrittenAt, home_positions, item_at, lookup_end}
 use Rattle.rkyv_table.specs.Table.Reading.{pos_found}
+use Rattle.rkyv_table.specs.Table.SealedItems.{IsItemAt}
 
 -- the view is that of an item of the table whose header stands at p in b
 pub record IsItemOf {T : Type 0} (w : Width) (s : Shape) (b : List ℕ) (p : ℕ)
@@ -59,3 +60,13 @@ abbrev pub WritesFound : {R : Type 0} → (R → List ℕ → ℕ → List ℕ �
 WritesFound {R} Writes b found result c =
     MatchOption found ((result ≡ None) × (c ≡ b))
     (λ q. (r : R) × (result ≡ Some r) × Writes r b q c)
+
+-- What a lookup answers was lent to a writer, where each write of the item alone that keeps it keeps
+-- the table; where none is found, all is as before.
+pub record LendsFound {T R : Type 0} (post : View T → Bool → Type 0)
+    (Writes : R → List ℕ → ℕ → List ℕ → Type 0) (kind : Kind) (w : Width) (s : Shape) (b : List ℕ)
+    (p hash : ℕ) (result : Option R) (c : List ℕ) : Type 0 where
+  pub found : Option ℕ
+  pub looks : LooksUp post kind w s b p hash found
+  pub item : IfSome found (λ q. (i : ℕ) × IsItemAt w s b p i q)
+  pub writes : WritesFound Writes b found result c

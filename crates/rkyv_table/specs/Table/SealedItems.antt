@@ -131,3 +131,8 @@ pub record SealedBy {F R T : Type 0} (post : F → MutBor (Seal T) → R → Mut
 -- a writer may be lent the seal of each item that lies in the archive
 abbrev pub MaySealNext : {F T : Type 0} → (F → MutBor (Seal T) → Type 0) → Shape → RawIterSeal T → F → Type 0
 MaySealNext {F} {T} pre s before write = (x : MutBor (Seal T)) → bytes_in x.now ≡ before.archive.now → LiesIn s x.now → pre write x
+
+-- a writer may be lent the seal of each item that lies in the bytes
+abbrev pub MaySealIn : {F T : Type 0} → (F → MutBor (Seal T) → Type 0) → Shape → F → List ℕ
+    → Type 0
+MaySealIn {F} {T} pre s write b = (x : MutBor (Seal T)) → bytes_in x.now ≡ b → LiesIn s x.now → pre write x

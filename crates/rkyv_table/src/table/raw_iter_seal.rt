@@ -7,7 +7,14 @@ ghost use Rattle.rkyv_base.specs.Sealing.{Keeps, Sealed, with_value};
 ghost use Rattle.rkyv_table.specs.Table.Header.{cap_at, len_at};
 ghost use Rattle.rkyv_table.specs.Controls.Placing.{walk};
 ghost use Rattle.rkyv_table.specs.Table.Reading.{table_controls};
-ghost use Rattle.rkyv_table.specs.Table.SealedItems.{CountsDown, FindsFirstLeft, IsSealIter, KeepsCursor, LendsArchive, LendsFirst, MaySeal, MaySealNext, MayWriteAt, MayWriteNext, SameArchive, SealedBy, StaysThere, StepsAndWrites, TakesPosition, WrittenBy, buckets_left, cursor_bytes, items_left};
+ghost use Rattle.rkyv_table.specs.Table.SealedItems.{CountsDown, FindsFirstLeft, IsSealIter};
+ghost use Rattle.rkyv_table.specs.Table.SealedItems.{KeepsCursor, LendsArchive, LendsFirst, MaySeal};
+ghost use Rattle.rkyv_table.specs.Table.SealedItems.{MaySealIn, MaySealNext, MayWriteAt, MayWriteNext};
+ghost use Rattle.rkyv_table.specs.Table.SealedItems.{SameArchive, SealedBy, StaysThere, StepsAndWrites};
+ghost use Rattle.rkyv_table.specs.Table.SealedItems.{TakesPosition, WrittenBy, buckets_left};
+ghost use Rattle.rkyv_table.specs.Table.SealedItems.{cursor_bytes, items_left};
+ghost use Rattle.rkyv_scan.specs.Groups.{generic_kind};
+ghost use Rattle.rkyv_table.specs.Table.Bare.{LendsFound, MayAskOf};
 ghost use Rattle.rkyv_table.specs.Table.RawItems.{pos_before};
 ghost use Rattle.rkyv_table.specs.Table.SealedLookup.{IsTableSeal};
 ghost use Rattle.rkyv_base.specs.Shape.{Viewed};
@@ -73,7 +80,9 @@ struct Place {
 
 /// The items of a table, by ascending bucket, each of which is lent to be written.
 ///
-/// It gives as many as `len` tells.
+/// While a table stands in the archive, `next_pos`, `next_with` and `next_seal_with` give each item
+/// once, as many as `len` tells, and then none. What a cursor is after `next_seal` has lent an item
+/// isn't said.
 #[derive(Drop)]
 pub struct RawIterSeal<'a, T> {
     archive: &'a mut [u8],
@@ -137,7 +146,7 @@ impl<'a, T: Element> RawIterSeal<'a, T> {
         }
     }
 
-    /// The next item, to be written.
+    /// The next item, to be written. `next_seal_with` says also what is left.
     #[inline]
     pub fn next_seal(&mut self) -> Option<Seal<'_, T>>
         ensures inside { IfSome result (LiesIn T.shape) }
@@ -173,14 +182,14 @@ impl<'a, T: Element> RawIterSeal<'a, T> {
     }
 }
 
-/// Lends the seal at a place of some bytes to `write`.
+/// Lends the seal at a place of some bytes to `write`, and answers what that gives.
 #[inline]
-fn lend_seal<T, F: FnOnce(&mut Seal<'_, T>)>(bytes: &mut [u8], place: usize, write: F)
+fn lend_seal<T, R, F: FnOnce(&mut Seal<'_, T>) -> R>(bytes: &mut [u8], place: usize, write: F) -> R
     requires { MaySeal F.pre write bytes.old place }
-    ensures { SealedBy F.post write tt bytes.old place bytes.new }
+    ensures { SealedBy F.post write result bytes.old place bytes.new }
 {
     let mut seal = Seal::<T>::over(bytes, place);
-    write(&mut seal);
+    write(&mut seal)
 }
 
 impl<'a, T: Element> RawIterSeal<'a, T> {
@@ -220,7 +229,7 @@ impl<'a, T> RawIterSeal<'a, T> {
         &*self.archive
     }
 
-    /// The bytes of the archive, to be written.
+    /// The bytes of the archive, to be lent on. `write_with` says also what becomes of them.
     #[inline]
     pub fn bytes_mut(&mut self) -> &mut [u8]
         ensures { result.now ≡ cursor_bytes self.old }
@@ -290,6 +299,32 @@ impl<'a, T: Element, W: Width> ArchivedHashTable<'a, T, W> {
             next: 0,
             left,
             kind: PhantomData,
+        }
+    }
+}
+
+impl<'a, T: Element, W: Width> ArchivedHashTable<'a, T, W> {
+    /// Lends the item that a lookup in the table at `pos` of the archive answers to `write`, and
+    /// answers what that gives.
+    ///
+    /// Where none is found, nothing is written.
+    #[inline]
+    pub fn found_with<R, F: Fn(View<'_, T>) -> bool, G: FnOnce(&mut Seal<'_, T>) -> R>(
+        archive: &mut [u8],
+        pos: u64,
+        hash: u64,
+        cmp: F,
+        write: G,
+    ) -> Option<R>
+        requires table { Viewed (table_shape W.word T.shape) archive.old pos }
+        requires callable { MayAskOf (F.pre cmp) W.word T.shape archive.old pos }
+        requires writable { MaySealIn G.pre T.shape write archive.old }
+        ensures { LendsFound (F.post cmp) (SealedBy G.post write) generic_kind W.word T.shape archive.old pos hash result archive.new }
+    {
+        let table = ArchivedHashTable::<T, W>::of(View::new(&*archive, pos));
+        match table.get_pos_with(hash, cmp) {
+            Some(place) => Some(lend_seal(archive, place as usize, write)),
+            None => None,
         }
     }
 }

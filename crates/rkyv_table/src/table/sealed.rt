@@ -16,7 +16,8 @@ use rkyv_base::view::View;
 use rkyv_base::width::Width;
 
 impl<'a, T: Element, W: Width> ArchivedHashTable<'a, T, W> {
-    /// As `get_with`, and lends the item to be written.
+    /// As `get_with`, and lends the item to be written. `found_with` says also what the archive holds
+    /// afterwards.
     #[inline]
     pub fn get_seal_with<F: Fn(View<'_, T>) -> bool>(
         this: ArchiveSeal<'a, TableOf<T, W>>,

@@ -9,7 +9,7 @@ returns g c = record {
   place = c.over-seal.ensures.place;
   met = c.write.ensures;
   leaves = λ same.
-      let name : c.write.new.arg2.bytes.ghost_name ≡ c.over-arg-1.given = same ∙ c.over-seal.ensures.same_reference in
+      let name = same ∙ c.over-seal.ensures.same_reference in
       let ends : c.drop-seal.new.self.0 ≡ c.write.new.arg2.bytes.now = c.drop-seal.ensures in
       search rules;
 }
