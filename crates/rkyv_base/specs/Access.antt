@@ -12,13 +12,23 @@ pub record Accepted (limit : ℕ) (s : Shape) (b : List ℕ) : Type 0 where
   pub aligned : (length b - s.size) % s.align ≡ 0
   pub stands : Standing s b (length b - s.size)
 
--- the first point at which it isn't: it is too short or too long, or else the root isn't aligned, or else it fails
+-- the first point at which it isn't: it is too short or too long, or else the root isn't aligned,
+-- or else it fails
 abbrev pub AccessFails : ℕ → Shape → List ℕ → VerifyError → Type 0
 AccessFails limit s b e =
-    (((length b < s.size) ⊎ (limit < length b)) × (e ≡ OutOfRange (pos (length b) -ℤ pos s.size) s.size))
-    ⊎ ((s.size ≤ length b) × (length b ≤ limit) × ((length b - s.size) % s.align ≢ 0) × (e ≡ Unaligned (length b - s.size) s.align))
-    ⊎ ((s.size ≤ length b) × (length b ≤ limit) × ((length b - s.size) % s.align ≡ 0) × s.fails b (length b - s.size) 0 (length b - s.size) e)
+    (((length b < s.size) ⊎ (limit < length b))
+    × (e ≡ OutOfRange (pos (length b) -ℤ pos s.size) s.size))
+    ⊎ ((s.size ≤ length b) × (length b ≤ limit) × ((length b - s.size) % s.align ≢ 0)
+    × (e ≡ Unaligned (length b - s.size) s.align))
+    ⊎ ((s.size ≤ length b) × (length b ≤ limit) × ((length b - s.size) % s.align ≡ 0)
+    × s.fails b (length b - s.size) 0 (length b - s.size) e)
 
 -- the root of an accepted archive
-pub root_viewed : (limit : ℕ) (s : Shape) (b : List ℕ) → Accepted limit s b → Viewed s b (length b - s.size)
-root_viewed limit s b a = record { inside = omega (arith, a.inside); aligned = a.aligned; stands = a.stands }
+pub root_viewed : (limit : ℕ) (s : Shape) (b : List ℕ) → Accepted limit s b
+    → Viewed s b (length b - s.size)
+root_viewed limit s b a = record {
+  inside = omega (arith, a.inside);
+  aligned = a.aligned;
+  stands =
+      a.stands;
+}

@@ -8,6 +8,6 @@ use Rattle.rkyv_base.specs.Shape.{Shape}
 abbrev pub Passes : Shape → List ℕ → ℕ → PartRange → PartRange → Type 0
 Passes s b p range rest = (rest.hi ≡ range.hi) × s.holds b p range.lo range.hi rest.lo
 
--- they are none, and the error is the first point
+-- the bytes at p are no value, and the error is the first point at which they aren't
 abbrev pub Fails : Shape → List ℕ → ℕ → PartRange → VerifyError → Type 0
 Fails s b p range e = s.fails b p range.lo range.hi e

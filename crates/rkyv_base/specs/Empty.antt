@@ -5,12 +5,15 @@ use Rattle.rkyv_base.specs.Shape.{Shape, IsElement}
 use Rattle.rkyv_base.specs.Lemmas.AnyBytes.{any_bytes, any_bytes-element}
 use Rattle.rkyv_base.specs.Format.{Format, IsFormat, StandsNear, nothing_next, nothing_far}
 
+-- the unit value: no bytes, anywhere
 abbrev pub unit_shape : Shape
 unit_shape = any_bytes 0 1
 
+-- a unit value stands everywhere
 abbrev pub unit_stands : List ℕ → ℕ → Unit {0} → Type 0
 unit_stands b p v = Unit {0}
 
+-- how a unit value is written: nothing is appended, and it has no bytes of its own
 abbrev pub unit_format : Format (Unit {0}) (Unit {0})
 unit_format = record {
   parts = λ v p part r. part ≡ [];

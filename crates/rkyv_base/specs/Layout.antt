@@ -5,8 +5,10 @@ use Rattle.std.proofs.Common.{inl, inr, refl, lit<, lit≤}
 use mir.Val.{bits}
 use Rattle.rkyv_base.specs.Scalar.{Encoding}
 
--- a word is the bytes of a count: the alignment is one word, a table's header three, an index map's four, a text's two
-pub record IsLayout (word : Width) (limit max_capacity table_size index_size align text_size text_limit : ℕ) : Type 0 where
+-- a word is the bytes of a count: the alignment is one word, a table's header three, an index map's
+-- four, a text's two
+pub record IsLayout (word : Width) (limit max_capacity table_size index_size align text_size
+    text_limit : ℕ) : Type 0 where
   pub kind : (word ≡ w32) ⊎ (word ≡ w64)
   pub limit_fits : limit < 2 ^ bits word
   pub limit_small : limit < 2 ^ 63
@@ -35,7 +37,8 @@ narrow_layout = record {
   text_limit_is = refl;
 }
 
-pub wide_layout : IsLayout w64 9223372036854775807 4611686018427387904 24 32 8 16 4611686018427387904
+pub wide_layout : IsLayout w64 9223372036854775807 4611686018427387904 24 32 8 16
+    4611686018427387904
 wide_layout = record {
   kind = inr refl;
   limit_fits = lit< tt;

@@ -6,6 +6,7 @@ pub mod Format
 pub mod Scalar
 pub mod Numbers
 pub mod Layout
+pub mod Lending
 pub mod Entry
 pub mod View
 pub mod Access

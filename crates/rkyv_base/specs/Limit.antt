@@ -11,7 +11,8 @@ limited output w = record (output w.inner) { failures = w.failures }
 
 -- what the inner writer took counts against the limit
 abbrev pub Counts : {W : Type 0} → (W → Output) → LimitWriter W → LimitWriter W → Type 0
-Counts output w w' = w'.left + length (output w'.inner).bytes ≡ w.left + length (output w.inner).bytes
+Counts output w w' = w'.left + length (output w'.inner).bytes ≡ w.left + length
+    (output w.inner).bytes
 
 -- the inner writer took the bytes, and neither writer counts a failure
 abbrev pub InnerTook : {W : Type 0} → (W → Output) → LimitWriter W → LimitWriter W → List ℕ → Type 0
@@ -19,14 +20,19 @@ InnerTook output w w' bytes =
     Appends (output w.inner) (output w'.inner) bytes × (w'.failures ≡ w.failures)
 
 -- the inner writer fell on the bytes, both count it, and it is told
-abbrev pub InnerFell : {W F : Type 0} → (W → Output) → LimitWriter W → LimitWriter W → List ℕ → LimitFault F → Type 0
+abbrev pub InnerFell : {W F : Type 0} → (W → Output) → LimitWriter W → LimitWriter W → List ℕ
+    → LimitFault F → Type 0
 InnerFell output w w' bytes Full = ⊥
-InnerFell output w w' bytes (Inner fault) = Fell (output w.inner) (output w'.inner) bytes × Fell (limited output w) (limited output w') bytes
+InnerFell output w w' bytes (Inner fault) = Fell (output w.inner) (output w'.inner) bytes
+    × Fell (limited output w) (limited output w') bytes
 
--- full: the piece doesn't fit, and the inner writer took the front that does. inner: the inner writer was asked for the
+-- full: the piece doesn't fit, and the inner writer took the front that does. inner: the inner
+-- writer was asked for the
 -- front that fits, and failed.
-abbrev pub LimitTold : {W F : Type 0} → (W → Output) → LimitWriter W → LimitWriter W → List ℕ → LimitFault F → Type 0
+abbrev pub LimitTold : {W F : Type 0} → (W → Output) → LimitWriter W → LimitWriter W → List ℕ
+    → LimitFault F → Type 0
 LimitTold output w w' bytes Full =
     (w.left < length bytes) × Appends (output w.inner) (output w'.inner) (take w.left bytes)
 LimitTold output w w' bytes (Inner fault) =
-    ((0 < w.left) ⊎ (length bytes ≡ 0)) × Fell (output w.inner) (output w'.inner) (take w.left bytes)
+    ((0 < w.left) ⊎ (length bytes ≡ 0)) × Fell (output w.inner) (output w'.inner)
+    (take w.left bytes)

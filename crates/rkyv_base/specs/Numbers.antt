@@ -4,16 +4,29 @@ use Rattle.std.specs.Char.{IsScalar}
 use Rattle.std.specs.Int.{Width, w8, w32, cast_signed, cast_unsigned}
 use Rattle.rkyv_base.specs.Scalar.{Encoding}
 
--- an unsigned number is its own code, and a signed one that of the unsigned number of its width
+-- an unsigned number is its own code
 abbrev pub unsigned : Width → Encoding ℕ
 unsigned w = record { word = w; code = λ n. n; value = λ n. n; IsCode = λ n. ⊤ }
 
+-- a signed number has the code of the unsigned number of its width
 abbrev pub signed : Width → Encoding ℤ
-signed w = record { word = w; code = λ z. cast_unsigned w z; value = λ n. cast_signed w n; IsCode = λ n. ⊤ }
+signed w = record {
+  word = w;
+  code = λ z. cast_unsigned w z;
+  value = λ n. cast_signed w n;
+  IsCode =
+      λ n. ⊤;
+}
 
 -- false is 0 and true is 1
 abbrev pub bool_encoding : Encoding Bool
-bool_encoding = record { word = w8; code = λ v. if v then 1 else 0; value = λ n. n == 1; IsCode = λ n. n ≤ 1 }
+bool_encoding = record {
+  word = w8;
+  code = λ v. if v then 1 else 0;
+  value = λ n. n == 1;
+  IsCode =
+      λ n. n ≤ 1;
+}
 
 -- a char is its number, which is a Unicode scalar value
 abbrev pub char_encoding : Encoding ℕ

@@ -1,7 +1,20 @@
 -- A value written as the root of an archive: its parts, zeros up to its alignment, the value.
 use Rattle.std.specs.Prelude.{◌≡◌, ℕ, ◌+◌, ◌-◌, ◌≤◌, ◌⊎◌, List, [], ◌++◌, length}
 use Rattle.rkyv_base.specs.declared.errors.WriteError.{WriteError}
-use Rattle.rkyv_base.specs.Writing.{Only, Output, end_of, Appends, Step, Told, distance, no_memory, padding, piece, refusal, zeros}
+use Rattle.rkyv_base.specs.Writing.{
+  Only,
+  Output,
+  end_of,
+  Appends,
+  Step,
+  Told,
+  distance,
+  no_memory,
+  padding,
+  piece,
+  refusal,
+  zeros,
+}
 use Rattle.rkyv_base.specs.Shape.{Shape}
 use Rattle.rkyv_base.specs.Entry.{round_up}
 use Rattle.rkyv_base.specs.Access.{Accepted}
@@ -12,7 +25,8 @@ module _ {V R : Type 0} (align : ℕ) (f : Format V R) (v : V) (p : ℕ) where
   abbrev pub RootBytes : List ℕ → ℕ → Type 0
   RootBytes bytes root =
       (part : List ℕ) × (r : R) × (out : List ℕ) × f.parts v p part r × f.image v r root out
-      × (root ≡ round_up (p + length part) align) × (bytes ≡ part ++ (zeros (padding align (p + length part)) ++ out))
+      × (root ≡ round_up (p + length part) align)
+      × (bytes ≡ part ++ (zeros (padding align (p + length part)) ++ out))
 
   -- the value's bytes, or that a distance from it is too large
   abbrev pub ValueStep : List ℕ → R → Step → Type 0
@@ -20,32 +34,39 @@ module _ {V R : Type 0} (align : ℕ) (f : Format V R) (v : V) (p : ℕ) where
       ((out : List ℕ) × f.image v r (round_up (p + length part) align) out × (step ≡ piece out))
       ⊎ (f.far v r (round_up (p + length part) align) × (step ≡ refusal distance))
 
-  -- after front, step comes next: that there is no memory for the value's bytes; one of its parts, or a refusal of it; the
+  -- after front, step comes next: that there is no memory for the value's bytes; one of its parts,
+  -- or a refusal of it; the
   -- zeros; the value
   abbrev pub RootNext : List ℕ → Step → Type 0
   RootNext front step =
       Only (refusal no_memory) front step
       ⊎ f.next v p front step
       ⊎ ((r : R) × f.parts v p front r × (step ≡ piece (zeros (padding align (p + length front)))))
-      ⊎ ((part : List ℕ) × (r : R) × f.parts v p part r × (front ≡ part ++ zeros (padding align (p + length part))) × ValueStep part r step)
+      ⊎ ((part : List ℕ) × (r : R) × f.parts v p part r
+      × (front ≡ part ++ zeros (padding align (p + length part))) × ValueStep part r step)
 
 -- a root was appended
 abbrev pub WroteRoot : {V R : Type 0} → ℕ → ℕ → Format V R → V → Output → Output → ℕ → Type 0
 WroteRoot limit align f v o o' root =
-    (bytes : List ℕ) × Appends o o' bytes × RootBytes align f v (end_of o) bytes root × (end_of o' ≤ limit)
+    (bytes : List ℕ) × Appends o o' bytes × RootBytes align f v (end_of o) bytes root
+    × (end_of o' ≤ limit)
 
 -- writing a root gave up: what stood before is kept, and the cause stands
-abbrev pub RootGaveUp : {F V R : Type 0} → ℕ → ℕ → Format V R → V → Output → Output → WriteError F → Type 0
+abbrev pub RootGaveUp : {F V R : Type 0} → ℕ → ℕ → Format V R → V → Output → Output → WriteError F
+    → Type 0
 RootGaveUp limit align f v o o' e = Told limit (RootNext align f v (end_of o)) o o' e
 
 -- what a new writer into memory holds
 abbrev pub fresh : Output
 fresh = record { start = 0; bytes = []; failures = 0 }
 
--- the bytes are the archive of one value: it is accepted, the value stands at its root, and no bytes but its own are there
-abbrev pub ArchiveOf : {V R : Type 0} → ℕ → Shape → (List ℕ → ℕ → V → Type 0) → Format V R → V → List ℕ → Type 0
+-- the bytes are the archive of one value: it is accepted, the value stands at its root, and no
+-- bytes but its own are there
+abbrev pub ArchiveOf : {V R : Type 0} → ℕ → Shape → (List ℕ → ℕ → V → Type 0) → Format V R → V
+    → List ℕ → Type 0
 ArchiveOf limit s stands f v b =
-    Accepted limit s b × stands b (length b - s.size) v × RootBytes s.align f v 0 b (length b - s.size)
+    Accepted limit s b × stands b (length b - s.size) v
+    × RootBytes s.align f v 0 b (length b - s.size)
 
 -- no archive was made of the value
 abbrev pub ArchiveRefused : {F V R : Type 0} → ℕ → Shape → Format V R → V → WriteError F → Type 0

@@ -2,7 +2,11 @@
 use Rattle.std.specs.Prelude.{◌≡◌, ℕ, ◌+◌, ◌%◌, ◌^◌, ◌<◌, ◌≤◌, ◌⊎◌, List, [], length, slice_range}
 use Rattle.std.specs.Int.{Width, w8, w16, w32, w64, byte_len, from_le_bytes, to_le_bytes}
 use Rattle.std.proofs.Common.{refl, arith, inl, inr, subst, sym, ◌∙◌, ap}
-use Rattle.std.proofs.lemmas.Nat.{from_le_bytes-to_le_bytes_2, from_le_bytes-to_le_bytes_4, from_le_bytes-to_le_bytes_8}
+use Rattle.std.proofs.lemmas.Nat.{
+  from_le_bytes-to_le_bytes_2,
+  from_le_bytes-to_le_bytes_4,
+  from_le_bytes-to_le_bytes_8,
+}
 use mir.Val.{bits}
 use Rattle.rkyv_base.specs.declared.errors.VerifyError.{VerifyError}
 use Rattle.rkyv_base.specs.declared.errors.VerifyError.TheVariants.{InvalidValue}
@@ -10,7 +14,8 @@ use Rattle.rkyv_base.specs.Bytes.{Same, Sits, number_at}
 use Rattle.rkyv_base.specs.Shape.{Shape, IsAlign, IsElement}
 use Rattle.rkyv_base.specs.Format.{Format, IsFormat, nothing_next, nothing_far}
 
--- how the values V are written: as many bytes as the word has, the number of a value, the value of a number, and which
+-- how the values V are written: as many bytes as the word has, the number of a value, the value of
+-- a number, and which
 -- numbers are those of values
 pub record Encoding (V : Type 0) : Type 1 where
   pub word : Width
@@ -36,8 +41,14 @@ ScalarHolds e b p lo hi l = (l ≡ lo) × e.IsCode (number_at e.word b p)
 abbrev pub ScalarFails : {V : Type 0} → Encoding V → List ℕ → ℕ → ℕ → ℕ → VerifyError → Type 0
 ScalarFails e b p lo hi error = (error ≡ InvalidValue p) × (e.IsCode (number_at e.word b p) → ⊥)
 
+-- a scalar as an element: one word, at a multiple of it, whose number is that of a value
 abbrev pub scalar_shape : {V : Type 0} → Encoding V → Shape
-scalar_shape e = record { size = byte_len e.word; align = byte_len e.word; holds = ScalarHolds e; fails = ScalarFails e }
+scalar_shape e = record {
+  size = byte_len e.word;
+  align = byte_len e.word;
+  holds = ScalarHolds e;
+  fails = ScalarFails e;
+}
 
 -- the value of the number at p
 abbrev pub ScalarStands : {V : Type 0} → Encoding V → List ℕ → ℕ → V → Type 0
@@ -60,24 +71,30 @@ by_word P p8 p16 p32 p64 w (inr (inr (inl e))) = subst P (sym e) p32
 by_word P p8 p16 p32 p64 w (inr (inr (inr e))) = subst P (sym e) p64
 
 pub word_align : (w : Width) → IsWord w → IsAlign (byte_len w)
-word_align w h = by_word (λ v. IsAlign (byte_len v)) (inl refl) (inr (inl refl)) (inr (inr (inl refl))) (inr (inr (inr refl))) w h
+word_align w h = by_word (λ v. IsAlign (byte_len v)) (inl refl) (inr (inl refl))
+    (inr (inr (inl refl))) (inr (inr (inr refl))) w h
 
 byte_reads_back : (n : ℕ) → n < 2 ^ bits w8 → from_le_bytes w8 (to_le_bytes w8 n) ≡ n
 byte_reads_back n h = omega arith
 
 -- a number that fits its word reads back as written
-pub word_reads_back : (w : Width) → IsWord w → (n : ℕ) → n < 2 ^ bits w → from_le_bytes w (to_le_bytes w n) ≡ n
-word_reads_back w h = by_word (λ v. (n : ℕ) → n < 2 ^ bits v → from_le_bytes v (to_le_bytes v n) ≡ n)
-    byte_reads_back from_le_bytes-to_le_bytes_2 from_le_bytes-to_le_bytes_4 from_le_bytes-to_le_bytes_8 w h
+pub word_reads_back : (w : Width) → IsWord w → (n : ℕ) → n < 2 ^ bits w
+    → from_le_bytes w (to_le_bytes w n) ≡ n
+word_reads_back w h = by_word (λ v. (n : ℕ) → n < 2 ^ bits v
+    → from_le_bytes v (to_le_bytes v n) ≡ n)
+    byte_reads_back from_le_bytes-to_le_bytes_2 from_le_bytes-to_le_bytes_4
+    from_le_bytes-to_le_bytes_8 w h
 
 pub word_bytes : (w : Width) → IsWord w → (n : ℕ) → length (to_le_bytes w n) ≡ byte_len w
-word_bytes w h = by_word (λ v. (n : ℕ) → length (to_le_bytes v n) ≡ byte_len v) (λ n. refl) (λ n. refl) (λ n. refl) (λ n. refl) w h
+word_bytes w h = by_word (λ v. (n : ℕ) → length (to_le_bytes v n) ≡ byte_len v) (λ n. refl)
+    (λ n. refl) (λ n. refl) (λ n. refl) w h
 
 word_multiple : (w : Width) → IsWord w → byte_len w % byte_len w ≡ 0
 word_multiple w h = by_word (λ v. byte_len v % byte_len v ≡ 0) refl refl refl refl w h
 
 word_small : (w : Width) → IsWord w → byte_len w ≤ 1073741824
-word_small w h = by_word (λ v. byte_len v ≤ 1073741824) (omega arith) (omega arith) (omega arith) (omega arith) w h
+word_small w h = by_word (λ v. byte_len v ≤ 1073741824) (omega arith) (omega arith) (omega arith)
+    (omega arith) w h
 
 module _ {V : Type 0} (e : Encoding V) (word : IsWord e.word) where
   pub scalar_element : IsElement (scalar_shape e)
@@ -91,18 +108,26 @@ module _ {V : Type 0} (e : Encoding V) (word : IsWord e.word) where
     one_failure = λ b p lo hi error error' f f'. f.0 ∙ sym f'.0;
     higher = λ b p lo hi hi' l o h. h;
     lower = λ b p lo lo' hi l o o' h. (lo', (refl, h.1), omega (arith, h.0));
-    near = λ b c p lo hi l o same part h. (h.0, subst (λ s. e.IsCode (from_le_bytes e.word s)) same h.1);
+    near = λ b c p lo hi l o same part h. (
+      h.0,
+      subst (λ s. e.IsCode (from_le_bytes e.word s)) same h.1,
+    );
   }
 
-  pub scalar_near : (v : V) (b c : List ℕ) (p lo hi l : ℕ) → lo ≤ hi → ScalarHolds e b p lo hi l → Same b c p (p + byte_len e.word) → Same b c lo l
+  pub scalar_near : (v : V) (b c : List ℕ) (p lo hi l : ℕ) → lo ≤ hi → ScalarHolds e b p lo hi l
+      → Same b c p (p + byte_len e.word) → Same b c lo l
       → ScalarStands e b p v → ScalarStands e c p v
-  scalar_near v b c p lo hi l o h same part st = subst (λ s. e.value (from_le_bytes e.word s) ≡ v) same st
+  scalar_near v b c p lo hi l o h same part st =
+      subst (λ s. e.value (from_le_bytes e.word s) ≡ v) same st
 
   -- the number that sits at p
-  number_sits : (v : V) (out c : List ℕ) (p : ℕ) → Encodes e v out → Sits c p out → number_at e.word c p ≡ e.code v
+  number_sits : (v : V) (out c : List ℕ) (p : ℕ) → Encodes e v out → Sits c p out
+      → number_at e.word c p ≡ e.code v
   number_sits v out c p i s =
-      let n : length out ≡ byte_len e.word = ap length i.bytes ∙ word_bytes e.word word (e.code v) in
-      ap (from_le_bytes e.word) (ap (λ k. slice_range c p (p + k)) (sym n) ∙ s.there ∙ i.bytes) ∙ word_reads_back e.word word (e.code v) i.fits
+      let n : length out ≡ byte_len e.word = ap length i.bytes
+      ∙ word_bytes e.word word (e.code v) in
+      ap (from_le_bytes e.word) (ap (λ k. slice_range c p (p + k)) (sym n) ∙ s.there ∙ i.bytes)
+      ∙ word_reads_back e.word word (e.code v) i.fits
 
   pub scalar_is_format : IsFormat (scalar_shape e) (ScalarStands e) (scalar_format e)
   scalar_is_format = record {

@@ -6,10 +6,11 @@ use Rattle.std.specs.Str.{IsUtf8}
 use Rattle.rkyv_base.specs.Sealing.{with_bytes}
 use Rattle.rkyv_base.specs.Text.{fixed_bytes, inline_text, is_far}
 
--- the text at p stands elsewhere; it stands in its fixed bytes
+-- the text at p stands elsewhere
 abbrev pub IsElsewhere : Width → List ℕ → ℕ → Type 0
 IsElsewhere w b p = is_far (fixed_bytes w b p) ≡ true
 
+-- the text at p stands inline
 abbrev pub IsInline : Width → List ℕ → ℕ → Type 0
 IsInline w b p = is_far (fixed_bytes w b p) ≡ false
 
@@ -23,8 +24,10 @@ IsSealedText w b p = IsInline w b p → IsUtf8 (inline_at w b p)
 
 -- the bytes b, with the inline text at p in upper case
 abbrev pub with_uppercase : Width → List ℕ → ℕ → List ℕ
-with_uppercase w b p = with_bytes b p (length (inline_at w b p)) (map to_ascii_uppercase (inline_at w b p))
+with_uppercase w b p = with_bytes b p (length (inline_at w b p))
+    (map to_ascii_uppercase (inline_at w b p))
 
 -- the inline text at p is raised to upper case, or the text stands elsewhere and nothing changes
 abbrev pub Raised : Width → List ℕ → ℕ → List ℕ → Bool → Type 0
-Raised w b p c inline = MatchBool inline (IsInline w b p × (c ≡ with_uppercase w b p)) (IsElsewhere w b p × (c ≡ b))
+Raised w b p c inline = MatchBool inline (IsInline w b p × (c ≡ with_uppercase w b p))
+    (IsElsewhere w b p × (c ≡ b))

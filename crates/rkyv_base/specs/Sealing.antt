@@ -6,11 +6,11 @@ use Rattle.rkyv_base.specs.Entry.{entry_shape, value_offset}
 use Rattle.rkyv_base.specs.Scalar.{Encoding}
 use Rattle.rkyv_base.specs.Shape.{Shape}
 
--- the bytes b, with the n from place p on replaced by w
+-- the bytes b, with the n from position p on replaced by w
 abbrev pub with_bytes : List ℕ → ℕ → ℕ → List ℕ → List ℕ
 with_bytes b p n w = take p b ++ (w ++ drop (p + n) b)
 
--- the bytes b, with the value v at place p
+-- the bytes b, with the value v at position p
 abbrev pub with_value : {V : Type 0} → Encoding V → List ℕ → ℕ → V → List ℕ
 with_value e b p v = with_bytes b p (byte_len e.word) (to_le_bytes e.word (e.code v))
 
@@ -18,15 +18,15 @@ with_value e b p v = with_bytes b p (byte_len e.word) (to_le_bytes e.word (e.cod
 abbrev pub value_pos : Shape → Shape → ℕ → ℕ
 value_pos k v p = p + value_offset k v
 
--- the number at place p is a value's
+-- the number at position p is a value's
 abbrev pub IsValueAt : {V : Type 0} → Encoding V → List ℕ → ℕ → Type 0
 IsValueAt e b p = e.IsCode (number_at e.word b p)
 
--- the value of the number at place p
+-- the value of the number at position p
 abbrev pub value_at : {V : Type 0} → Encoding V → List ℕ → ℕ → V
 value_at e b p = e.value (number_at e.word b p)
 
--- equal lengths, and all bytes outside the n from place p on are the same
+-- equal lengths, and all bytes outside the n from position p on are the same
 pub record Sealed (b : List ℕ) (p n : ℕ) (c : List ℕ) : Type 0 where
   pub same_length : length c ≡ length b
   pub before : take p c ≡ take p b
@@ -38,8 +38,9 @@ Keeps s b c p = (lo hi l : ℕ) → lo ≤ hi → hi ≤ p → s.holds b p lo hi
 
 -- the entry at p is kept by every write of its value's bytes alone that keeps the value
 abbrev pub KeepsEntry : Shape → Shape → List ℕ → ℕ → Type 0
-KeepsEntry k v b p = (c : List ℕ) → Sealed b (value_pos k v p) v.size c → Keeps v b c (value_pos k v p) → Keeps (entry_shape k v) b c p
+KeepsEntry k v b p = (c : List ℕ) → Sealed b (value_pos k v p) v.size c
+    → Keeps v b c (value_pos k v p) → Keeps (entry_shape k v) b c p
 
--- no byte from i to j, j not included, is one of the n from place p on
+-- no byte from i to j, j not included, is one of the n from position p on
 abbrev pub Outside : ℕ → ℕ → ℕ → ℕ → Type 0
 Outside p n i j = (j ≤ p) ⊎ (p + n ≤ i)

@@ -1,5 +1,30 @@
 -- Text in an archive: inline in its fixed bytes, or elsewhere, by a length and a distance.
-use Rattle.std.specs.Prelude.{◌≡◌, ℕ, ◌+◌, ◌*◌, ◌/◌, ◌%◌, ◌<◌, ◌≤◌, ◌⊎◌, ◌==◌, ◌&&◌, ℤ, pos, ◌+ℤ◌, unsigned_abs, Bool, true, false, nat_le, nat_lt, if◌then◌else◌, List, slice_range, slice_index}
+use Rattle.std.specs.Prelude.{
+  ◌≡◌,
+  ℕ,
+  ◌+◌,
+  ◌*◌,
+  ◌/◌,
+  ◌%◌,
+  ◌<◌,
+  ◌≤◌,
+  ◌⊎◌,
+  ◌==◌,
+  ◌&&◌,
+  ℤ,
+  pos,
+  ◌+ℤ◌,
+  unsigned_abs,
+  Bool,
+  true,
+  false,
+  nat_le,
+  nat_lt,
+  if◌then◌else◌,
+  List,
+  slice_range,
+  slice_index,
+}
 use Rattle.std.specs.List.{before_first}
 use Rattle.std.specs.Int.{Width, w32, w64, byte_len}
 use Rattle.std.specs.Str.{IsUtf8}
@@ -9,7 +34,14 @@ use Rattle.rkyv_base.specs.declared.errors.VerifyError.TheVariants.{InvalidValue
 use Rattle.rkyv_base.specs.Bytes.{Same, number_at, signed_at, same_part}
 use Rattle.rkyv_base.specs.Shape.{Shape, IsAlign, IsElement, Viewed}
 use Rattle.rkyv_base.specs.Format.{StandsNear}
-use Rattle.rkyv_base.specs.Parts.{PartIn, PartFails, part_one, part_clear, part_one_failure, part_wider}
+use Rattle.rkyv_base.specs.Parts.{
+  PartIn,
+  PartFails,
+  part_one,
+  part_clear,
+  part_one_failure,
+  part_wider,
+}
 
 -- how many fixed bytes a text has, with words of this width
 abbrev pub text_size : Width → ℕ
@@ -41,7 +73,8 @@ far_begin w s p = pos p +ℤ signed_at w s (byte_len w)
 
 -- the text elsewhere whose fixed bytes s stand at p
 abbrev pub far_text : Width → List ℕ → List ℕ → ℕ → List ℕ
-far_text w s b p = slice_range b (unsigned_abs (far_begin w s p)) (unsigned_abs (far_begin w s p) + far_length w s)
+far_text w s b p = slice_range b (unsigned_abs (far_begin w s p))
+    (unsigned_abs (far_begin w s p) + far_length w s)
 
 -- the text whose fixed bytes s stand at p
 unfoldable pub text_of : Width → List ℕ → List ℕ → ℕ → List ℕ
@@ -63,7 +96,8 @@ InlineHolds s lo l = (is_far s ≡ false) × IsUtf8 (inline_text s) × (l ≡ lo
 abbrev pub FarHolds : Width → List ℕ → List ℕ → ℕ → ℕ → ℕ → ℕ → Type 0
 FarHolds w s b p lo hi l =
     (is_far s ≡ true) × (text_size w < far_length w s)
-    × (at : ℕ) × PartIn (far_begin w s p) (far_length w s) 1 lo hi at × IsUtf8 (slice_range b at (at + far_length w s)) × (l ≡ at + far_length w s)
+    × (at : ℕ) × PartIn (far_begin w s p) (far_length w s) 1 lo hi at
+    × IsUtf8 (slice_range b at (at + far_length w s)) × (l ≡ at + far_length w s)
 
 -- the fixed bytes s, which stand at p, are a text
 abbrev pub FixedHolds : Width → List ℕ → List ℕ → ℕ → ℕ → ℕ → ℕ → Type 0
@@ -75,7 +109,8 @@ FarFails w s b p lo hi e =
     ((far_length w s ≤ text_size w) × (e ≡ InvalidValue p))
     ⊎ ((text_size w < far_length w s) × PartFails (far_begin w s p) (far_length w s) 1 lo hi e)
     ⊎ ((text_size w < far_length w s)
-    × (at : ℕ) × PartIn (far_begin w s p) (far_length w s) 1 lo hi at × (IsUtf8 (slice_range b at (at + far_length w s)) → ⊥) × (e ≡ InvalidValue p))
+    × (at : ℕ) × PartIn (far_begin w s p) (far_length w s) 1 lo hi at
+    × (IsUtf8 (slice_range b at (at + far_length w s)) → ⊥) × (e ≡ InvalidValue p))
 
 -- the fixed bytes s, which stand at p, are none
 abbrev pub FixedFails : Width → List ℕ → List ℕ → ℕ → ℕ → ℕ → VerifyError → Type 0
@@ -83,6 +118,7 @@ FixedFails w s b p lo hi e =
     ((is_far s ≡ false) × (IsUtf8 (inline_text s) → ⊥) × (e ≡ InvalidValue p))
     ⊎ ((is_far s ≡ true) × FarFails w s b p lo hi e)
 
+-- text as an element: two words, at a multiple of one
 abbrev pub text_shape : Width → Shape
 text_shape w = record {
   size = text_size w;
@@ -101,11 +137,14 @@ by_archive_word P p32 p64 w (inl e) = subst P (sym e) p32
 by_archive_word P p32 p64 w (inr e) = subst P (sym e) p64
 
 module _ (w : Width) where
-  holds_between : (s b : List ℕ) (p lo hi l : ℕ) → lo ≤ hi → FixedHolds w s b p lo hi l → (lo ≤ l) × (l ≤ hi)
+  holds_between : (s b : List ℕ) (p lo hi l : ℕ) → lo ≤ hi → FixedHolds w s b p lo hi l → (lo ≤ l)
+      × (l ≤ hi)
   holds_between s b p lo hi l o (inl h) = (omega (arith, h.2), omega (arith, h.2))
-  holds_between s b p lo hi l o (inr (f, n, at, part, u, q)) = (omega (arith, part.above, q), omega (arith, part.below, q))
+  holds_between s b p lo hi l o (inr (f, n, at, part, u, q)) =
+      (omega (arith, part.above, q), omega (arith, part.below, q))
 
-  holds_one : (s b : List ℕ) (p lo hi l l' : ℕ) → FixedHolds w s b p lo hi l → FixedHolds w s b p lo hi l' → l ≡ l'
+  holds_one : (s b : List ℕ) (p lo hi l l' : ℕ) → FixedHolds w s b p lo hi l
+      → FixedHolds w s b p lo hi l' → l ≡ l'
   holds_one s b p lo hi l l' (inl h) (inl k) = h.2 ∙ sym k.2
   holds_one s b p lo hi l l' (inl h) (inr k) = cc (h.0, k.0)
   holds_one s b p lo hi l l' (inr h) (inl k) = cc (h.0, k.0)
@@ -113,72 +152,100 @@ module _ (w : Width) where
       let same : at ≡ at' = part_one (far_begin w s p) (far_length w s) 1 lo hi at at' part part' in
       omega (arith, same, q, q')
 
-  holds_clear : (s b : List ℕ) (p lo hi l : ℕ) (e : VerifyError) → FixedHolds w s b p lo hi l → FixedFails w s b p lo hi e → ⊥
+  holds_clear : (s b : List ℕ) (p lo hi l : ℕ) (e : VerifyError) → FixedHolds w s b p lo hi l
+      → FixedFails w s b p lo hi e → ⊥
   holds_clear s b p lo hi l e (inl h) (inl k) = k.1 h.1
   holds_clear s b p lo hi l e (inl h) (inr k) = cc (h.0, k.0)
   holds_clear s b p lo hi l e (inr h) (inl k) = cc (h.0, k.0)
   holds_clear s b p lo hi l e (inr h) (inr (f, inl k)) = omega (arith, h.1, k.0)
-  holds_clear s b p lo hi l e (inr (f, n, at, part, u, q)) (inr (f', inr (inl k))) = part_clear (far_begin w s p) (far_length w s) 1 lo hi at e part k.1
-  holds_clear s b p lo hi l e (inr (f, n, at, part, u, q)) (inr (f', inr (inr (n', at', part', none, q')))) =
+  holds_clear s b p lo hi l e (inr (f, n, at, part, u, q)) (inr (f', inr (inl k))) =
+      part_clear (far_begin w s p) (far_length w s) 1 lo hi at e part k.1
+  holds_clear s b p lo hi l e (inr (f, n, at, part, u, q))
+      (inr (f', inr (inr (n', at', part', none, q')))) =
       let same : at ≡ at' = part_one (far_begin w s p) (far_length w s) 1 lo hi at at' part part' in
       none (subst (λ k. IsUtf8 (slice_range b k (k + far_length w s))) same u)
 
-  far_one_failure : (s b : List ℕ) (p lo hi : ℕ) (e e' : VerifyError) → FarFails w s b p lo hi e → FarFails w s b p lo hi e' → e ≡ e'
+  far_one_failure : (s b : List ℕ) (p lo hi : ℕ) (e e' : VerifyError) → FarFails w s b p lo hi e
+      → FarFails w s b p lo hi e' → e ≡ e'
   far_one_failure s b p lo hi e e' (inl f) (inl g) = f.1 ∙ sym g.1
   far_one_failure s b p lo hi e e' (inl f) (inr (inl g)) = absurd (omega (arith, f.0, g.0))
   far_one_failure s b p lo hi e e' (inl f) (inr (inr g)) = absurd (omega (arith, f.0, g.0))
   far_one_failure s b p lo hi e e' (inr (inl f)) (inl g) = absurd (omega (arith, f.0, g.0))
   far_one_failure s b p lo hi e e' (inr (inr f)) (inl g) = absurd (omega (arith, f.0, g.0))
-  far_one_failure s b p lo hi e e' (inr (inl f)) (inr (inl g)) = part_one_failure (far_begin w s p) (far_length w s) 1 lo hi e e' f.1 g.1
-  far_one_failure s b p lo hi e e' (inr (inl f)) (inr (inr g)) = absurd (part_clear (far_begin w s p) (far_length w s) 1 lo hi g.1 e g.2 f.1)
-  far_one_failure s b p lo hi e e' (inr (inr f)) (inr (inl g)) = absurd (part_clear (far_begin w s p) (far_length w s) 1 lo hi f.1 e' f.2 g.1)
+  far_one_failure s b p lo hi e e' (inr (inl f)) (inr (inl g)) =
+      part_one_failure (far_begin w s p) (far_length w s) 1 lo hi e e' f.1 g.1
+  far_one_failure s b p lo hi e e' (inr (inl f)) (inr (inr g)) =
+      absurd (part_clear (far_begin w s p) (far_length w s) 1 lo hi g.1 e g.2 f.1)
+  far_one_failure s b p lo hi e e' (inr (inr f)) (inr (inl g)) =
+      absurd (part_clear (far_begin w s p) (far_length w s) 1 lo hi f.1 e' f.2 g.1)
   far_one_failure s b p lo hi e e' (inr (inr f)) (inr (inr g)) = f.4 ∙ sym g.4
 
-  fixed_one_failure : (s b : List ℕ) (p lo hi : ℕ) (e e' : VerifyError) → FixedFails w s b p lo hi e → FixedFails w s b p lo hi e' → e ≡ e'
+  fixed_one_failure : (s b : List ℕ) (p lo hi : ℕ) (e e' : VerifyError) → FixedFails w s b p lo hi e
+      → FixedFails w s b p lo hi e' → e ≡ e'
   fixed_one_failure s b p lo hi e e' (inl f) (inl g) = f.2 ∙ sym g.2
   fixed_one_failure s b p lo hi e e' (inl f) (inr g) = cc (f.0, g.0)
   fixed_one_failure s b p lo hi e e' (inr f) (inl g) = cc (f.0, g.0)
   fixed_one_failure s b p lo hi e e' (inr f) (inr g) = far_one_failure s b p lo hi e e' f.1 g.1
 
-  holds_wider : (s b : List ℕ) (p lo lo' hi hi' l : ℕ) → lo' ≤ lo → hi ≤ hi' → FarHolds w s b p lo hi l → FarHolds w s b p lo' hi' l
-  holds_wider s b p lo lo' hi hi' l low high (f, n, at, part, u, q) =
-      (f, n, at, part_wider (far_begin w s p) (far_length w s) 1 lo lo' hi hi' at low high part, u, q)
+  holds_wider : (s b : List ℕ) (p lo lo' hi hi' l : ℕ) → lo' ≤ lo → hi ≤ hi'
+      → FarHolds w s b p lo hi l → FarHolds w s b p lo' hi' l
+  holds_wider s b p lo lo' hi hi' l low high (f, n, at, part, u, q) = (
+    f,
+    n,
+    at,
+    part_wider (far_begin w s p) (far_length w s) 1 lo lo' hi hi' at low high part,
+    u,
+    q,
+  )
 
-  holds_higher : (s b : List ℕ) (p lo hi hi' l : ℕ) → hi ≤ hi' → FixedHolds w s b p lo hi l → FixedHolds w s b p lo hi' l
+  holds_higher : (s b : List ℕ) (p lo hi hi' l : ℕ) → hi ≤ hi' → FixedHolds w s b p lo hi l
+      → FixedHolds w s b p lo hi' l
   holds_higher s b p lo hi hi' l o (inl h) = inl h
-  holds_higher s b p lo hi hi' l o (inr h) = inr (holds_wider s b p lo lo hi hi' l (omega arith) o h)
+  holds_higher s b p lo hi hi' l o (inr h) =
+      inr (holds_wider s b p lo lo hi hi' l (omega arith) o h)
 
-  holds_lower : (s b : List ℕ) (p lo lo' hi l : ℕ) → lo' ≤ lo → FixedHolds w s b p lo hi l → (l' : ℕ) × FixedHolds w s b p lo' hi l' × (l' ≤ l)
+  holds_lower : (s b : List ℕ) (p lo lo' hi l : ℕ) → lo' ≤ lo → FixedHolds w s b p lo hi l
+      → (l' : ℕ) × FixedHolds w s b p lo' hi l' × (l' ≤ l)
   holds_lower s b p lo lo' hi l o (inl h) = (lo', inl (h.0, h.1, refl), omega (arith, h.2))
-  holds_lower s b p lo lo' hi l o (inr h) = (l, inr (holds_wider s b p lo lo' hi hi l o (omega arith) h), omega arith)
+  holds_lower s b p lo lo' hi l o (inr h) =
+      (l, inr (holds_wider s b p lo lo' hi hi l o (omega arith) h), omega arith)
 
   -- the text elsewhere lies below the new lower end, and is the same where those bytes are
   same_text : (s b c : List ℕ) (p lo hi l : ℕ) → Same b c lo l → (h : FarHolds w s b p lo hi l)
       → slice_range b h.2 (h.2 + far_length w s) ≡ slice_range c h.2 (h.2 + far_length w s)
-  same_text s b c p lo hi l part (f, n, at, at_part, u, q) = same_part b c lo l at (at + far_length w s) at_part.above (omega (arith, q)) (omega arith) part
+  same_text s b c p lo hi l part (f, n, at, at_part, u, q) =
+      same_part b c lo l at (at + far_length w s) at_part.above (omega (arith, q)) (omega arith)
+      part
 
-  holds_near : (s b c : List ℕ) (p lo hi l : ℕ) → Same b c lo l → FixedHolds w s b p lo hi l → FixedHolds w s c p lo hi l
+  holds_near : (s b c : List ℕ) (p lo hi l : ℕ) → Same b c lo l → FixedHolds w s b p lo hi l
+      → FixedHolds w s c p lo hi l
   holds_near s b c p lo hi l part (inl h) = inl h
-  holds_near s b c p lo hi l part (inr h) = inr (h.0, h.1, h.2, h.3, subst IsUtf8 (same_text s b c p lo hi l part h) h.4, h.5)
+  holds_near s b c p lo hi l part (inr h) =
+      inr (h.0, h.1, h.2, h.3, subst IsUtf8 (same_text s b c p lo hi l part h) h.4, h.5)
 
   -- what reads inline, and what reads elsewhere
   pub inline_reads : (s b : List ℕ) (p : ℕ) → is_far s ≡ false → text_of w s b p ≡ inline_text s
   unfolding text_of
   inline_reads s b p near = rw near refl
 
-  pub far_reads : (s b : List ℕ) (p at : ℕ) → is_far s ≡ true → pos at ≡ far_begin w s p → text_of w s b p ≡ slice_range b at (at + far_length w s)
+  pub far_reads : (s b : List ℕ) (p at : ℕ) → is_far s ≡ true → pos at ≡ far_begin w s p
+      → text_of w s b p ≡ slice_range b at (at + far_length w s)
   unfolding text_of
   far_reads s b p at far begins =
-      let place : unsigned_abs (far_begin w s p) ≡ at = ap unsigned_abs (sym begins) in
-      rw (far, place) refl
+      let there : unsigned_abs (far_begin w s p) ≡ at = ap unsigned_abs (sym begins) in
+      rw (far, there) refl
 
-  reads_near : (s b c : List ℕ) (p lo hi l : ℕ) (t : List ℕ) → FixedHolds w s b p lo hi l → Same b c lo l → text_of w s b p ≡ t → text_of w s c p ≡ t
-  reads_near s b c p lo hi l t (inl h) part e = inline_reads s c p h.0 ∙ sym (inline_reads s b p h.0) ∙ e
+  reads_near : (s b c : List ℕ) (p lo hi l : ℕ) (t : List ℕ) → FixedHolds w s b p lo hi l
+      → Same b c lo l → text_of w s b p ≡ t → text_of w s c p ≡ t
+  reads_near s b c p lo hi l t (inl h) part e = inline_reads s c p h.0
+      ∙ sym (inline_reads s b p h.0) ∙ e
   reads_near s b c p lo hi l t (inr h) part e =
-      far_reads s c p h.2 h.0 h.3.begins ∙ sym (same_text s b c p lo hi l part h) ∙ sym (far_reads s b p h.2 h.0 h.3.begins) ∙ e
+      far_reads s c p h.2 h.0 h.3.begins ∙ sym (same_text s b c p lo hi l part h)
+      ∙ sym (far_reads s b p h.2 h.0 h.3.begins) ∙ e
 
   -- what holds reads as text
-  holds_text : (s b : List ℕ) (p lo hi l : ℕ) → FixedHolds w s b p lo hi l → IsUtf8 (text_of w s b p)
+  holds_text : (s b : List ℕ) (p lo hi l : ℕ) → FixedHolds w s b p lo hi l
+      → IsUtf8 (text_of w s b p)
   holds_text s b p lo hi l (inl h) = subst IsUtf8 (sym (inline_reads s b p h.0)) h.1
   holds_text s b p lo hi l (inr h) = subst IsUtf8 (sym (far_reads s b p h.2 h.0 h.3.begins)) h.4
 
@@ -187,8 +254,10 @@ module _ (w : Width) where
   viewed_text b p v = holds_text (fixed_bytes w b p) b p 0 p v.stands.0 v.stands.1
 
   -- a view of text elsewhere shows bytes before it
-  pub viewed_far : (b : List ℕ) (p : ℕ) → Viewed (text_shape w) b p → is_far (fixed_bytes w b p) ≡ true
-      → (at : ℕ) × (pos at ≡ far_begin w (fixed_bytes w b p) p) × (at + far_length w (fixed_bytes w b p) ≤ p)
+  pub viewed_far : (b : List ℕ) (p : ℕ) → Viewed (text_shape w) b p
+      → is_far (fixed_bytes w b p) ≡ true
+      → (at : ℕ) × (pos at ≡ far_begin w (fixed_bytes w b p) p)
+      × (at + far_length w (fixed_bytes w b p) ≤ p)
   viewed_far b p v far =
       elim (v.stands.1) [
         | inl h ↦ cc (h.0, far)
@@ -198,13 +267,15 @@ module _ (w : Width) where
   -- what reads rests on the bytes on which it rests that it holds
   pub text_near : StandsNear (text_shape w) (TextReads w)
   text_near t b c p lo hi l o h fixed part reads =
-      reads_near (fixed_bytes w c p) b c p lo hi l t (subst (λ s. FixedHolds w s b p lo hi l) fixed h) part
+      reads_near (fixed_bytes w c p) b c p lo hi l t
+      (subst (λ s. FixedHolds w s b p lo hi l) fixed h) part
       (subst (λ s. text_of w s b p ≡ t) fixed reads)
 
 module _ (w : Width) (kind : IsArchiveWord w) where
   pub text_element : IsElement (text_shape w)
   text_element = record {
-    align_is = by_archive_word (λ v. IsAlign (byte_len v)) (inr (inr (inl refl))) (inr (inr (inr refl))) w kind;
+    align_is = by_archive_word (λ v. IsAlign (byte_len v)) (inr (inr (inl refl)))
+        (inr (inr (inr refl))) w kind;
     size_whole = by_archive_word (λ v. text_size v % byte_len v ≡ 0) refl refl w kind;
     size_small = by_archive_word (λ v. text_size v ≤ 1073741824) (omega arith) (omega arith) w kind;
     between = λ b p lo hi l o h. holds_between w (fixed_bytes w b p) b p lo hi l o h;
@@ -213,5 +284,6 @@ module _ (w : Width) (kind : IsArchiveWord w) where
     one_failure = λ b p lo hi e e' f g. fixed_one_failure w (fixed_bytes w b p) b p lo hi e e' f g;
     higher = λ b p lo hi hi' l o h. holds_higher w (fixed_bytes w b p) b p lo hi hi' l o h;
     lower = λ b p lo lo' hi l o o' h. holds_lower w (fixed_bytes w b p) b p lo lo' hi l o h;
-    near = λ b c p lo hi l o fixed part h. holds_near w (fixed_bytes w c p) b c p lo hi l part (subst (λ s. FixedHolds w s b p lo hi l) fixed h);
+    near = λ b c p lo hi l o fixed part h. holds_near w (fixed_bytes w c p) b c p lo hi l part
+        (subst (λ s. FixedHolds w s b p lo hi l) fixed h);
   }

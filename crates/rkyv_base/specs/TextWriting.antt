@@ -1,5 +1,41 @@
--- How text is written: up to as many bytes as its fixed bytes inline, filled up with ff; else in one piece elsewhere.
-use Rattle.std.specs.Prelude.{MatchResult, Result, ◌≡◌, ℕ, ◌+◌, ◌-◌, ◌*◌, ◌/◌, ◌%◌, ◌^◌, ◌<◌, ◌≤◌, ◌⊎◌, ◌==◌, ◌&&◌, ℤ, pos, ◌+ℤ◌, ◌-ℤ◌, FitsSigned, List, [], ◌∷◌, ◌++◌, length, replicate, slice_range, slice_index, get_or, take, nat_le, nat_lt, true, false}
+-- How text is written: up to as many bytes as its fixed bytes inline, filled up with ff; else in
+-- one piece elsewhere.
+use Rattle.std.specs.Prelude.{
+  MatchResult,
+  Result,
+  ◌≡◌,
+  ℕ,
+  ◌+◌,
+  ◌-◌,
+  ◌*◌,
+  ◌/◌,
+  ◌%◌,
+  ◌^◌,
+  ◌<◌,
+  ◌≤◌,
+  ◌⊎◌,
+  ◌==◌,
+  ◌&&◌,
+  ℤ,
+  pos,
+  ◌+ℤ◌,
+  ◌-ℤ◌,
+  FitsSigned,
+  List,
+  [],
+  ◌∷◌,
+  ◌++◌,
+  length,
+  replicate,
+  slice_range,
+  slice_index,
+  get_or,
+  take,
+  nat_le,
+  nat_lt,
+  true,
+  false,
+}
 use Rattle.std.specs.List.{position_or_len}
 use Rattle.std.specs.Int.{Width, byte_len, to_le_bytes, from_le_bytes, cast_unsigned, cast_signed}
 use Rattle.std.specs.Str.{IsUtf8}
@@ -9,7 +45,22 @@ use Rattle.rkyv_base.specs.declared.errors.WriteError.{WriteError}
 use Rattle.rkyv_base.specs.Writing.{Only, Output, Step, long_text, piece, refusal}
 use Rattle.rkyv_base.specs.Format.{Format, IsFormat, Serialized, GaveUp}
 use Rattle.rkyv_base.specs.Pairs.{written_as, written_as-format}
-use Rattle.rkyv_base.specs.Text.{FixedHolds, IsArchiveWord, TextReads, by_archive_word, far_begin, far_length, far_reads, fixed_bytes, inline_reads, inline_text, is_far, text_shape, text_size, told_length}
+use Rattle.rkyv_base.specs.Text.{
+  FixedHolds,
+  IsArchiveWord,
+  TextReads,
+  by_archive_word,
+  far_begin,
+  far_length,
+  far_reads,
+  fixed_bytes,
+  inline_reads,
+  inline_text,
+  is_far,
+  text_shape,
+  text_size,
+  told_length,
+}
 use Rattle.rkyv_base.specs.Bytes.{Sits, signed_at}
 use Rattle.rkyv_base.specs.Lemmas.Utf8.{text_below, text_begins}
 use Rattle.std.proofs.Common.{refl, arith, sym, subst, ◌∙◌, ap, inl, inr, length-append}
@@ -57,27 +108,39 @@ TextParts w t p part r =
     IsUtf8 t × ((IsShort w t × (part ≡ []) × (r.pos ≡ 0)) ⊎ (IsLong w t × (part ≡ t) × (r.pos ≡ p)))
 
 abbrev pub TextNext : Width → List ℕ → ℕ → List ℕ → Step → Type 0
-TextNext w t p front step = (IsLong w t × Only (piece t) front step) ⊎ (IsTooLong w t × Only (refusal long_text) front step)
+TextNext w t p front step = (IsLong w t × Only (piece t) front step)
+    ⊎ (IsTooLong w t × Only (refusal long_text) front step)
 
 -- text that is too long is never serialized: then the bytes may be any
 abbrev pub TextImage : Width → List ℕ → TextResolver → ℕ → List ℕ → Type 0
 TextImage w t r p out =
     (IsShort w t × (out ≡ inline_bytes (text_size w) t))
-    ⊎ (IsLong w t × FitsSigned w (pos r.pos -ℤ pos p) × (out ≡ far_bytes w (length t) (pos r.pos -ℤ pos p)))
+    ⊎ (IsLong w t × FitsSigned w (pos r.pos -ℤ pos p)
+    × (out ≡ far_bytes w (length t) (pos r.pos -ℤ pos p)))
     ⊎ (IsTooLong w t × (length out ≡ text_size w))
 
 abbrev pub TextFar : Width → List ℕ → TextResolver → ℕ → Type 0
 TextFar w t r p = IsLong w t × (FitsSigned w (pos r.pos -ℤ pos p) → ⊥)
 
+-- how a text is written: inline, or its bytes in one piece and then two words that tell of them
 abbrev pub text_format : Width → Format (List ℕ) TextResolver
-text_format w = record { parts = TextParts w; next = TextNext w; image = TextImage w; far = TextFar w }
+text_format w = record {
+  parts = TextParts w;
+  next = TextNext w;
+  image = TextImage w;
+  far =
+      TextFar w;
+}
 
 -- what serializing a text answers
-abbrev pub TextWritten : {F : Type 0} → ℕ → Width → List ℕ → Output → Output → Result TextResolver (WriteError F) → Type 0
-TextWritten limit w t o o' result = MatchResult result (Serialized limit (text_format w) t o o') (GaveUp limit (text_format w) t o o')
+abbrev pub TextWritten : {F : Type 0} → ℕ → Width → List ℕ → Output → Output
+    → Result TextResolver (WriteError F) → Type 0
+TextWritten limit w t o o' result = MatchResult result (Serialized limit (text_format w) t o o')
+    (GaveUp limit (text_format w) t o o')
 
 -- the bytes that sit at a text's position are its fixed bytes
-fixed_sits : (w : Width) (c out : List ℕ) (p : ℕ) → length out ≡ text_size w → Sits c p out → fixed_bytes w c p ≡ out
+fixed_sits : (w : Width) (c out : List ℕ) (p : ℕ) → length out ≡ text_size w → Sits c p out
+    → fixed_bytes w c p ≡ out
 fixed_sits w c out p n sits = subst (λ k. slice_range c p (p + k) ≡ out) n sits.there
 
 length_inline : (size : ℕ) (t : List ℕ) → length t ≤ size → length (inline_bytes size t) ≡ size
@@ -93,14 +156,25 @@ inline_ends : (size : ℕ) (t : List ℕ) → IsUtf8 t → inline_text (inline_b
 inline_ends size t u =
     let fill : List ℕ = replicate (size - length t) 255 in
     let below : (k : ℕ) → k < length t → (get_or (t ++ fill) k 0 == 255) ≡ false =
-    λ k h. let small : get_or t k 0 < 255 = text_below t u k 0 h in rw (get_or-append t fill 0 k h) (grind (arith, nat_tests)) in
+    λ k h. let small : get_or t k 0 < 255 = text_below t u k 0 h in
+    rw (get_or-append t fill 0 k h) (grind (arith, nat_tests)) in
     let here : length t < length (t ++ fill) → (get_or (t ++ fill) (length t) 0 == 255) ≡ true =
     λ h.
     let z : length t - length t ≡ 0 = omega arith in
-    let more : 0 < size - length t = omega (arith, length-append t fill, length-replicate {A = ℕ} (size - length t) 255) in
-    rw (get_or-append_right t fill (length t) 0 (omega arith), z, get_or-replicate {A = ℕ} (size - length t) 0 255 0 more) refl in
+    let more : 0 < size - length t = omega (
+      arith,
+      length-append t fill,
+      length-replicate {A = ℕ} (size - length t) 255,
+    ) in
+    rw (
+      get_or-append_right t fill (length t) 0 (omega arith),
+      z,
+      get_or-replicate {A = ℕ}
+          (size - length t) 0 255 0 more,
+    ) refl in
     let at : position_or_len (λ x. x == 255) (t ++ fill) ≡ length t =
-    position_or_len_is (λ x. x == 255) (t ++ fill) (length t) 0 (omega (arith, length-append t fill)) below here in
+    position_or_len_is (λ x. x == 255) (t ++ fill) (length t) 0
+    (omega (arith, length-append t fill)) below here in
     ap (λ (n : ℕ). take n (t ++ fill)) at ∙ take-append_seam t fill
 
 -- a byte of the form 10xxxxxx
@@ -115,7 +189,8 @@ is_word w (inr e) = inr (inr (inr e))
 first_part : (x y : List ℕ) (k : ℕ) → length x ≡ k → slice_range (x ++ y) 0 (0 + k) ≡ x
 first_part x y k n = let e : 0 + k - 0 ≡ length x = omega arith in rw e (take-append_seam x y)
 
-second_part : (x y : List ℕ) (k : ℕ) → length x ≡ k → length y ≡ k → slice_range (x ++ y) k (k + k) ≡ y
+second_part : (x y : List ℕ) (k : ℕ) → length x ≡ k → length y ≡ k
+    → slice_range (x ++ y) k (k + k) ≡ y
 second_part x y k n m =
     let e : k + k - k ≡ k = omega arith in
     rw (e, ← n, drop-append_seam x y) (take_all (length x) y (omega arith))
@@ -130,15 +205,20 @@ module _ (w : Width) (kind : IsArchiveWord w) (n : ℕ) (d : ℤ) where
 
   far_first : is_far (far_bytes w n d) ≡ true
   far_first =
-      let first : slice_index (far_bytes w n d) 0 ≡ length_word n % 256 = by_archive_word (λ v. slice_index (far_bytes v n d) 0 ≡ length_word n % 256) refl refl w kind in
+      let first : slice_index (far_bytes w n d) 0 ≡ length_word n % 256 =
+      by_archive_word (λ v. slice_index (far_bytes v n d) 0 ≡ length_word n % 256) refl refl w
+      kind in
       rw first (far_byte (length_word n % 256) (omega arith) (omega arith))
 
   length_reads : n < text_limit w → far_length w (far_bytes w n d) ≡ n
   length_reads small =
-      let fits : length_word n < 2 ^ bits w = by_archive_word (λ v. n < text_limit v → length_word n < 2 ^ bits v) (λ h. omega arith) (λ h. omega arith) w kind small in
+      let fits : length_word n < 2 ^ bits w =
+      by_archive_word (λ v. n < text_limit v → length_word n < 2 ^ bits v) (λ h. omega arith)
+      (λ h. omega arith) w kind small in
       let x : List ℕ = to_le_bytes w (length_word n) in
       ap (λ (s : List ℕ). told_length (from_le_bytes w s))
-      (first_part x (to_le_bytes w (cast_unsigned w d)) (byte_len w) (word_bytes w (is_word w kind) (length_word n)))
+      (first_part x (to_le_bytes w (cast_unsigned w d)) (byte_len w)
+      (word_bytes w (is_word w kind) (length_word n)))
       ∙ ap told_length (word_reads_back w (is_word w kind) (length_word n) fits) ∙ length_told n
 
   distance_reads : FitsSigned w d → signed_at w (far_bytes w n d) (byte_len w) ≡ d
@@ -146,7 +226,8 @@ module _ (w : Width) (kind : IsArchiveWord w) (n : ℕ) (d : ℤ) where
       let word = is_word w kind in
       let u : ℕ = cast_unsigned w d in
       ap (λ (s : List ℕ). cast_signed w (from_le_bytes w s))
-      (second_part (to_le_bytes w (length_word n)) (to_le_bytes w u) (byte_len w) (word_bytes w word (length_word n)) (word_bytes w word u))
+      (second_part (to_le_bytes w (length_word n)) (to_le_bytes w u) (byte_len w)
+      (word_bytes w word (length_word n)) (word_bytes w word u))
       ∙ ap (cast_signed w) (word_reads_back w word u (Fits-of_z fits).fits) ∙ to_z-of_z w d fits
 
 -- a distance leads back to where it was taken
@@ -155,54 +236,88 @@ there_and_back p q = omega (arith, ints)
 
 module _ (w : Width) (kind : IsArchiveWord w) where
   sizes : (0 < text_size w) × (text_size w < text_limit w)
-  sizes = by_archive_word (λ v. (0 < text_size v) × (text_size v < text_limit v)) (omega arith, omega arith) (omega arith, omega arith) w kind
+  sizes = by_archive_word (λ v. (0 < text_size v) × (text_size v < text_limit v)) (
+    omega arith,
+    omega arith,
+  ) (omega arith, omega arith) w kind
 
-  text_whole : (t : List ℕ) (r : TextResolver) (p : ℕ) (out : List ℕ) → TextImage w t r p out → length out ≡ text_size w
+  text_whole : (t : List ℕ) (r : TextResolver) (p : ℕ) (out : List ℕ) → TextImage w t r p out
+      → length out ≡ text_size w
   text_whole t r p out (inl h) = ap length h.1 ∙ length_inline (text_size w) t h.0
-  text_whole t r p out (inr (inl h)) = ap length h.2 ∙ length_far w kind (length t) (pos r.pos -ℤ pos p)
+  text_whole t r p out (inr (inl h)) = ap length h.2
+      ∙ length_far w kind (length t) (pos r.pos -ℤ pos p)
   text_whole t r p out (inr (inr h)) = h.1
 
-  inline_sound : (t c : List ℕ) (p lo hi : ℕ) → IsUtf8 t → fixed_bytes w c p ≡ inline_bytes (text_size w) t
+  inline_sound : (t c : List ℕ) (p lo hi : ℕ) → IsUtf8 t
+      → fixed_bytes w c p ≡ inline_bytes (text_size w) t
       → (l : ℕ) × FixedHolds w (fixed_bytes w c p) c p lo hi l × TextReads w c p t
   inline_sound t c p lo hi u fixed =
-      let near : is_far (fixed_bytes w c p) ≡ false = ap is_far fixed ∙ inline_near (text_size w) t sizes.0 u in
-      let text : inline_text (fixed_bytes w c p) ≡ t = ap inline_text fixed ∙ inline_ends (text_size w) t u in
-      (lo, inl (near, subst IsUtf8 (sym text) u, refl), inline_reads w (fixed_bytes w c p) c p near ∙ text)
+      let near : is_far (fixed_bytes w c p) ≡ false = ap is_far fixed
+      ∙ inline_near (text_size w) t sizes.0 u in
+      let text : inline_text (fixed_bytes w c p) ≡ t = ap inline_text fixed
+      ∙ inline_ends (text_size w) t u in (
+        lo,
+        inl (near, subst IsUtf8 (sym text) u, refl),
+        inline_reads w (fixed_bytes w c p) c p near
+            ∙ text,
+      )
 
-  far_sound : (t c : List ℕ) (p p0 : ℕ) → IsUtf8 t → IsLong w t → FitsSigned w (pos p0 -ℤ pos p) → Sits c p0 t
+  far_sound : (t c : List ℕ) (p p0 : ℕ) → IsUtf8 t → IsLong w t → FitsSigned w (pos p0 -ℤ pos p)
+      → Sits c p0 t
       → fixed_bytes w c p ≡ far_bytes w (length t) (pos p0 -ℤ pos p)
       → (l : ℕ) × FixedHolds w (fixed_bytes w c p) c p p0 (p0 + length t) l × TextReads w c p t
   far_sound t c p p0 u long fits sits fixed =
       let d : ℤ = pos p0 -ℤ pos p in
       let s : List ℕ = fixed_bytes w c p in
       let far : is_far s ≡ true = ap is_far fixed ∙ far_first w kind (length t) d in
-      let len : far_length w s ≡ length t = ap (far_length w) fixed ∙ length_reads w kind (length t) d long.1 in
-      let distance : signed_at w s (byte_len w) ≡ d = ap (λ (x : List ℕ). signed_at w x (byte_len w)) fixed ∙ distance_reads w kind (length t) d fits in
-      let begins : pos p0 ≡ far_begin w s p = there_and_back p p0 ∙ ap (λ (z : ℤ). pos p +ℤ z) (sym distance) in
-      let text : slice_range c p0 (p0 + far_length w s) ≡ t = ap (λ (n : ℕ). slice_range c p0 (p0 + n)) len ∙ sits.there in
+      let len : far_length w s ≡ length t = ap (far_length w) fixed
+      ∙ length_reads w kind (length t) d long.1 in
+      let distance : signed_at w s (byte_len w) ≡ d =
+      ap (λ (x : List ℕ). signed_at w x (byte_len w)) fixed
+      ∙ distance_reads w kind (length t) d fits in
+      let begins : pos p0 ≡ far_begin w s p = there_and_back p p0
+      ∙ ap (λ (z : ℤ). pos p +ℤ z) (sym distance) in
+      let text : slice_range c p0 (p0 + far_length w s) ≡ t =
+      ap (λ (n : ℕ). slice_range c p0 (p0 + n)) len ∙ sits.there in
       let part : PartIn (far_begin w s p) (far_length w s) 1 p0 (p0 + length t) p0 =
-      record { begins = begins; above = omega arith; below = omega (arith, len); aligned = omega arith } in (
+      record {
+        begins = begins;
+        above = omega arith;
+        below = omega (arith, len);
+        aligned =
+            omega arith;
+      } in (
         p0 + far_length w s,
         inr (far, omega (arith, len, long.0), p0, part, subst IsUtf8 (sym text) u, refl),
         far_reads w s c p p0 far begins ∙ text,
       )
 
-  text_clear : (t : List ℕ) (r : TextResolver) (p : ℕ) (out : List ℕ) → TextImage w t r p out → TextFar w t r p → ⊥
+  text_clear : (t : List ℕ) (r : TextResolver) (p : ℕ) (out : List ℕ) → TextImage w t r p out
+      → TextFar w t r p → ⊥
   text_clear t r p out (inl i) f = omega (arith, i.0, f.0.0)
   text_clear t r p out (inr (inl i)) f = f.1 i.1
   text_clear t r p out (inr (inr i)) f = omega (arith, i.0, f.0.1)
 
-  text_sound : (t : List ℕ) (r : TextResolver) (c : List ℕ) (p0 p : ℕ) (part out : List ℕ) → TextParts w t p0 part r → TextImage w t r p out
+  text_sound : (t : List ℕ) (r : TextResolver) (c : List ℕ) (p0 p : ℕ) (part out : List ℕ)
+      → TextParts w t p0 part r → TextImage w t r p out
       → Sits c p0 part → fixed_bytes w c p ≡ out
       → (l : ℕ) × FixedHolds w (fixed_bytes w c p) c p p0 (p0 + length part) l × TextReads w c p t
-  text_sound t r c p0 p part out h (inl i) s fixed = inline_sound t c p p0 (p0 + length part) h.0 (fixed ∙ i.1)
-  text_sound t r c p0 p part out (u, inl h) (inr (inl i)) s fixed = absurd (omega (arith, h.0, i.0.0))
-  text_sound t r c p0 p part out (u, inl h) (inr (inr i)) s fixed = absurd (omega (arith, h.0, i.0, sizes.1))
-  text_sound t r c p0 p part out (u, inr h) (inr (inr i)) s fixed = absurd (omega (arith, h.0.1, i.0))
+  text_sound t r c p0 p part out h (inl i) s fixed =
+      inline_sound t c p p0 (p0 + length part) h.0 (fixed ∙ i.1)
+  text_sound t r c p0 p part out (u, inl h) (inr (inl i)) s fixed =
+      absurd (omega (arith, h.0, i.0.0))
+  text_sound t r c p0 p part out (u, inl h) (inr (inr i)) s fixed =
+      absurd (omega (arith, h.0, i.0, sizes.1))
+  text_sound t r c p0 p part out (u, inr h) (inr (inr i)) s fixed =
+      absurd (omega (arith, h.0.1, i.0))
   text_sound t r c p0 p part out (u, inr h) (inr (inl i)) s fixed =
-      let fits : FitsSigned w (pos p0 -ℤ pos p) = subst (λ q. FitsSigned w (pos q -ℤ pos p)) h.2 i.1 in
-      let same : fixed_bytes w c p ≡ far_bytes w (length t) (pos p0 -ℤ pos p) = subst (λ q. fixed_bytes w c p ≡ far_bytes w (length t) (pos q -ℤ pos p)) h.2 (fixed ∙ i.2) in
-      subst (λ x. (l : ℕ) × FixedHolds w (fixed_bytes w c p) c p p0 (p0 + length x) l × TextReads w c p t) (sym h.1)
+      let fits : FitsSigned w (pos p0 -ℤ pos p) =
+      subst (λ q. FitsSigned w (pos q -ℤ pos p)) h.2 i.1 in
+      let same : fixed_bytes w c p ≡ far_bytes w (length t) (pos p0 -ℤ pos p) =
+      subst (λ q. fixed_bytes w c p ≡ far_bytes w (length t) (pos q -ℤ pos p)) h.2 (fixed
+      ∙ i.2) in
+      subst (λ x. (l : ℕ) × FixedHolds w (fixed_bytes w c p) c p p0 (p0 + length x) l
+      × TextReads w c p t) (sym h.1)
       (far_sound t c p p0 u h.0 fits (subst (Sits c p0) h.1 s) same)
 
   -- what is written of a text holds, and the text stands
@@ -210,9 +325,13 @@ module _ (w : Width) (kind : IsArchiveWord w) where
   text_is_format = record {
     whole = text_whole;
     clear = text_clear;
-    sound = λ t r c p0 p part out h i s q o al. text_sound t r c p0 p part out h i s (fixed_sits w c out p (text_whole t r p out i) q);
+    sound = λ t r c p0 p part out h i s q o al. text_sound t r c p0 p part out h i s
+        (fixed_sits w c out p (text_whole t r p out i) q);
   }
 
   -- and of any type that is written as the text that is seen of it
-  pub seen_text_is_format : {X : Type 0} (seen : X → List ℕ) → IsFormat (text_shape w) (λ b p x. TextReads w b p (seen x)) (written_as seen (text_format w))
-  seen_text_is_format seen = written_as-format seen (text_shape w) (TextReads w) (text_format w) text_is_format
+  pub seen_text_is_format : {X : Type 0} (seen : X → List ℕ)
+      → IsFormat (text_shape w) (λ b p x. TextReads w b p (seen x))
+      (written_as seen (text_format w))
+  seen_text_is_format seen = written_as-format seen (text_shape w) (TextReads w) (text_format w)
+      text_is_format

@@ -1,7 +1,34 @@
 -- What writers hold, what one write leaves, and what a failed one tells.
-use Rattle.std.specs.Prelude.{◌≡◌, ℕ, ◌+◌, ◌-◌, ◌%◌, ◌^◌, ◌<◌, ◌≤◌, ◌⊎◌, List, [], ◌++◌, length, take, min, replicate}
+use Rattle.std.specs.Prelude.{
+  ◌≡◌,
+  ℕ,
+  ◌+◌,
+  ◌-◌,
+  ◌%◌,
+  ◌^◌,
+  ◌<◌,
+  ◌≤◌,
+  ◌⊎◌,
+  List,
+  [],
+  ◌++◌,
+  length,
+  take,
+  min,
+  replicate,
+}
 use Rattle.rkyv_base.specs.declared.errors.WriteError.{WriteError}
-use Rattle.rkyv_base.specs.declared.errors.WriteError.TheVariants.{InvalidLoadFactor, IteratorLengthMismatch, CapacityTooLarge, PositionTooLarge, DistanceTooLarge, TextTooLong, Writer, Memory, Refused}
+use Rattle.rkyv_base.specs.declared.errors.WriteError.TheVariants.{
+  InvalidLoadFactor,
+  IteratorLengthMismatch,
+  CapacityTooLarge,
+  PositionTooLarge,
+  DistanceTooLarge,
+  TextTooLong,
+  Writer,
+  Memory,
+  Refused,
+}
 
 -- what a writer holds: the position of its first byte, its bytes, and its count of failures
 pub record Output : Type 0 where
@@ -9,6 +36,7 @@ pub record Output : Type 0 where
   pub bytes : List ℕ
   pub failures : ℕ
 
+-- the position behind what a writer holds
 abbrev pub end_of : Output → ℕ
 end_of o = o.start + length o.bytes
 
@@ -58,11 +86,14 @@ Within limit o' part = (part ≡ []) ⊎ (end_of o' ≤ limit)
 
 -- front was appended within the limit, no write failed, and step comes next
 abbrev pub Reached : ℕ → (List ℕ → Step → Type 0) → Output → Output → List ℕ → Step → Type 0
-Reached limit next o o' front step = Within limit o' front × (o'.failures ≡ o.failures) × next front step
+Reached limit next o o' front step = Within limit o' front × (o'.failures ≡ o.failures)
+    × next front step
 
--- one write failed, of a piece that comes next after a front and fits in the limit behind it; and front ends in a front of
+-- one write failed, of a piece that comes next after a front and fits in the limit behind it; and
+-- front ends in a front of
 -- that piece
-pub record FellIn (limit : ℕ) (next : List ℕ → Step → Type 0) (o o' : Output) (front : List ℕ) : Type 0 where
+pub record FellIn (limit : ℕ) (next : List ℕ → Step → Type 0) (o o' : Output)
+    (front : List ℕ) : Type 0 where
   pub before : List ℕ
   pub bytes : List ℕ
   pub comes : next before (piece bytes)
@@ -71,20 +102,29 @@ pub record FellIn (limit : ℕ) (next : List ℕ → Step → Type 0) (o o' : Ou
   pub is : front ≡ before ++ take taken bytes
   pub counted : FailedOnce o o'
 
--- the cause that an error names stands, after front was appended. `next front step` says that step comes next after front.
-abbrev pub CauseStands : {F : Type 0} → ℕ → (List ℕ → Step → Type 0) → Output → Output → List ℕ → WriteError F → Type 0
-CauseStands limit next o o' front (InvalidLoadFactor n d) = Reached limit next o o' front (refusal (load_factor n d))
-CauseStands limit next o o' front (IteratorLengthMismatch m) = Reached limit next o o' front (refusal (mismatch m.expected m.actual))
-CauseStands limit next o o' front (CapacityTooLarge n) = Reached limit next o o' front (refusal (capacity n))
-CauseStands limit next o o' front PositionTooLarge = (bytes : List ℕ) × Reached limit next o o' front (piece bytes) × (limit < end_of o' + length bytes)
-CauseStands limit next o o' front DistanceTooLarge = Reached limit next o o' front (refusal distance)
+-- the cause that an error names stands, after front was appended. `next front step` says that step
+-- comes next after front.
+abbrev pub CauseStands : {F : Type 0} → ℕ → (List ℕ → Step → Type 0) → Output → Output → List ℕ
+    → WriteError F → Type 0
+CauseStands limit next o o' front (InvalidLoadFactor n d) =
+    Reached limit next o o' front (refusal (load_factor n d))
+CauseStands limit next o o' front (IteratorLengthMismatch m) =
+    Reached limit next o o' front (refusal (mismatch m.expected m.actual))
+CauseStands limit next o o' front (CapacityTooLarge n) =
+    Reached limit next o o' front (refusal (capacity n))
+CauseStands limit next o o' front PositionTooLarge = (bytes : List ℕ)
+    × Reached limit next o o' front (piece bytes) × (limit < end_of o' + length bytes)
+CauseStands limit next o o' front DistanceTooLarge =
+    Reached limit next o o' front (refusal distance)
 CauseStands limit next o o' front TextTooLong = Reached limit next o o' front (refusal long_text)
 CauseStands limit next o o' front (Writer f) = FellIn limit next o o' front
 CauseStands limit next o o' front Memory = Reached limit next o o' front (refusal no_memory)
 CauseStands limit next o o' front (Refused n) = Reached limit next o o' front (refusal (refused n))
 
--- a write that gave up kept what stood before and appended front, and tells the cause that stands there
-pub record Told {F : Type 0} (limit : ℕ) (next : List ℕ → Step → Type 0) (o o' : Output) (e : WriteError F) : Type 0 where
+-- a write that gave up kept what stood before and appended front, and tells the cause that stands
+-- there
+pub record Told {F : Type 0} (limit : ℕ) (next : List ℕ → Step → Type 0) (o o' : Output)
+    (e : WriteError F) : Type 0 where
   pub front : List ℕ
   pub kept : Grows o o' front
   pub cause : CauseStands limit next o o' front e
@@ -105,9 +145,11 @@ PieceGaveUp limit bytes o o' e = Told limit (Only (piece bytes)) o o' e
 abbrev pub padding : ℕ → ℕ → ℕ
 padding a p = (a - p % a) % a
 
+-- n bytes that are 0
 abbrev pub zeros : ℕ → List ℕ
 zeros n = replicate n 0
 
 -- zeros were appended up to the next multiple of a, which is the position p
 abbrev pub Aligned : ℕ → ℕ → Output → Output → ℕ → Type 0
-Aligned limit a o o' p = Appends o o' (zeros (padding a (end_of o))) × (p ≡ end_of o') × (p ≤ limit) × (p % a ≡ 0)
+Aligned limit a o o' p = Appends o o' (zeros (padding a (end_of o))) × (p ≡ end_of o') × (p ≤ limit)
+    × (p % a ≡ 0)

@@ -2,6 +2,7 @@
 
 ghost use Rattle.std.specs.Prelude.{◌≡◌, ◌-◌, length, IfOk, IsOk, MatchResult};
 ghost use Rattle.rkyv_base.specs.Access.{Accepted, AccessFails};
+ghost use Rattle.rkyv_base.specs.Lending.{MayWrite, Wrote};
 ghost use Rattle.rkyv_base.specs.Seal.{ArchiveAt, archive_in, pos_in};
 ghost use Rattle.rkyv_base.specs.Shape.{Viewed};
 ghost use Rattle.rkyv_base.specs.View.{IsAt, IsView};
@@ -20,7 +21,8 @@ use crate::width::{Narrow, Width};
 #[inline]
 pub fn access_in<'a, W: Width, T: Element>(bytes: &'a [u8]) -> Result<View<'a, T>, VerifyError>
     ensures root { MatchResult result
-        (λ v. Accepted W.LIMIT T.shape bytes.now × IsAt v bytes.entry (length bytes.now - T.shape.size))
+        (λ v. Accepted W.LIMIT T.shape bytes.now
+        × IsAt v bytes.entry (length bytes.now - T.shape.size))
         (AccessFails W.LIMIT T.shape bytes.now) }
     ensures accepts { Accepted W.LIMIT T.shape bytes.now → IsOk result }
     ensures viewed { IfOk result (IsView T.shape) }
@@ -51,7 +53,8 @@ pub fn access_in<'a, W: Width, T: Element>(bytes: &'a [u8]) -> Result<View<'a, T
 #[inline]
 pub fn access<'a, T: Element>(bytes: &'a [u8]) -> Result<View<'a, T>, VerifyError>
     ensures root { MatchResult result
-        (λ v. Accepted 4294967295 T.shape bytes.now × IsAt v bytes.entry (length bytes.now - T.shape.size))
+        (λ v. Accepted 4294967295 T.shape bytes.now
+        × IsAt v bytes.entry (length bytes.now - T.shape.size))
         (AccessFails 4294967295 T.shape bytes.now) }
     ensures accepts { Accepted 4294967295 T.shape bytes.now → IsOk result }
     ensures viewed { IfOk result (IsView T.shape) }
@@ -107,4 +110,52 @@ pub fn access_mut<'a, T: Element>(bytes: &'a mut [u8]) -> Result<ArchiveSeal<'a,
     ensures viewed { IfOk result (λ s. Viewed T.shape (archive_in s) (pos_in s)) }
 {
     access_mut_in::<Narrow, T>(bytes)
+}
+
+/// Gives the bytes of an archive of the width W and the position of its root to `write`, where the
+/// archive is accepted.
+///
+/// # Errors
+/// As `access_in`; `write` isn't called then, and no byte is changed.
+#[inline]
+pub fn access_mut_with_in<W: Width, T: Element, R, F: FnOnce(&mut [u8], u64) -> R>(
+    bytes: &mut [u8],
+    write: F,
+) -> Result<R, VerifyError>
+    requires { Accepted W.LIMIT T.shape bytes.old
+        → MayWrite F.pre write bytes.old (length bytes.old - T.shape.size) }
+    ensures root { MatchResult result
+        (λ r. Accepted W.LIMIT T.shape bytes.old
+        × Wrote F.post write r bytes.old (length bytes.old - T.shape.size) bytes.new)
+        (λ e. AccessFails W.LIMIT T.shape bytes.old e × (bytes.new ≡ bytes.old)) }
+    ensures accepts { Accepted W.LIMIT T.shape bytes.old → IsOk result }
+{
+    match access_in::<W, T>(&*bytes) {
+        Ok(root) => {
+            let pos = root.pos();
+            Ok(write(bytes, pos))
+        }
+        Err(refused) => Err(refused),
+    }
+}
+
+/// Gives the bytes of a narrow archive and the position of its root to `write`, where the archive
+/// is accepted.
+///
+/// # Errors
+/// As `access_mut_with_in`.
+#[inline]
+pub fn access_mut_with<T: Element, R, F: FnOnce(&mut [u8], u64) -> R>(
+    bytes: &mut [u8],
+    write: F,
+) -> Result<R, VerifyError>
+    requires { Accepted 4294967295 T.shape bytes.old
+        → MayWrite F.pre write bytes.old (length bytes.old - T.shape.size) }
+    ensures root { MatchResult result
+        (λ r. Accepted 4294967295 T.shape bytes.old
+        × Wrote F.post write r bytes.old (length bytes.old - T.shape.size) bytes.new)
+        (λ e. AccessFails 4294967295 T.shape bytes.old e × (bytes.new ≡ bytes.old)) }
+    ensures accepts { Accepted 4294967295 T.shape bytes.old → IsOk result }
+{
+    access_mut_with_in::<Narrow, T, R, F>(bytes, write)
 }

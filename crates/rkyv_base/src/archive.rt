@@ -52,6 +52,8 @@ pub trait Serialize<S: Writer, W: Width>: Archive<W> {
         serializer: &mut S,
     ) -> Result<Self::Resolver, WriteError<S::Fault>>
         ensures { MatchResult result
-            (Serialized W.LIMIT Self.format self.now (S.output serializer.old) (S.output serializer.new))
-            (GaveUp W.LIMIT Self.format self.now (S.output serializer.old) (S.output serializer.new)) };
+            (Serialized W.LIMIT Self.format self.now (S.output serializer.old)
+            (S.output serializer.new))
+            (GaveUp W.LIMIT Self.format self.now (S.output serializer.old)
+            (S.output serializer.new)) };
 }

@@ -38,7 +38,8 @@ pub trait Element {
         requires inside { pos + shape.size ≤ length bytes.now }
         requires aligned { pos % shape.align ≡ 0 }
         requires ordered { (range.lo ≤ range.hi) × (range.hi ≤ pos) }
-        ensures { MatchResult result (Passes shape bytes.now pos range) (Fails shape bytes.now pos range) };
+        ensures { MatchResult result (Passes shape bytes.now pos range)
+            (Fails shape bytes.now pos range) };
 
     ghost laws: { IsElement shape };
 }

@@ -57,7 +57,8 @@ pub(crate) fn resolve_entry<W: Width, A: Archive<W>, B: Archive<W>>(
 ) -> Result<(), DistanceTooLarge>
     requires room { length out.old ≡ (entry_shape A.Archived.shape B.Archived.shape).size }
     requires fits { pos + (entry_shape A.Archived.shape B.Archived.shape).size < 2 ^ 64 }
-    ensures { let f = pair_format A.Archived.shape B.Archived.shape A.format B.format in MatchResult result
+    ensures { let f = pair_format A.Archived.shape B.Archived.shape A.format B.format in
+        MatchResult result
         (λ _. f.image (key.now, value.now) resolver pos out.new)
         (λ _. f.far (key.now, value.now) resolver pos) }
 {
@@ -79,9 +80,12 @@ pub(crate) fn serialize_entry<S: Writer, W: Width, A: Serialize<S, W>, B: Serial
     alloc: Global,
     serializer: &mut S,
 ) -> Result<EntryResolver<A::Resolver, B::Resolver>, WriteError<S::Fault>>
-    ensures { let f = pair_format A.Archived.shape B.Archived.shape A.format B.format in MatchResult result
-        (Serialized W.LIMIT f (key.now, value.now) (S.output serializer.old) (S.output serializer.new))
-        (GaveUp W.LIMIT f (key.now, value.now) (S.output serializer.old) (S.output serializer.new)) }
+    ensures { let f = pair_format A.Archived.shape B.Archived.shape A.format B.format in
+        MatchResult result
+        (Serialized W.LIMIT f (key.now, value.now) (S.output serializer.old)
+        (S.output serializer.new))
+        (GaveUp W.LIMIT f (key.now, value.now) (S.output serializer.old)
+        (S.output serializer.new)) }
 {
     if whole_size::<A::Archived, B::Archived>() > LARGEST {
         return Err(WriteError::Refused(0));
@@ -118,7 +122,8 @@ impl<W: Width, A: Archive<W>, B: Archive<W>> Archive<W> for (A, B) {
         resolve_entry::<W, A, B>(&self.0, &self.1, resolver, pos, out)
     }
 
-    ghost laws = { pair_is_format A.Archived.shape B.Archived.shape A.Archived.laws B.Archived.laws A.Archived.stands B.Archived.stands A.format B.format A.laws B.laws };
+    ghost laws = { pair_is_format A.Archived.shape B.Archived.shape A.Archived.laws B.Archived.laws
+        A.Archived.stands B.Archived.stands A.format B.format A.laws B.laws };
 }
 
 impl<S: Writer, W: Width, A: Serialize<S, W>, B: Serialize<S, W>> Serialize<S, W> for (A, B) {

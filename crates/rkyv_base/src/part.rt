@@ -6,10 +6,10 @@ ghost use Rattle.rkyv_base.specs.Parts.{PartFails, PartIn};
 use crate::element::PartRange;
 use crate::errors::VerifyError;
 
-/// The place of a part of `size` bytes that is told to begin at `begin`.
+/// The position of a part of `size` bytes that is told to begin at `begin`.
 ///
 /// # Errors
-/// `OutOfRange` where it doesn't lie in the range, then `Unaligned` where its place is no multiple
+/// `OutOfRange` where it doesn't lie in the range, then `Unaligned` where it is no multiple
 /// of `align`.
 #[inline]
 pub fn part_in(begin: i128, size: u128, align: u64, range: PartRange) -> Result<u64, VerifyError>
@@ -24,12 +24,12 @@ pub fn part_in(begin: i128, size: u128, align: u64, range: PartRange) -> Result<
     if i128::from(range.hi) < begin {
         return Err(VerifyError::OutOfRange { pos: begin, size });
     }
-    let place = begin as u64;
-    if u128::from(range.hi - place) < size {
+    let at = begin as u64;
+    if u128::from(range.hi - at) < size {
         return Err(VerifyError::OutOfRange { pos: begin, size });
     }
-    if place % align != 0 {
-        return Err(VerifyError::Unaligned { pos: place, align });
+    if at % align != 0 {
+        return Err(VerifyError::Unaligned { pos: at, align });
     }
-    Ok(place)
+    Ok(at)
 }

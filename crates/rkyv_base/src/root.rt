@@ -22,8 +22,10 @@ pub fn write_root_in<W: Width, S: Writer, V: Serialize<S, W>>(
     serializer: &mut S,
 ) -> Result<u64, WriteError<S::Fault>>
     ensures { MatchResult result
-        (WroteRoot W.LIMIT V.Archived.shape.align V.format value.now (S.output serializer.old) (S.output serializer.new))
-        (RootGaveUp W.LIMIT V.Archived.shape.align V.format value.now (S.output serializer.old) (S.output serializer.new)) }
+        (WroteRoot W.LIMIT V.Archived.shape.align V.format value.now (S.output serializer.old)
+        (S.output serializer.new))
+        (RootGaveUp W.LIMIT V.Archived.shape.align V.format value.now (S.output serializer.old)
+        (S.output serializer.new)) }
 {
     let size = <V::Archived as Element>::size();
     let mut scratch = match vec![in alloc; 0u8; size] {
@@ -78,8 +80,10 @@ pub fn write_root<S: Writer, V: Serialize<S, Narrow>>(
     serializer: &mut S,
 ) -> Result<u64, WriteError<S::Fault>>
     ensures { MatchResult result
-        (WroteRoot 4294967295 V.Archived.shape.align V.format value.now (S.output serializer.old) (S.output serializer.new))
-        (RootGaveUp 4294967295 V.Archived.shape.align V.format value.now (S.output serializer.old) (S.output serializer.new)) }
+        (WroteRoot 4294967295 V.Archived.shape.align V.format value.now (S.output serializer.old)
+        (S.output serializer.new))
+        (RootGaveUp 4294967295 V.Archived.shape.align V.format value.now (S.output serializer.old)
+        (S.output serializer.new)) }
 {
     write_root_in::<Narrow, S, V>(alloc, value, serializer)
 }

@@ -66,8 +66,8 @@ impl<N: Scalar> Element for N {
 
     #[inline]
     fn check(bytes: &[u8], pos: u64, range: PartRange) -> Result<PartRange, VerifyError> {
-        let place = pos as usize;
-        if N::is_value(&bytes[place..place + N::byte_count()]) {
+        let at = pos as usize;
+        if N::is_value(&bytes[at..at + N::byte_count()]) {
             Ok(range)
         } else {
             Err(VerifyError::InvalidValue { pos })

@@ -6,8 +6,28 @@ ghost use Rattle.std.specs.Int.{byte_len};
 ghost use Rattle.rkyv_base.specs.View.{IsView, bytes_of, pos_of};
 ghost use Rattle.rkyv_base.specs.Entry.{entry_shape};
 ghost use Rattle.rkyv_base.specs.Scalar.{scalar_shape};
-ghost use Rattle.rkyv_base.specs.Seal.{ArchiveAt, LendsHalves, LiesIn, SealAt, SealStays, archive_in, bytes_in, seal_pos, pos_in};
-ghost use Rattle.rkyv_base.specs.Sealing.{IsValueAt, Keeps, KeepsEntry, Sealed, value_at, value_pos, with_value};
+ghost use Rattle.rkyv_base.specs.Lending.{MayWrite, Wrote};
+ghost use Rattle.rkyv_base.specs.Seal.{
+  ArchiveAt,
+  ArchiveStays,
+  LendsHalves,
+  LiesIn,
+  SealAt,
+  SealStays,
+  archive_in,
+  bytes_in,
+  seal_pos,
+  pos_in,
+};
+ghost use Rattle.rkyv_base.specs.Sealing.{
+  IsValueAt,
+  Keeps,
+  KeepsEntry,
+  Sealed,
+  value_at,
+  value_pos,
+  with_value,
+};
 ghost use Rattle.rkyv_base.specs.Shape.{Viewed};
 
 use crate::element::Element;
@@ -16,10 +36,10 @@ use crate::scalars::Scalar;
 use crate::view::View;
 use std::marker::PhantomData;
 
-/// One value that is written in place: the bytes that are lent, and the value's place in them.
+/// One value that is written in place: the bytes that are lent, and the value's position in them.
 pub struct Seal<'a, T> {
     pub(crate) bytes: &'a mut [u8],
-    pub(crate) place: usize,
+    pub(crate) pos: usize,
     kind: PhantomData<T>,
 }
 
@@ -29,37 +49,52 @@ impl<'a, T> Drop for Seal<'a, T> {
     {
         let Seal {
             bytes: _,
-            place: _,
+            pos: _,
             kind: _,
         } = self;
     }
 }
 
 impl<'a, T> Seal<'a, T> {
-    /// The value at a place of some bytes.
+    /// The value at a position of some bytes.
     #[inline]
-    pub fn over(bytes: &'a mut [u8], place: usize) -> Seal<'a, T>
-        ensures { SealAt result bytes.entry place }
+    pub fn over(bytes: &'a mut [u8], pos: usize) -> Seal<'a, T>
+        ensures { SealAt result bytes.entry pos }
     {
         Seal {
             bytes,
-            place,
+            pos,
             kind: PhantomData,
         }
     }
+
+    /// The bytes that are lent as a whole archive, with the value's position in them.
+    ///
+    /// So a map that stands as the value of another is looked up in as one that stands alone.
+    #[inline]
+    pub fn into_archive(self) -> ArchiveSeal<'a, T>
+        ensures { ArchiveAt result self.entry.bytes (seal_pos self.entry) }
+    {
+        let Seal {
+            bytes,
+            pos,
+            kind: _,
+        } = self;
+        ArchiveSeal::new(bytes, pos as u64)
+    }
 }
 
-/// Writes a value at a place of some bytes.
+/// Writes a value at a position of some bytes.
 #[inline]
-pub fn set_at<N: Scalar>(bytes: &mut [u8], place: usize, value: N)
-    requires { place + byte_len N.encoding.word ≤ length bytes.old }
-    ensures written { bytes.new ≡ with_value N.encoding bytes.old place value }
-    ensures sealed { Sealed bytes.old place (byte_len N.encoding.word) bytes.new }
-    ensures reads { value_at N.encoding bytes.new place ≡ value }
-    ensures value { IsValueAt N.encoding bytes.new place }
-    ensures holds { Keeps (scalar_shape N.encoding) bytes.old bytes.new place }
+pub fn set_at<N: Scalar>(bytes: &mut [u8], pos: usize, value: N)
+    requires { pos + byte_len N.encoding.word ≤ length bytes.old }
+    ensures written { bytes.new ≡ with_value N.encoding bytes.old pos value }
+    ensures sealed { Sealed bytes.old pos (byte_len N.encoding.word) bytes.new }
+    ensures reads { value_at N.encoding bytes.new pos ≡ value }
+    ensures value { IsValueAt N.encoding bytes.new pos }
+    ensures holds { Keeps (scalar_shape N.encoding) bytes.old bytes.new pos }
 {
-    value.write(&mut bytes[place..place + N::byte_count()]);
+    value.write(&mut bytes[pos..pos + N::byte_count()]);
 }
 
 impl<'a, N: Scalar> Seal<'a, N> {
@@ -70,7 +105,7 @@ impl<'a, N: Scalar> Seal<'a, N> {
         requires value { IsValueAt N.encoding (bytes_in self.now) (seal_pos self.now) }
         ensures { result ≡ value_at N.encoding (bytes_in self.now) (seal_pos self.now) }
     {
-        N::read(&self.bytes[self.place..self.place + N::byte_count()])
+        N::read(&self.bytes[self.pos..self.pos + N::byte_count()])
     }
 
     /// Writes the value; all other bytes stay.
@@ -87,9 +122,9 @@ impl<'a, N: Scalar> Seal<'a, N> {
         ensures holds { Keeps (scalar_shape N.encoding)
             (bytes_in self.old) (bytes_in self.new) (seal_pos self.old) }
     {
-        let place = self.place;
+        let pos = self.pos;
         let bytes = &mut *self.bytes;
-        set_at(bytes, place, value);
+        set_at(bytes, pos, value);
     }
 }
 
@@ -157,6 +192,19 @@ impl<'a, T> ArchiveSeal<'a, T> {
         let pos = self.pos;
         let archive = &mut *self.archive;
         ArchiveSeal::new(archive, pos)
+    }
+
+    /// Gives the archive and the value's position to `write`, which may change any byte.
+    #[inline]
+    pub fn write_with<F: FnOnce(&mut [u8], u64)>(&mut self, write: F)
+        requires { MayWrite F.pre write (archive_in self.old) (pos_in self.old) }
+        ensures stays { ArchiveStays self.old self.new }
+        ensures written { Wrote F.post write tt (archive_in self.old) (pos_in self.old)
+            (archive_in self.new) }
+    {
+        let pos = self.pos;
+        let archive = &mut *self.archive;
+        write(archive, pos);
     }
 
     /// A value at another position of the archive.

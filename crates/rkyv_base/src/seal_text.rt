@@ -17,32 +17,32 @@ use crate::seal::Seal;
 use crate::text::{Text, fixed_at, inline_part, is_elsewhere};
 use crate::width::Width;
 
-/// The inline text at a place, where the text isn't elsewhere.
+/// The inline text at a position, where the text isn't elsewhere.
 #[inline]
-fn inline_bytes<W: Width>(bytes: &[u8], place: usize) -> Option<&[u8]>
-    requires { place + text_size W.word ≤ length bytes.now }
+fn inline_bytes<W: Width>(bytes: &[u8], pos: usize) -> Option<&[u8]>
+    requires { pos + text_size W.word ≤ length bytes.now }
     ensures { MatchOption result
-        (IsElsewhere W.word bytes.now place)
-        (λ text. IsInline W.word bytes.now place
-        × (text.now ≡ inline_at W.word bytes.now place)) }
+        (IsElsewhere W.word bytes.now pos)
+        (λ text. IsInline W.word bytes.now pos
+        × (text.now ≡ inline_at W.word bytes.now pos)) }
 {
-    let fixed = fixed_at::<W>(bytes, place as u64);
+    let fixed = fixed_at::<W>(bytes, pos as u64);
     if is_elsewhere(fixed) {
         return None;
     }
     Some(inline_part(fixed))
 }
 
-/// How many bytes the inline text at a place has, where the text isn't elsewhere.
+/// How many bytes the inline text at a position has, where the text isn't elsewhere.
 #[inline]
-fn inline_len<W: Width>(bytes: &[u8], place: usize) -> Option<usize>
-    requires { place + text_size W.word ≤ length bytes.now }
+fn inline_len<W: Width>(bytes: &[u8], pos: usize) -> Option<usize>
+    requires { pos + text_size W.word ≤ length bytes.now }
     ensures { MatchOption result
-        (IsElsewhere W.word bytes.now place)
-        (λ len. IsInline W.word bytes.now place
-        × (len ≡ length (inline_at W.word bytes.now place)) × (len ≤ text_size W.word)) }
+        (IsElsewhere W.word bytes.now pos)
+        (λ len. IsInline W.word bytes.now pos
+        × (len ≡ length (inline_at W.word bytes.now pos)) × (len ≤ text_size W.word)) }
 {
-    match inline_bytes::<W>(bytes, place) {
+    match inline_bytes::<W>(bytes, pos) {
         Some(text) => Some(text.len()),
         None => None,
     }
@@ -50,13 +50,13 @@ fn inline_len<W: Width>(bytes: &[u8], place: usize) -> Option<usize>
 
 /// Writes the inline text at a place in upper case, and answers whether the text stands inline.
 #[inline]
-fn uppercase_at<W: Width>(bytes: &mut [u8], place: usize) -> bool
-    requires { place + text_size W.word ≤ length bytes.old }
-    ensures { Raised W.word bytes.old place bytes.new result }
+fn uppercase_at<W: Width>(bytes: &mut [u8], pos: usize) -> bool
+    requires { pos + text_size W.word ≤ length bytes.old }
+    ensures { Raised W.word bytes.old pos bytes.new result }
 {
-    match inline_len::<W>(&*bytes, place) {
+    match inline_len::<W>(&*bytes, pos) {
         Some(len) => {
-            bytes[place..place + len].make_ascii_uppercase();
+            bytes[pos..pos + len].make_ascii_uppercase();
             true
         }
         None => false,
@@ -74,7 +74,7 @@ impl<'a, W: Width> Seal<'a, Text<W>> {
             (λ text. IsInline W.word (bytes_in self.now) (seal_pos self.now)
             × (text.now ≡ text_at W.word (bytes_in self.now) (seal_pos self.now))) }
     {
-        match inline_bytes::<W>(&*self.bytes, self.place) {
+        match inline_bytes::<W>(&*self.bytes, self.pos) {
             Some(text) => Some(unsafe { str::from_utf8_unchecked(text) }),
             None => None,
         }
@@ -98,8 +98,8 @@ impl<'a, W: Width> Seal<'a, Text<W>> {
         ensures holds { Keeps (text_shape W.word)
             (bytes_in self.old) (bytes_in self.new) (seal_pos self.old) }
     {
-        let place = self.place;
+        let pos = self.pos;
         let bytes = &mut *self.bytes;
-        uppercase_at::<W>(bytes, place)
+        uppercase_at::<W>(bytes, pos)
     }
 }

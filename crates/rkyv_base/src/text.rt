@@ -61,8 +61,8 @@ pub(crate) fn fixed_at<W: Width>(bytes: &[u8], pos: u64) -> &[u8]
     requires { pos + text_size W.word ≤ length bytes.now }
     ensures { result.now ≡ fixed_bytes W.word bytes.now pos }
 {
-    let place = pos as usize;
-    &bytes[place..place + W::TEXT_SIZE]
+    let at = pos as usize;
+    &bytes[at..at + W::TEXT_SIZE]
 }
 
 /// Whether the text stands elsewhere: the first byte has the form 10xxxxxx.
@@ -74,7 +74,7 @@ pub(crate) fn is_elsewhere(fixed: &[u8]) -> bool
     128 <= fixed[0] && fixed[0] < 192
 }
 
-/// The place of the first ff among the first eight bytes, by one comparison.
+/// The index of the first ff among the first eight bytes, by one comparison.
 #[inline]
 fn first_ff_of_eight(bytes: &[u8]) -> Option<usize>
     requires { 8 ≤ length bytes.now }
@@ -90,7 +90,7 @@ fn first_ff_of_eight(bytes: &[u8]) -> Option<usize>
     }
 }
 
-/// The place of the first ff, byte by byte.
+/// The index of the first ff, byte by byte.
 #[inline]
 fn first_ff_of_bytes(bytes: &[u8]) -> Option<usize>
     ensures { result ≡ position (λ x. x == 255) bytes.now }
@@ -98,7 +98,7 @@ fn first_ff_of_bytes(bytes: &[u8]) -> Option<usize>
     bytes.iter().position(|byte| *byte == 255)
 }
 
-/// The place of the first ff.
+/// The index of the first ff.
 #[inline]
 fn first_ff(fixed: &[u8]) -> Option<usize>
     ensures { result ≡ position (λ x. x == 255) fixed.now }
@@ -189,12 +189,12 @@ fn check_far<W: Width>(bytes: &[u8], pos: u64, range: PartRange) -> Result<PartR
         return Err(VerifyError::InvalidValue { pos });
     }
     let begin = far_start::<W>(fixed, pos);
-    let place = match part_in(begin, u128::from(len), 1, range) {
-        Ok(place) => place,
+    let at = match part_in(begin, u128::from(len), 1, range) {
+        Ok(at) => at,
         Err(e) => return Err(e),
     };
-    let end = place + len;
-    match check_utf8(&bytes[place as usize..end as usize], pos) {
+    let end = at + len;
+    match check_utf8(&bytes[at as usize..end as usize], pos) {
         Ok(()) => Ok(PartRange {
             lo: end,
             hi: range.hi,
@@ -231,7 +231,7 @@ impl<W: Width> Element for Text<W> {
     ghost laws = { text_element W.word W.layout.kind };
 }
 
-/// The place at which a part begins.
+/// The position at which a part begins.
 #[inline]
 fn pos_of_begin(begin: i128) -> usize
     requires { (at : ℕ) × (int at ≡ begin) × (at < 2 ^ 64) }
@@ -248,8 +248,8 @@ fn far_part<W: Width>(bytes: &[u8], pos: u64) -> &[u8]
     ensures { result.now ≡ text_at W.word bytes.now pos }
 {
     let fixed = fixed_at::<W>(bytes, pos);
-    let place = pos_of_begin(far_start::<W>(fixed, pos));
-    &bytes[place..place + far_len::<W>(fixed) as usize]
+    let at = pos_of_begin(far_start::<W>(fixed, pos));
+    &bytes[at..at + far_len::<W>(fixed) as usize]
 }
 
 /// The text whose fixed bytes stand at a position.

@@ -66,8 +66,8 @@ impl<'a, N: Scalar> View<'a, N> {
         requires { IsView (scalar_shape N.encoding) self }
         ensures { StandsAt (ScalarStands N.encoding) self.entry result }
     {
-        let place = self.pos as usize;
-        N::read(&self.archive[place..place + N::byte_count()])
+        let at = self.pos as usize;
+        N::read(&self.archive[at..at + N::byte_count()])
     }
 }
 
@@ -86,7 +86,8 @@ impl<'a, K: Element, V: Element> View<'a, Entry<K, V>> {
     #[inline]
     pub fn value(self) -> View<'a, V>
         requires { IsView (entry_shape K.shape V.shape) self }
-        ensures at { IsAt result (archive_of self.entry) (pos_of self.entry + value_offset K.shape V.shape) }
+        ensures at { IsAt result (archive_of self.entry)
+            (pos_of self.entry + value_offset K.shape V.shape) }
         ensures viewed { IsView V.shape result }
     {
         self.at::<V>(self.pos + value_offset::<K, V>() as u64)

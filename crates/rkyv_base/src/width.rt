@@ -1,7 +1,36 @@
 //! The two widths of an archive.
 
-ghost use Rattle.std.specs.Prelude.{FitsSigned, MatchOption, pos, ◌-ℤ◌, ◌≡◌, ℕ, ◌+◌, ◌-◌, ◌*◌, ◌^◌, ◌<◌, ◌≤◌, ℤ, List, length, take, drop, ◌++◌, slice_range};
-ghost use Rattle.std.specs.Int.{Width as Word, w32, w64, byte_len, to_le_bytes, from_le_bytes, cast_unsigned, cast_signed};
+ghost use Rattle.std.specs.Prelude.{
+  FitsSigned,
+  MatchOption,
+  pos,
+  ◌-ℤ◌,
+  ◌≡◌,
+  ℕ,
+  ◌+◌,
+  ◌-◌,
+  ◌*◌,
+  ◌^◌,
+  ◌<◌,
+  ◌≤◌,
+  ℤ,
+  List,
+  length,
+  take,
+  drop,
+  ◌++◌,
+  slice_range,
+};
+ghost use Rattle.std.specs.Int.{
+  Width as Word,
+  w32,
+  w64,
+  byte_len,
+  to_le_bytes,
+  from_le_bytes,
+  cast_unsigned,
+  cast_signed,
+};
 ghost use mir.Val.{bits};
 ghost use Rattle.rkyv_base.specs.Bytes.{number_at, signed_at};
 ghost use Rattle.rkyv_base.specs.Layout.{IsLayout, IsPlace, narrow_layout, wide_layout};
@@ -52,7 +81,7 @@ pub trait Width {
 
     ghost TEXT_LIMIT: { ℕ };
 
-    /// The count at place `at`.
+    /// The count at position `at`.
     fn read_count(bytes: &[u8], at: usize) -> u64
         requires { at + byte_len word ≤ length bytes.now }
         ensures { result ≡ number_at word bytes.now at };
@@ -63,7 +92,7 @@ pub trait Width {
         requires fits { count < 2 ^ bits word }
         ensures { out.new ≡ to_le_bytes word count };
 
-    /// The distance at place `at`.
+    /// The distance at position `at`.
     fn read_distance(bytes: &[u8], at: usize) -> i64
         requires { at + byte_len word ≤ length bytes.now }
         ensures { result ≡ signed_at word bytes.now at };
@@ -76,9 +105,11 @@ pub trait Width {
 
     /// The distance from `from` to `target`, where it fits.
     fn distance(target: u64, from: u64) -> Option<i64>
-        ensures { MatchOption result (FitsSigned word (pos target -ℤ pos from) → ⊥) (λ d. (d ≡ pos target -ℤ pos from) × FitsSigned word d) };
+        ensures { MatchOption result (FitsSigned word (pos target -ℤ pos from) → ⊥)
+            (λ d. (d ≡ pos target -ℤ pos from) × FitsSigned word d) };
 
-    ghost layout: { IsLayout word LIMIT MAX_CAPACITY TABLE_SIZE INDEX_SIZE ALIGN TEXT_SIZE TEXT_LIMIT };
+    ghost layout: { IsLayout word LIMIT MAX_CAPACITY TABLE_SIZE INDEX_SIZE ALIGN TEXT_SIZE
+        TEXT_LIMIT };
 
     ghost place: { IsPlace word Self.Place.encoding };
 }

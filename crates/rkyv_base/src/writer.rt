@@ -142,7 +142,8 @@ impl Writer for VecWriter {
     }
 }
 
-/// Appends one piece to an archive of the width W. Every byte of an archive is written by this call.
+/// Appends one piece to an archive of the width W. Every byte of an archive is written by this
+/// call.
 ///
 /// # Errors
 /// `PositionTooLarge` where the piece would end past the width's limit, and nothing is written;
@@ -176,7 +177,8 @@ pub fn append_in<W: Width, S: Writer>(
 pub fn align_for_in<W: Width, T: Element, S: Writer>(
     serializer: &mut S,
 ) -> Result<u64, WriteError<S::Fault>>
-    ensures { let o = S.output serializer.old in let pad = zeros (padding T.shape.align (end_of o)) in
+    ensures { let o = S.output serializer.old in let pad =
+        zeros (padding T.shape.align (end_of o)) in
         MatchResult result
         (Aligned W.LIMIT T.shape.align o (S.output serializer.new))
         (PieceGaveUp W.LIMIT pad o (S.output serializer.new)) }
@@ -209,7 +211,8 @@ pub fn append<S: Writer>(serializer: &mut S, bytes: &[u8]) -> Result<(), WriteEr
 /// As `align_for_in`, with the limit 4,294,967,295.
 #[inline]
 pub fn align_for<T: Element, S: Writer>(serializer: &mut S) -> Result<u64, WriteError<S::Fault>>
-    ensures { let o = S.output serializer.old in let pad = zeros (padding T.shape.align (end_of o)) in
+    ensures { let o = S.output serializer.old in let pad =
+        zeros (padding T.shape.align (end_of o)) in
         MatchResult result
         (Aligned 4294967295 T.shape.align o (S.output serializer.new))
         (PieceGaveUp 4294967295 pad o (S.output serializer.new)) }

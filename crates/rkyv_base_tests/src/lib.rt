@@ -4,6 +4,8 @@
 #[cfg(test)]
 mod errors;
 #[cfg(test)]
+mod lending;
+#[cfg(test)]
 mod own;
 #[cfg(test)]
 mod roots;

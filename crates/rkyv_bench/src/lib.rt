@@ -5,11 +5,5 @@
 //! at `ends[i]`, and begins where the one in front of it ends, or at 0.
 #![tactic(auto)]
 
-mod building;
-mod cuts;
 mod numbers;
-#[cfg(test)]
-mod tests;
 mod texts;
-mod totals;
-mod weighing;

@@ -1,22 +1,19 @@
 //! The calls for maps of numbers to numbers.
 
 ghost use Rattle.std.specs.Prelude.{◌≡◌};
-ghost use Rattle.rkyv_bench.specs.Archives.{IsArchive, IsLengthAnd1, number_shape, root};
-ghost use Rattle.rkyv_bench.specs.Building.{IsBuilt, MapsNumbers};
-ghost use Rattle.rkyv_bench.specs.Totals.{number_hash, number_looked_up, number_weight, pair_weight, total, walked};
+ghost use Rattle.rkyv_bench_calls.specs.Archives.{IsArchive, IsLengthAnd1, number_shape, root};
+ghost use Rattle.rkyv_bench_calls.specs.Building.{IsBuilt, MapsNumbers};
+ghost use Rattle.rkyv_bench_calls.specs.Totals.{number_hash, number_looked_up, number_weight, pair_weight, total, walked};
 
-use crate::building::{Pairs, build};
-use crate::totals::{hash_total, length_and_1, lookup_total, map_in, walk_total};
-use rkyv_scan::hash::FxHasher64;
+use rkyv_bench_calls::numbers::{access_u32, build_u32, hash_u32, lookup_u32, walk_u32};
 use std::alloc::Global;
-use std::marker::PhantomData;
 
 /// The sum modulo 2^64 of the hashes of the keys.
 #[unsafe(no_mangle)]
 pub extern "C" fn rkyv_bench_hash_u32(keys: &[u32]) -> u64
     ensures { result ≡ total number_hash keys.now }
 {
-    hash_total::<u32, &u32, std::slice::Iter<'_, u32>>(keys.iter())
+    hash_u32(keys)
 }
 
 /// Archives a map of the keys, each with the value at its place, under the load factor 7 / 8, into
@@ -33,12 +30,7 @@ pub extern "C" fn rkyv_bench_build_u32(
 ) -> usize
     ensures { IsBuilt (MapsNumbers keys.now values.now) out.old out.new result }
 {
-    let pairs: Pairs<'_, u32, u32, FxHasher64> = Pairs {
-        keys,
-        values,
-        hasher: PhantomData,
-    };
-    build(alloc, &pairs, out)
+    build_u32(alloc, keys, values, out)
 }
 
 /// The length of the archived map and one more, or 0 where the bytes are no archive of one.
@@ -46,7 +38,7 @@ pub extern "C" fn rkyv_bench_build_u32(
 pub extern "C" fn rkyv_bench_access_u32(archive: &[u8]) -> usize
     ensures { IsLengthAnd1 number_shape archive.now result }
 {
-    length_and_1::<u32>(archive)
+    access_u32(archive)
 }
 
 /// The sum modulo 2^64 of the value of each key that is found, and of 2^32 for each other key.
@@ -57,7 +49,7 @@ pub extern "C" fn rkyv_bench_lookup_u32(archive: &[u8], keys: &[u32]) -> u64
     requires { IsArchive number_shape archive.now }
     ensures { result ≡ total (number_looked_up archive.now) keys.now }
 {
-    lookup_total::<u32, u32, &u32, std::slice::Iter<'_, u32>>(map_in(archive), keys.iter())
+    lookup_u32(archive, keys)
 }
 
 /// The sum modulo 2^64 of all keys and all values.
@@ -68,5 +60,5 @@ pub extern "C" fn rkyv_bench_walk_u32(archive: &[u8]) -> u64
     requires { IsArchive number_shape archive.now }
     ensures { result ≡ total (pair_weight number_shape number_weight archive.now) (walked number_shape archive.now (root archive.now)) }
 {
-    walk_total::<u32>(map_in(archive))
+    walk_u32(archive)
 }

@@ -1,18 +1,13 @@
 //! The calls for maps of texts to numbers.
 
 ghost use Rattle.std.specs.Prelude.{◌≡◌};
-ghost use Rattle.rkyv_bench.specs.Archives.{IsArchive, IsLengthAnd1, root, short_text};
-ghost use Rattle.rkyv_bench.specs.Building.{IsBuilt, MapsTexts};
-ghost use Rattle.rkyv_bench.specs.Cuts.{AreTexts, texts};
-ghost use Rattle.rkyv_bench.specs.Totals.{pair_weight, text_hash, text_looked_up, text_weight, total, walked};
+ghost use Rattle.rkyv_bench_calls.specs.Archives.{IsArchive, IsLengthAnd1, root, short_text};
+ghost use Rattle.rkyv_bench_calls.specs.Building.{IsBuilt, MapsTexts};
+ghost use Rattle.rkyv_bench_calls.specs.Cuts.{AreTexts, texts};
+ghost use Rattle.rkyv_bench_calls.specs.Totals.{pair_weight, text_hash, text_looked_up, text_weight, total, walked};
 
-use crate::building::{Pairs, build};
-use crate::cuts::{Cuts, cut, list};
-use crate::totals::{hash_total, length_and_1, lookup_total, map_in, walk_total};
-use rkyv_base::text::Text;
-use rkyv_scan::hash::FxHasher64;
+use rkyv_bench_calls::texts::{access_text, build_text, hash_text, lookup_text, walk_text};
 use std::alloc::Global;
-use std::marker::PhantomData;
 
 /// The sum modulo 2^64 of the hashes of the texts.
 #[unsafe(no_mangle)]
@@ -20,7 +15,7 @@ pub extern "C" fn rkyv_bench_hash_text(bytes: &[u8], ends: &[u32]) -> u64
     requires { AreTexts bytes.now ends.now }
     ensures { result ≡ total text_hash (texts bytes.now ends.now) }
 {
-    hash_total::<&str, &str, Cuts<'_>>(cut(bytes, ends))
+    hash_text(bytes, ends)
 }
 
 /// Archives a map of the texts, each with the value at its place, under the load factor 7 / 8, into
@@ -39,16 +34,7 @@ pub extern "C" fn rkyv_bench_build_text(
     requires { AreTexts bytes.now ends.now }
     ensures { IsBuilt (MapsTexts (texts bytes.now ends.now) values.now) out.old out.new result }
 {
-    let keys = match list(alloc, bytes, ends) {
-        Ok(keys) => keys,
-        Err(_) => return 0,
-    };
-    let pairs: Pairs<'_, &str, u32, FxHasher64> = Pairs {
-        keys: keys.as_slice(),
-        values,
-        hasher: PhantomData,
-    };
-    build(alloc, &pairs, out)
+    build_text(alloc, bytes, ends, values, out)
 }
 
 /// The length of the archived map and one more, or 0 where the bytes are no archive of one.
@@ -56,7 +42,7 @@ pub extern "C" fn rkyv_bench_build_text(
 pub extern "C" fn rkyv_bench_access_text(archive: &[u8]) -> usize
     ensures { IsLengthAnd1 short_text archive.now result }
 {
-    length_and_1::<Text>(archive)
+    access_text(archive)
 }
 
 /// The sum modulo 2^64 of the value of each text that is found, and of 2^32 for each other text.
@@ -68,7 +54,7 @@ pub extern "C" fn rkyv_bench_lookup_text(archive: &[u8], bytes: &[u8], ends: &[u
     requires texts { AreTexts bytes.now ends.now }
     ensures { result ≡ total (text_looked_up archive.now) (texts bytes.now ends.now) }
 {
-    lookup_total::<Text, &str, &str, Cuts<'_>>(map_in(archive), cut(bytes, ends))
+    lookup_text(archive, bytes, ends)
 }
 
 /// The sum modulo 2^64 of the lengths of all keys, in bytes, and of all values.
@@ -79,5 +65,5 @@ pub extern "C" fn rkyv_bench_walk_text(archive: &[u8]) -> u64
     requires { IsArchive short_text archive.now }
     ensures { result ≡ total (pair_weight short_text text_weight archive.now) (walked short_text archive.now (root archive.now)) }
 {
-    walk_total::<Text>(map_in(archive))
+    walk_text(archive)
 }

@@ -1,7 +1,7 @@
 pub mod SeenItems
 pub mod Through
 pub mod HashedPairs
-pub mod SetItems
+pub mod UnitItems
 pub mod Listing
 pub mod Lookups
 pub mod Matching
@@ -15,3 +15,6 @@ pub mod StdWriting
 pub mod StdReading
 pub mod StdComparing
 pub mod Headline
+pub mod FoundPairs
+pub mod Alike
+pub mod FirstWrites

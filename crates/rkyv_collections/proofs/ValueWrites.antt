@@ -15,6 +15,7 @@ use Rattle.rkyv_base.specs.Pairs.{PairStands, pair_near}
 use Rattle.rkyv_base.specs.Sealing.{Keeps, Sealed, value_pos}
 use Rattle.rkyv_base.specs.Shape.{IsElement, Shape, Viewed}
 use Rattle.rkyv_base.proofs.Sealing.{viewed_kept}
+use Rattle.rkyv_keys.specs.Asking.{RestsOnKeys}
 use Rattle.rkyv_keys.specs.OfValues.{IsValueAt, value_fits}
 use Rattle.rkyv_table.specs.Table.Header.{cap_at, len_at}
 use Rattle.rkyv_table.specs.Controls.Numbers.{capacity}
@@ -29,7 +30,7 @@ use Rattle.rkyv_table.proofs.WrittenAccepted.{homes_apart}
 use Rattle.rkyv_collections.specs.Map.{IsKeyPosAt, MapWrittenAt, map_shape}
 use Rattle.rkyv_collections.specs.MapFormat.{MapStands}
 use Rattle.rkyv_collections.specs.Lemmas.MapLaws.{HashNear}
-use Rattle.rkyv_collections.specs.ValueWrites.{KeepsMap, RestsOnKey, WritesValue, entry_at}
+use Rattle.rkyv_collections.specs.ValueWrites.{KeepsMap, RestsOnKey, ValueWritesKeepAnswers, WritesValue, entry_at}
 use Rattle.rkyv_table.proofs.WrittenTables.{home_count, home_pos, home_walked}
 
 map_of_found : (f g : ℕ → ℕ) → ((i : ℕ) → f i ≡ g i) → (o : Option ℕ) → option_map f o ≡ option_map g o
@@ -130,6 +131,10 @@ module _ (k v : Shape) (kl : IsElement k) (vl : IsElement v) where
       lookups = lookup_same;
       written = written_same;
     }
+
+-- a test that rests on the keys rests on each
+pub rests_on_each : {Q : Type 0} (k : Shape) (can_read : Q → Type 0) (fits : Q → List ℕ → ℕ → Bool) → RestsOnKeys k can_read fits → (q : Q) → can_read q → RestsOnKey k (fits q)
+rests_on_each k can_read fits rests q can b c p stands same = rests q b c p stands.0 can stands.1 same.fixed (same.parts stands.0 stands.1)
 
 -- where the key stands at q, and the value at pos
 pub map_kept_at : (k v : Shape) (kl : IsElement k) (vl : IsElement v) (w : Width) (key_hash : List ℕ → ℕ → ℕ) → HashNear k key_hash → (b c : List ℕ) (p q pos : ℕ) → Viewed (map_shape w k v) b p

@@ -14,3 +14,6 @@ pub mod ValueWrites
 pub mod StdMap
 pub mod StdEquality
 pub mod StdSet
+pub mod ListedLookups
+pub mod BothHashers
+pub mod InPlace

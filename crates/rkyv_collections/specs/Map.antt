@@ -33,9 +33,11 @@ module _ {K V H W : Type 0} where
   abbrev pub map_archive : ArchivedHashMap K V H W → Bor (List ℕ)
   map_archive m = archive_of m.view
 
+  -- the bytes of the map's archive
   abbrev pub map_bytes : ArchivedHashMap K V H W → List ℕ
   map_bytes m = bytes_of m.view
 
+  -- the position of the map's header
   abbrev pub map_pos : ArchivedHashMap K V H W → ℕ
   map_pos m = pos_of m.view
 
@@ -43,6 +45,7 @@ module _ {K V H W : Type 0} where
   abbrev pub map_len : Width → ArchivedHashMap K V H W → ℕ
   map_len w m = len_at w (map_bytes m) (map_pos m)
 
+  -- how many buckets it has
   abbrev pub map_cap : Width → ArchivedHashMap K V H W → ℕ
   map_cap w m = cap_at w (map_bytes m) (map_pos m)
 
@@ -108,11 +111,22 @@ module _ {K V H W : Type 0} (w : Width) (k v : Shape) (m : ArchivedHashMap K V H
   abbrev pub AreUnderHash : ℕ → (List ℕ → ℕ → ℕ) → (ℕ → Bool) → Type 0
   AreUnderHash hash key_hash accept = AreUnderHashAt w k v (map_bytes m) (map_pos m) hash key_hash accept
 
+  -- what is told is told of the key that a lookup under the hash finds in the map
   abbrev pub FindsKey : ℕ → (ℕ → Bool) → (Option ℕ → Type 0) → Type 0
   FindsKey hash accept Told = FindsKeyAt w k v (map_bytes m) (map_pos m) hash accept Told
 
+  -- what is told is told of the first accepted key that was handed in, where the map was written
   abbrev pub FindsFirstKey : (List ℕ → ℕ → ℕ) → (ℕ → Bool) → (Option ℕ → Type 0) → Type 0
   FindsFirstKey key_hash accept Told = FindsFirstKeyAt w k v (map_bytes m) (map_pos m) key_hash accept Told
+
+  -- what is told of what a lookup by a comparison finds, for each function of positions as which the comparison answers
+  abbrev pub FindsBy : (View K → Bool → Type 0) → ℕ → (Option ℕ → Type 0) → Type 0
+  FindsBy post hash Told = (accept : ℕ → Bool) → AnswersKeys post accept → FindsKey hash accept Told
+
+  -- and on a written map, where it accepts keys under the hash alone
+  abbrev pub FindsFirstBy : (View K → Bool → Type 0) → ℕ → (List ℕ → ℕ → ℕ) → (Option ℕ → Type 0) → Type 0
+  FindsFirstBy post hash key_hash Told =
+      (accept : ℕ → Bool) → AnswersKeys post accept → AreUnderHash hash key_hash accept → FindsFirstKey key_hash accept Told
 
 -- the view is that of an entry of the map
 abbrev pub IsEntryIn : {K V H W : Type 0} → Width → Shape → Shape → ArchivedHashMap K V H W → View (Entry K V) → Type 0
@@ -126,6 +140,7 @@ IsEntryAt result place = pos_of_found result ≡ place
 abbrev pub key_pos_found : {K V : Type 0} → Option (View K × View V) → Option ℕ
 key_pos_found {K} {V} result = option_map (λ (pair : View K × View V). pos_of pair.0) result
 
+-- the pair that was found has its key at the position, or none was found
 abbrev pub IsPairAt : {K V : Type 0} → Option (View K × View V) → Option ℕ → Type 0
 IsPairAt result place = key_pos_found result ≡ place
 

@@ -8,7 +8,8 @@ use Rattle.rkyv_keys.specs.Equality.{Comparison}
 use Rattle.rkyv_table.specs.Table.Header.{cap_at, len_at}
 use Rattle.rkyv_table.specs.Table.Misplaced.{misplaced, repeated}
 use Rattle.rkyv_table.specs.Table.Reading.{IsWalked, home_positions, item_at, table_controls}
-use Rattle.rkyv_collections.specs.Map.{MapWrittenAt, map_shape}
+use Rattle.rkyv_collections.specs.Map.{MapWrittenAt, map_bytes, map_pos, map_shape}
+use Rattle.rkyv_collections.specs.declared.map.ArchivedHashMap.{ArchivedHashMap}
 
 -- of how many buckets a lookup of their own key answers another bucket, or none
 abbrev pub map_misplaced : Width → Shape → Shape → (List ℕ → ℕ → ℕ) → Comparison → List ℕ → ℕ → ℕ
@@ -38,3 +39,9 @@ module _ (w : Width) (size : ℕ) (b : List ℕ) (p : ℕ) (fits : ℕ → Bool)
   -- the one key that fits was found, or there is none
   abbrev pub FindsTheOne : Option ℕ → Type 0
   FindsTheOne found = MatchOption found NoneFits FitsAlone
+
+-- where no key of the map is misplaced, what is told is told of the position of the one key that fits, or of none where none does
+abbrev pub FindsOneKey : {K V H W : Type 0} → Width → Shape → Shape → ArchivedHashMap K V H W → (List ℕ → ℕ → ℕ) → Comparison
+    → (ℕ → Bool) → (Option ℕ → Type 0) → Type 0
+FindsOneKey w k v m key_hash same_key fits Told = map_misplaced w k v key_hash same_key (map_bytes m) (map_pos m) ≡ 0
+    → (place : Option ℕ) × FindsTheOne w (entry_shape k v).size (map_bytes m) (map_pos m) fits place × Told place

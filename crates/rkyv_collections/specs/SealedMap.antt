@@ -13,7 +13,7 @@ use Rattle.rkyv_base.specs.declared.view.View.{View}
 use Rattle.rkyv_table.specs.Table.Reading.{IsWalked, item_at}
 use Rattle.rkyv_table.specs.Table.SealedLookup.{pos_of_seal}
 use Rattle.rkyv_table.specs.Table.SealedTable.{KeptByValueWrites}
-use Rattle.rkyv_collections.specs.Map.{IsKeyPosAt, map_shape}
+use Rattle.rkyv_collections.specs.Map.{AreUnderHashAt, FindsFirstKeyAt, FindsKeyAt, IsKeyPosAt, map_shape}
 use Rattle.rkyv_collections.specs.declared.map.HashMapOf.{HashMapOf}
 
 -- the header of a map stands where the seal is
@@ -34,6 +34,15 @@ module _ {K : Type 0} (w : Width) (k v : Shape) (b : List ℕ) (p : ℕ) where
   -- of each key the comparison answers what accept tells of its position
   abbrev pub AnswersKeysAt : (View K → Bool → Type 0) → (ℕ → Bool) → Type 0
   AnswersKeysAt post accept = (key : View K) (r : Bool) → IsKeyAt w k v b p key → post key r → r ≡ accept (pos_of key)
+
+  -- what is told of what a lookup by a comparison finds, for each function of positions as which the comparison answers
+  abbrev pub FindsByAt : (View K → Bool → Type 0) → ℕ → (Option ℕ → Type 0) → Type 0
+  FindsByAt post hash Told = (accept : ℕ → Bool) → AnswersKeysAt post accept → FindsKeyAt w k v b p hash accept Told
+
+  -- and on a written map, where it accepts keys under the hash alone
+  abbrev pub FindsFirstByAt : (View K → Bool → Type 0) → ℕ → (List ℕ → ℕ → ℕ) → (Option ℕ → Type 0) → Type 0
+  FindsFirstByAt post hash key_hash Told = (accept : ℕ → Bool) → AnswersKeysAt post accept
+      → AreUnderHashAt w k v b p hash key_hash accept → FindsFirstKeyAt w k v b p key_hash accept Told
 
 -- The key of the pair in bucket i of the map at p stands at q, and the value behind it. Every write of the value alone that
 -- keeps the value keeps the map: its header, its controls, all keys and all other values.

@@ -8,7 +8,10 @@ use Rattle.rkyv_base.specs.Shape.{Shape}
 use Rattle.rkyv_base.specs.declared.entry.Entry.{Entry}
 use Rattle.rkyv_base.specs.declared.seal.Seal.{Seal}
 use Rattle.rkyv_base.specs.declared.view.View.{View}
-use Rattle.rkyv_table.specs.Table.SealedItems.{CountsDown, IsSealIter, SameArchive, StaysThere, buckets_left, cursor_bytes}
+use Rattle.rkyv_table.specs.Controls.Placing.{walk}
+use Rattle.rkyv_table.specs.Table.Header.{cap_at, len_at}
+use Rattle.rkyv_table.specs.Table.Reading.{table_controls}
+use Rattle.rkyv_table.specs.Table.SealedItems.{CountsDown, IsSealIter, SameArchive, StaysThere, buckets_left, cursor_bytes, items_left}
 use Rattle.rkyv_table.specs.Table.SealedTable.{KeepsTable, SameValue}
 use Rattle.rkyv_table.specs.declared.table.raw_iter_seal.RawIterSeal.{RawIterSeal}
 use Rattle.rkyv_collections.specs.SealedMap.{IsPairPos, LendsPair, LendsValue}
@@ -20,6 +23,7 @@ module _ {K V H W : Type 0} where
   abbrev pub entries_in : IterMut K V H W → RawIterSeal (Entry K V)
   entries_in pairs = pairs.entries
 
+  -- the cursor over entries in a cursor over values
   abbrev pub entries_of : ValuesMut K V H W → RawIterSeal (Entry K V)
   entries_of values = values.pairs.entries
 
@@ -27,6 +31,12 @@ module _ {K V : Type 0} (k v : Shape) where
   -- a map stands at p in the bytes of the cursor, whose numbers are those of the map
   abbrev pub IsPairIter : Width → ℕ → RawIterSeal (Entry K V) → Type 0
   IsPairIter w p r = IsSealIter w (entry_shape k v) p r
+
+  -- all pairs of the map at p in these bytes are left
+  pub record HasAllPairs (w : Width) (b : List ℕ) (p : ℕ) (r : RawIterSeal (Entry K V)) : Type 0 where
+    pub iter : IsPairIter w p r
+    pub buckets : buckets_left w p r ≡ walk (table_controls w b p) (cap_at w b p)
+    pub count : items_left r ≡ len_at w b p
 
   -- the first of the pairs that are left is taken, and its key stands at q
   pub record TakesPairAt (w : Width) (p : ℕ) (before after : RawIterSeal (Entry K V)) (q : ℕ) : Type 0 where
@@ -46,6 +56,7 @@ module _ {K V : Type 0} (k v : Shape) where
   TakesKeyPos before result after =
       (w : Width) (p : ℕ) → IsPairIter w p before → MatchOption result (IsDone w p before after) (TakesPairAt w p before after)
 
+  -- a step answers where the value of the first pair that is left stands, or none is left
   abbrev pub TakesValuePos : RawIterSeal (Entry K V) → Option ℕ → RawIterSeal (Entry K V) → Type 0
   TakesValuePos before result after =
       (w : Width) (p : ℕ) → IsPairIter w p before
@@ -79,6 +90,21 @@ module _ {K V : Type 0} (k v : Shape) where
   -- a writer may be given the bytes of the cursor, at each place at which a value fits
   abbrev pub MayWriteValue : {F : Type 0} → (F → MutBor (List ℕ) → ℕ → Type 0) → RawIterSeal (Entry K V) → F → Type 0
   MayWriteValue pre before write = (b : MutBor (List ℕ)) (q : ℕ) → b.now ≡ cursor_bytes before → q + v.size ≤ length b.now → pre write b q
+
+  -- at each place at which a pair fits
+  abbrev pub MayWritePair : {F : Type 0} → (F → MutBor (List ℕ) → ℕ → Type 0) → RawIterSeal (Entry K V) → F → Type 0
+  MayWritePair pre before write = (b : MutBor (List ℕ)) (q : ℕ)
+      → b.now ≡ cursor_bytes before → value_pos k v q + v.size ≤ length b.now → pre write b q
+
+  -- a step over the positions of a map's keys, and what the writer does to the archive where a pair was left
+  pub record StepsAndWritesPair (Writes : List ℕ → ℕ → List ℕ → Type 0) (before : RawIterSeal (Entry K V))
+      (result : Option ℕ) (after : RawIterSeal (Entry K V)) : Type 0 where
+    pub stepped : RawIterSeal (Entry K V)
+    pub archive : SameArchive before stepped
+    pub counts : CountsDown before result stepped
+    pub takes : TakesKeyPos before result stepped
+    pub writes : MatchOption result (after ≡ stepped)
+        (λ q. StaysThere stepped after × Writes (cursor_bytes stepped) q (cursor_bytes after))
 
   -- a step over the positions of a map's values, and what the writer does to the archive where a value was left
   pub record StepsAndWritesValue (Writes : List ℕ → ℕ → List ℕ → Type 0) (before : RawIterSeal (Entry K V)) (result : Option ℕ) (after : RawIterSeal (Entry K V)) : Type 0 where

@@ -10,7 +10,7 @@ use Rattle.rkyv_keys.specs.Equality.{Comparison}
 use Rattle.rkyv_keys.specs.OfUnits.{unit_same}
 use Rattle.rkyv_collections.specs.Equality.{map_equal}
 use Rattle.rkyv_collections.specs.Map.{FindsFirstKey, FindsKey, IsKeyIn, IsMap, key_positions, map_archive, map_bytes, map_len, map_pos, map_shape}
-use Rattle.rkyv_collections.specs.Misplaced.{map_misplaced}
+use Rattle.rkyv_collections.specs.Misplaced.{FindsOneKey, map_misplaced}
 use Rattle.rkyv_collections.specs.declared.set.ArchivedHashSet.{ArchivedHashSet}
 
 -- the header of a set: that of a map to the unit value
@@ -26,9 +26,11 @@ module _ {K H W : Type 0} where
   abbrev pub set_archive : ArchivedHashSet K H W → Bor (List ℕ)
   set_archive s = map_archive s.map
 
+  -- the bytes of the set's archive
   abbrev pub set_bytes : ArchivedHashSet K H W → List ℕ
   set_bytes s = map_bytes s.map
 
+  -- the position of the set's header
   abbrev pub set_pos : ArchivedHashSet K H W → ℕ
   set_pos s = map_pos s.map
 
@@ -55,6 +57,10 @@ module _ {K H W : Type 0} where
   -- and on a written one: of the position of the first accepted key in the order handed in
   abbrev pub FindsFirstMember : Width → Shape → ArchivedHashSet K H W → (List ℕ → ℕ → ℕ) → (ℕ → Bool) → (Option ℕ → Type 0) → Type 0
   FindsFirstMember w k s key_hash accept Told = FindsFirstKey w k unit_shape s.map key_hash accept Told
+
+  -- and where no key is misplaced: of the position of the one key that fits, or of none where none does
+  abbrev pub FindsOneMember : Width → Shape → ArchivedHashSet K H W → (List ℕ → ℕ → ℕ) → Comparison → (ℕ → Bool) → (Option ℕ → Type 0) → Type 0
+  FindsOneMember w k s key_hash same fits Told = FindsOneKey w k unit_shape s.map key_hash same fits Told
 
 -- equally many keys, and each of the first is found in the other
 abbrev pub set_equal : Width → Shape → (List ℕ → ℕ → ℕ) → Comparison → Comparison

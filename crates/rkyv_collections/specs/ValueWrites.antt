@@ -41,6 +41,13 @@ module _ (w : Width) (k v : Shape) where
   ValueWritesKeepMaps key_hash =
       (b c : List ℕ) (p i : ℕ) → Viewed (map_shape w k v) b p → IsWalked w b p i → WritesValue b c (entry_at b p i) → KeepsMap key_hash b c p i
 
+  -- a write of one value in place keeps the answer of each query, whose hash is a function of the query
+  abbrev pub ValueWritesKeepAnswers : {Q : Type 0} → (Q → Type 0) → (Q → ℕ) → (Q → List ℕ → ℕ → Bool) → Type 0
+  ValueWritesKeepAnswers {Q} can_read hash fits =
+      (b c : List ℕ) (p i : ℕ) → Viewed (map_shape w k v) b p → IsWalked w b p i → WritesValue b c (entry_at b p i)
+      → (q : Q) → can_read q
+      → pos_found generic_kind w (entry_shape k v).size c p (hash q) (fits q c) ≡ pos_found generic_kind w (entry_shape k v).size b p (hash q) (fits q b)
+
   -- a map that stands for a list of pairs stands for the list with the new value
   abbrev pub ValuesWrittenStand : {A B : Type 0} → (List ℕ → ℕ → A → Type 0) → (List ℕ → ℕ → B → Type 0) → (List ℕ → ℕ → ℕ) → Type 0
   ValuesWrittenStand {A} {B} key value key_hash =

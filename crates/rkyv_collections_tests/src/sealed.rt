@@ -11,7 +11,7 @@ ghost use Rattle.rkyv_base.specs.Text.{text_shape};
 ghost use Rattle.rkyv_base.specs.View.{IsView};
 ghost use Rattle.rkyv_scan.specs.Hash.{hash_of_calls};
 ghost use Rattle.rkyv_collections.specs.Map.{FindsKeyAt, IsKeyPosAt, hash_at, map_shape};
-ghost use Rattle.rkyv_collections.specs.ValueWrites.{KeepsMap, RestsOnKey};
+ghost use Rattle.rkyv_collections.specs.ValueWrites.{KeepsMap};
 
 use crate::lists::Pairs;
 use crate::reading::four_pairs;
@@ -26,7 +26,6 @@ use rkyv_base::text::Text;
 use rkyv_base::view::View;
 use rkyv_base::width::{Narrow, Width};
 use rkyv_collections::map::{ArchivedHashMap, HashMapOf};
-use rkyv_keys::hash::hash_value;
 use rkyv_keys::keys::{KeyElement, Query};
 use rkyv_scan::hash::{FxHasher64, KeyHasher};
 use std::alloc::Global;
@@ -105,12 +104,9 @@ fn stored<K: KeyElement, N: Scalar, H: KeyHasher, W: Width, Q: Query<K>>(
 ) -> Option<N>
     requires map { Viewed (map_shape W.word K.shape (scalar_shape N.encoding)) bytes.old root }
     requires query { Q.can_read key.now }
-    requires key { RestsOnKey K.shape (Q.fits key.now) }
     ensures { let hash = hash_of_calls H.initial H.feed H.finish (Q.calls key.now) in
         FindsKeyAt W.word K.shape (scalar_shape N.encoding) bytes.old root hash (Q.fits key.now bytes.old) (λ place. result ≡ option_map (λ _. value) place) }
 {
-    // A hash of 64 bits, as the law on lookups wants.
-    let _hash: u64 = hash_value::<Q, H>(key);
     let pos = match value_found::<K, N, H, W, Q>(&*bytes, root, key) {
         Some(pos) => pos,
         None => return None,
@@ -128,8 +124,7 @@ fn stored_in<K: KeyElement, N: Scalar, H: KeyHasher, W: Width, Q: Query<K>>(
     key: &Q,
     value: N,
 ) -> Result<Option<N>, VerifyError>
-    requires query { Q.can_read key.now }
-    requires key { RestsOnKey K.shape (Q.fits key.now) }
+    requires { Q.can_read key.now }
     ensures { IfOk result (λ found. IfSome found (λ n. n ≡ value)) }
 {
     let root = match access_in::<W, HashMapOf<K, N, H, W>>(&*bytes) {

@@ -92,6 +92,7 @@ IsArchive form b = IsMapArchive (parts_of form) b
 abbrev pub IsRefused : Form → List ℕ → VerifyError → Type 0
 IsRefused form b e = MapArchiveFails (parts_of form) b e
 
+-- how many pairs the map of the archive has
 abbrev pub entry_count : Form → List ℕ → ℕ
 entry_count form b = pair_count (parts_of form) b
 
@@ -99,6 +100,7 @@ entry_count form b = pair_count (parts_of form) b
 abbrev pub listing : Form → List ℕ → List ℕ
 listing form b = pair_lines (parts_of form) b
 
+-- how many of its keys a lookup of their own doesn't answer where they stand
 abbrev pub misplaced_count : Form → List ℕ → ℕ
 misplaced_count form b = keys_misplaced (parts_of form) b
 
@@ -109,5 +111,6 @@ found_in Text bits b (asked_text t) = value_under (text_parts bits) b (text_call
 found_in Num bits b (asked_text t) = None
 found_in Text bits b (asked_number n) = None
 
+-- the text of the value that a lookup of the key finds in an archive of the form
 abbrev pub value_found : Form → List ℕ → Asked → Option (List ℕ)
 value_found form b key = found_in form.kind form.bits b key

@@ -26,6 +26,7 @@ abbrev pub kind_of_pairs : Pairs → Kind
 kind_of_pairs (numbers pairs) = Num
 kind_of_pairs (texts pairs) = Text
 
+-- the form of an archive of the pairs
 abbrev pub form_of_pairs : Bits → Pairs → Form
 form_of_pairs bits pairs = record { kind = kind_of_pairs pairs; bits = bits }
 
@@ -62,6 +63,7 @@ built_in Text bits factor (texts pairs) b =
 built_in Num bits factor (texts pairs) b = ⊥
 built_in Text bits factor (numbers pairs) b = ⊥
 
+-- the bytes are the archive of the pairs in this form, and nothing else
 abbrev pub IsBuilt : Form → ℕ × ℕ → Pairs → List ℕ → Type 0
 IsBuilt form factor pairs b = built_in form.kind form.bits factor pairs b
 
@@ -72,6 +74,7 @@ refused_in Text bits factor (texts pairs) e = NoArchiveOf (text_parts bits) fact
 refused_in Num bits factor (texts pairs) e = ⊥
 refused_in Text bits factor (numbers pairs) e = ⊥
 
+-- the cause stands for which there is no archive of the pairs in this form
 abbrev pub BuildRefused : {F : Type 0} → Form → ℕ × ℕ → Pairs → WriteError F → Type 0
 BuildRefused form factor pairs e = refused_in form.kind form.bits factor pairs e
 
@@ -82,5 +85,6 @@ holds_in Text bits factor b (texts pairs) = PairsStand (text_parts bits) factor 
 holds_in Num bits factor b (texts pairs) = ⊥
 holds_in Text bits factor b (numbers pairs) = ⊥
 
+-- a map of the pairs stands at the root of these bytes, which are of this form
 abbrev pub Holds : Form → ℕ × ℕ → List ℕ → Pairs → Type 0
 Holds form factor b pairs = holds_in form.kind form.bits factor b pairs

@@ -4,6 +4,7 @@ use Rattle.rkyv_dict.specs.Forms.{Pairs, numbers, texts}
 use Rattle.rkyv_dict.specs.declared.form.PairList.{PairList}
 use Rattle.rkyv_dict.specs.declared.form.PairList.TheVariants.{Numbers, Texts}
 
+-- how many pairs the list has
 abbrev pub pair_count : PairList → ℕ
 pair_count (Numbers pairs) = vec_len pairs
 pair_count (Texts pairs) = vec_len pairs

@@ -4,6 +4,14 @@ use Rattle.rkyv_base.specs.declared.errors.VerifyError.{VerifyError}
 use Rattle.rkyv_base.specs.declared.errors.VerifyError.TheVariants.{OutOfRange, Unaligned, InvalidLength, WrongNumberOfElements, UnwrappedControlByte, PlaceOutOfRange, InvalidValue, Refused}
 use Rattle.rkyv_base.specs.declared.errors.WriteError.{WriteError}
 use Rattle.rkyv_base.specs.declared.errors.WriteError.TheVariants.{InvalidLoadFactor, IteratorLengthMismatch, CapacityTooLarge, PositionTooLarge, DistanceTooLarge, TextTooLong, Writer, Memory, Refused as RefusedWrite}
+use Rattle.rkyv_dict.specs.declared.run.RunError.{RunError}
+use Rattle.rkyv_dict.specs.declared.run.RunError.TheVariants.{Read, Write, Memory as NoMemoryLeft}
+
+-- the message of a run that failed
+abbrev pub message_of : RunError → List ℕ
+message_of Read = codes "read fault"
+message_of Write = codes "write fault"
+message_of NoMemoryLeft = codes "no memory"
 
 -- why bytes are no archive
 unfoldable pub refusal_told : VerifyError → List ℕ

@@ -23,10 +23,12 @@ pub data Asked : Type 0 where
 abbrev pub text_pair : Bor (List ℕ) × Bor (List ℕ) → List ℕ × List ℕ
 text_pair pair = (pair.0.now, pair.1.now)
 
+-- the pairs of a list, in order
 abbrev pub pairs_seen : PairList → Pairs
 pairs_seen (Numbers pairs) = numbers pairs.items
 pairs_seen (Texts pairs) = texts (map text_pair pairs.items)
 
+-- the number or the text that is asked for
 abbrev pub key_seen : Key → Asked
 key_seen (Number n) = asked_number n
 key_seen (Text t) = asked_text t.now

@@ -22,6 +22,7 @@ pub record State : Type 0 where
   pub pairs : Pairs
   pub archive : Option Archived
 
+-- the empty list of a kind
 abbrev pub no_pairs : Kind → Pairs
 no_pairs Num = numbers []
 no_pairs Text = texts []
@@ -43,6 +44,7 @@ abbrev pub with_numbers : Pairs → ℕ → ℕ → Pairs
 with_numbers (numbers pairs) key value = numbers (pairs ++ (key, value) ∷ [])
 with_numbers (texts pairs) key value = texts pairs
 
+-- the list with a pair of texts at its end
 abbrev pub with_texts : Pairs → List ℕ → List ℕ → Pairs
 with_texts (numbers pairs) key value = numbers pairs
 with_texts (texts pairs) key value = texts (pairs ++ (key, value) ∷ [])

@@ -12,9 +12,6 @@ ghost use Rattle.rkyv_dict.specs.First.{HasHomes, first_under, first_value};
 ghost use Rattle.rkyv_dict.specs.Forms.{Pairs, key_seen, pairs_seen};
 ghost use Rattle.rkyv_dict.specs.Parts.{parts_by};
 
-#[cfg(test)]
-mod tests;
-
 use crate::form::{Bits, Form, Key, Kind, PairList};
 use crate::listed::Listed;
 use crate::parts::Part;

@@ -1,27 +1,55 @@
 //! Runs a script from a reader, and writes its answers to a writer.
 ghost use Rattle.rkyv_dict.specs.Run.{AppendsAnswers, AppendsBeginning, AppendsFront, Gathers, MovesFront};
+ghost use Rattle.rkyv_dict.specs.Errors.{message_of};
 ghost use Rattle.rkyv_dict.specs.declared.run.RunError.TheVariants.{Memory};
 ghost use Rattle.std.specs.Io.KnownBytes.{Appends, IsAtEnd};
-ghost use Rattle.std.specs.Prelude.{◌≡◌, ◌≢◌, ◌<◌, IfErr, IfOk, IfSome, IsErrOf, IsTrue, OnErr, OnOk, length, string_bytes, vec_len};
+ghost use Rattle.std.specs.Prelude.{◌≡◌, ◌≢◌, ◌<◌, IfErr, IfOk, IfSome, IsErrOf, IsTrue, OnErr, OnOk, Some, length, string_bytes, vec_len};
 
 use crate::dict::Dict;
 use crate::words::cut;
 use std::alloc::{AllocError, Global};
+use std::error::Error;
+use std::fmt;
 use std::io::{Read, Write};
-use thiserror::Error;
 
 /// Why a run ended before its time.
-#[derive(Debug, Drop, Error)]
+#[derive(Debug, Drop)]
 pub enum RunError {
     /// A read failed, or 9,223,372,036,854,775,807 reads met no end; nothing was written.
-    #[error("read fault")]
     Read,
     /// A write failed, or took no byte of a piece; a beginning of the output was written.
-    #[error("write fault")]
     Write,
     /// A growth was refused; a beginning of the output was written.
-    #[error("no memory")]
     Memory,
+}
+
+impl fmt::Display for RunError {
+    ghost output = { λ e. Some (message_of e) };
+
+    fn fmt<W: fmt::Write>(&self, f: &mut fmt::Formatter<W>) -> fmt::Result {
+        match self {
+            RunError::Read => f.write_str("read fault"),
+            RunError::Write => f.write_str("write fault"),
+            RunError::Memory => f.write_str("no memory"),
+        }
+    }
+}
+
+impl Error for RunError {}
+
+/// The status that a program ends with after a run.
+pub fn exit_status(outcome: &Result<(), RunError>) -> u8
+    ensures success { OnOk outcome.now (result ≡ 0) }
+    ensures read { IsErrOf outcome.now RunError.Read → result ≡ 2 }
+    ensures write { IsErrOf outcome.now RunError.Write → result ≡ 3 }
+    ensures memory { IsErrOf outcome.now RunError.Memory → result ≡ 4 }
+{
+    match outcome {
+        Ok(()) => 0,
+        Err(RunError::Read) => 2,
+        Err(RunError::Write) => 3,
+        Err(RunError::Memory) => 4,
+    }
 }
 
 impl From<AllocError> for RunError {

@@ -3,7 +3,8 @@ use Rattle.std.specs.Prelude.{ℕ, Bool, if◌then◌else◌, List, [], ◌∷�
 use Rattle.rkyv_scan.specs.Hash.{HasherCall, Bytes, U8}
 
 -- the state after a list of calls, in order
-abbrev pub after_calls : {State : Type 0} → (State → HasherCall → State) → State → List HasherCall → State
+abbrev pub after_calls : {State : Type 0} → (State → HasherCall → State) → State → List HasherCall
+    → State
 after_calls feed state calls = fold feed state calls
 
 -- a text's bytes, and then 255, which no text has

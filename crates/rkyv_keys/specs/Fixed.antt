@@ -22,7 +22,11 @@ one_fixed call h = All-cons IsFixed call [] h none_fixed
 pub text_fixed : (t : List ℕ) → All IsFixed (text_calls t)
 text_fixed t = All-cons IsFixed (Bytes t) (U8 255 ∷ []) tt (one_fixed (U8 255) tt)
 
-pub entry_fixed : (k v : Shape) → IsElement k → IsElement v → (key value : List ℕ → ℕ → List HasherCall)
-    → MakesFixedCalls k key → MakesFixedCalls v value → MakesFixedCalls (entry_shape k v) (entry_calls k v key value)
+pub entry_fixed : (k v : Shape) → IsElement k → IsElement v
+    → (key value : List ℕ → ℕ → List HasherCall)
+    → MakesFixedCalls k key → MakesFixedCalls v value
+    → MakesFixedCalls (entry_shape k v) (entry_calls k v key value)
 entry_fixed k v kl vl key value kf vf b p h =
-    All-append IsFixed (key b p) (value b (p + value_offset k v)) (kf b p (standing_key kl vl b p h)) (vf b (p + value_offset k v) (standing_value kl vl b p h))
+    All-append IsFixed (key b p) (value b (p + value_offset k v))
+    (kf b p (standing_key kl vl b p h))
+    (vf b (p + value_offset k v) (standing_value kl vl b p h))

@@ -7,25 +7,29 @@ use Rattle.rkyv_base.specs.Bytes.{Same, same_part}
 use Rattle.rkyv_base.specs.Shape.{Shape, IsElement, Standing, standing}
 use Rattle.rkyv_base.specs.Entry.{entry_shape, value_offset, same_key, same_value}
 use Rattle.rkyv_base.specs.Pairs.{PairStands}
-use Rattle.rkyv_keys.specs.Equality.{Comparison, IsEquivalence, StandsOnce}
+use Rattle.rkyv_keys.specs.Equality.{Comparison, EqualsOnce, IsEquivalence, StandsOnce}
 use Rattle.rkyv_keys.specs.Keys.{IsKey, IsQuery, FitsItsEqual}
 use Rattle.rkyv_keys.specs.Reading.{Refusals}
 
 module _ (k v : Shape) where
   -- both the keys and the values are the same
   abbrev pub entry_same : Comparison → Comparison → Comparison
-  entry_same key value b p c q = key b p c q && value b (p + value_offset k v) c (q + value_offset k v)
+  entry_same key value b p c q = key b p c q
+      && value b (p + value_offset k v) c (q + value_offset k v)
 
   -- the key's calls, then the value's
-  abbrev pub entry_calls : (List ℕ → ℕ → List HasherCall) → (List ℕ → ℕ → List HasherCall) → List ℕ → ℕ → List HasherCall
+  abbrev pub entry_calls : (List ℕ → ℕ → List HasherCall) → (List ℕ → ℕ → List HasherCall) → List ℕ
+      → ℕ → List HasherCall
   entry_calls key value b p = key b p ++ value b (p + value_offset k v)
 
   -- each part fits its part
-  abbrev pub entry_fits : {A B : Type 0} → (A → List ℕ → ℕ → Bool) → (B → List ℕ → ℕ → Bool) → A × B → List ℕ → ℕ → Bool
+  abbrev pub entry_fits : {A B : Type 0} → (A → List ℕ → ℕ → Bool) → (B → List ℕ → ℕ → Bool) → A × B
+      → List ℕ → ℕ → Bool
   entry_fits key value q b p = key q.0 b p && value q.1 b (p + value_offset k v)
 
   -- each part equals its part
-  abbrev pub entry_equals : {A B : Type 0} → (List ℕ → ℕ → A → Type 0) → (List ℕ → ℕ → B → Type 0) → List ℕ → ℕ → A × B → Type 0
+  abbrev pub entry_equals : {A B : Type 0} → (List ℕ → ℕ → A → Type 0) → (List ℕ → ℕ → B → Type 0)
+      → List ℕ → ℕ → A × B → Type 0
   entry_equals key value b p pair = key b p pair.0 × value b (p + value_offset k v) pair.1
 
   -- what either part may answer
@@ -33,9 +37,11 @@ module _ (k v : Shape) where
   entry_refuses key value b p e = key b p e ⊎ value b (p + value_offset k v) e
 
 -- the calls of a pair, and when it can be read
-abbrev pub pair_calls : {A B : Type 0} → (A → List HasherCall) → (B → List HasherCall) → A × B → List HasherCall
+abbrev pub pair_calls : {A B : Type 0} → (A → List HasherCall) → (B → List HasherCall) → A × B
+    → List HasherCall
 pair_calls first second q = first q.0 ++ second q.1
 
+-- both parts of a pair of queries can be read
 abbrev pub BothRead : {A B : Type 0} → (A → Type 0) → (B → Type 0) → A × B → Type 0
 BothRead first second q = first q.0 × second q.1
 
@@ -43,40 +49,48 @@ module _ {k v : Shape} (kl : IsElement k) (vl : IsElement v) where
   pub standing_key : (b : List ℕ) (p : ℕ) → Standing (entry_shape k v) b p → Standing k b p
   standing_key b p h = (h.1.1, h.1.2)
 
-  pub standing_value : (b : List ℕ) (p : ℕ) → Standing (entry_shape k v) b p → Standing v b (p + value_offset k v)
+  pub standing_value : (b : List ℕ) (p : ℕ) → Standing (entry_shape k v) b p
+      → Standing v b (p + value_offset k v)
   standing_value b p h =
       let x : (0 ≤ h.1.1) × (h.1.1 ≤ p) = kl.between b p 0 p h.1.1 (omega arith) h.1.2 in
       standing v vl b (p + value_offset k v) h.1.1 p h.0 x.1 (omega arith) h.1.3
 
   module _ {ks vs : Comparison} where
-    pub entry_equivalence : IsEquivalence k ks → IsEquivalence v vs → IsEquivalence (entry_shape k v) (entry_same k v ks vs)
+    pub entry_equivalence : IsEquivalence k ks → IsEquivalence v vs
+        → IsEquivalence (entry_shape k v) (entry_same k v ks vs)
     entry_equivalence ke ve =
         let off = value_offset k v in
         record {
           reflexive = λ b p h. and_from (ks b p b p) (vs b (p + off) b (p + off))
-              (ke.reflexive b p (standing_key b p h)) (ve.reflexive b (p + off) (standing_value b p h));
+              (ke.reflexive b p (standing_key b p h))
+              (ve.reflexive b (p + off) (standing_value b p h));
           symmetric = λ b c p q h g s.
               let t = and_parts (ks b p c q) (vs b (p + off) c (q + off)) s in
               and_from (ks c q b p) (vs c (q + off) b (p + off))
               (ke.symmetric b c p q (standing_key b p h) (standing_key c q g) t.0)
-              (ve.symmetric b c (p + off) (q + off) (standing_value b p h) (standing_value c q g) t.1);
+              (ve.symmetric b c (p + off) (q + off) (standing_value b p h) (standing_value c q g)
+              t.1);
           transitive = λ b c d p q r h g i s t.
               let x = and_parts (ks b p c q) (vs b (p + off) c (q + off)) s in
               let y = and_parts (ks c q d r) (vs c (q + off) d (r + off)) t in
               and_from (ks b p d r) (vs b (p + off) d (r + off))
-              (ke.transitive b c d p q r (standing_key b p h) (standing_key c q g) (standing_key d r i) x.0 y.0)
-              (ve.transitive b c d (p + off) (q + off) (r + off) (standing_value b p h) (standing_value c q g) (standing_value d r i) x.1 y.1);
+              (ke.transitive b c d p q r (standing_key b p h) (standing_key c q g)
+              (standing_key d r i) x.0 y.0)
+              (ve.transitive b c d (p + off) (q + off) (r + off) (standing_value b p h)
+              (standing_value c q g) (standing_value d r i) x.1 y.1);
         }
 
     module _ {kc vc : List ℕ → ℕ → List HasherCall} where
-      pub entry_key : IsKey k ks kc → IsKey v vs vc → IsKey (entry_shape k v) (entry_same k v ks vs) (entry_calls k v kc vc)
+      pub entry_key : IsKey k ks kc → IsKey v vs vc
+          → IsKey (entry_shape k v) (entry_same k v ks vs) (entry_calls k v kc vc)
       entry_key kk vk =
           let off = value_offset k v in
           record {
             alike = λ b c p q h g s.
                 let t = and_parts (ks b p c q) (vs b (p + off) c (q + off)) s in
                 let x = kk.alike b c p q (standing_key b p h) (standing_key c q g) t.0 in
-                let y = vk.alike b c (p + off) (q + off) (standing_value b p h) (standing_value c q g) t.1 in
+                let y = vk.alike b c (p + off) (q + off) (standing_value b p h)
+                (standing_value c q g) t.1 in
                 cc;
             near = λ b c p lo hi l o h fixed part.
                 let x : (lo ≤ h.1) × (h.1 ≤ hi) = kl.between b p lo hi h.1 o h.2 in
@@ -84,14 +98,26 @@ module _ {k v : Shape} (kl : IsElement k) (vl : IsElement v) where
                 let px : Same b c lo h.1 = same_part b c lo l lo h.1 (omega arith) y.0 x.0 part in
                 let py : Same b c h.1 l = same_part b c lo l h.1 l x.0 (omega arith) y.0 part in
                 let ke = kk.near b c p lo hi h.1 o h.2 (same_key k v kl vl b c p h.0 fixed) px in
-                let ve = vk.near b c (p + off) h.1 hi l x.1 h.3 (same_value k v kl vl b c p h.0 fixed) py in
+                let ve = vk.near b c (p + off) h.1 hi l x.1 h.3
+                (same_value k v kl vl b c p h.0 fixed) py in
                 cc;
+            copied = λ b c p lo hi l o h fixed part.
+                let x : (lo ≤ h.1) × (h.1 ≤ hi) = kl.between b p lo hi h.1 o h.2 in
+                let y : (h.1 ≤ l) × (l ≤ hi) = vl.between b (p + off) h.1 hi l x.1 h.3 in
+                let px : Same b c lo h.1 = same_part b c lo l lo h.1 (omega arith) y.0 x.0 part in
+                let py : Same b c h.1 l = same_part b c lo l h.1 l x.0 (omega arith) y.0 part in
+                and_from (ks b p c p) (vs b (p + off) c (p + off))
+                (kk.copied b c p lo hi h.1 o h.2 (same_key k v kl vl b c p h.0 fixed) px)
+                (vk.copied b c (p + off) h.1 hi l x.1 h.3 (same_value k v kl vl b c p h.0 fixed)
+                py);
           }
 
-      module _ {A B : Type 0} {kr : A → Type 0} {vr : B → Type 0} {ac : A → List HasherCall} {bc : B → List HasherCall}
+      module _ {A B : Type 0} {kr : A → Type 0} {vr : B → Type 0} {ac : A → List HasherCall} {bc : B
+          → List HasherCall}
           {kf : A → List ℕ → ℕ → Bool} {vf : B → List ℕ → ℕ → Bool} where
         pub entry_query : IsQuery k ks kc kr ac kf → IsQuery v vs vc vr bc vf
-            → IsQuery (entry_shape k v) (entry_same k v ks vs) (entry_calls k v kc vc) (BothRead kr vr) (pair_calls ac bc) (entry_fits k v kf vf)
+            → IsQuery (entry_shape k v) (entry_same k v ks vs) (entry_calls k v kc vc)
+            (BothRead kr vr) (pair_calls ac bc) (entry_fits k v kf vf)
         entry_query kq vq =
             let off = value_offset k v in
             record {
@@ -102,21 +128,33 @@ module _ {k v : Shape} (kl : IsElement k) (vl : IsElement v) where
                   cc;
               class = λ q b c p r can h g f.
                   let t = and_parts (kf q.0 b p) (vf q.1 b (p + off)) f in
-                  let x = kq.class q.0 b c p r can.0 (standing_key b p h) (standing_key c r g) t.0 in
-                  let y = vq.class q.1 b c (p + off) (r + off) can.1 (standing_value b p h) (standing_value c r g) t.1 in
+                  let x = kq.class q.0 b c p r can.0 (standing_key b p h) (standing_key c r g)
+                  t.0 in
+                  let y = vq.class q.1 b c (p + off) (r + off) can.1 (standing_value b p h)
+                  (standing_value c r g) t.1 in
                   cc;
             }
 
   module _ {A B : Type 0} (key : List ℕ → ℕ → A → Type 0) (value : List ℕ → ℕ → B → Type 0) where
-    pub entry_alone : (ke : A → A → Bool) (ve : B → B → Bool) → StandsOnce k key ke → StandsOnce v value ve
-        → StandsOnce (entry_shape k v) (PairStands k v key value) (λ x y. ke x.0 y.0 && ve x.1 y.1)
-    entry_alone ke ve ka va x y b p h st tt' =
-        and_from (ke x.0 y.0) (ve x.1 y.1) (ka x.0 y.0 b p (standing_key b p h) st.0 tt'.0)
-        (va x.1 y.1 b (p + value_offset k v) (standing_value b p h) st.1 tt'.1)
+    pub entry_equals_once : (key_equals : List ℕ → ℕ → A → Type 0)
+        (value_equals : List ℕ → ℕ → B → Type 0) (ke : A → A → Bool) (ve : B → B → Bool)
+        → EqualsOnce k key key_equals ke → EqualsOnce v value value_equals ve
+        → EqualsOnce (entry_shape k v) (PairStands k v key value)
+        (entry_equals k v key_equals value_equals) (λ x y. ke x.0 y.0 && ve x.1 y.1)
+    entry_equals_once key_equals value_equals ke ve ka va x y b p h st eq =
+        and_from (ke x.0 y.0) (ve x.1 y.1) (ka x.0 y.0 b p (standing_key b p h) st.0 eq.0)
+        (va x.1 y.1 b (p + value_offset k v) (standing_value b p h) st.1 eq.1)
 
-    pub entry_fits_its_equal : (ka : A → A → Bool) (va : B → B → Bool) (kf : A → List ℕ → ℕ → Bool) (vf : B → List ℕ → ℕ → Bool)
+    pub entry_alone : (ke : A → A → Bool) (ve : B → B → Bool) → StandsOnce k key ke
+        → StandsOnce v value ve
+        → StandsOnce (entry_shape k v) (PairStands k v key value) (λ x y. ke x.0 y.0 && ve x.1 y.1)
+    entry_alone ke ve ka va = entry_equals_once key value ke ve ka va
+
+    pub entry_fits_its_equal : (ka : A → A → Bool) (va : B → B → Bool) (kf : A → List ℕ → ℕ → Bool)
+        (vf : B → List ℕ → ℕ → Bool)
         → FitsItsEqual k key ka kf → FitsItsEqual v value va vf
-        → FitsItsEqual (entry_shape k v) (PairStands k v key value) (λ x y. ka x.0 y.0 && va x.1 y.1) (entry_fits k v kf vf)
+        → FitsItsEqual (entry_shape k v) (PairStands k v key value) (λ x y. ka x.0 y.0
+        && va x.1 y.1) (entry_fits k v kf vf)
     entry_fits_its_equal ka va kf vf kn vn q pair b p h st =
         let x = kn q.0 pair.0 b p (standing_key b p h) st.0 in
         let y = vn q.1 pair.1 b (p + value_offset k v) (standing_value b p h) st.1 in

@@ -1,4 +1,4 @@
--- Text, whose value at a place is its bytes, wherever they stand.
+-- Text, whose value at a position is its bytes, wherever they stand.
 use Rattle.std.specs.Prelude.{◌≡◌, ℕ, Bool, true, nat_eq, List}
 use Rattle.std.proofs.Common.{refl}
 use Rattle.std.specs.Int.{Width}
@@ -9,7 +9,15 @@ use Rattle.rkyv_keys.specs.Calls.{text_calls}
 use Rattle.rkyv_keys.specs.Equality.{Comparison, IsEquivalence}
 use Rattle.rkyv_keys.specs.Keys.{FitsItsEqual, IsKey, IsQuery, ReadsAnywhere}
 use Rattle.rkyv_keys.specs.Fixed.{MakesFixedCalls, text_fixed}
-use Rattle.rkyv_keys.specs.OfValues.{values_same, value_calls, value_fits, value_equivalence, value_key, value_query, value_fits_its_equal}
+use Rattle.rkyv_keys.specs.OfValues.{
+  values_same,
+  value_calls,
+  value_fits,
+  value_equivalence,
+  value_key,
+  value_query,
+  value_fits_its_equal,
+}
 
 -- two texts have the same bytes
 abbrev pub same_bytes : List ℕ → List ℕ → Bool
@@ -19,19 +27,19 @@ pub bytes_equal_themselves : (x : List ℕ) → same_bytes x x ≡ true
 bytes_equal_themselves x = (bytes_decides x x).1 refl
 
 module _ (w : Width) where
-  -- the texts at both places have the same bytes
+  -- the texts at both positions have the same bytes
   abbrev pub text_same : Comparison
   text_same = values_same (text_at w) same_bytes
 
-  -- the calls of the text at a place
+  -- the calls of the text at a position
   abbrev pub text_key_calls : List ℕ → ℕ → List HasherCall
   text_key_calls = value_calls (text_at w) text_calls
 
-  -- the text at a place has the bytes that are asked for
+  -- the text at a position has the bytes that are asked for
   abbrev pub text_fits : {Q : Type 0} → (Q → List ℕ) → Q → List ℕ → ℕ → Bool
   text_fits seen = value_fits (text_at w) same_bytes seen
 
-  -- the text at a place is that of the value
+  -- the text at a position is that of the value
   abbrev pub IsTextOf : {Q : Type 0} → (Q → List ℕ) → List ℕ → ℕ → Q → Type 0
   IsTextOf seen b p q = TextReads w b p (seen q)
 
@@ -45,8 +53,10 @@ module _ (w : Width) where
   text_key_fixed b p h = text_fixed (text_at w b p)
 
   module _ {Q : Type 0} (seen : Q → List ℕ) where
-    pub text_query : IsQuery (text_shape w) text_same text_key_calls ReadsAnywhere (λ q. text_calls (seen q)) (text_fits seen)
+    pub text_query : IsQuery (text_shape w) text_same text_key_calls ReadsAnywhere
+        (λ q. text_calls (seen q)) (text_fits seen)
     text_query = value_query (text_shape w) (text_at w) same_bytes bytes_decides text_calls seen
 
-    pub text_fits_its_equal : FitsItsEqual (text_shape w) (IsTextOf seen) (λ q v. same_bytes (seen q) (seen v)) (text_fits seen)
+    pub text_fits_its_equal : FitsItsEqual (text_shape w) (IsTextOf seen)
+        (λ q v. same_bytes (seen q) (seen v)) (text_fits seen)
     text_fits_its_equal = value_fits_its_equal (text_shape w) (text_at w) same_bytes seen

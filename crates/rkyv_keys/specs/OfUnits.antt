@@ -14,15 +14,19 @@ unit_at b p = tt
 abbrev pub units_equal : Unit {0} → Unit {0} → Bool
 units_equal v w = true
 
+-- all unit values are the same
 abbrev pub unit_same : Comparison
 unit_same b p c q = true
 
+-- a unit value makes no call
 abbrev pub no_calls : Unit {0} → List HasherCall
 no_calls v = []
 
+-- a unit value that stands makes no call either
 abbrev pub unit_calls : List ℕ → ℕ → List HasherCall
 unit_calls b p = []
 
+-- a unit value asks for every unit value
 abbrev pub unit_fits : Unit {0} → List ℕ → ℕ → Bool
 unit_fits q b p = true
 
@@ -33,7 +37,8 @@ pub unit_equivalence : IsEquivalence unit_shape unit_same
 unit_equivalence = value_equivalence unit_shape unit_at units_equal units_tell
 
 pub unit_key : IsKey unit_shape unit_same unit_calls
-unit_key = value_key unit_shape unit_at units_equal units_tell no_calls (λ v b c p lo hi l o h fixed part st. st)
+unit_key = value_key unit_shape unit_at units_equal units_tell no_calls
+    (λ v b c p lo hi l o h fixed part st. st)
 
 pub unit_fixed : MakesFixedCalls unit_shape unit_calls
 unit_fixed b p h = none_fixed

@@ -1,4 +1,5 @@
--- Elements at whose places one value stands, which is compared and hashed as a whole: scalars, text and the unit value.
+-- Elements at whose positions one value stands, which is compared and hashed as a whole: scalars,
+-- text and the unit value.
 use Rattle.std.specs.Prelude.{◌≡◌, ℕ, Bool, true, List}
 use Rattle.std.proofs.Common.{refl, sym, ◌∙◌, ap}
 use Rattle.rkyv_scan.specs.Hash.{HasherCall}
@@ -8,23 +9,24 @@ use Rattle.rkyv_keys.specs.Equality.{Comparison, IsEquivalence, TellsApart}
 use Rattle.rkyv_keys.specs.Keys.{IsKey, IsQuery, FitsItsEqual, ReadsAnywhere}
 
 module _ {V : Type 0} (value_at : List ℕ → ℕ → V) where
-  -- the values at both places are equal
+  -- the values at both positions are equal
   abbrev pub values_same : (V → V → Bool) → Comparison
   values_same equal b p c q = equal (value_at b p) (value_at c q)
 
-  -- the calls of the value at a place
+  -- the calls of the value at a position
   abbrev pub value_calls : (V → List HasherCall) → List ℕ → ℕ → List HasherCall
   value_calls calls b p = calls (value_at b p)
 
-  -- the value at a place is equal to the one that is asked for
+  -- the value at a position is equal to the one that is asked for
   abbrev pub value_fits : {Q : Type 0} → (V → V → Bool) → (Q → V) → Q → List ℕ → ℕ → Bool
   value_fits equal seen q b p = equal (seen q) (value_at b p)
 
-  -- the value at a place is this one
+  -- the value at a position is this one
   abbrev pub IsValueAt : {Q : Type 0} → (Q → V) → List ℕ → ℕ → Q → Type 0
   IsValueAt seen b p q = value_at b p ≡ seen q
 
-module _ {V : Type 0} (s : Shape) (value_at : List ℕ → ℕ → V) (equal : V → V → Bool) (tells : TellsApart equal) where
+module _ {V : Type 0} (s : Shape) (value_at : List ℕ → ℕ → V) (equal : V → V → Bool)
+    (tells : TellsApart equal) where
   same_value : (v w : V) → equal v w ≡ true → v ≡ w
   same_value v w h = (tells v w).0 h
 
@@ -34,26 +36,35 @@ module _ {V : Type 0} (s : Shape) (value_at : List ℕ → ℕ → V) (equal : V
   pub value_equivalence : IsEquivalence s (values_same value_at equal)
   value_equivalence = record {
     reflexive = λ b p h. value_same (value_at b p) (value_at b p) refl;
-    symmetric = λ b c p q h g s. value_same (value_at c q) (value_at b p) (sym (same_value (value_at b p) (value_at c q) s));
+    symmetric = λ b c p q h g s. value_same (value_at c q) (value_at b p)
+        (sym (same_value (value_at b p) (value_at c q) s));
     transitive = λ b c d p q r h g k s t. value_same (value_at b p) (value_at d r)
         (same_value (value_at b p) (value_at c q) s ∙ same_value (value_at c q) (value_at d r) t);
   }
 
   module _ (calls : V → List HasherCall) where
-    pub value_key : StandsNear s (IsValueAt value_at (λ v. v)) → IsKey s (values_same value_at equal) (value_calls value_at calls)
+    pub value_key : StandsNear s (IsValueAt value_at (λ v. v))
+        → IsKey s (values_same value_at equal) (value_calls value_at calls)
     value_key rests = record {
       alike = λ b c p q h g s. ap calls (same_value (value_at b p) (value_at c q) s);
-      near = λ b c p lo hi l o h fixed part. ap calls (sym (rests (value_at b p) b c p lo hi l o h fixed part refl));
+      near = λ b c p lo hi l o h fixed part. ap calls
+          (sym (rests (value_at b p) b c p lo hi l o h fixed part refl));
+      copied = λ b c p lo hi l o h fixed part. value_same (value_at b p) (value_at c p)
+          (sym (rests (value_at b p) b c p lo hi l o h fixed part refl));
     }
 
     pub value_query : {Q : Type 0} (seen : Q → V)
-        → IsQuery s (values_same value_at equal) (value_calls value_at calls) ReadsAnywhere (λ q. calls (seen q)) (value_fits value_at equal seen)
+        → IsQuery s (values_same value_at equal) (value_calls value_at calls) ReadsAnywhere
+        (λ q. calls (seen q)) (value_fits value_at equal seen)
     value_query seen = record {
       alike = λ q b p r h f. ap calls (same_value (seen q) (value_at b p) f);
-      class = λ q b c p r can h g f. ap (λ v. equal v (value_at c r)) (same_value (seen q) (value_at b p) f);
+      class = λ q b c p r can h g f. ap (λ v. equal v (value_at c r))
+          (same_value (seen q) (value_at b p) f);
     }
 
 -- the value that was written is the one that is compared
-pub value_fits_its_equal : {V Q : Type 0} (s : Shape) (value_at : List ℕ → ℕ → V) (equal : V → V → Bool) (seen : Q → V)
-    → FitsItsEqual s (IsValueAt value_at seen) (λ q v. equal (seen q) (seen v)) (value_fits value_at equal seen)
+pub value_fits_its_equal : {V Q : Type 0} (s : Shape) (value_at : List ℕ → ℕ → V) (equal : V → V
+    → Bool) (seen : Q → V)
+    → FitsItsEqual s (IsValueAt value_at seen) (λ q v. equal (seen q) (seen v))
+    (value_fits value_at equal seen)
 value_fits_its_equal s value_at equal seen q v b p h st = ap (equal (seen q)) st

@@ -13,11 +13,12 @@ use Rattle.rkyv_keys.specs.Keys.{IsKey, IsQuery}
 abbrev pub view_calls : {K : Type 0} → (List ℕ → ℕ → List HasherCall) → View K → List HasherCall
 view_calls calls view = calls (bytes_of view) (pos_of view)
 
--- the key at a place is the same as the view's
+-- the key at a position is the same as the view's
 abbrev pub view_fits : {K : Type 0} → Comparison → View K → List ℕ → ℕ → Bool
 view_fits same view b p = same (bytes_of view) (pos_of view) b p
 
-pub view_query : {K : Type 0} (s : Shape) (same : Comparison) (calls : List ℕ → ℕ → List HasherCall) → IsEquivalence s same → IsKey s same calls
+pub view_query : {K : Type 0} (s : Shape) (same : Comparison) (calls : List ℕ → ℕ → List HasherCall)
+    → IsEquivalence s same → IsKey s same calls
     → IsQuery {Q = View K} s same calls (IsView s) (view_calls calls) (view_fits same)
 view_query s same calls e k = record {
   alike = λ q b p r h f. k.alike (bytes_of q) b (pos_of q) p r.stands h f;

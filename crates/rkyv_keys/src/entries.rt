@@ -12,6 +12,7 @@ ghost use Rattle.rkyv_keys.specs.OfEntries.{
   entry_alone,
   entry_calls,
   entry_equals,
+  entry_equals_once,
   entry_equivalence,
   entry_fits,
   entry_fits_its_equal,
@@ -22,7 +23,9 @@ ghost use Rattle.rkyv_keys.specs.OfEntries.{
   pair_calls,
 };
 
-use crate::equality::{ElementEq, ElementEquiv, EqualsWritten, MatchesNative, StandsAlone};
+use crate::equality::{
+    ElementEq, ElementEquiv, EqualsAlone, EqualsWritten, MatchesNative, StandsAlone,
+};
 use crate::hash::KeyHash;
 use crate::keys::{FixedKey, KeyElement, NativeKey, Query};
 use crate::reading::Deserialize;
@@ -147,6 +150,12 @@ where
 {
     ghost equal = { pair_is_format A.Archived.shape B.Archived.shape A.Archived.laws B.Archived.laws
         A.Archived.equals B.Archived.equals A.format B.format A.equal B.equal };
+}
+
+impl<A: PartialEq, B: PartialEq, K: EqualsAlone<A>, V: EqualsAlone<B>> EqualsAlone<(A, B)>
+    for Entry<K, V> {
+    ghost exact = { entry_equals_once K.laws V.laws K.stands V.stands K.equals V.equals
+        A.eq B.eq K.exact V.exact };
 }
 
 impl<A: PartialEq, B: PartialEq, K: StandsAlone<A>, V: StandsAlone<B>> StandsAlone<(A, B)>

@@ -16,7 +16,7 @@ use rkyv_scan::hash::KeyHasher;
 
 /// An element whose values are hashed in place.
 pub trait KeyElement: ElementEquiv {
-    // The calls of the value at a place, in order.
+    // The calls of the value at a position, in order.
     ghost key_calls: { List ℕ → ℕ → List HasherCall };
 
     /// Makes the value's calls of a hasher.
@@ -29,7 +29,7 @@ pub trait KeyElement: ElementEquiv {
 
 /// A value by which a key of the element K is asked for.
 pub trait Query<K: KeyElement>: KeyHash {
-    // Whether the key at a place is the one that is asked for.
+    // Whether the key at a position is the one that is asked for.
     ghost fits: { Self → List ℕ → ℕ → Bool };
 
     /// Whether the key is the one that is asked for.

@@ -11,7 +11,7 @@ use std::alloc::Global;
 
 /// An element whose values can be read back as values of the type V.
 pub trait Deserialize<V>: StandsFor<V> {
-    // The errors that reading the value at a place may answer.
+    // The errors that reading the value at a position may answer.
     ghost refuses: { Refusals };
 
     /// The value itself.

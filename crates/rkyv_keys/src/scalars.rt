@@ -23,7 +23,9 @@ ghost use Rattle.rkyv_keys.specs.OfScalars.{
   scalar_same,
 };
 
-use crate::equality::{ElementEq, ElementEquiv, EqualsWritten, MatchesNative, StandsAlone};
+use crate::equality::{
+    ElementEq, ElementEquiv, EqualsAlone, EqualsWritten, MatchesNative, StandsAlone,
+};
 use crate::hash::KeyHash;
 use crate::keys::{FixedKey, KeyElement, NativeKey, Query};
 use crate::reading::Deserialize;
@@ -276,6 +278,12 @@ impl<N: ScalarKey, W: Width> EqualsWritten<W> for N {
     ghost equal = { scalar_is_format N.encoding N.word };
 }
 
+impl<N: ScalarKey> EqualsAlone<N> for N {
+    ghost exact = { native_alone (scalar_shape N.encoding) (ScalarStands N.encoding) N.eq
+        (scalar_fits N.encoding N.eq) (scalar_fits_its_equal N.encoding N.eq) N.Eq.laws.refl };
+}
+
 impl<N: ScalarKey> StandsAlone<N> for N {
-    ghost alone = { native_alone (scalar_shape N.encoding) (ScalarStands N.encoding) N.eq (scalar_fits N.encoding N.eq) (scalar_fits_its_equal N.encoding N.eq) N.Eq.laws.refl };
+    ghost alone = { native_alone (scalar_shape N.encoding) (ScalarStands N.encoding) N.eq
+        (scalar_fits N.encoding N.eq) (scalar_fits_its_equal N.encoding N.eq) N.Eq.laws.refl };
 }

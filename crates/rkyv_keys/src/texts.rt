@@ -23,7 +23,9 @@ ghost use Rattle.rkyv_keys.specs.OfTexts.{
 };
 
 use crate::debug::ElementDebug;
-use crate::equality::{ElementEq, ElementEquiv, EqualsWritten, MatchesNative, StandsAlone};
+use crate::equality::{
+    ElementEq, ElementEquiv, EqualsAlone, EqualsWritten, MatchesNative, StandsAlone,
+};
 use crate::hash::KeyHash;
 use crate::keys::{FixedKey, KeyElement, NativeKey, Query};
 use crate::reading::Deserialize;
@@ -188,10 +190,28 @@ impl<W: Width> EqualsWritten<W> for String {
     ghost equal = { seen_text_is_format W.word W.layout.kind string_bytes };
 }
 
+impl<'t, W: Width> EqualsAlone<&'t str> for Text<W> {
+    ghost exact = { native_alone (text_shape W.word) (IsTextOf W.word (λ t. t.now))
+        (λ q v. same_bytes q.now v.now) (text_fits W.word (λ q. q.now))
+        (text_fits_its_equal W.word (λ q. q.now)) (λ v. bytes_equal_themselves v.now) };
+}
+
+impl<W: Width> EqualsAlone<String> for Text<W> {
+    ghost exact = { native_alone (text_shape W.word) (IsTextOf W.word (λ t. string_bytes t))
+        (λ q v. same_bytes (string_bytes q) (string_bytes v))
+        (text_fits W.word (λ q. string_bytes q)) (text_fits_its_equal W.word (λ q. string_bytes q))
+        (λ v. bytes_equal_themselves (string_bytes v)) };
+}
+
 impl<'t, W: Width> StandsAlone<&'t str> for Text<W> {
-    ghost alone = { native_alone (text_shape W.word) (IsTextOf W.word (λ t. t.now)) (λ q v. same_bytes q.now v.now) (text_fits W.word (λ q. q.now)) (text_fits_its_equal W.word (λ q. q.now)) (λ v. bytes_equal_themselves v.now) };
+    ghost alone = { native_alone (text_shape W.word) (IsTextOf W.word (λ t. t.now))
+        (λ q v. same_bytes q.now v.now) (text_fits W.word (λ q. q.now))
+        (text_fits_its_equal W.word (λ q. q.now)) (λ v. bytes_equal_themselves v.now) };
 }
 
 impl<W: Width> StandsAlone<String> for Text<W> {
-    ghost alone = { native_alone (text_shape W.word) (IsTextOf W.word (λ t. string_bytes t)) (λ q v. same_bytes (string_bytes q) (string_bytes v)) (text_fits W.word (λ q. string_bytes q)) (text_fits_its_equal W.word (λ q. string_bytes q)) (λ v. bytes_equal_themselves (string_bytes v)) };
+    ghost alone = { native_alone (text_shape W.word) (IsTextOf W.word (λ t. string_bytes t))
+        (λ q v. same_bytes (string_bytes q) (string_bytes v))
+        (text_fits W.word (λ q. string_bytes q)) (text_fits_its_equal W.word (λ q. string_bytes q))
+        (λ v. bytes_equal_themselves (string_bytes v)) };
 }

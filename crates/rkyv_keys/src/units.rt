@@ -18,7 +18,9 @@ ghost use Rattle.rkyv_keys.specs.OfUnits.{
   unit_same,
 };
 
-use crate::equality::{ElementEq, ElementEquiv, EqualsWritten, MatchesNative, StandsAlone};
+use crate::equality::{
+    ElementEq, ElementEquiv, EqualsAlone, EqualsWritten, MatchesNative, StandsAlone,
+};
 use crate::hash::KeyHash;
 use crate::keys::{FixedKey, KeyElement, NativeKey, Query};
 use crate::reading::Deserialize;
@@ -116,6 +118,10 @@ impl Deserialize<()> for () {
 
 impl<W: Width> EqualsWritten<W> for () {
     ghost equal = { unit_is_format };
+}
+
+impl EqualsAlone<()> for () {
+    ghost exact = { λ v x b p h st eq. refl };
 }
 
 impl StandsAlone<()> for () {

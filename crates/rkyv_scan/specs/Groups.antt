@@ -1,5 +1,27 @@
 -- Which places of a group of control bytes a mask marks.
-use Rattle.std.specs.Prelude.{◌≡◌, ℕ, zero, suc, ◌+◌, ◌*◌, ◌^◌, ◌<◌, ◌≤◌, ◌==◌, ◌||◌, ◌&&◌, Bool, true, false, List, slice_index, slice_index_or, nat_le, nat_lt, bit_xor}
+use Rattle.std.specs.Prelude.{
+  ◌≡◌,
+  ℕ,
+  zero,
+  suc,
+  ◌+◌,
+  ◌*◌,
+  ◌^◌,
+  ◌<◌,
+  ◌≤◌,
+  ◌==◌,
+  ◌||◌,
+  ◌&&◌,
+  Bool,
+  true,
+  false,
+  List,
+  slice_index,
+  slice_index_or,
+  nat_le,
+  nat_lt,
+  bit_xor,
+}
 use Rattle.std.specs.List.{filter, range_with_len}
 use Rattle.std.specs.Int.{bit_at}
 
@@ -11,7 +33,7 @@ places_where test n = filter test (range_with_len 0 n)
 abbrev pub is_empty : ℕ → Bool
 is_empty control = nat_le 128 control
 
--- one below 128 is full, and is the tag of its item
+-- a control byte below 128 is full, and is the tag of its item
 abbrev pub is_full : ℕ → Bool
 is_full control = nat_lt control 128
 
@@ -43,18 +65,23 @@ pub record Kind : Type 0 where
 -- lowest marked place holds the byte, and for a byte below 128 each marked place is full
 pub record IsKind (kind : Kind) : Type 0 where
   pub power : (k : ℕ) × (k ≤ 4) × (kind.width ≡ 2 ^ k)
-  pub equal : (controls : List ℕ) (byte place : ℕ) → place < kind.width → slice_index controls place ≡ byte → kind.marks controls byte place ≡ true
-  pub full : (controls : List ℕ) (byte place : ℕ) → byte < 128 → kind.marks controls byte place ≡ true → slice_index controls place < 128
+  pub equal : (controls : List ℕ) (byte place : ℕ) → place < kind.width
+      → slice_index controls place ≡ byte → kind.marks controls byte place ≡ true
+  pub full : (controls : List ℕ) (byte place : ℕ) → byte < 128
+      → kind.marks controls byte place ≡ true → slice_index controls place < 128
   pub lowest : (controls : List ℕ) (byte place : ℕ) → kind.marks controls byte place ≡ true
-      → ((lower : ℕ) → lower < place → kind.marks controls byte lower ≡ false) → slice_index controls place ≡ byte
+      → ((lower : ℕ) → lower < place → kind.marks controls byte lower ≡ false)
+      → slice_index controls place ≡ byte
 
--- the three kinds
+-- eight controls, of which those are marked that hold the byte
 abbrev pub bytewise_kind : Kind
 bytewise_kind = record { width = 8; marks = is_equal_at }
 
+-- eight controls as one word, in which a mark may stand above an equal one
 abbrev pub generic_kind : Kind
 generic_kind = record { width = 8; marks = is_word_match_at }
 
+-- sixteen controls, of which those are marked that hold the byte
 abbrev pub lanes_kind : Kind
 lanes_kind = record { width = 16; marks = is_equal_at }
 

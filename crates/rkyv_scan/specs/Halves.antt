@@ -1,4 +1,5 @@
--- Sixteen control bytes, in each half of which those places are marked that the eight wide group marks there.
+-- Sixteen control bytes, in each half of which those places are marked that the eight wide group
+-- marks there.
 use Rattle.std.specs.Prelude.{◌≡◌, ℕ, ◌+◌, ◌*◌, ◌/◌, ◌%◌, ◌<◌, Bool, List, slice_index, take, drop}
 use Rattle.std.proofs.Common.{arith, refl, sym, ◌∙◌, ap, get_or-take, get_or-drop}
 use Rattle.rkyv_scan.specs.Groups.{IsKind, Kind, is_word_match_at}
@@ -11,16 +12,19 @@ half_of controls place = take 8 (drop (place / 8 * 8) controls)
 abbrev pub is_half_match_at : List ℕ → ℕ → ℕ → Bool
 is_half_match_at controls byte place = is_word_match_at (half_of controls place) byte (place % 8)
 
+-- sixteen controls as two words of eight
 abbrev pub halves_kind : Kind
 halves_kind = record { width = 16; marks = is_half_match_at }
 
 pub half_at : (s : List ℕ) (k : ℕ) → slice_index (half_of s k) (k % 8) ≡ slice_index s k
 half_at s k =
     let e : k / 8 * 8 + k % 8 ≡ k = omega arith in
-    get_or-take 8 (drop (k / 8 * 8) s) (k % 8) 0 (omega arith) ∙ get_or-drop (k / 8 * 8) s (k % 8) 0 ∙ ap (slice_index s) e
+    get_or-take 8 (drop (k / 8 * 8) s) (k % 8) 0 (omega arith) ∙ get_or-drop (k / 8 * 8) s (k % 8) 0
+    ∙ ap (slice_index s) e
 
 -- a lower place of the same half
-pub half_lower : (s : List ℕ) (t k j : ℕ) → j < 8 → is_half_match_at s t (k / 8 * 8 + j) ≡ is_word_match_at (half_of s k) t j
+pub half_lower : (s : List ℕ) (t k j : ℕ) → j < 8
+    → is_half_match_at s t (k / 8 * 8 + j) ≡ is_word_match_at (half_of s k) t j
 half_lower s t k j l =
     let e : (k / 8 * 8 + j) / 8 * 8 ≡ k / 8 * 8 = omega arith in
     let f : (k / 8 * 8 + j) % 8 ≡ j = omega arith in
@@ -31,5 +35,7 @@ halves_lawful = record {
   power = (4, omega arith, refl);
   equal = λ s t k l h. word_lawful.equal (half_of s k) t (k % 8) (omega arith) (half_at s k ∙ h);
   full = λ s t k l h. omega (arith, half_at s k, word_lawful.full (half_of s k) t (k % 8) l h);
-  lowest = λ s t k h low. sym (half_at s k) ∙ word_lawful.lowest (half_of s k) t (k % 8) h (λ j l. sym (half_lower s t k j (omega arith)) ∙ low (k / 8 * 8 + j) (omega arith));
+  lowest = λ s t k h low. sym (half_at s k)
+      ∙ word_lawful.lowest (half_of s k) t (k % 8) h (λ j l. sym (half_lower s t k j (omega arith))
+      ∙ low (k / 8 * 8 + j) (omega arith));
 }

@@ -1,7 +1,37 @@
 -- The calls that a key makes of a hasher, the words that they feed, and what they hash to.
-use Rattle.std.specs.Prelude.{ℕ, ◌*◌, ◌/◌, ◌%◌, ◌^◌, ◌==◌, if◌then◌else◌, List, [], ◌∷◌, ◌++◌, length, map, fold, drop, ℤ, bit_xor}
+use Rattle.std.specs.Prelude.{
+  ℕ,
+  ◌*◌,
+  ◌/◌,
+  ◌%◌,
+  ◌^◌,
+  ◌<◌,
+  ◌==◌,
+  if◌then◌else◌,
+  List,
+  [],
+  ◌∷◌,
+  ◌++◌,
+  length,
+  map,
+  fold,
+  drop,
+  ℤ,
+  bit_xor,
+}
 use Rattle.std.specs.List.{range_with_len}
-use Rattle.std.specs.Int.{Width, w8, w16, w32, w64, w128, rotate_left, from_le_bytes, cast_unsigned, cast_signed}
+use Rattle.std.specs.Int.{
+  Width,
+  w8,
+  w16,
+  w32,
+  w64,
+  w128,
+  rotate_left,
+  from_le_bytes,
+  cast_unsigned,
+  cast_signed,
+}
 
 -- one call of a hasher
 pub data HasherCall : Type 0 where
@@ -13,6 +43,12 @@ pub data HasherCall : Type 0 where
 abbrev pub hash_of_calls : {State : Type 0} → State → (State → HasherCall → State) → (State → ℕ)
     → List HasherCall → ℕ
 hash_of_calls initial feed finish calls = finish (fold feed initial calls)
+
+-- the number after any list of calls is one of 64 bits
+abbrev pub NumbersFit : {State : Type 0} → State → (State → HasherCall → State) → (State → ℕ)
+    → Type 0
+NumbersFit initial feed finish =
+    (calls : List HasherCall) → hash_of_calls initial feed finish calls < 2 ^ 64
 
 -- the little endian number of the first bytes from i on, as many as the width has
 abbrev pub number_from : Width → List ℕ → ℕ → ℕ

@@ -2,7 +2,18 @@
 -- Each holds of every rule for `usize` and `isize`, so of both hashers.
 use Rattle.std.specs.Prelude.{◌≡◌, ℕ, ◌%◌, List, ◌++◌, length, All, flat_map}
 use Rattle.std.specs.Int.{w64, from_le_bytes}
-use Rattle.rkyv_scan.specs.Hash.{HasherCall, Bytes, U64, Usize, Isize, SizeWords, hash_words, call_words, fx_feed, fx_hash}
+use Rattle.rkyv_scan.specs.Hash.{
+  HasherCall,
+  Bytes,
+  U64,
+  Usize,
+  Isize,
+  SizeWords,
+  hash_words,
+  call_words,
+  fx_feed,
+  fx_hash,
+}
 
 -- a list of calls hashes as the list of all words that they feed, from 0
 abbrev pub CallsHashTheirWords : Type 0
@@ -30,7 +41,7 @@ abbrev pub FixedCallsAgree : Type 0
 FixedCallsAgree = (one other : SizeWords) (call : HasherCall) → IsFixed call
     → call_words one call ≡ call_words other call
 
--- and answer the same number after a list of such calls
+-- any two rules answer the same number after a list of such calls
 abbrev pub FixedCallsHashAlike : Type 0
 FixedCallsHashAlike = (one other : SizeWords) (calls : List HasherCall) → All IsFixed calls
     → fx_hash one calls ≡ fx_hash other calls

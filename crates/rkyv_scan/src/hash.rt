@@ -5,7 +5,36 @@
 //! rest on it.
 ghost use Rattle.std.specs.Prelude.{◌≡◌, ℕ, ◌+◌, ◌≤◌, ◌%◌, ◌^◌, length, List};
 ghost use Rattle.std.specs.Int.{w8, w16, w32, w64};
-ghost use Rattle.rkyv_scan.specs.Hash.{HasherCall, Bytes, U8, U16, U32, U64, U128, Usize, I8, I16, I32, I64, I128, Isize, SizeWords, low_halves, all_bits, number_from, four_bytes, two_bytes, last_byte, byte_words, rest_words, hash_word, hash_words, fx_feed};
+ghost use Rattle.rkyv_scan.specs.Hash.{
+  HasherCall,
+  Bytes,
+  U8,
+  U16,
+  U32,
+  U64,
+  U128,
+  Usize,
+  I8,
+  I16,
+  I32,
+  I64,
+  I128,
+  Isize,
+  NumbersFit,
+  SizeWords,
+  low_halves,
+  all_bits,
+  number_from,
+  four_bytes,
+  two_bytes,
+  last_byte,
+  byte_words,
+  rest_words,
+  hash_word,
+  hash_words,
+  fx_feed,
+};
+ghost use Rattle.rkyv_scan.specs.Lemmas.Numbers.{fx_fits};
 
 use std::marker::{Model, PhantomData};
 use std::simd::prelude::*;
@@ -88,6 +117,9 @@ pub trait KeyHasher: Default + Drop {
 
     // A default hasher is a new one.
     ghost starts: { (s : Self) → Self.is_default s → s ≡ initial };
+
+    // What `finish` answers after any calls of a new hasher is below 2^64.
+    ghost fits: { NumbersFit initial feed finish };
 }
 
 /// How an `FxHasher` makes one word of a `usize`, and one of an `isize`.
@@ -272,6 +304,8 @@ impl<S: SizeRule> KeyHasher for FxHasher<S> {
     ghost finish = { λ s. s };
 
     ghost starts = { λ s h. h };
+
+    ghost fits = { fx_fits S.words };
 
     #[inline]
     fn write(&mut self, bytes: &[u8]) {

@@ -1,6 +1,25 @@
 //! Groups of control bytes, which are matched at once. `generic` is the kind at the crate's root.
-ghost use Rattle.std.specs.Prelude.{◌≡◌, ℕ, ◌+◌, ◌*◌, ◌^◌, ◌<◌, ◌≤◌, ◌↔◌, Bool, List, Option, length, take, drop, slice_get, slice_index, IsTrue};
+ghost use Rattle.std.specs.Prelude.{
+  ◌≡◌,
+  ℕ,
+  ◌+◌,
+  ◌*◌,
+  ◌^◌,
+  ◌<◌,
+  ◌≤◌,
+  ◌↔◌,
+  Bool,
+  List,
+  Option,
+  length,
+  take,
+  drop,
+  slice_get,
+  slice_index,
+  IsTrue,
+};
 ghost use Rattle.std.specs.Iterator.{YieldsFirst, Count, item_count};
+ghost use Rattle.std.specs.List.Sorted.{IsStrictlyIncreasing};
 ghost use Rattle.rkyv_scan.specs.Groups.{places_where, is_empty, is_full, Kind, IsKind};
 
 pub mod bytewise;
@@ -17,6 +36,8 @@ pub const MAX_GROUP_WIDTH: usize = 16;
 pub trait Marks: Iterator<Item = usize> + Copy {
     // The marked places, ascending.
     ghost places: { Self → List ℕ };
+
+    ghost ascend: { (m : Self) → IsStrictlyIncreasing (places m) };
 
     /// Whether a place is marked.
     fn any_bit_set(self) -> bool

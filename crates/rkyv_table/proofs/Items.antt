@@ -1,11 +1,12 @@
 -- What an accepted table gives to its readers.
-use Rattle.std.proofs.Common.{◌≡◌, ℕ, ◌+◌, ◌*◌, ◌%◌, ◌<◌, ◌≤◌, inl, inr, refl, sym, subst, ◌∙◌, arith, List, Bool, length, pos, ◌+ℤ◌}
+use Rattle.std.proofs.Common.{◌≡◌, ℕ, ◌+◌, ◌*◌, ◌%◌, ◌<◌, ◌≤◌, inl, inr, refl, sym, ap, subst, ◌∙◌, arith, List, Bool, length, pos, ◌+ℤ◌}
 use Rattle.std.specs.Int.{Width}
 use Rattle.std.proofs.lemmas.Int.{ints}
 use Rattle.std.proofs.lemmas.Bool.{cases_eq}
 use Rattle.std.proofs.Math.Nat.{mul-le-mul_right}
 use Rattle.rkyv_scan.specs.Groups.{Kind}
 use Rattle.rkyv_base.specs.Bytes.{signed_at}
+use Rattle.rkyv_base.specs.declared.view.View.{View}
 use Rattle.rkyv_base.specs.Shape.{Shape, IsElement, Viewed, standing}
 use Rattle.rkyv_table.specs.Controls.Shown.{IsFullBucket}
 use Rattle.rkyv_table.specs.Controls.Finding.{end, found}
@@ -105,3 +106,7 @@ module _ {T W : Type 0} (w : Width) (s : Shape) (law : IsElement s) (items : Ite
         rw (are.len, z) refl
     | inr some ↦ rw (are.controls (omega arith), are.cap, are.len) refl
   ]
+
+-- views of one position of one archive are one view
+pub view_is : {T : Type 0} (v u : View T) → v.archive ≡ u.archive → v.pos ≡ u.pos → v ≡ u
+view_is v u archive place = ap (λ a. record v { archive = a }) archive ∙ ap (λ n. record u { pos = n }) place

@@ -25,6 +25,12 @@ pub mod BucketSteps
 pub mod TableSteps
 pub mod Given
 pub mod RawWalks
+pub mod SameTable
+pub mod FirstItem
+pub mod Passing
+pub mod OneWay
+pub mod ReadyOneWay
+pub mod Bare
 pub mod WalkedHomes
 pub mod TableNear
 pub mod SealedLookup

@@ -10,6 +10,7 @@ use Rattle.rkyv_base.specs.Entry.{entry_element, entry_shape, parts_inside, size
 use Rattle.rkyv_base.specs.Sealing.{Keeps, Outside, Sealed, value_pos}
 use Rattle.rkyv_base.specs.Shape.{IsElement, Shape, Viewed}
 use Rattle.rkyv_base.proofs.Sealing.{entry_kept, holds_elsewhere, same_outside, sealed_wider}
+use Rattle.rkyv_table.proofs.SameTable.{written_there}
 use Rattle.rkyv_table.proofs.Items.{item_viewed, part_of}
 use Rattle.rkyv_table.specs.Table.Reading.{IsWalked, WrittenAt, bucket_found, controls_pos, item_at, table_controls}
 use Rattle.rkyv_table.specs.Table.SealedTable.{KeepsTable, SameValue}
@@ -155,17 +156,7 @@ module _ (w : Width) (s : Shape) (b c : List ℕ) (p i : ℕ) (kept : KeepsTable
       ∙ ap (λ n. found kind (table_controls w b p) (cap_at w b p) (len_at w b p) hash (λ j. accept (n - (j + 1) * s.size))) (sym (pos_same w b c p kept.header))
 
   pub written_kept : (hashes homes : List ℕ) → WrittenAt w b p hashes homes → WrittenAt w c p hashes homes
-  written_kept hashes homes x = record {
-    count = sym (len_same w b c p kept.header) ∙ x.count;
-    fit = x.fit;
-    placed = elim x.placed [
-      | inl e ↦ inl e
-      | inr u ↦ inr (
-        subst (λ n. length hashes < n) (cap_same w b c p kept.header) u.0,
-        subst (λ n. Written n hashes homes (table_controls w c p)) (cap_same w b c p kept.header) (subst (Written (cap_at w b p) hashes homes) (sym kept.controls) u.1),
-      )
-    ];
-  }
+  written_kept hashes homes x = written_there w b c p kept.header (λ some. sym kept.controls) hashes homes x
 
 -- a write of the value of an entry alone keeps the table and the key
 module _ (w : Width) (k v : Shape) (kl : IsElement k) (vl : IsElement v) (b : List ℕ) (p i : ℕ) (view : Viewed (table_shape w (entry_shape k v)) b p) (walked : IsWalked w b p i)

@@ -16,5 +16,9 @@ pub mod SealedTable
 pub mod SealedLookup
 pub mod Misplaced
 pub mod WrittenTables
+pub mod FirstItem
+pub mod Passing
+pub mod OneWay
+pub mod Bare
 pub mod SealedItems
 pub mod MisplacedIn

@@ -16,7 +16,7 @@ mod reading;
 pub mod resolve;
 pub mod sealed;
 mod serialize;
-mod take;
+pub mod take;
 mod take_two;
 mod verify;
 pub mod written;

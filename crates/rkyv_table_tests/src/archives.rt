@@ -1,12 +1,12 @@
 //! Tables and archives that the tests write, and the bytes that they compare.
 
 use rkyv_base::archive::Serialize;
+use rkyv_base::errors::WriteError;
 use rkyv_base::width::Narrow;
-use rkyv_base::writer::{VecWriter, Writer, align_for, append};
+use rkyv_base::writer::{NoMemory, VecWriter, Writer, align_for, append};
 use rkyv_scan::hash::{FxHasher64, KeyHasher};
 use rkyv_table::table::ArchivedHashTable;
 use std::alloc::Global;
-use std::test::Fail;
 
 /// The archive of the table of the one pair 1 and 2, under the hash of 1.
 pub(crate) const ONE_PAIR: [u8; 60] = [
@@ -59,7 +59,7 @@ pub(crate) fn written<U: Serialize<VecWriter, Narrow>>(
     items: &[U],
     hashes: &[u64],
     load_factor: (usize, usize),
-) -> Result<(Vec<u8>, u64), Fail> {
+) -> Result<(Vec<u8>, u64), WriteError<NoMemory>> {
     let mut writer = VecWriter::new(alloc);
     let resolver = ArchivedHashTable::<U::Archived, Narrow>::serialize_from_iter::<
         VecWriter,
@@ -84,7 +84,7 @@ pub(crate) fn archived<U: Serialize<VecWriter, Narrow>>(
     items: &[U],
     hashes: &[u64],
     load_factor: (usize, usize),
-) -> Result<Vec<u8>, Fail> {
+) -> Result<Vec<u8>, WriteError<NoMemory>> {
     let mut writer = VecWriter::new(alloc);
     let resolver = ArchivedHashTable::<U::Archived, Narrow>::serialize_from_iter::<
         VecWriter,
@@ -103,13 +103,30 @@ pub(crate) fn archived<U: Serialize<VecWriter, Narrow>>(
     let root = align_for::<u32, VecWriter>(&mut writer)?;
     let (len, load_factor) = (resolver.len(), resolver.load_factor());
     let mut header = [0u8; 12];
-    ArchivedHashTable::<U::Archived, Narrow>::resolve_from_len(
+    match ArchivedHashTable::<U::Archived, Narrow>::resolve_from_len(
         len,
         load_factor,
         resolver,
         root,
         &mut header,
-    )?;
+    ) {
+        Ok(()) => {}
+        Err(_) => return Err(WriteError::DistanceTooLarge),
+    }
     append(&mut writer, &header)?;
     Ok(writer.into_vec())
+}
+
+/// Whether these bytes are the archive of a table of these items, each under its hash.
+pub(crate) fn is_archive<U: Serialize<VecWriter, Narrow>>(
+    alloc: Global,
+    bytes: &[u8],
+    items: &[U],
+    hashes: &[u64],
+    load_factor: (usize, usize),
+) -> bool {
+    match archived(alloc, items, hashes, load_factor) {
+        Ok(wanted) => wanted.as_slice() == bytes,
+        Err(_) => false,
+    }
 }

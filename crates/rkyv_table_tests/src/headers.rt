@@ -2,36 +2,31 @@
 ghost use Rattle.std.specs.Prelude.{◌+◌, ◌<◌, ◌^◌};
 
 use crate::archives::hash_of_u32;
+use rkyv_base::errors::WriteError;
 use rkyv_base::width::{Narrow, Wide};
-use rkyv_base::writer::VecWriter;
+use rkyv_base::writer::{NoMemory, VecWriter};
 use rkyv_table::table::ArchivedHashTable;
 use rkyv_table::table::resolve::HashTableResolver;
 use std::alloc::Global;
-use std::test::Fail;
 
 // What resolves the table of the pair 1 and 2, which stands at position 16.
-fn one_pair(alloc: Global) -> Result<HashTableResolver, Fail> {
+fn one_pair(alloc: Global) -> Result<HashTableResolver, WriteError<NoMemory>> {
     let mut writer = VecWriter::new(alloc);
-    let resolver = ArchivedHashTable::<_, Narrow>::serialize_from_iter::<
-        VecWriter,
-        (u32, u32),
-        (u32, u32),
-        _,
-        _,
-    >(
+    ArchivedHashTable::<_, Narrow>::serialize_from_iter::<VecWriter, (u32, u32), (u32, u32), _, _>(
         alloc,
         [(1u32, 2u32)].into_iter(),
         [hash_of_u32(1)].into_iter(),
         1,
         (7, 8),
         &mut writer,
-    )?;
-    Ok(resolver)
+    )
 }
 
-// The bytes of that table's header at a position, written over sevens, and whether it fits.
-fn header_at(alloc: Global, pos: u32) -> Result<([u8; 12], bool), Fail> {
+// The bytes of that table's header at a position, written over sevens, whether it fits, and where
+// the table stands.
+fn header_at(alloc: Global, pos: u32) -> Result<([u8; 12], bool, u64), WriteError<NoMemory>> {
     let resolver = one_pair(alloc)?;
+    let first_control = resolver.pos();
     let (len, load_factor) = (resolver.len(), resolver.load_factor());
     let mut header = [7u8; 12];
     let fits = ArchivedHashTable::<(u32, u32), Narrow>::resolve_from_len(
@@ -41,27 +36,31 @@ fn header_at(alloc: Global, pos: u32) -> Result<([u8; 12], bool), Fail> {
         u64::from(pos),
         &mut header,
     ).is_ok();
-    Ok((header, fits))
+    Ok((header, fits, first_control))
 }
 
 #[test]
-fn distances_have_32_bits(rt: HostRuntime) -> Result<(), Fail> {
+fn distances_have_32_bits(rt: HostRuntime) {
     let alloc = rt.alloc();
-    assert_eq!(rt; one_pair(alloc)?.pos(), 16);
-    let (header, fits) = header_at(alloc, 48)?;
-    assert!(rt; fits);
-    assert_eq!(rt; header, [0xe0, 0xff, 0xff, 0xff, 1, 0, 0, 0, 2, 0, 0, 0]);
-    let (header, fits) = header_at(alloc, 2_147_483_664)?;
-    assert!(rt; fits);
-    assert_eq!(rt; header, [0, 0, 0, 0x80, 1, 0, 0, 0, 2, 0, 0, 0]);
-    let (header, fits) = header_at(alloc, 2_147_483_668)?;
-    assert!(rt; !fits);
-    assert_eq!(rt; header, [7; 12]);
-    Ok(())
+    let headers = [
+        header_at(alloc, 48).ok(),
+        header_at(alloc, 2_147_483_664).ok(),
+        header_at(alloc, 2_147_483_668).ok(),
+    ];
+    let near = [0xe0, 0xff, 0xff, 0xff, 1, 0, 0, 0, 2, 0, 0, 0];
+    let far = [0, 0, 0, 0x80, 1, 0, 0, 0, 2, 0, 0, 0];
+    assert_eq!(rt;
+        headers,
+        [
+            Some((near, true, 16)),
+            Some((far, true, 16)),
+            Some(([7; 12], false, 16))
+        ]
+    );
 }
 
 // The same in a wide archive, of a table of one byte that stands at position 2.
-fn wide_header_at(alloc: Global, pos: u64) -> Result<([u8; 24], bool), Fail>
+fn wide_header_at(alloc: Global, pos: u64) -> Result<([u8; 24], bool), WriteError<NoMemory>>
     requires { pos + 24 < 2 ^ 64 }
 {
     let mut writer = VecWriter::new(alloc);
@@ -86,15 +85,13 @@ fn wide_header_at(alloc: Global, pos: u64) -> Result<([u8; 24], bool), Fail>
 }
 
 #[test]
-fn distances_of_wide_archives_have_64_bits(rt: HostRuntime) -> Result<(), Fail> {
-    let (header, fits) = wide_header_at(rt.alloc(), 4_294_967_296)?;
-    assert!(rt; fits);
-    let want = [
+fn distances_of_wide_archives_have_64_bits(rt: HostRuntime) {
+    let headers = [
+        wide_header_at(rt.alloc(), 4_294_967_296).ok(),
+        wide_header_at(rt.alloc(), 18_446_744_073_709_551_000).ok(),
+    ];
+    let far = [
         2, 0, 0, 0, 0xff, 0xff, 0xff, 0xff, 1, 0, 0, 0, 0, 0, 0, 0, 2, 0, 0, 0, 0, 0, 0, 0,
     ];
-    assert_eq!(rt; header, want);
-    let (header, fits) = wide_header_at(rt.alloc(), 18_446_744_073_709_551_000)?;
-    assert!(rt; !fits);
-    assert_eq!(rt; header, [7; 24]);
-    Ok(())
+    assert_eq!(rt; headers, [Some((far, true)), Some(([7; 24], false))]);
 }

@@ -4,6 +4,8 @@
 #[cfg(test)]
 mod archives;
 #[cfg(test)]
+mod asks;
+#[cfg(test)]
 mod changes;
 #[cfg(test)]
 mod headers;

@@ -12,8 +12,6 @@ use rkyv_base::view::View;
 use rkyv_base::width::Width;
 use rkyv_table::controls::find::Strides;
 use rkyv_table::table::{ArchivedHashTable, TableOf};
-use std::alloc::Global;
-use std::test::Fail;
 
 /// How many items a table has, and how many buckets.
 pub(crate) fn counts<T: Element, W: Width>(bytes: &[u8]) -> Result<(usize, usize), VerifyError> {
@@ -70,16 +68,30 @@ pub(crate) fn count_walked<T: Element, W: Width>(bytes: &[u8]) -> Result<usize, 
     Ok(table.raw_iter().count())
 }
 
-/// The bytes of the items that a walk gives, one behind the other.
-pub(crate) fn walked<T: Element, W: Width>(alloc: Global, bytes: &[u8]) -> Result<Vec<u8>, Fail> {
-    let table = ArchivedHashTable::of(access_in::<W, TableOf<T, W>>(bytes)?);
-    let mut items = Vec::new(alloc);
-    for pos in table.raw_iter() {
-        let tail = bytes
-            .get(pos as usize..)
-            .ok_or("the item begins in the archive")?;
-        let item = tail.get(..T::size()).ok_or("the item ends in the archive")?;
-        items.extend_from_slice(item)?;
+// Whether these bytes stand at a position.
+fn has_at(bytes: &[u8], pos: u64, item: &[u8]) -> bool {
+    match bytes.get(pos as usize..) {
+        Some(tail) => tail.starts_with(item),
+        None => false,
     }
-    Ok(items)
+}
+
+/// Whether the items that a walk gives are these, one behind the other.
+pub(crate) fn walks_over<T: Element, W: Width>(
+    bytes: &[u8],
+    items: &[u8],
+) -> Result<bool, VerifyError> {
+    let table = ArchivedHashTable::of(access_in::<W, TableOf<T, W>>(bytes)?);
+    let mut left = items;
+    for pos in table.raw_iter() {
+        let (item, others) = match left.split_at_checked(T::size()) {
+            Some(halves) => halves,
+            None => return Ok(false),
+        };
+        if !has_at(bytes, pos, item) {
+            return Ok(false);
+        }
+        left = others;
+    }
+    Ok(left.is_empty())
 }

@@ -1,120 +1,177 @@
 //! Items written in place.
 
-use crate::archives::{SIXTEEN, archived};
+use crate::archives::{SIXTEEN, archived, is_archive};
 use crate::lookups::Asks;
 use rkyv_base::access::{access, access_mut};
+use rkyv_base::errors::VerifyError;
 use rkyv_table::table::{ArchivedHashTable, TableOf};
 use std::test::Fail;
+
+// Whether a sealed lookup in the table of sixteen items under one hash, which accepts none, asks for
+// each item that it should.
+fn asks_sealed(bytes: &mut [u8]) -> Result<bool, VerifyError> {
+    let whole = access_mut::<TableOf<u8>>(bytes)?;
+    let asks = Asks::new();
+    let none = ArchivedHashTable::get_seal_with(
+        whole,
+        16,
+        |item| asks.accepts(item.to_native()),
+    ).is_none();
+    Ok(none && asks.are_all())
+}
+
+// The number that is lent under a hash where all are accepted.
+fn first_lent(bytes: &mut [u8], hash: u64) -> Result<Option<u8>, VerifyError> {
+    let whole = access_mut::<TableOf<u8>>(bytes)?;
+    match ArchivedHashTable::get_seal_with(whole, hash, |_| true) {
+        Some(seal) => Ok(Some(seal.to_native())),
+        None => Ok(None),
+    }
+}
+
+// Writes a number over the one that is found under a hash: what stood there, and what stands there.
+fn replace(
+    bytes: &mut [u8],
+    hash: u64,
+    wanted: u8,
+    number: u8,
+) -> Result<Option<(u8, u8)>, VerifyError> {
+    let whole = access_mut::<TableOf<u8>>(bytes)?;
+    match ArchivedHashTable::get_seal_with(whole, hash, |item| item.to_native() == wanted) {
+        Some(mut seal) => {
+            let before = seal.to_native();
+            seal.set(number);
+            Ok(Some((before, seal.to_native())))
+        }
+        None => Ok(None),
+    }
+}
+
+// Where a number stands that is found under a hash.
+fn pos_of_number(bytes: &[u8], hash: u64, wanted: u8) -> Result<Option<u64>, VerifyError> {
+    let table = ArchivedHashTable::of(access::<TableOf<u8>>(bytes)?);
+    Ok(table.get_pos_with(hash, |item| item.to_native() == wanted))
+}
+
+// Writes these numbers over the items that a cursor lends, one after the other. Whether there are as
+// many items, the cursor tells each time how many are left, and lends nothing after the last.
+fn write_each(bytes: &mut [u8], numbers: &[u8]) -> Result<bool, VerifyError> {
+    let whole = access_mut::<TableOf<u8>>(bytes)?;
+    let mut rest = ArchivedHashTable::raw_iter_seal(whole);
+    let mut right = true;
+    let mut left = numbers.len();
+    for number in numbers {
+        right = right && rest.len() == left;
+        left = left.saturating_sub(1);
+        match rest.next_seal() {
+            Some(mut seal) => seal.set(*number),
+            None => return Ok(false),
+        }
+    }
+    let ended = rest.len() == 0 && rest.next_seal().is_none();
+    Ok(right && ended && rest.next_seal().is_none() && rest.len() == 0)
+}
+
+// The same by the positions of the items.
+fn write_each_by_pos(bytes: &mut [u8], numbers: &[u8]) -> Result<bool, VerifyError> {
+    let whole = access_mut::<TableOf<u8>>(bytes)?;
+    let mut rest = ArchivedHashTable::raw_iter_seal(whole);
+    let mut right = true;
+    let mut left = numbers.len();
+    for number in numbers {
+        right = right && rest.len() == left;
+        left = left.saturating_sub(1);
+        match rest.next_pos() {
+            Some(pos) => rest.set_at(pos, *number),
+            None => return Ok(false),
+        }
+    }
+    let ended = rest.len() == 0 && rest.next_pos().is_none();
+    Ok(right && ended && rest.next_pos().is_none() && rest.len() == 0)
+}
 
 #[test]
 fn a_sealed_lookup_that_finds_nothing_asks_for_each_item(rt: HostRuntime) -> Result<(), Fail> {
     let mut bytes = archived(rt.alloc(), &SIXTEEN, &[16; 16], (1, 1))?;
-    let asks = Asks::new();
-    let whole = access_mut::<TableOf<u8>>(bytes.as_mut_slice())?;
-    match ArchivedHashTable::get_seal_with(whole, 16, |item| asks.accepts(item.to_native())) {
-        Some(_) => assert!(rt; false, "none is accepted"),
-        None => {}
-    }
-    assert!(rt; asks.are_all());
-    let same = archived(rt.alloc(), &SIXTEEN, &[16; 16], (1, 1))?;
-    assert_eq!(rt; bytes.as_slice(), same.as_slice());
+    let asks = asks_sealed(bytes.as_mut_slice()).ok();
+    let same = is_archive(rt.alloc(), bytes.as_slice(), &SIXTEEN, &[16; 16], (1, 1));
+    assert_eq!(rt; (asks, same), (Some(true), true));
     Ok(())
 }
 
 #[test]
 fn a_found_item_is_written_in_place(rt: HostRuntime) -> Result<(), Fail> {
     let mut bytes = archived(rt.alloc(), &[10u8, 20], &[2, 2], (1, 1))?;
-    let whole = access_mut::<TableOf<u8>>(bytes.as_mut_slice())?;
-    match ArchivedHashTable::get_seal_with(whole, 2, |item| item.to_native() == 20) {
-        Some(mut seal) => {
-            assert_eq!(rt; seal.to_native(), 20);
-            seal.set(30);
-            assert_eq!(rt; seal.to_native(), 30);
-        }
-        None => assert!(rt; false, "the item is there"),
-    }
-    let want = archived(rt.alloc(), &[10u8, 30], &[2, 2], (1, 1))?;
-    assert_eq!(rt; bytes.as_slice(), want.as_slice());
-    let table = ArchivedHashTable::of(access::<TableOf<u8>>(bytes.as_slice())?);
+    let replaced = replace(bytes.as_mut_slice(), 2, 20, 30).ok();
+    let same = is_archive(rt.alloc(), bytes.as_slice(), &[10u8, 30], &[2, 2], (1, 1));
+    let found = [
+        pos_of_number(bytes.as_slice(), 2, 30).ok(),
+        pos_of_number(bytes.as_slice(), 2, 20).ok(),
+    ];
     assert_eq!(rt;
-        table.get_pos_with(2, |item| item.to_native() == 30),
-        Some(2)
+        (replaced, same, found),
+        (Some(Some((20, 30))), true, [Some(Some(2)), Some(None)])
     );
-    assert_eq!(rt; table.get_pos_with(2, |item| item.to_native() == 20), None);
     Ok(())
 }
 
 #[test]
 fn the_item_that_was_handed_in_first_is_lent(rt: HostRuntime) -> Result<(), Fail> {
     let mut bytes = archived(rt.alloc(), &[10u8, 20], &[2, 2], (1, 1))?;
-    let whole = access_mut::<TableOf<u8>>(bytes.as_mut_slice())?;
-    match ArchivedHashTable::get_seal_with(whole, 2, |_| true) {
-        Some(seal) => assert_eq!(rt; seal.to_native(), 10),
-        None => assert!(rt; false, "the item is there"),
-    }
+    assert_eq!(rt; first_lent(bytes.as_mut_slice(), 2).ok(), Some(Some(10)));
     Ok(())
 }
 
 #[test]
-fn no_item_of_an_empty_table_is_lent(rt: HostRuntime) -> Result<(), Fail> {
-    let mut bytes = archived::<u8>(rt.alloc(), &[], &[], (7, 8))?;
-    let whole = access_mut::<TableOf<u8>>(bytes.as_mut_slice())?;
-    assert!(rt; ArchivedHashTable::get_seal_with(whole, 2, |_| true).is_none());
+fn where_no_item_is_found_nothing_is_written(rt: HostRuntime) -> Result<(), Fail> {
+    let mut bytes = archived(rt.alloc(), &[10u8, 20], &[2, 2], (1, 1))?;
+    let replaced = replace(bytes.as_mut_slice(), 2, 30, 40).ok();
+    let same = is_archive(rt.alloc(), bytes.as_slice(), &[10u8, 20], &[2, 2], (1, 1));
+    assert_eq!(rt; (replaced, same), (Some(None), true));
     Ok(())
 }
 
 #[test]
 fn items_are_lent_by_ascending_bucket(rt: HostRuntime) -> Result<(), Fail> {
     let mut bytes = archived(rt.alloc(), &[10u8, 20], &[2, 2], (1, 1))?;
-    let whole = access_mut::<TableOf<u8>>(bytes.as_mut_slice())?;
-    let mut rest = ArchivedHashTable::raw_iter_seal(whole);
-    assert_eq!(rt; rest.len(), 2);
-    match rest.next_seal() {
-        Some(mut seal) => seal.set(40),
-        None => assert!(rt; false, "the first item is there"),
-    }
-    assert_eq!(rt; rest.len(), 1);
-    match rest.next_seal() {
-        Some(mut seal) => seal.set(30),
-        None => assert!(rt; false, "the second item is there"),
-    }
-    assert_eq!(rt; rest.len(), 0);
-    match rest.next_seal() {
-        Some(_) => assert!(rt; false, "there are two items"),
-        None => {}
-    }
-    drop(rest);
-    let want = archived(rt.alloc(), &[30u8, 40], &[2, 2], (1, 1))?;
-    assert_eq!(rt; bytes.as_slice(), want.as_slice());
+    let written = write_each(bytes.as_mut_slice(), &[40, 30]).ok();
+    let same = is_archive(rt.alloc(), bytes.as_slice(), &[30u8, 40], &[2, 2], (1, 1));
+    assert_eq!(rt; (written, same), (Some(true), true));
     Ok(())
 }
 
 #[test]
 fn items_are_written_by_position(rt: HostRuntime) -> Result<(), Fail> {
     let mut bytes = archived(rt.alloc(), &SIXTEEN, &[16; 16], (1, 1))?;
-    let whole = access_mut::<TableOf<u8>>(bytes.as_mut_slice())?;
-    let mut rest = ArchivedHashTable::raw_iter_seal(whole);
-    for left in 0..16 {
-        assert_eq!(rt; rest.len(), 16 - left);
-        match rest.next_pos() {
-            Some(pos) => rest.set_at(pos, 7),
-            None => assert!(rt; false, "there are sixteen items"),
-        }
-    }
-    assert_eq!(rt; rest.next_pos(), None);
-    assert_eq!(rt; rest.len(), 0);
-    drop(rest);
-    let want = archived(rt.alloc(), &[7u8; 16], &[16; 16], (1, 1))?;
-    assert_eq!(rt; bytes.as_slice(), want.as_slice());
+    let written = write_each_by_pos(bytes.as_mut_slice(), &[7; 16]).ok();
+    let same = is_archive(rt.alloc(), bytes.as_slice(), &[7u8; 16], &[16; 16], (1, 1));
+    assert_eq!(rt; (written, same), (Some(true), true));
     Ok(())
 }
 
 #[test]
 fn an_empty_table_lends_nothing(rt: HostRuntime) -> Result<(), Fail> {
     let mut bytes = archived::<u8>(rt.alloc(), &[], &[], (7, 8))?;
-    let whole = access_mut::<TableOf<u8>>(bytes.as_mut_slice())?;
-    let mut rest = ArchivedHashTable::raw_iter_seal(whole);
-    assert_eq!(rt; rest.len(), 0);
-    assert_eq!(rt; rest.next_pos(), None);
+    let lent = first_lent(bytes.as_mut_slice(), 2).ok();
+    let walked = write_each(bytes.as_mut_slice(), &[]).ok();
+    let placed = write_each_by_pos(bytes.as_mut_slice(), &[]).ok();
+    let same = is_archive::<u8>(rt.alloc(), bytes.as_slice(), &[], &[], (7, 8));
+    assert_eq!(rt;
+        (lent, walked, placed, same),
+        (Some(None), Some(true), Some(true), true)
+    );
     Ok(())
+}
+
+#[test]
+fn what_is_no_table_is_unchanged(rt: HostRuntime) {
+    let mut bytes = [1, 0, 0, 0, 2, 0, 0, 0, 2, 0, 0, 0];
+    let refused = matches!(
+        access_mut::<TableOf<u8>>(&mut bytes),
+        Err(VerifyError::InvalidLength { len: 2, cap: 2 })
+    );
+    assert_eq!(rt;
+        (refused, bytes),
+        (true, [1, 0, 0, 0, 2, 0, 0, 0, 2, 0, 0, 0])
+    );
 }

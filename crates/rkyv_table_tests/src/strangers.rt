@@ -10,14 +10,26 @@ use rkyv_base::width::{Narrow, Wide};
 use rkyv_table::table::{ArchivedHashTable, TableOf};
 use std::test::Fail;
 
+// Of a table of pairs: whether it is empty, its length and capacity, and whether a lookup under a
+// hash that accepts all answers none.
+fn answers_of(bytes: &[u8], hash: u64) -> Result<(bool, usize, usize, bool), VerifyError> {
+    let table = ArchivedHashTable::of(access::<TableOf<Entry<u32, u32>>>(bytes)?);
+    let none = table.get_with(hash, |_| true).is_none();
+    Ok((table.is_empty(), table.len(), table.capacity(), none))
+}
+
 #[test]
-fn the_distance_of_an_empty_table_is_not_read(rt: HostRuntime) -> Result<(), Fail> {
-    let bytes = [77, 0, 0, 0, 0, 0, 0, 0, 0, 0, 0, 0];
-    let table = ArchivedHashTable::of(access::<TableOf<Entry<u32, u32>>>(&bytes)?);
-    assert!(rt; table.is_empty());
-    assert_eq!(rt; (table.len(), table.capacity()), (0, 0));
-    assert!(rt; table.get_with(0, |_| true).is_none());
-    Ok(())
+fn the_distance_of_an_empty_table_is_not_read(rt: HostRuntime) {
+    let answers = answers_of(&[77, 0, 0, 0, 0, 0, 0, 0, 0, 0, 0, 0], 0).ok();
+    assert_eq!(rt; answers, Some((true, 0, 0, true)));
+}
+
+// Changes a byte, where it is there.
+fn change(bytes: &mut [u8], place: usize, byte: u8) {
+    match bytes.get_mut(place) {
+        Some(old) => *old = byte,
+        None => {}
+    }
 }
 
 #[test]
@@ -46,16 +58,13 @@ fn more_items_than_the_length_are_refused(rt: HostRuntime) {
 }
 
 #[test]
-fn a_table_that_has_buckets_and_no_items_is_accepted(rt: HostRuntime) -> Result<(), Fail> {
+fn a_table_that_has_buckets_and_no_items_is_accepted(rt: HostRuntime) {
     let mut bytes = ONE_PAIR;
     bytes[17] = 0xff;
     bytes[19] = 0xff;
     bytes[52] = 0;
-    let table = ArchivedHashTable::of(access::<TableOf<Entry<u32, u32>>>(&bytes)?);
-    assert!(rt; table.is_empty());
-    assert_eq!(rt; (table.len(), table.capacity()), (0, 2));
-    assert!(rt; table.get_with(0x5000_0000_0000_0001, |_| true).is_none());
-    Ok(())
+    let answers = answers_of(&bytes, 0x5000_0000_0000_0001).ok();
+    assert_eq!(rt; answers, Some((true, 0, 2, true)));
 }
 
 #[test]
@@ -63,56 +72,48 @@ fn controls_that_do_not_repeat_are_refused(rt: HostRuntime) -> Result<(), Fail> 
     let starts = [0, 1, 2, 3, 4, 5, 6, 7, 8, 9, 10, 11, 12, 13, 14];
     let mut large = archived(rt.alloc(), &SIXTEEN[..15], &starts, (1, 1))?;
     // sixteen buckets of one byte, 31 controls, and a zero before the header
-    assert_eq!(rt; large.len(), 60);
-    large[32] = 1;
-    assert!(rt;
-        matches!(
-            access::<TableOf<u8>>(large.as_slice()),
-            Err(VerifyError::UnwrappedControlByte { index: 16 })
-        )
+    change(large.as_mut_slice(), 32, 1);
+    let sixteen = matches!(
+        access::<TableOf<u8>>(large.as_slice()),
+        Err(VerifyError::UnwrappedControlByte { index: 16 })
     );
     let mut bytes = ONE_PAIR;
     bytes[20] = 0;
-    assert!(rt;
-        matches!(
-            access::<TableOf<Entry<u32, u32>>>(&bytes),
-            Err(VerifyError::UnwrappedControlByte { index: 4 })
-        )
+    let two = matches!(
+        access::<TableOf<Entry<u32, u32>>>(&bytes),
+        Err(VerifyError::UnwrappedControlByte { index: 4 })
     );
+    assert_eq!(rt; (large.len(), sixteen, two), (60, true, true));
     Ok(())
 }
 
 #[test]
-fn an_empty_control_may_be_another_byte_than_is_written(rt: HostRuntime) -> Result<(), Fail> {
+fn an_empty_control_may_be_another_byte_than_is_written(rt: HostRuntime) {
     let mut bytes = ONE_PAIR;
     bytes[16] = 0x80;
     bytes[18] = 0x80;
-    let table = ArchivedHashTable::of(access::<TableOf<Entry<u32, u32>>>(&bytes)?);
-    assert_eq!(rt; table.len(), 1);
-    Ok(())
+    let counts = counts::<Entry<u32, u32>, Narrow>(&bytes).ok();
+    assert_eq!(rt; counts, Some((1, 2)));
 }
 
 #[test]
 fn the_part_of_a_table_is_the_range_up_to_its_end(rt: HostRuntime) {
     let whole = PartRange { lo: 0, hi: 48 };
-    match ArchivedHashTable::<Entry<u32, u32>, Narrow>::verify(&ONE_PAIR, 48, whole) {
-        Ok(rest) => assert_eq!(rt; (rest.lo, rest.hi), (47, 48)),
-        Err(_) => assert!(rt; false, "the table is accepted"),
-    }
+    let accepted = matches!(
+        ArchivedHashTable::<Entry<u32, u32>, Narrow>::verify(&ONE_PAIR, 48, whole),
+        Ok(PartRange { lo: 47, hi: 48 })
+    );
     let narrower = PartRange { lo: 1, hi: 48 };
-    assert!(rt;
-        matches!(
-            ArchivedHashTable::<Entry<u32, u32>, Narrow>::verify(&ONE_PAIR, 48, narrower),
-            Err(VerifyError::OutOfRange { pos: 0, size: 47 })
-        )
+    let begins_before = matches!(
+        ArchivedHashTable::<Entry<u32, u32>, Narrow>::verify(&ONE_PAIR, 48, narrower),
+        Err(VerifyError::OutOfRange { pos: 0, size: 47 })
     );
     let shorter = PartRange { lo: 0, hi: 46 };
-    assert!(rt;
-        matches!(
-            ArchivedHashTable::<Entry<u32, u32>, Narrow>::verify(&ONE_PAIR, 48, shorter),
-            Err(VerifyError::OutOfRange { pos: 0, size: 47 })
-        )
+    let ends_behind = matches!(
+        ArchivedHashTable::<Entry<u32, u32>, Narrow>::verify(&ONE_PAIR, 48, shorter),
+        Err(VerifyError::OutOfRange { pos: 0, size: 47 })
     );
+    assert_eq!(rt; [accepted, begins_before, ends_behind], [true; 3]);
 }
 
 // Whether so many bytes of the archive of one pair are answered as they should be.
@@ -163,10 +164,11 @@ fn is_answered(len: usize, front: &[u8]) -> bool {
 
 #[test]
 fn fronts_of_an_archive_are_answered(rt: HostRuntime) {
+    let mut right = access::<TableOf<Entry<u32, u32>>>(&ONE_PAIR).is_ok();
     for len in 0..60 {
-        assert!(rt; is_answered(len, &ONE_PAIR[..len]), "of {len} bytes");
+        right = right && is_answered(len, &ONE_PAIR[..len]);
     }
-    assert!(rt; access::<TableOf<Entry<u32, u32>>>(&ONE_PAIR).is_ok());
+    assert!(rt; right);
 }
 
 #[test]
@@ -182,18 +184,18 @@ fn a_narrow_archive_is_no_wide_one(rt: HostRuntime) {
 #[test]
 fn an_item_that_is_no_value_is_refused(rt: HostRuntime) -> Result<(), Fail> {
     let mut bytes = archived(rt.alloc(), &[true, false], &[2, 2], (1, 1))?;
-    let table = ArchivedHashTable::of(access::<TableOf<bool>>(bytes.as_slice())?);
-    assert_eq!(rt; table.len(), 2);
+    let written = counts::<bool, Narrow>(bytes.as_slice()).ok();
     // an empty bucket may hold anything
-    assert_eq!(rt; bytes.len(), 48);
-    bytes[1] = 2;
-    assert!(rt; access::<TableOf<bool>>(bytes.as_slice()).is_ok());
-    bytes[0] = 2;
-    assert!(rt;
-        matches!(
-            access::<TableOf<bool>>(bytes.as_slice()),
-            Err(VerifyError::InvalidValue { pos: 0 })
-        )
+    change(bytes.as_mut_slice(), 1, 2);
+    let changed = counts::<bool, Narrow>(bytes.as_slice()).ok();
+    change(bytes.as_mut_slice(), 0, 2);
+    let refused = matches!(
+        access::<TableOf<bool>>(bytes.as_slice()),
+        Err(VerifyError::InvalidValue { pos: 0 })
+    );
+    assert_eq!(rt;
+        (bytes.len(), written, changed, refused),
+        (48, Some((2, 3)), Some((2, 3)), true)
     );
     Ok(())
 }

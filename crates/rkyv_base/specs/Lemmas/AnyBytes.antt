@@ -5,9 +5,16 @@ use Rattle.rkyv_base.specs.Shape.{Shape, IsAlign, IsElement}
 
 -- it holds anywhere, and has no part elsewhere
 abbrev pub any_bytes : ℕ → ℕ → Shape
-any_bytes size align = record { size = size; align = align; holds = λ b p lo hi l. l ≡ lo; fails = λ b p lo hi e. ⊥ }
+any_bytes size align = record {
+  size = size;
+  align = align;
+  holds = λ b p lo hi l. l ≡ lo;
+  fails =
+      λ b p lo hi e. ⊥;
+}
 
-pub any_bytes-element : (size align : ℕ) → IsAlign align → size % align ≡ 0 → size ≤ 1073741824 → IsElement (any_bytes size align)
+pub any_bytes-element : (size align : ℕ) → IsAlign align → size % align ≡ 0 → size ≤ 1073741824
+    → IsElement (any_bytes size align)
 any_bytes-element size align is_align whole small = record {
   align_is = is_align;
   size_whole = whole;

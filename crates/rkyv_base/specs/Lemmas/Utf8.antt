@@ -1,5 +1,24 @@
 -- What no byte of UTF-8 is, and what its first byte isn't.
-use Rattle.std.specs.Prelude.{◌≡◌, ℕ, zero, suc, ◌+◌, ◌/◌, ◌%◌, ◌<◌, ◌≤◌, ◌&&◌, true, false, List, [], ◌∷◌, All, nat_le, nat_lt}
+use Rattle.std.specs.Prelude.{
+  ◌≡◌,
+  ℕ,
+  zero,
+  suc,
+  ◌+◌,
+  ◌/◌,
+  ◌%◌,
+  ◌<◌,
+  ◌≤◌,
+  ◌&&◌,
+  true,
+  false,
+  List,
+  [],
+  ◌∷◌,
+  All,
+  nat_le,
+  nat_lt,
+}
 use Rattle.std.specs.Str.{IsUtf8}
 use Rattle.std.proofs.Common.{arith, inl, inr, ltb, subst}
 use Rattle.std.proofs.Math.Utf8.{encode, encodes, scalar, scalars, scalar_cases}
@@ -37,10 +56,14 @@ char_below c h =
     let two : List ℕ = (128 + c / 64 % 64) ∷ one in
     let one_below : BelowFf one = tail_below c [] below_nil in
     let two_below : BelowFf two = tail_below (c / 64) one one_below in
-    cond_both (ltb c 128) _ _ BelowFf (λ e. below_cons c [] (omega (arith, ltb-true c 128 e)) below_nil)
-    (λ e1. cond_both (ltb c 2048) _ _ BelowFf (λ e. below_cons (192 + c / 64) one (omega (arith, ltb-true c 2048 e)) one_below)
-    (λ e2. cond_both (ltb c 65536) _ _ BelowFf (λ e. below_cons (224 + c / 4096) two (omega (arith, ltb-true c 65536 e)) two_below)
-    (λ e3. below_cons (240 + c / 262144) ((128 + c / 4096 % 64) ∷ two) (lead_below c h) (tail_below (c / 4096) two two_below))))
+    cond_both (ltb c 128) _ _ BelowFf (λ e. below_cons c [] (omega (arith, ltb-true c 128 e))
+    below_nil)
+    (λ e1. cond_both (ltb c 2048) _ _ BelowFf
+    (λ e. below_cons (192 + c / 64) one (omega (arith, ltb-true c 2048 e)) one_below)
+    (λ e2. cond_both (ltb c 65536) _ _ BelowFf
+    (λ e. below_cons (224 + c / 4096) two (omega (arith, ltb-true c 65536 e)) two_below)
+    (λ e3. below_cons (240 + c / 262144) ((128 + c / 4096 % 64) ∷ two) (lead_below c h)
+    (tail_below (c / 4096) two two_below))))
 
 chars_below : (cs : List ℕ) → scalars cs ≡ true → BelowFf (encodes cs)
 chars_below [] h = below_nil

@@ -12,6 +12,7 @@ use Rattle.rkyv_keys.specs.Keys.{FitsItsEqual, IsKey, IsQuery}
 use Rattle.rkyv_collections.specs.Map.{hash_at}
 use Rattle.rkyv_collections.specs.MapFormat.{MapStands, hash_of, map_format}
 use Rattle.rkyv_collections.specs.Lemmas.MapSound.{map_near, map_sound}
+use Rattle.rkyv_collections.specs.Listed.{listed, listed_format}
 use Rattle.rkyv_collections.specs.Set.{set_shape}
 use Rattle.rkyv_collections.specs.SetFormat.{SetStands, set_format, with_units}
 
@@ -29,3 +30,12 @@ module _ {State : Type 0} (initial : State) (feed : State → HasherCall → Sta
       written_as-format with_units (set_shape w k) (MapStands w k unit_shape key unit_stands (hash_at initial feed finish key_calls) factor)
       (map_format w k unit_shape kf unit_format (hash_of initial feed finish calls) factor)
       (map_sound initial feed finish w kl unit_element factor kind query native itself reads kw unit_is_format)
+
+  -- and of a list that is written by a call which takes exactly its keys
+  pub listed_set_sound : (max : ℕ) → IsArchiveWord w → {can_read : A → Type 0} {calls : A → List HasherCall} {fits : A → List ℕ → ℕ → Bool} {equal : A → A → Bool} {R : Type 0} {kf : Format A R}
+      → IsQuery k same key_calls can_read calls fits → FitsItsEqual k key equal fits → ((a : A) → equal a a ≡ true) → ((a : A) → can_read a) → IsFormat k key kf
+      → IsFormat (set_shape w k) (SetStands w k key (hash_at initial feed finish key_calls) factor)
+      (listed max factor (set_format w k kf (hash_of initial feed finish calls) factor))
+  listed_set_sound max kind {can_read} {calls} {fits} {equal} {R} {kf} query native itself reads kw =
+      listed_format max factor (set_shape w k) (SetStands w k key (hash_at initial feed finish key_calls) factor)
+      (set_format w k kf (hash_of initial feed finish calls) factor) (set_sound kind query native itself reads kw)

@@ -12,17 +12,17 @@ use std::marker::PhantomData;
 
 /// The pairs of an iterator, each as an entry under the hash of its key.
 #[derive(Drop)]
-pub(crate) struct Hashed<I, A, B, H> {
+pub(crate) struct HashedEntries<I, A, B, H> {
     pairs: I,
     kinds: PhantomData<(A, B, H)>,
 }
 
-impl<I, A, B, H> Hashed<I, A, B, H> {
+impl<I, A, B, H> HashedEntries<I, A, B, H> {
     #[inline]
-    pub(crate) fn new(pairs: I) -> Hashed<I, A, B, H>
+    pub(crate) fn new(pairs: I) -> HashedEntries<I, A, B, H>
         ensures { result.pairs ≡ pairs }
     {
-        Hashed {
+        HashedEntries {
             pairs,
             kinds: PhantomData,
         }
@@ -30,7 +30,7 @@ impl<I, A, B, H> Hashed<I, A, B, H> {
 }
 
 impl<A: KeyHash, B, H: KeyHasher, BK: Lend<A>, BV: Lend<B>, I: Iterator<Item = (BK, BV)>> Iterator
-    for Hashed<I, A, B, H> {
+    for HashedEntries<I, A, B, H> {
     type Item = (u64, EntryAdapter<BK, BV, A, B>);
 
     ghost can_next = { λ s. I.can_next s.pairs × ((key : A) → A.can_read key) };

@@ -1,18 +1,37 @@
 //! Walking over the pairs of a map to write their values.
 ghost use Rattle.std.specs.Prelude.{IfSome, IsSome, IsTrue, drop, length, take, ◌+◌, ◌↔◌, ◌≡◌, ◌≤◌};
 ghost use Rattle.std.specs.Int.{byte_len};
-ghost use Rattle.rkyv_base.specs.Entry.{entry_shape};
 ghost use Rattle.rkyv_base.specs.Scalar.{scalar_shape};
 ghost use Rattle.rkyv_base.specs.Seal.{LiesIn, archive_in, bytes_in, seal_pos, pos_in};
 ghost use Rattle.rkyv_base.specs.Sealing.{value_pos, with_value};
 ghost use Rattle.rkyv_base.specs.Shape.{Viewed};
 ghost use Rattle.rkyv_base.specs.View.{IsView, bytes_of, pos_of};
-ghost use Rattle.rkyv_table.specs.Table.Header.{cap_at, len_at};
-ghost use Rattle.rkyv_table.specs.Controls.Placing.{walk};
-ghost use Rattle.rkyv_table.specs.Table.Reading.{table_controls};
-ghost use Rattle.rkyv_table.specs.Table.SealedItems.{CountsDown, LendsArchive, SameArchive, StaysThere, WrittenBy, buckets_left, cursor_bytes, items_left};
+ghost use Rattle.rkyv_table.specs.Table.SealedItems.{
+  CountsDown,
+  LendsArchive,
+  SameArchive,
+  StaysThere,
+  WrittenBy,
+  cursor_bytes,
+  items_left,
+};
+ghost use Rattle.rkyv_collections.specs.Map.{map_shape};
 ghost use Rattle.rkyv_collections.specs.SealedMap.{IsMapSeal};
-ghost use Rattle.rkyv_collections.specs.SealedPairs.{IsPairIter, KeepsPairs, KeepsValues, LendsFirstPair, LendsFirstValue, MayWriteValue, StepsAndWritesValue, TakesKeyPos, TakesValuePos, entries_in, entries_of};
+ghost use Rattle.rkyv_collections.specs.SealedPairs.{
+  HasAllPairs,
+  KeepsPairs,
+  KeepsValues,
+  LendsFirstPair,
+  LendsFirstValue,
+  MayWritePair,
+  MayWriteValue,
+  StepsAndWritesPair,
+  StepsAndWritesValue,
+  TakesKeyPos,
+  TakesValuePos,
+  entries_in,
+  entries_of,
+};
 
 use crate::map::{ArchivedHashMap, HashMapOf};
 use rkyv_base::element::{Element, PartRange};
@@ -22,8 +41,8 @@ use rkyv_base::seal::{ArchiveSeal, Seal};
 use rkyv_base::view::View;
 use rkyv_base::width::{Narrow, Width};
 use rkyv_scan::hash::FxHasher64;
+use rkyv_table::table::ArchivedHashTable;
 use rkyv_table::table::raw_iter_seal::RawIterSeal;
-use rkyv_table::table::{ArchivedHashTable, TableOf};
 use std::marker::PhantomData;
 
 /// Whether a value stands at a position of some bytes.
@@ -72,8 +91,6 @@ fn behind<K: Element, V: Element>(bytes: &[u8], pos: u64) -> u64
 }
 
 /// The pairs of a map, by ascending bucket, each with its value to be written.
-///
-/// It gives as many as `len` tells.
 #[derive(Drop)]
 pub struct IterMut<'a, K, V, H = FxHasher64, W = Narrow> {
     entries: RawIterSeal<'a, Entry<K, V>>,
@@ -102,6 +119,22 @@ impl<'a, K: Element, V: Element, H, W> IterMut<'a, K, V, H, W> {
             return None;
         }
         self.entries.next_pos()
+    }
+
+    /// Where the key of the next pair stands, after `write` was given the archive and that place.
+    ///
+    /// Where none is left, nothing is written.
+    #[inline]
+    pub fn next_with<F: FnOnce(&mut [u8], u64)>(&mut self, write: F) -> Option<u64>
+        requires { MayWritePair K.shape V.shape F.pre (entries_in self.old) write }
+        ensures { StepsAndWritesPair K.shape V.shape (WrittenBy F.post write tt)
+            (entries_in self.old) result (entries_in self.new) }
+    {
+        let next = self.next_pos();
+        if let Some(pos) = next {
+            self.entries.write_with(pos, write);
+        }
+        next
     }
 
     /// The key at a position.
@@ -147,8 +180,6 @@ impl<'a, K: Element, N: Scalar, H, W> IterMut<'a, K, N, H, W> {
 }
 
 /// The values of a map, by ascending bucket, each of which is lent to be written.
-///
-/// It gives as many as `len` tells.
 #[derive(Drop)]
 pub struct ValuesMut<'a, K, V, H = FxHasher64, W = Narrow> {
     pairs: IterMut<'a, K, V, H, W>,
@@ -183,7 +214,8 @@ impl<'a, K: Element, V: Element, H, W> ValuesMut<'a, K, V, H, W> {
     #[inline]
     pub fn next_with<F: FnOnce(&mut [u8], u64)>(&mut self, write: F) -> Option<u64>
         requires { MayWriteValue K.shape V.shape F.pre (entries_of self.old) write }
-        ensures { StepsAndWritesValue K.shape V.shape (WrittenBy F.post write tt) (entries_of self.old) result (entries_of self.new) }
+        ensures { StepsAndWritesValue K.shape V.shape (WrittenBy F.post write tt)
+            (entries_of self.old) result (entries_of self.new) }
     {
         let next = self.next_pos();
         if let Some(pos) = next {
@@ -227,15 +259,24 @@ impl<'a, K: Element, V: Element, H, W: Width> ArchivedHashMap<'a, K, V, H, W> {
     pub fn iter_seal(this: ArchiveSeal<'a, HashMapOf<K, V, H, W>>) -> IterMut<'a, K, V, H, W>
         requires map { IsMapSeal W.word K.shape V.shape this }
         ensures archive { LendsArchive this.entry (entries_in result) }
-        ensures iter { IsPairIter K.shape V.shape W.word (pos_in this.entry) (entries_in result) }
-        ensures buckets { buckets_left W.word (pos_in this.entry) (entries_in result)
-            ≡ walk (table_controls W.word (archive_in this.entry) (pos_in this.entry)) (cap_at W.word (archive_in this.entry) (pos_in this.entry)) }
-        ensures count { items_left (entries_in result) ≡ len_at W.word (archive_in this.entry) (pos_in this.entry) }
+        ensures all { HasAllPairs K.shape V.shape W.word (archive_in this.entry)
+            (pos_in this.entry) (entries_in result) }
     {
         let (archive, pos) = this.into_parts();
-        let table = ArchiveSeal::<TableOf<Entry<K, V>, W>>::new(archive, pos);
+        Self::iter_over(archive, pos)
+    }
+
+    /// The pairs of the map whose header stands at a position of an archive, by ascending bucket,
+    /// each with its value to be written.
+    #[inline]
+    pub fn iter_over(archive: &'a mut [u8], pos: u64) -> IterMut<'a, K, V, H, W>
+        requires map { Viewed (map_shape W.word K.shape V.shape) archive.old pos }
+        ensures reference { (entries_in result).archive.ghost_name ≡ archive.entry.ghost_name }
+        ensures bytes { cursor_bytes (entries_in result) ≡ archive.old }
+        ensures all { HasAllPairs K.shape V.shape W.word archive.old pos (entries_in result) }
+    {
         IterMut {
-            entries: ArchivedHashTable::raw_iter_seal(table),
+            entries: ArchivedHashTable::<Entry<K, V>, W>::raw_iter_over(archive, pos),
             hasher: PhantomData,
             width: PhantomData,
         }
@@ -246,13 +287,25 @@ impl<'a, K: Element, V: Element, H, W: Width> ArchivedHashMap<'a, K, V, H, W> {
     pub fn values_seal(this: ArchiveSeal<'a, HashMapOf<K, V, H, W>>) -> ValuesMut<'a, K, V, H, W>
         requires map { IsMapSeal W.word K.shape V.shape this }
         ensures archive { LendsArchive this.entry (entries_of result) }
-        ensures iter { IsPairIter K.shape V.shape W.word (pos_in this.entry) (entries_of result) }
-        ensures buckets { buckets_left W.word (pos_in this.entry) (entries_of result)
-            ≡ walk (table_controls W.word (archive_in this.entry) (pos_in this.entry)) (cap_at W.word (archive_in this.entry) (pos_in this.entry)) }
-        ensures count { items_left (entries_of result) ≡ len_at W.word (archive_in this.entry) (pos_in this.entry) }
+        ensures all { HasAllPairs K.shape V.shape W.word (archive_in this.entry)
+            (pos_in this.entry) (entries_of result) }
     {
         ValuesMut {
             pairs: Self::iter_seal(this),
+        }
+    }
+
+    /// The values of the map whose header stands at a position of an archive, by ascending bucket,
+    /// to be written.
+    #[inline]
+    pub fn values_over(archive: &'a mut [u8], pos: u64) -> ValuesMut<'a, K, V, H, W>
+        requires map { Viewed (map_shape W.word K.shape V.shape) archive.old pos }
+        ensures reference { (entries_of result).archive.ghost_name ≡ archive.entry.ghost_name }
+        ensures bytes { cursor_bytes (entries_of result) ≡ archive.old }
+        ensures all { HasAllPairs K.shape V.shape W.word archive.old pos (entries_of result) }
+    {
+        ValuesMut {
+            pairs: Self::iter_over(archive, pos),
         }
     }
 }

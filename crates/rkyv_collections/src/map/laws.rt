@@ -1,12 +1,14 @@
 //! Laws of maps, over their definitions alone.
+ghost use Rattle.rkyv_collections.specs.BothHashers.{ComparedAlike, QueriedAlike, WrittenAlike};
 ghost use Rattle.rkyv_collections.specs.Equality.{EqualHaveSamePairs};
+ghost use Rattle.rkyv_collections.specs.ListedLookups.{LookupsFindListed};
 ghost use Rattle.rkyv_collections.specs.Map.{hash_at};
 ghost use Rattle.rkyv_collections.specs.Misplaced.{RepeatedKeysAreMisplaced};
 
-use rkyv_base::element::Element;
+use rkyv_base::element::{Element, StandsFor};
 use rkyv_base::width::Width;
 use rkyv_keys::equality::ElementEquiv;
-use rkyv_keys::keys::KeyElement;
+use rkyv_keys::keys::{FixedKey, KeyElement, Query};
 use rkyv_scan::hash::KeyHasher;
 
 /// Two maps that were written of distinct keys are equal exactly where each pair of either is the
@@ -19,4 +21,30 @@ pub fn equal_maps_have_the_same_pairs<K: KeyElement, V: ElementEquiv, H: KeyHash
 /// earlier.
 pub fn repeated_keys_are_misplaced<K: KeyElement, V: Element, H: KeyHasher, W: Width>()
     ensures { RepeatedKeysAreMisplaced W.word K.shape V.shape (hash_at H.initial H.feed H.finish K.key_calls) K.same }
+{}
+
+/// In a map that stands for a list of pairs, what a lookup answers by its clause `first` is the
+/// first pair of the list whose key is asked for, and none where none is: where the comparison
+/// accepts a key exactly if it was written of a value that is asked for, as by a native key those
+/// that equal it.
+pub fn lookups_find_listed<
+    A,
+    B,
+    K: KeyElement + StandsFor<A>,
+    V: StandsFor<B>,
+    H: KeyHasher,
+    W: Width,
+>()
+    ensures { LookupsFindListed K.shape V.shape K.stands V.stands K V H W W.word
+        (hash_at H.initial H.feed H.finish K.key_calls) }
+{}
+
+/// `FxHasher64` and `FxHasher64Wide` differ in `usize` and `isize` alone. A map whose keys feed
+/// neither was written under the one as it was under the other, and is looked up alike under both:
+/// by every query, and by a comparison where the key that is asked for feeds neither. So it is of
+/// all keys of `rkyv_keys`.
+pub fn both_hashers_look_up_alike<Q: Query<K>, K: FixedKey, V: Element, W: Width>()
+    ensures written { WrittenAlike W.word K.shape V.shape K.key_calls }
+    ensures compared { ComparedAlike W.word K.shape V.shape }
+    ensures queried { QueriedAlike W.word K.shape V.shape K.key_calls Q.can_read Q.calls Q.fits }
 {}

@@ -1,12 +1,11 @@
 //! Finding a pair by its key.
-ghost use Rattle.std.specs.Prelude.{Bool, IfSome, IsSome, ℕ, ◌<◌, ◌^◌, ◌≡◌};
+ghost use Rattle.std.specs.Prelude.{IfSome, IsSome, Some, ◌<◌, ◌^◌, ◌≡◌};
 ghost use Rattle.rkyv_base.specs.Entry.{entry_shape};
 ghost use Rattle.rkyv_base.specs.View.{IsAt, IsView, archive_of, pos_of};
 ghost use Rattle.rkyv_base.specs.declared.view.View.{View};
-ghost use Rattle.rkyv_scan.specs.Hash.{hash_of_calls};
 ghost use Rattle.rkyv_collections.specs.Map.{
-  AnswersKeys,
-  AreUnderHash,
+  FindsBy,
+  FindsFirstBy,
   FindsFirstKey,
   FindsKey,
   IsEntryAt,
@@ -19,12 +18,10 @@ ghost use Rattle.rkyv_collections.specs.Map.{
   IsValueIn,
   MayAskKeys,
   hash_at,
-  key_pos_found,
   map_bytes,
-  map_pos,
 };
-ghost use Rattle.rkyv_collections.specs.Misplaced.{FindsTheOne, map_misplaced};
-ghost use Rattle.rkyv_table.specs.Table.Reading.{pos_of_found};
+ghost use Rattle.rkyv_collections.specs.MapFormat.{hash_of};
+ghost use Rattle.rkyv_collections.specs.Misplaced.{FindsOneKey};
 
 use crate::map::ArchivedHashMap;
 use rkyv_base::element::Element;
@@ -48,23 +45,24 @@ impl<'a, K: KeyElement, V: Element, H: KeyHasher, W: Width> ArchivedHashMap<'a, 
         requires query { Q.can_read key.now }
         requires callable { MayAskKeys W.word K.shape V.shape self (F.pre cmp key) }
         ensures walked { IfSome result (IsEntryIn W.word K.shape V.shape self.entry) }
-        ensures answer { let hash = hash_of_calls H.initial H.feed H.finish (Q.calls key.now) in
-            (accept : ℕ → Bool) → AnswersKeys W.word K.shape V.shape self.entry (F.post cmp key.entry) accept
-            → FindsKey W.word K.shape V.shape self.entry hash accept (IsEntryAt result) }
-        ensures first { let hash = hash_of_calls H.initial H.feed H.finish (Q.calls key.now) in
-            let key_hash = hash_at H.initial H.feed H.finish K.key_calls in
-            (accept : ℕ → Bool) → AnswersKeys W.word K.shape V.shape self.entry (F.post cmp key.entry) accept
-            → AreUnderHash W.word K.shape V.shape self.entry hash key_hash accept
-            → FindsFirstKey W.word K.shape V.shape self.entry key_hash accept (IsEntryAt result) }
-        ensures hash { hash_of_calls H.initial H.feed H.finish (Q.calls key.now) < 2 ^ 64 }
+        ensures answer { FindsBy W.word K.shape V.shape self.entry (F.post cmp key.entry)
+            (hash_of H.initial H.feed H.finish Q.calls key.now)
+            (IsEntryAt result) }
+        ensures first { FindsFirstBy W.word K.shape V.shape self.entry (F.post cmp key.entry)
+            (hash_of H.initial H.feed H.finish Q.calls key.now)
+            (hash_at H.initial H.feed H.finish K.key_calls)
+            (IsEntryAt result) }
+        ensures hash { hash_of H.initial H.feed H.finish Q.calls key.now < 2 ^ 64 }
     {
         let hash = hash_value::<Q, H>(key);
         self.table().get_with(
             hash,
             |entry|
                 requires entry { IsView (entry_shape K.shape V.shape) entry }
-                requires callable { (k : View K) → IsAt k (archive_of entry) (pos_of entry) → IsView K.shape k → F.pre cmp key k }
-                ensures { (k : View K) × IsAt k (archive_of entry.entry) (pos_of entry.entry) × IsView K.shape k × F.post cmp key.entry k result }
+                requires callable { (k : View K) → IsAt k (archive_of entry) (pos_of entry)
+                    → IsView K.shape k → F.pre cmp key k }
+                ensures { (k : View K) × IsAt k (archive_of entry.entry) (pos_of entry.entry)
+                    × IsView K.shape k × F.post cmp key.entry k result }
             { cmp(key, entry.key()) },
         )
     }
@@ -86,14 +84,13 @@ impl<'a, K: KeyElement, V: Element, H: KeyHasher, W: Width> ArchivedHashMap<'a, 
         requires query { Q.can_read key.now }
         requires callable { MayAskKeys W.word K.shape V.shape self (F.pre cmp key) }
         ensures walked { IfSome result (IsPairIn W.word K.shape V.shape self.entry) }
-        ensures answer { let hash = hash_of_calls H.initial H.feed H.finish (Q.calls key.now) in
-            (accept : ℕ → Bool) → AnswersKeys W.word K.shape V.shape self.entry (F.post cmp key.entry) accept
-            → FindsKey W.word K.shape V.shape self.entry hash accept (IsPairAt result) }
-        ensures first { let hash = hash_of_calls H.initial H.feed H.finish (Q.calls key.now) in
-            let key_hash = hash_at H.initial H.feed H.finish K.key_calls in
-            (accept : ℕ → Bool) → AnswersKeys W.word K.shape V.shape self.entry (F.post cmp key.entry) accept
-            → AreUnderHash W.word K.shape V.shape self.entry hash key_hash accept
-            → FindsFirstKey W.word K.shape V.shape self.entry key_hash accept (IsPairAt result) }
+        ensures answer { FindsBy W.word K.shape V.shape self.entry (F.post cmp key.entry)
+            (hash_of H.initial H.feed H.finish Q.calls key.now)
+            (IsPairAt result) }
+        ensures first { FindsFirstBy W.word K.shape V.shape self.entry (F.post cmp key.entry)
+            (hash_of H.initial H.feed H.finish Q.calls key.now)
+            (hash_at H.initial H.feed H.finish K.key_calls)
+            (IsPairAt result) }
     {
         match self.find(key, cmp) {
             Some(entry) => Some((entry.key(), entry.value())),
@@ -112,14 +109,13 @@ impl<'a, K: KeyElement, V: Element, H: KeyHasher, W: Width> ArchivedHashMap<'a, 
         requires query { Q.can_read key.now }
         requires callable { MayAskKeys W.word K.shape V.shape self (F.pre cmp key) }
         ensures walked { IfSome result (IsValueIn W.word K.shape V.shape self.entry) }
-        ensures answer { let hash = hash_of_calls H.initial H.feed H.finish (Q.calls key.now) in
-            (accept : ℕ → Bool) → AnswersKeys W.word K.shape V.shape self.entry (F.post cmp key.entry) accept
-            → FindsKey W.word K.shape V.shape self.entry hash accept (IsValueAt K.shape V.shape result) }
-        ensures first { let hash = hash_of_calls H.initial H.feed H.finish (Q.calls key.now) in
-            let key_hash = hash_at H.initial H.feed H.finish K.key_calls in
-            (accept : ℕ → Bool) → AnswersKeys W.word K.shape V.shape self.entry (F.post cmp key.entry) accept
-            → AreUnderHash W.word K.shape V.shape self.entry hash key_hash accept
-            → FindsFirstKey W.word K.shape V.shape self.entry key_hash accept (IsValueAt K.shape V.shape result) }
+        ensures answer { FindsBy W.word K.shape V.shape self.entry (F.post cmp key.entry)
+            (hash_of H.initial H.feed H.finish Q.calls key.now)
+            (IsValueAt K.shape V.shape result) }
+        ensures first { FindsFirstBy W.word K.shape V.shape self.entry (F.post cmp key.entry)
+            (hash_of H.initial H.feed H.finish Q.calls key.now)
+            (hash_at H.initial H.feed H.finish K.key_calls)
+            (IsValueAt K.shape V.shape result) }
     {
         match self.find(key, cmp) {
             Some(entry) => Some(entry.value()),
@@ -133,13 +129,15 @@ impl<'a, K: KeyElement, V: Element, H: KeyHasher, W: Width> ArchivedHashMap<'a, 
         requires map { IsMap W.word K.shape V.shape self }
         requires query { Q.can_read key.now }
         ensures walked { IfSome result (IsEntryIn W.word K.shape V.shape self.entry) }
-        ensures answer { let hash = hash_of_calls H.initial H.feed H.finish (Q.calls key.now) in
-            FindsKey W.word K.shape V.shape self.entry hash (Q.fits key.now (map_bytes self.entry)) (IsEntryAt result) }
-        ensures first { let key_hash = hash_at H.initial H.feed H.finish K.key_calls in
-            FindsFirstKey W.word K.shape V.shape self.entry key_hash (Q.fits key.now (map_bytes self.entry)) (IsEntryAt result) }
-        ensures complete { let key_hash = hash_at H.initial H.feed H.finish K.key_calls in
-            map_misplaced W.word K.shape V.shape key_hash K.same (map_bytes self.entry) (map_pos self.entry) ≡ 0
-            → FindsTheOne W.word (entry_shape K.shape V.shape).size (map_bytes self.entry) (map_pos self.entry) (Q.fits key.now (map_bytes self.entry)) (pos_of_found result) }
+        ensures answer { FindsKey W.word K.shape V.shape self.entry
+            (hash_of H.initial H.feed H.finish Q.calls key.now)
+            (Q.fits key.now (map_bytes self.entry)) (IsEntryAt result) }
+        ensures first { FindsFirstKey W.word K.shape V.shape self.entry
+            (hash_at H.initial H.feed H.finish K.key_calls)
+            (Q.fits key.now (map_bytes self.entry)) (IsEntryAt result) }
+        ensures complete { FindsOneKey W.word K.shape V.shape self.entry
+            (hash_at H.initial H.feed H.finish K.key_calls) K.same
+            (Q.fits key.now (map_bytes self.entry)) (IsEntryAt result) }
     {
         self.find(
             key,
@@ -161,13 +159,15 @@ impl<'a, K: KeyElement, V: Element, H: KeyHasher, W: Width> ArchivedHashMap<'a, 
         requires map { IsMap W.word K.shape V.shape self }
         requires query { Q.can_read key.now }
         ensures walked { IfSome result (IsPairIn W.word K.shape V.shape self.entry) }
-        ensures answer { let hash = hash_of_calls H.initial H.feed H.finish (Q.calls key.now) in
-            FindsKey W.word K.shape V.shape self.entry hash (Q.fits key.now (map_bytes self.entry)) (IsPairAt result) }
-        ensures first { let key_hash = hash_at H.initial H.feed H.finish K.key_calls in
-            FindsFirstKey W.word K.shape V.shape self.entry key_hash (Q.fits key.now (map_bytes self.entry)) (IsPairAt result) }
-        ensures complete { let key_hash = hash_at H.initial H.feed H.finish K.key_calls in
-            map_misplaced W.word K.shape V.shape key_hash K.same (map_bytes self.entry) (map_pos self.entry) ≡ 0
-            → FindsTheOne W.word (entry_shape K.shape V.shape).size (map_bytes self.entry) (map_pos self.entry) (Q.fits key.now (map_bytes self.entry)) (key_pos_found result) }
+        ensures answer { FindsKey W.word K.shape V.shape self.entry
+            (hash_of H.initial H.feed H.finish Q.calls key.now)
+            (Q.fits key.now (map_bytes self.entry)) (IsPairAt result) }
+        ensures first { FindsFirstKey W.word K.shape V.shape self.entry
+            (hash_at H.initial H.feed H.finish K.key_calls)
+            (Q.fits key.now (map_bytes self.entry)) (IsPairAt result) }
+        ensures complete { FindsOneKey W.word K.shape V.shape self.entry
+            (hash_at H.initial H.feed H.finish K.key_calls) K.same
+            (Q.fits key.now (map_bytes self.entry)) (IsPairAt result) }
     {
         match self.find_key(key) {
             Some(found) => Some((found.key(), found.value())),
@@ -181,10 +181,15 @@ impl<'a, K: KeyElement, V: Element, H: KeyHasher, W: Width> ArchivedHashMap<'a, 
         requires map { IsMap W.word K.shape V.shape self }
         requires query { Q.can_read key.now }
         ensures walked { IfSome result (IsValueIn W.word K.shape V.shape self.entry) }
-        ensures answer { let hash = hash_of_calls H.initial H.feed H.finish (Q.calls key.now) in
-            FindsKey W.word K.shape V.shape self.entry hash (Q.fits key.now (map_bytes self.entry)) (IsValueAt K.shape V.shape result) }
-        ensures first { let key_hash = hash_at H.initial H.feed H.finish K.key_calls in
-            FindsFirstKey W.word K.shape V.shape self.entry key_hash (Q.fits key.now (map_bytes self.entry)) (IsValueAt K.shape V.shape result) }
+        ensures answer { FindsKey W.word K.shape V.shape self.entry
+            (hash_of H.initial H.feed H.finish Q.calls key.now)
+            (Q.fits key.now (map_bytes self.entry)) (IsValueAt K.shape V.shape result) }
+        ensures first { FindsFirstKey W.word K.shape V.shape self.entry
+            (hash_at H.initial H.feed H.finish K.key_calls)
+            (Q.fits key.now (map_bytes self.entry)) (IsValueAt K.shape V.shape result) }
+        ensures complete { FindsOneKey W.word K.shape V.shape self.entry
+            (hash_at H.initial H.feed H.finish K.key_calls) K.same
+            (Q.fits key.now (map_bytes self.entry)) (IsValueAt K.shape V.shape result) }
     {
         match self.find_key(key) {
             Some(found) => Some(found.value()),
@@ -197,10 +202,15 @@ impl<'a, K: KeyElement, V: Element, H: KeyHasher, W: Width> ArchivedHashMap<'a, 
     pub fn contains_key<Q: Query<K>>(self, key: &Q) -> bool
         requires map { IsMap W.word K.shape V.shape self }
         requires query { Q.can_read key.now }
-        ensures answer { let hash = hash_of_calls H.initial H.feed H.finish (Q.calls key.now) in
-            FindsKey W.word K.shape V.shape self.entry hash (Q.fits key.now (map_bytes self.entry)) (IsFoundAt result) }
-        ensures first { let key_hash = hash_at H.initial H.feed H.finish K.key_calls in
-            FindsFirstKey W.word K.shape V.shape self.entry key_hash (Q.fits key.now (map_bytes self.entry)) (IsFoundAt result) }
+        ensures answer { FindsKey W.word K.shape V.shape self.entry
+            (hash_of H.initial H.feed H.finish Q.calls key.now)
+            (Q.fits key.now (map_bytes self.entry)) (IsFoundAt result) }
+        ensures first { FindsFirstKey W.word K.shape V.shape self.entry
+            (hash_at H.initial H.feed H.finish K.key_calls)
+            (Q.fits key.now (map_bytes self.entry)) (IsFoundAt result) }
+        ensures complete { FindsOneKey W.word K.shape V.shape self.entry
+            (hash_at H.initial H.feed H.finish K.key_calls) K.same
+            (Q.fits key.now (map_bytes self.entry)) (IsFoundAt result) }
     {
         self.find_key(key).is_some()
     }
@@ -210,13 +220,19 @@ impl<'a, K: KeyElement, V: Element, H: KeyHasher, W: Width> ArchivedHashMap<'a, 
     pub fn index<Q: Query<K>>(self, key: &Q) -> View<'a, V>
         requires map { IsMap W.word K.shape V.shape self }
         requires query { Q.can_read key.now }
-        requires found { let hash = hash_of_calls H.initial H.feed H.finish (Q.calls key.now) in
-            FindsKey W.word K.shape V.shape self hash (Q.fits key.now (map_bytes self)) IsSome }
+        requires found { FindsKey W.word K.shape V.shape self
+            (hash_of H.initial H.feed H.finish Q.calls key.now)
+            (Q.fits key.now (map_bytes self)) IsSome }
         ensures walked { IsValueIn W.word K.shape V.shape self.entry result }
-        ensures answer { let hash = hash_of_calls H.initial H.feed H.finish (Q.calls key.now) in
-            FindsKey W.word K.shape V.shape self.entry hash (Q.fits key.now (map_bytes self.entry)) (IsValueAt K.shape V.shape (Some result)) }
-        ensures first { let key_hash = hash_at H.initial H.feed H.finish K.key_calls in
-            FindsFirstKey W.word K.shape V.shape self.entry key_hash (Q.fits key.now (map_bytes self.entry)) (IsValueAt K.shape V.shape (Some result)) }
+        ensures answer { FindsKey W.word K.shape V.shape self.entry
+            (hash_of H.initial H.feed H.finish Q.calls key.now)
+            (Q.fits key.now (map_bytes self.entry)) (IsValueAt K.shape V.shape (Some result)) }
+        ensures first { FindsFirstKey W.word K.shape V.shape self.entry
+            (hash_at H.initial H.feed H.finish K.key_calls)
+            (Q.fits key.now (map_bytes self.entry)) (IsValueAt K.shape V.shape (Some result)) }
+        ensures complete { FindsOneKey W.word K.shape V.shape self.entry
+            (hash_at H.initial H.feed H.finish K.key_calls) K.same
+            (Q.fits key.now (map_bytes self.entry)) (IsValueAt K.shape V.shape (Some result)) }
     {
         self.find_key(key).unwrap().value()
     }

@@ -1,14 +1,22 @@
 //! Writing the values of a map in place.
-ghost use Rattle.std.specs.Prelude.{Bool, IfSome, length, ℕ, ◌+◌, ◌≡◌, ◌≤◌};
-ghost use Rattle.rkyv_base.specs.Entry.{entry_shape};
+ghost use Rattle.std.specs.Prelude.{IfSome, length, ◌+◌, ◌≡◌, ◌≤◌};
 ghost use Rattle.rkyv_base.specs.Seal.{LiesIn, SealAt, archive_in, bytes_in, seal_pos, pos_in};
 ghost use Rattle.rkyv_base.specs.Sealing.{value_pos};
 ghost use Rattle.rkyv_base.specs.Shape.{Viewed};
 ghost use Rattle.rkyv_base.specs.View.{IsView};
-ghost use Rattle.rkyv_scan.specs.Hash.{hash_of_calls};
-ghost use Rattle.rkyv_collections.specs.Map.{AreUnderHashAt, FindsFirstKeyAt, FindsKeyAt, IsKeyPosAt, hash_at};
-ghost use Rattle.rkyv_collections.specs.SealedMap.{AnswersKeysAt, IsMapSeal, IsPairSeal, IsPairSealAt, IsValueSeal, IsValueSealAt, MayAskKeysAt};
-ghost use Rattle.rkyv_collections.specs.ValueWrites.{ValueWritesKeepMaps, ValuesWrittenStand};
+ghost use Rattle.rkyv_collections.specs.Map.{FindsFirstKeyAt, FindsKeyAt, IsKeyPosAt, hash_at};
+ghost use Rattle.rkyv_collections.specs.MapFormat.{hash_of};
+ghost use Rattle.rkyv_collections.specs.SealedMap.{
+  FindsByAt,
+  FindsFirstByAt,
+  IsMapSeal,
+  IsPairSeal,
+  IsPairSealAt,
+  IsValueSeal,
+  IsValueSealAt,
+  MayAskKeysAt,
+};
+ghost use Rattle.rkyv_collections.specs.ValueWrites.{ValueWritesKeepAnswers, ValueWritesKeepMaps, ValuesWrittenStand};
 
 use crate::map::{ArchivedHashMap, HashMapOf};
 use rkyv_base::element::{Element, StandsFor};
@@ -45,16 +53,17 @@ impl<'a, K: KeyElement, V: Element, H: KeyHasher, W: Width> ArchivedHashMap<'a, 
     ) -> Option<u64>
         requires map { IsMapSeal W.word K.shape V.shape this.now }
         requires query { Q.can_read key.now }
-        requires callable { MayAskKeysAt W.word K.shape V.shape (archive_in this.now) (pos_in this.now) (F.pre cmp key) }
-        ensures walked { IfSome result (IsKeyPosAt W.word K.shape V.shape (archive_in this.now) (pos_in this.now)) }
-        ensures answer { let hash = hash_of_calls H.initial H.feed H.finish (Q.calls key.now) in
-            (accept : ℕ → Bool) → AnswersKeysAt W.word K.shape V.shape (archive_in this.now) (pos_in this.now) (F.post cmp key.entry) accept
-            → FindsKeyAt W.word K.shape V.shape (archive_in this.now) (pos_in this.now) hash accept (λ place. result ≡ place) }
-        ensures first { let hash = hash_of_calls H.initial H.feed H.finish (Q.calls key.now) in
-            let key_hash = hash_at H.initial H.feed H.finish K.key_calls in
-            (accept : ℕ → Bool) → AnswersKeysAt W.word K.shape V.shape (archive_in this.now) (pos_in this.now) (F.post cmp key.entry) accept
-            → AreUnderHashAt W.word K.shape V.shape (archive_in this.now) (pos_in this.now) hash key_hash accept
-            → FindsFirstKeyAt W.word K.shape V.shape (archive_in this.now) (pos_in this.now) key_hash accept (λ place. result ≡ place) }
+        requires callable { MayAskKeysAt W.word K.shape V.shape (archive_in this.now)
+            (pos_in this.now) (F.pre cmp key) }
+        ensures walked { IfSome result (IsKeyPosAt W.word K.shape V.shape (archive_in this.now)
+            (pos_in this.now)) }
+        ensures answer { FindsByAt W.word K.shape V.shape (archive_in this.now) (pos_in this.now)
+            (F.post cmp key.entry) (hash_of H.initial H.feed H.finish Q.calls key.now)
+            (λ place. result ≡ place) }
+        ensures first { FindsFirstByAt W.word K.shape V.shape
+            (archive_in this.now) (pos_in this.now)
+            (F.post cmp key.entry) (hash_of H.initial H.feed H.finish Q.calls key.now)
+            (hash_at H.initial H.feed H.finish K.key_calls) (λ place. result ≡ place) }
     {
         match ArchivedHashMap::of(this.as_view()).find(key, cmp) {
             Some(entry) => Some(entry.pos()),
@@ -70,11 +79,15 @@ impl<'a, K: KeyElement, V: Element, H: KeyHasher, W: Width> ArchivedHashMap<'a, 
     ) -> Option<u64>
         requires map { IsMapSeal W.word K.shape V.shape this.now }
         requires query { Q.can_read key.now }
-        ensures walked { IfSome result (IsKeyPosAt W.word K.shape V.shape (archive_in this.now) (pos_in this.now)) }
-        ensures answer { let hash = hash_of_calls H.initial H.feed H.finish (Q.calls key.now) in
-            FindsKeyAt W.word K.shape V.shape (archive_in this.now) (pos_in this.now) hash (Q.fits key.now (archive_in this.now)) (λ place. result ≡ place) }
-        ensures first { let key_hash = hash_at H.initial H.feed H.finish K.key_calls in
-            FindsFirstKeyAt W.word K.shape V.shape (archive_in this.now) (pos_in this.now) key_hash (Q.fits key.now (archive_in this.now)) (λ place. result ≡ place) }
+        ensures walked { IfSome result (IsKeyPosAt W.word K.shape V.shape (archive_in this.now)
+            (pos_in this.now)) }
+        ensures answer { FindsKeyAt W.word K.shape V.shape (archive_in this.now) (pos_in this.now)
+            (hash_of H.initial H.feed H.finish Q.calls key.now)
+            (Q.fits key.now (archive_in this.now)) (λ place. result ≡ place) }
+        ensures first { FindsFirstKeyAt W.word K.shape V.shape
+            (archive_in this.now) (pos_in this.now)
+            (hash_at H.initial H.feed H.finish K.key_calls)
+            (Q.fits key.now (archive_in this.now)) (λ place. result ≡ place) }
     {
         match ArchivedHashMap::of(this.as_view()).find_key(key) {
             Some(found) => Some(found.pos()),
@@ -96,18 +109,19 @@ impl<'a, K: KeyElement, V: Element, H: KeyHasher, W: Width> ArchivedHashMap<'a, 
     ) -> Option<(View<'a, K>, Seal<'a, V>)>
         requires map { IsMapSeal W.word K.shape V.shape this }
         requires query { Q.can_read key.now }
-        requires callable { MayAskKeysAt W.word K.shape V.shape (archive_in this) (pos_in this) (F.pre cmp key) }
+        requires callable { MayAskKeysAt W.word K.shape V.shape (archive_in this)
+            (pos_in this) (F.pre cmp key) }
         ensures inside { IfSome result (λ pair. LiesIn V.shape pair.1) }
         ensures viewed { IfSome result (λ pair. IsView K.shape pair.0) }
         ensures walked { IfSome result (IsPairSeal W.word K.shape V.shape this.entry) }
-        ensures answer { let hash = hash_of_calls H.initial H.feed H.finish (Q.calls key.now) in
-            (accept : ℕ → Bool) → AnswersKeysAt W.word K.shape V.shape (archive_in this.entry) (pos_in this.entry) (F.post cmp key.entry) accept
-            → FindsKeyAt W.word K.shape V.shape (archive_in this.entry) (pos_in this.entry) hash accept (IsPairSealAt result) }
-        ensures first { let hash = hash_of_calls H.initial H.feed H.finish (Q.calls key.now) in
-            let key_hash = hash_at H.initial H.feed H.finish K.key_calls in
-            (accept : ℕ → Bool) → AnswersKeysAt W.word K.shape V.shape (archive_in this.entry) (pos_in this.entry) (F.post cmp key.entry) accept
-            → AreUnderHashAt W.word K.shape V.shape (archive_in this.entry) (pos_in this.entry) hash key_hash accept
-            → FindsFirstKeyAt W.word K.shape V.shape (archive_in this.entry) (pos_in this.entry) key_hash accept (IsPairSealAt result) }
+        ensures answer { FindsByAt W.word K.shape V.shape
+            (archive_in this.entry) (pos_in this.entry)
+            (F.post cmp key.entry) (hash_of H.initial H.feed H.finish Q.calls key.now)
+            (IsPairSealAt result) }
+        ensures first { FindsFirstByAt W.word K.shape V.shape
+            (archive_in this.entry) (pos_in this.entry)
+            (F.post cmp key.entry) (hash_of H.initial H.feed H.finish Q.calls key.now)
+            (hash_at H.initial H.feed H.finish K.key_calls) (IsPairSealAt result) }
     {
         match Self::find_pos(&this, key, cmp) {
             Some(pos) => Some(this.split_value(pos)),
@@ -126,10 +140,14 @@ impl<'a, K: KeyElement, V: Element, H: KeyHasher, W: Width> ArchivedHashMap<'a, 
         ensures inside { IfSome result (λ pair. LiesIn V.shape pair.1) }
         ensures viewed { IfSome result (λ pair. IsView K.shape pair.0) }
         ensures walked { IfSome result (IsPairSeal W.word K.shape V.shape this.entry) }
-        ensures answer { let hash = hash_of_calls H.initial H.feed H.finish (Q.calls key.now) in
-            FindsKeyAt W.word K.shape V.shape (archive_in this.entry) (pos_in this.entry) hash (Q.fits key.now (archive_in this.entry)) (IsPairSealAt result) }
-        ensures first { let key_hash = hash_at H.initial H.feed H.finish K.key_calls in
-            FindsFirstKeyAt W.word K.shape V.shape (archive_in this.entry) (pos_in this.entry) key_hash (Q.fits key.now (archive_in this.entry)) (IsPairSealAt result) }
+        ensures answer { FindsKeyAt W.word K.shape V.shape
+            (archive_in this.entry) (pos_in this.entry)
+            (hash_of H.initial H.feed H.finish Q.calls key.now)
+            (Q.fits key.now (archive_in this.entry)) (IsPairSealAt result) }
+        ensures first { FindsFirstKeyAt W.word K.shape V.shape
+            (archive_in this.entry) (pos_in this.entry)
+            (hash_at H.initial H.feed H.finish K.key_calls)
+            (Q.fits key.now (archive_in this.entry)) (IsPairSealAt result) }
     {
         match Self::find_key_pos(&this, key) {
             Some(place) => Some(this.split_value(place)),
@@ -146,18 +164,19 @@ impl<'a, K: KeyElement, V: Element, H: KeyHasher, W: Width> ArchivedHashMap<'a, 
     ) -> Option<Seal<'a, V>>
         requires map { IsMapSeal W.word K.shape V.shape this }
         requires query { Q.can_read key.now }
-        requires callable { MayAskKeysAt W.word K.shape V.shape (archive_in this) (pos_in this) (F.pre cmp key) }
+        requires callable { MayAskKeysAt W.word K.shape V.shape (archive_in this)
+            (pos_in this) (F.pre cmp key) }
         ensures inside { IfSome result (LiesIn V.shape) }
         ensures viewed { IfSome result (λ value. Viewed V.shape (bytes_in value) (seal_pos value)) }
         ensures walked { IfSome result (IsValueSeal W.word K.shape V.shape this.entry) }
-        ensures answer { let hash = hash_of_calls H.initial H.feed H.finish (Q.calls key.now) in
-            (accept : ℕ → Bool) → AnswersKeysAt W.word K.shape V.shape (archive_in this.entry) (pos_in this.entry) (F.post cmp key.entry) accept
-            → FindsKeyAt W.word K.shape V.shape (archive_in this.entry) (pos_in this.entry) hash accept (IsValueSealAt K.shape V.shape result) }
-        ensures first { let hash = hash_of_calls H.initial H.feed H.finish (Q.calls key.now) in
-            let key_hash = hash_at H.initial H.feed H.finish K.key_calls in
-            (accept : ℕ → Bool) → AnswersKeysAt W.word K.shape V.shape (archive_in this.entry) (pos_in this.entry) (F.post cmp key.entry) accept
-            → AreUnderHashAt W.word K.shape V.shape (archive_in this.entry) (pos_in this.entry) hash key_hash accept
-            → FindsFirstKeyAt W.word K.shape V.shape (archive_in this.entry) (pos_in this.entry) key_hash accept (IsValueSealAt K.shape V.shape result) }
+        ensures answer { FindsByAt W.word K.shape V.shape
+            (archive_in this.entry) (pos_in this.entry)
+            (F.post cmp key.entry) (hash_of H.initial H.feed H.finish Q.calls key.now)
+            (IsValueSealAt K.shape V.shape result) }
+        ensures first { FindsFirstByAt W.word K.shape V.shape
+            (archive_in this.entry) (pos_in this.entry)
+            (F.post cmp key.entry) (hash_of H.initial H.feed H.finish Q.calls key.now)
+            (hash_at H.initial H.feed H.finish K.key_calls) (IsValueSealAt K.shape V.shape result) }
     {
         match Self::find_pos(&this, key, cmp) {
             Some(pos) => Some(value_seal::<K, V, H, W>(this, pos)),
@@ -176,10 +195,14 @@ impl<'a, K: KeyElement, V: Element, H: KeyHasher, W: Width> ArchivedHashMap<'a, 
         ensures inside { IfSome result (LiesIn V.shape) }
         ensures viewed { IfSome result (λ value. Viewed V.shape (bytes_in value) (seal_pos value)) }
         ensures walked { IfSome result (IsValueSeal W.word K.shape V.shape this.entry) }
-        ensures answer { let hash = hash_of_calls H.initial H.feed H.finish (Q.calls key.now) in
-            FindsKeyAt W.word K.shape V.shape (archive_in this.entry) (pos_in this.entry) hash (Q.fits key.now (archive_in this.entry)) (IsValueSealAt K.shape V.shape result) }
-        ensures first { let key_hash = hash_at H.initial H.feed H.finish K.key_calls in
-            FindsFirstKeyAt W.word K.shape V.shape (archive_in this.entry) (pos_in this.entry) key_hash (Q.fits key.now (archive_in this.entry)) (IsValueSealAt K.shape V.shape result) }
+        ensures answer { FindsKeyAt W.word K.shape V.shape
+            (archive_in this.entry) (pos_in this.entry)
+            (hash_of H.initial H.feed H.finish Q.calls key.now)
+            (Q.fits key.now (archive_in this.entry)) (IsValueSealAt K.shape V.shape result) }
+        ensures first { FindsFirstKeyAt W.word K.shape V.shape
+            (archive_in this.entry) (pos_in this.entry)
+            (hash_at H.initial H.feed H.finish K.key_calls)
+            (Q.fits key.now (archive_in this.entry)) (IsValueSealAt K.shape V.shape result) }
     {
         match Self::find_key_pos(&this, key) {
             Some(place) => Some(value_seal::<K, V, H, W>(this, place)),
@@ -191,7 +214,14 @@ impl<'a, K: KeyElement, V: Element, H: KeyHasher, W: Width> ArchivedHashMap<'a, 
 /// A write of one value in place that keeps the value keeps the map: all keys and all other values
 /// are as before, each lookup finds the same key, and a map that was written stays one.
 pub fn value_writes_keep_maps<K: KeyElement, V: Element, H: KeyHasher, W: Width>()
-    ensures { ValueWritesKeepMaps W.word K.shape V.shape (hash_at H.initial H.feed H.finish K.key_calls) }
+    ensures { ValueWritesKeepMaps W.word K.shape V.shape
+        (hash_at H.initial H.feed H.finish K.key_calls) }
+{}
+
+/// After such a write each query finds the same key.
+pub fn value_writes_keep_answers<K: KeyElement, V: Element, Q: Query<K>, H: KeyHasher, W: Width>()
+    ensures { let hash = hash_of H.initial H.feed H.finish Q.calls in
+        ValueWritesKeepAnswers W.word K.shape V.shape Q.can_read hash Q.fits }
 {}
 
 /// A map that stands for a list of pairs stands, once a value of it was written in place, for the
@@ -204,5 +234,6 @@ pub fn values_written_stand<
     H: KeyHasher,
     W: Width,
 >()
-    ensures { ValuesWrittenStand W.word K.shape V.shape K.stands V.stands (hash_at H.initial H.feed H.finish K.key_calls) }
+    ensures { ValuesWrittenStand W.word K.shape V.shape K.stands V.stands
+        (hash_at H.initial H.feed H.finish K.key_calls) }
 {}

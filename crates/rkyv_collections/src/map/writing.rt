@@ -10,7 +10,7 @@ ghost use Rattle.rkyv_collections.specs.Handing.{NoItems, WroteItems, lent_pairs
 ghost use Rattle.rkyv_collections.specs.MapFormat.{hash_of, map_format};
 
 use crate::map::ArchivedHashMap;
-use crate::map::hashing::Hashed;
+use crate::map::hashing::HashedEntries;
 use rkyv_base::adapter::EntryAdapter;
 use rkyv_base::archive::Serialize;
 use rkyv_base::element::StandsFor;
@@ -68,13 +68,14 @@ impl<'a, K: KeyElement, V, H: KeyHasher, W: Width> ArchivedHashMap<'a, K, V, H, 
             (WroteItems gave len load_factor W.MAX_CAPACITY f o o' W.LIMIT)
             (NoItems gave len load_factor W.MAX_CAPACITY f o o' W.LIMIT (GaveOther I.next_gives len iter)) }
     {
+        let entries = HashedEntries::new(iter);
         ArchivedHashTable::<Entry<K, V>, W>::serialize_by::<
             Group,
             S,
             EntryAdapter<BK, BV, A, B>,
             EntryAdapter<BK, BV, A, B>,
-            Hashed<I, A, B, H>,
-        >(alloc, Hashed::new(iter), len, load_factor, serializer)
+            HashedEntries<I, A, B, H>,
+        >(alloc, entries, len, load_factor, serializer)
     }
 
     /// Writes the header of a written map, which is to stand at `pos`, over the whole of `out`.

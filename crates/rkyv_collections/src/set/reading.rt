@@ -1,17 +1,17 @@
 //! A set, how many keys it has, and finding one of them.
 
 ghost use Rattle.std.specs.Prelude.{IfSome, IsTrue, length, ◌↔◌, ◌≡◌};
-ghost use Rattle.rkyv_base.specs.Empty.{unit_shape};
+ghost use Rattle.rkyv_base.specs.Empty.{unit_element, unit_shape};
 ghost use Rattle.rkyv_base.specs.Entry.{entry_element, entry_shape};
-ghost use Rattle.rkyv_base.specs.Empty.{unit_element};
 ghost use Rattle.rkyv_base.specs.View.{IsView, archive_of, pos_of};
-ghost use Rattle.rkyv_scan.specs.Hash.{hash_of_calls};
 ghost use Rattle.rkyv_table.specs.Table.RawItems.{AllStand};
 ghost use Rattle.rkyv_table.specs.Lemmas.TableLaws.{table_element};
 ghost use Rattle.rkyv_collections.specs.Map.{IsEntryAt, IsFoundAt, hash_at};
+ghost use Rattle.rkyv_collections.specs.MapFormat.{hash_of};
 ghost use Rattle.rkyv_collections.specs.Set.{
   FindsFirstMember,
   FindsMember,
+  FindsOneMember,
   IsMemberIn,
   IsSet,
   IsSetAt,
@@ -19,12 +19,8 @@ ghost use Rattle.rkyv_collections.specs.Set.{
   set_archive,
   set_bytes,
   set_len,
-  set_misplaced,
-  set_pos,
   set_shape,
 };
-ghost use Rattle.rkyv_collections.specs.Misplaced.{FindsTheOne};
-ghost use Rattle.rkyv_table.specs.Table.Reading.{pos_of_found};
 
 use crate::map::iter::Keys;
 use crate::map::{ArchivedHashMap, HashMapOf};
@@ -112,13 +108,15 @@ impl<'a, K: KeyElement, H: KeyHasher, W: Width> ArchivedHashSet<'a, K, H, W> {
         requires set { IsSet W.word K.shape self }
         requires query { Q.can_read key.now }
         ensures walked { IfSome result (IsMemberIn W.word K.shape self.entry) }
-        ensures answer { let hash = hash_of_calls H.initial H.feed H.finish (Q.calls key.now) in
-            FindsMember W.word K.shape self.entry hash (Q.fits key.now (set_bytes self.entry)) (IsEntryAt result) }
-        ensures first { let key_hash = hash_at H.initial H.feed H.finish K.key_calls in
-            FindsFirstMember W.word K.shape self.entry key_hash (Q.fits key.now (set_bytes self.entry)) (IsEntryAt result) }
-        ensures complete { let key_hash = hash_at H.initial H.feed H.finish K.key_calls in
-            set_misplaced W.word K.shape key_hash K.same (set_bytes self.entry) (set_pos self.entry) ≡ 0
-            → FindsTheOne W.word (entry_shape K.shape unit_shape).size (set_bytes self.entry) (set_pos self.entry) (Q.fits key.now (set_bytes self.entry)) (pos_of_found result) }
+        ensures answer { FindsMember W.word K.shape self.entry
+            (hash_of H.initial H.feed H.finish Q.calls key.now)
+            (Q.fits key.now (set_bytes self.entry)) (IsEntryAt result) }
+        ensures first { FindsFirstMember W.word K.shape self.entry
+            (hash_at H.initial H.feed H.finish K.key_calls)
+            (Q.fits key.now (set_bytes self.entry)) (IsEntryAt result) }
+        ensures complete { FindsOneMember W.word K.shape self.entry
+            (hash_at H.initial H.feed H.finish K.key_calls) K.same
+            (Q.fits key.now (set_bytes self.entry)) (IsEntryAt result) }
     {
         match self.map.get_key_value(key) {
             Some((stored, _)) => Some(stored),
@@ -131,10 +129,15 @@ impl<'a, K: KeyElement, H: KeyHasher, W: Width> ArchivedHashSet<'a, K, H, W> {
     pub fn contains<Q: Query<K>>(self, key: &Q) -> bool
         requires set { IsSet W.word K.shape self }
         requires query { Q.can_read key.now }
-        ensures answer { let hash = hash_of_calls H.initial H.feed H.finish (Q.calls key.now) in
-            FindsMember W.word K.shape self.entry hash (Q.fits key.now (set_bytes self.entry)) (IsFoundAt result) }
-        ensures first { let key_hash = hash_at H.initial H.feed H.finish K.key_calls in
-            FindsFirstMember W.word K.shape self.entry key_hash (Q.fits key.now (set_bytes self.entry)) (IsFoundAt result) }
+        ensures answer { FindsMember W.word K.shape self.entry
+            (hash_of H.initial H.feed H.finish Q.calls key.now)
+            (Q.fits key.now (set_bytes self.entry)) (IsFoundAt result) }
+        ensures first { FindsFirstMember W.word K.shape self.entry
+            (hash_at H.initial H.feed H.finish K.key_calls)
+            (Q.fits key.now (set_bytes self.entry)) (IsFoundAt result) }
+        ensures complete { FindsOneMember W.word K.shape self.entry
+            (hash_at H.initial H.feed H.finish K.key_calls) K.same
+            (Q.fits key.now (set_bytes self.entry)) (IsFoundAt result) }
     {
         self.map.contains_key(key)
     }

@@ -3,10 +3,10 @@
 ghost use Rattle.std.specs.Prelude.{IsTrue, ◌↔◌};
 ghost use Rattle.rkyv_base.specs.Pairs.{written_as-format};
 ghost use Rattle.rkyv_base.specs.View.{IsView, StandsAt};
-ghost use Rattle.rkyv_collections.specs.Listed.{listed, listed_format};
-ghost use Rattle.rkyv_collections.specs.Map.{IsMap, hash_at, map_bytes, map_pos, map_shape};
-ghost use Rattle.rkyv_collections.specs.MapFormat.{MapStands, hash_of, map_format};
-ghost use Rattle.rkyv_collections.specs.Lemmas.MapSound.{map_sound};
+ghost use Rattle.rkyv_collections.specs.Listed.{listed};
+ghost use Rattle.rkyv_collections.specs.Map.{IsMap, map_bytes, map_pos, map_shape};
+ghost use Rattle.rkyv_collections.specs.MapFormat.{hash_of, map_format};
+ghost use Rattle.rkyv_collections.specs.Lemmas.MapSound.{listed_map_sound};
 ghost use Rattle.rkyv_collections.specs.Lemmas.StdAlone.{std_map_alone};
 ghost use Rattle.rkyv_collections.specs.Lemmas.StdEqualLaws.{entries_equal};
 ghost use Rattle.rkyv_collections.specs.StdEquality.{EntriesEqual, FindsPair, StdMapEquals};
@@ -118,15 +118,13 @@ where
     B::Archived: MatchesNative<B>,
     A: NativeKey<A::Archived>,
 {
-    ghost equal = { let hash = hash_at H.initial H.feed H.finish A.Archived.key_calls in
-        let written = MapStands W.word A.Archived.shape B.Archived.shape A.Archived.stands B.Archived.equals hash (7, 8) in
-        let format = map_format W.word A.Archived.shape B.Archived.shape A.format B.format (hash_of H.initial H.feed H.finish A.calls) (7, 8) in
+    ghost equal = { let format = map_format W.word A.Archived.shape B.Archived.shape A.format B.format (hash_of H.initial H.feed H.finish A.calls) (7, 8) in
         let shape = map_shape W.word A.Archived.shape B.Archived.shape in
         let whole = listed W.MAX_CAPACITY (7, 8) format in
         written_as-format (λ x. x.map.entries) shape (EntriesEqual W.word A.Archived.shape B.Archived.shape (hash_of H.initial H.feed H.finish A.calls) A.fits B.Archived.equals) (of_entries A.eq whole)
         (entries_equal H.initial H.feed H.finish W.word W.layout.kind A.Archived.laws B.Archived.laws (7, 8) A.query A.native A.Eq.laws A.reads whole
-        (listed_format W.MAX_CAPACITY (7, 8) shape written format
-        (map_sound H.initial H.feed H.finish W.word A.Archived.laws B.Archived.laws (7, 8) W.layout.kind A.query A.native A.Eq.laws.refl A.reads A.Archive.laws B.equal))) };
+        (listed_map_sound H.initial H.feed H.finish W.word A.Archived.laws B.Archived.laws (7, 8) W.MAX_CAPACITY W.layout.kind
+        A.query A.native A.Eq.laws.refl A.reads A.Archive.laws B.equal)) };
 }
 
 /// A map or set of std's that is compared with an archived one, the collection C.

@@ -1,10 +1,10 @@
 //! Std's hash maps as what stands in archives.
 
 ghost use Rattle.rkyv_base.specs.Pairs.{written_as, written_as-format};
-ghost use Rattle.rkyv_collections.specs.Listed.{listed, listed_format};
+ghost use Rattle.rkyv_collections.specs.Listed.{listed};
 ghost use Rattle.rkyv_collections.specs.Map.{hash_at, map_shape};
-ghost use Rattle.rkyv_collections.specs.MapFormat.{MapStands, hash_of, map_format};
-ghost use Rattle.rkyv_collections.specs.Lemmas.MapSound.{map_sound};
+ghost use Rattle.rkyv_collections.specs.MapFormat.{hash_of, map_format};
+ghost use Rattle.rkyv_collections.specs.Lemmas.MapSound.{listed_map_sound};
 ghost use Rattle.rkyv_collections.specs.StdMap.{EntriesStand, StdMapStands, of_entries};
 ghost use Rattle.rkyv_collections.specs.Lemmas.StdMapLaws.{entries_near, entries_sound};
 
@@ -70,15 +70,14 @@ where
     }
 
     ghost laws = { let hash = hash_at H.initial H.feed H.finish A.Archived.key_calls in
-        let written = MapStands W.word A.Archived.shape B.Archived.shape A.Archived.stands B.Archived.stands hash (7, 8) in
         let stands = EntriesStand A.Archived.shape B.Archived.shape A.Archived.stands B.Archived.stands W.word A.eq in
         let format = map_format W.word A.Archived.shape B.Archived.shape A.format B.format (hash_of H.initial H.feed H.finish A.calls) (7, 8) in
         let shape = map_shape W.word A.Archived.shape B.Archived.shape in
         let whole = listed W.MAX_CAPACITY (7, 8) format in
         written_as-format (λ x. x.map.entries) shape stands (of_entries A.eq whole)
         (entries_sound A.Archived.shape B.Archived.shape A.Archived.laws B.Archived.laws W.word A.eq A.Eq.laws hash (7, 8) W.layout.kind whole
-        (listed_format W.MAX_CAPACITY (7, 8) shape written format
-        (map_sound H.initial H.feed H.finish W.word A.Archived.laws B.Archived.laws (7, 8) W.layout.kind A.query A.native A.Eq.laws.refl A.reads A.Archive.laws B.laws))) };
+        (listed_map_sound H.initial H.feed H.finish W.word A.Archived.laws B.Archived.laws (7, 8) W.MAX_CAPACITY W.layout.kind
+        A.query A.native A.Eq.laws.refl A.reads A.Archive.laws B.laws)) };
 }
 
 impl<

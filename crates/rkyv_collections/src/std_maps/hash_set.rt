@@ -4,10 +4,10 @@ ghost use Rattle.std.specs.Prelude.{IsTrue, MatchResult, ◌↔◌};
 ghost use Rattle.rkyv_base.specs.View.{IsView, StandsAt, bytes_of, pos_of};
 ghost use Rattle.rkyv_base.specs.Empty.{unit_element, unit_format, unit_is_format, unit_near, unit_shape, unit_stands};
 ghost use Rattle.rkyv_base.specs.Pairs.{written_as, written_as-format};
-ghost use Rattle.rkyv_collections.specs.Listed.{listed, listed_format};
+ghost use Rattle.rkyv_collections.specs.Listed.{listed};
 ghost use Rattle.rkyv_collections.specs.Map.{hash_at};
-ghost use Rattle.rkyv_collections.specs.MapFormat.{MapStands, hash_of, map_format};
-ghost use Rattle.rkyv_collections.specs.Lemmas.MapSound.{map_sound};
+ghost use Rattle.rkyv_collections.specs.MapFormat.{hash_of, map_format};
+ghost use Rattle.rkyv_collections.specs.Lemmas.MapSound.{listed_map_sound};
 ghost use Rattle.rkyv_collections.specs.Set.{IsSet, set_bytes, set_pos, set_shape};
 ghost use Rattle.rkyv_collections.specs.SetFormat.{with_units};
 ghost use Rattle.rkyv_collections.specs.Lemmas.StdAlone.{std_set_alone};
@@ -75,15 +75,14 @@ where
     }
 
     ghost laws = { let hash = hash_at H.initial H.feed H.finish A.Archived.key_calls in
-        let written = MapStands W.word A.Archived.shape unit_shape A.Archived.stands unit_stands hash (7, 8) in
         let stands = EntriesStand A.Archived.shape unit_shape A.Archived.stands unit_stands W.word A.eq in
         let format = map_format W.word A.Archived.shape unit_shape A.format unit_format (hash_of H.initial H.feed H.finish A.calls) (7, 8) in
         let shape = set_shape W.word A.Archived.shape in
         let whole = listed W.MAX_CAPACITY (7, 8) format in
         written_as-format (λ x. with_units x.map.keys) shape stands (of_entries A.eq whole)
         (entries_sound A.Archived.shape unit_shape A.Archived.laws unit_element W.word A.eq A.Eq.laws hash (7, 8) W.layout.kind whole
-        (listed_format W.MAX_CAPACITY (7, 8) shape written format
-        (map_sound H.initial H.feed H.finish W.word A.Archived.laws unit_element (7, 8) W.layout.kind A.query A.native A.Eq.laws.refl A.reads A.Archive.laws unit_is_format))) };
+        (listed_map_sound H.initial H.feed H.finish W.word A.Archived.laws unit_element (7, 8) W.MAX_CAPACITY W.layout.kind
+        A.query A.native A.Eq.laws.refl A.reads A.Archive.laws unit_is_format)) };
 }
 
 impl<S: Writer, W: Width, H: KeyHasher, A: Serialize<S, W> + Hash, T: BuildHasher> Serialize<S, W>
@@ -238,9 +237,7 @@ where
     A::Archived: KeyElement,
     A: NativeKey<A::Archived>,
 {
-    ghost equal = { let hash = hash_at H.initial H.feed H.finish A.Archived.key_calls in
-        let own = hash_of H.initial H.feed H.finish A.calls in
-        let written = MapStands W.word A.Archived.shape unit_shape A.Archived.stands unit_stands hash (7, 8) in
+    ghost equal = { let own = hash_of H.initial H.feed H.finish A.calls in
         let equals = EntriesEqual W.word A.Archived.shape unit_shape own A.fits unit_stands in
         let format = map_format W.word A.Archived.shape unit_shape A.format unit_format own (7, 8) in
         let shape = set_shape W.word A.Archived.shape in
@@ -248,8 +245,8 @@ where
         set_equal_written W.word A.Archived.shape shape own A.fits (λ x. x.map.keys) (written_as (λ x. with_units x.map.keys) (of_entries A.eq whole))
         (written_as-format (λ x. with_units x.map.keys) shape equals (of_entries A.eq whole)
         (entries_equal H.initial H.feed H.finish W.word W.layout.kind A.Archived.laws unit_element (7, 8) A.query A.native A.Eq.laws A.reads whole
-        (listed_format W.MAX_CAPACITY (7, 8) shape written format
-        (map_sound H.initial H.feed H.finish W.word A.Archived.laws unit_element (7, 8) W.layout.kind A.query A.native A.Eq.laws.refl A.reads A.Archive.laws unit_is_format)))) };
+        (listed_map_sound H.initial H.feed H.finish W.word A.Archived.laws unit_element (7, 8) W.MAX_CAPACITY W.layout.kind
+        A.query A.native A.Eq.laws.refl A.reads A.Archive.laws unit_is_format))) };
 }
 
 impl<K: Deserialize<A>, H, W: Width, A: Eq + Hash + Drop> Deserialize<HashSet<A>>

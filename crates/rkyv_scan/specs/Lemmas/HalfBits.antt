@@ -1,5 +1,19 @@
 -- The marks of both halves, by bits.
-use Rattle.std.specs.Prelude.{◌≡◌, ℕ, ◌<◌, ◌==◌, List, slice_index, zero, suc, ◌*◌, ◌%◌, ◌^◌, bit_and, bit_or}
+use Rattle.std.specs.Prelude.{
+  ◌≡◌,
+  ℕ,
+  ◌<◌,
+  ◌==◌,
+  List,
+  slice_index,
+  zero,
+  suc,
+  ◌*◌,
+  ◌%◌,
+  ◌^◌,
+  bit_and,
+  bit_or,
+}
 use Rattle.std.specs.Int.{bit_at}
 
 -- each mark moved to the place above it in the same half
@@ -13,4 +27,5 @@ chain equal next (suc n) = bit_or equal (bit_and (bits_after (chain equal next n
 
 -- each of sixteen bits tells whether the byte stands at its place
 abbrev pub TellsEqual : List ℕ → ℕ → ℕ → Type 0
-TellsEqual controls byte bits = (k : ℕ) → k < 16 → (bit_at bits k == 1) ≡ (slice_index controls k == byte)
+TellsEqual controls byte bits = (k : ℕ) → k < 16
+    → (bit_at bits k == 1) ≡ (slice_index controls k == byte)

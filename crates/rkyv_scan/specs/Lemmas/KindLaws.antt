@@ -1,5 +1,32 @@
 -- The three kinds of group keep what each kind keeps.
-use Rattle.std.proofs.Common.{◌≡◌, ℕ, zero, suc, ◌<◌, ◌≤◌, ◌^◌, Bool, true, false, ◌||◌, ◌&&◌, eqb, List, slice_index, bit_xor, arith, eq-eqb, eqb-true, refl, sym, ◌∙◌, ⊎_elim, ◌⊎◌, inl, inr}
+use Rattle.std.proofs.Common.{
+  ◌≡◌,
+  ℕ,
+  zero,
+  suc,
+  ◌<◌,
+  ◌≤◌,
+  ◌^◌,
+  Bool,
+  true,
+  false,
+  ◌||◌,
+  ◌&&◌,
+  eqb,
+  List,
+  slice_index,
+  bit_xor,
+  arith,
+  eq-eqb,
+  eqb-true,
+  refl,
+  sym,
+  ◌∙◌,
+  ⊎_elim,
+  ◌⊎◌,
+  inl,
+  inr,
+}
 use Rattle.std.proofs.lemmas.Nat.{xor_lt}
 use Rattle.std.proofs.lemmas.Bool.{true≢false}
 use Rattle.rkyv_scan.specs.Groups.{IsKind, generic_kind, is_equal_at, is_word_match_at}
@@ -22,15 +49,21 @@ full_lem : (s : List ℕ) (t k : ℕ) → t < 128 → is_word_match_at s t k ≡
 full_lem s t zero l h = omega (arith, eqb-true (slice_index s zero) t h)
 full_lem s t (suc k) l h =
     let one : bit_xor t 1 < 2 ^ 7 = xor_lt 7 t 1 l (omega arith) in
-    ⊎_elim (λ (e : eqb (slice_index s (suc k)) t ≡ true). omega (arith, eqb-true (slice_index s (suc k)) t e))
-    (λ (e : (eqb (slice_index s (suc k)) (bit_xor t 1) ≡ true) × (is_word_match_at s t k ≡ true)). omega (arith, eqb-true (slice_index s (suc k)) (bit_xor t 1) e.0))
+    ⊎_elim (λ (e : eqb (slice_index s (suc k)) t ≡ true). omega (
+      arith,
+      eqb-true (slice_index s (suc k)) t e,
+    ))
+    (λ (e : (eqb (slice_index s (suc k)) (bit_xor t 1) ≡ true) × (is_word_match_at s t k ≡ true)).
+    omega (arith, eqb-true (slice_index s (suc k)) (bit_xor t 1) e.0))
     (or_and_tells _ _ _ h)
 
-lowest_lem : (s : List ℕ) (t k : ℕ) → is_word_match_at s t k ≡ true → ((j : ℕ) → j < k → is_word_match_at s t j ≡ false) → slice_index s k ≡ t
+lowest_lem : (s : List ℕ) (t k : ℕ) → is_word_match_at s t k ≡ true
+    → ((j : ℕ) → j < k → is_word_match_at s t j ≡ false) → slice_index s k ≡ t
 lowest_lem s t zero h low = eqb-true (slice_index s zero) t h
 lowest_lem s t (suc k) h low =
     ⊎_elim (λ (e : eqb (slice_index s (suc k)) t ≡ true). eqb-true (slice_index s (suc k)) t e)
-    (λ (e : (eqb (slice_index s (suc k)) (bit_xor t 1) ≡ true) × (is_word_match_at s t k ≡ true)). absurd (true≢false (sym e.1 ∙ low k (omega arith))))
+    (λ (e : (eqb (slice_index s (suc k)) (bit_xor t 1) ≡ true) × (is_word_match_at s t k ≡ true)).
+    absurd (true≢false (sym e.1 ∙ low k (omega arith))))
     (or_and_tells _ _ _ h)
 
 pub word_lawful : IsKind generic_kind

@@ -2,6 +2,7 @@
 ghost use Rattle.std.specs.Prelude.{◌≡◌, ℕ, Bool, false, slice_index_or};
 ghost use Rattle.std.specs.Iterator.{YieldsFirst, item_count};
 ghost use Rattle.rkyv_scan.specs.Groups.{flag_places, bytewise_kind, IsFirstFlag};
+ghost use Rattle.rkyv_scan.specs.Lemmas.Ascending.{flags_ascend};
 ghost use Rattle.rkyv_scan.specs.Lemmas.KindLaws.{equal_lawful};
 ghost use Rattle.std.proofs.Common.{refl, arith};
 
@@ -34,6 +35,8 @@ fn first(marks: &[bool; 8]) -> usize
 
 impl Marks for Bitmask {
     ghost places = { λ m. flag_places m.marks };
+
+    ghost ascend = { λ m. flags_ascend m.marks };
 
     ghost can = { λ _. tt };
 

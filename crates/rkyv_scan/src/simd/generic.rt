@@ -3,6 +3,7 @@ ghost use Rattle.std.specs.Prelude.{◌≡◌, ℕ, ◌*◌, bit_and};
 ghost use Rattle.std.specs.Iterator.{YieldsFirst, item_count};
 ghost use Rattle.std.specs.Int.{w64, to_le_bytes};
 ghost use Rattle.rkyv_scan.specs.Groups.{mask_places, generic_kind};
+ghost use Rattle.rkyv_scan.specs.Lemmas.Ascending.{mask_ascends};
 ghost use Rattle.rkyv_scan.specs.Lemmas.KindLaws.{word_lawful};
 ghost use Rattle.std.proofs.Common.{refl, arith};
 
@@ -30,6 +31,8 @@ impl Bitmask {
 
 impl Marks for Bitmask {
     ghost places = { λ m. mask_places 8 7 8 m.bits };
+
+    ghost ascend = { λ m. mask_ascends 8 7 8 m.bits };
 
     ghost can = { λ _. tt };
 

@@ -1,5 +1,18 @@
 //! Sixteen control bytes in one vector, marked as the eight wide group marks each half.
-ghost use Rattle.std.specs.Prelude.{◌≡◌, ℕ, ◌+◌, ◌*◌, ◌%◌, ◌<◌, ◌==◌, List, length, slice_index, bit_and, bit_xor};
+ghost use Rattle.std.specs.Prelude.{
+  ◌≡◌,
+  ℕ,
+  ◌+◌,
+  ◌*◌,
+  ◌%◌,
+  ◌<◌,
+  ◌==◌,
+  List,
+  length,
+  slice_index,
+  bit_and,
+  bit_xor,
+};
 ghost use Rattle.std.specs.Int.{bit_at};
 ghost use Rattle.rkyv_scan.specs.Groups.{places_where, mask_places};
 ghost use Rattle.rkyv_scan.specs.Halves.{halves_kind, halves_lawful, is_half_match_at};

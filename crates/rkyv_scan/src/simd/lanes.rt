@@ -2,6 +2,7 @@
 ghost use Rattle.std.specs.Prelude.{◌≡◌, ℕ, length};
 ghost use Rattle.std.specs.Iterator.{YieldsFirst, item_count};
 ghost use Rattle.rkyv_scan.specs.Groups.{mask_places, lanes_kind};
+ghost use Rattle.rkyv_scan.specs.Lemmas.Ascending.{mask_ascends};
 ghost use Rattle.rkyv_scan.specs.Lemmas.KindLaws.{equal_lawful};
 ghost use Rattle.rkyv_scan.specs.Lemmas.HalfBits.{TellsEqual};
 ghost use Rattle.std.proofs.Common.{refl, arith};
@@ -30,6 +31,8 @@ impl Bitmask {
 
 impl Marks for Bitmask {
     ghost places = { λ m. mask_places 1 0 16 m.bits };
+
+    ghost ascend = { λ m. mask_ascends 1 0 16 m.bits };
 
     ghost can = { λ _. tt };
 

@@ -27,7 +27,7 @@ ends_at kind controls cap t accept p = list_any accept (candidates kind controls
 abbrev pub end : Kind → List ℕ → ℕ → ℕ → ℕ → (ℕ → Bool) → ℕ
 end kind controls cap len hash accept = cond (len == 0) 0 (suc (position_or_len (ends_at kind controls cap (tag hash) accept) (strides hash cap)))
 
--- the first accepted candidate of that stride
+-- the first accepted candidate of the stride at which the search ends
 abbrev pub found : Kind → List ℕ → ℕ → ℕ → ℕ → (ℕ → Bool) → Option ℕ
 found kind controls cap len hash accept =
     cond (len == 0) None (option_and_then (λ p. find accept (candidates kind controls cap (tag hash) p)) (find (ends_at kind controls cap (tag hash) accept) (strides hash cap)))

@@ -14,9 +14,11 @@ pub record IsCover (hash cap : ℕ) (places : List ℕ) : Type 0 where
   pub once : IsDistinct eqb places
   pub count : length places ≡ probe_capacity cap / 16
 
+-- the strides of a hash are the places that leave the start's rest by 16, each once
 abbrev pub StridesCover : Type 0
 StridesCover = (hash cap : ℕ) → 0 < cap → IsCover hash cap (strides hash cap)
 
+-- the strides of a hash show every bucket
 abbrev pub BucketsAreShown : Type 0
 BucketsAreShown = (hash cap bucket : ℕ) → bucket < cap → Contains (shown hash cap) bucket
 
@@ -24,25 +26,32 @@ BucketsAreShown = (hash cap bucket : ℕ) → bucket < cap → Contains (shown h
 abbrev pub AreHashes : List ℕ → Type 0
 AreHashes = All (λ hash. hash < 2 ^ 64)
 
+-- fewer items than buckets have homes
 abbrev pub HomesExist : Type 0
 HomesExist = (cap : ℕ) (hashes : List ℕ) → length hashes < cap → Homes cap hashes (homes cap hashes)
 
+-- capacity and hashes determine the homes
 abbrev pub HomesAreOneList : Type 0
 HomesAreOneList = (cap : ℕ) (hashes xs : List ℕ) → Homes cap hashes xs → xs ≡ homes cap hashes
 
+-- capacity and hashes determine the written controls
 abbrev pub WrittenAreOneList : Type 0
 WrittenAreOneList = (cap : ℕ) (hashes xs controls : List ℕ) → 0 < cap → Written cap hashes xs controls → controls ≡ written_controls cap hashes
 
+-- what is written of fewer items than buckets is accepted
 abbrev pub WrittenAreAccepted : Type 0
 WrittenAreAccepted = (cap : ℕ) (hashes xs controls : List ℕ) → length hashes < cap → AreHashes hashes → Written cap hashes xs controls → Accepted cap (length hashes) controls
 
+-- the walk visits the full buckets, and no other
 abbrev pub WalkedAreFull : Type 0
 WalkedAreFull = (cap bucket : ℕ) (controls : List ℕ) → Contains (walk controls cap) bucket ↔ IsFullBucket cap controls bucket
 
+-- a search reads at most one stride for sixteen buckets, rounded up
 abbrev pub SearchIsBounded : Type 0
 SearchIsBounded = (kind : Kind) (cap len hash : ℕ) (controls : List ℕ) (accept : ℕ → Bool) → (0 < len → Accepted cap len controls)
     → end kind controls cap len hash accept ≤ probe_capacity cap / 16
 
+-- a marked place of a stride leads to a full bucket of the walk
 abbrev pub MarkedAreWalked : Type 0
 MarkedAreWalked = (kind : Kind) (cap len hash tag p q : ℕ) (controls : List ℕ) → IsKind kind → Accepted cap len controls → tag < 128
     → Contains (strides hash cap) p → p ≤ q → q < p + 16 → marked kind controls tag p q ≡ true
@@ -52,6 +61,7 @@ MarkedAreWalked = (kind : Kind) (cap len hash tag p q : ℕ) (controls : List �
 abbrev pub IsUnderHash : ℕ → List ℕ → List ℕ → (ℕ → Bool) → Type 0
 IsUnderHash hash hashes xs accept = (i : ℕ) → i < length hashes → accept (slice_index xs i) ≡ true → slice_index hashes i ≡ hash
 
+-- a lookup on written controls answers the home of the first item that is accepted
 abbrev pub FoundOnWritten : Type 0
 FoundOnWritten = (kind : Kind) (cap hash : ℕ) (hashes xs controls : List ℕ) (accept : ℕ → Bool) → IsKind kind → hash < 2 ^ 64 → length hashes < cap → AreHashes hashes
     → Written cap hashes xs controls → IsUnderHash hash hashes xs accept → found kind controls cap (length hashes) hash accept ≡ find accept xs

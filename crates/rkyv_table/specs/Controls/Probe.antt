@@ -11,7 +11,7 @@ probe_place s m k = (s + 16 * (k * (k + 1) / 2)) % m
 unfoldable pub strides : ℕ → ℕ → List ℕ
 strides hash cap = filter (λ p. ltb p (probe_capacity cap)) (map (probe_place (start hash cap) (modulus cap)) (range_with_len 0 (modulus cap / 16)))
 
--- those of them that come from the k-th place on, where the sequence begins at s
+-- the strides from the k-th place on, where the sequence begins at s
 unfoldable pub strides_from : ℕ → ℕ → ℕ → List ℕ
 strides_from cap s k = filter (λ p. ltb p (probe_capacity cap)) (map (probe_place s (modulus cap)) (range_with_len k (modulus cap / 16 - k)))
 

@@ -6,7 +6,7 @@ use Rattle.rkyv_table.specs.Controls.Numbers.{control_count}
 abbrev pub RepeatsAt : ℕ → List ℕ → ℕ → Type 0
 RepeatsAt cap controls q = (q < 2 * cap → slice_index controls q ≡ slice_index controls (q - cap)) × (2 * cap ≤ q → 128 ≤ slice_index controls q)
 
--- the least place from cap on that fails
+-- the least place from cap on at which the controls don't repeat as they must
 pub record FirstUnlike (cap : ℕ) (controls : List ℕ) (place : ℕ) : Type 0 where
   pub from : cap ≤ place
   pub below : place < control_count cap

@@ -25,3 +25,9 @@ abbrev pub IsSeen : Kind → List ℕ → ℕ → ℕ → ℕ → (ℕ → Bool)
 IsSeen kind controls cap t p accept (Accepted b) = find accept (candidates kind controls cap t p) ≡ Some b
 IsSeen kind controls cap t p accept Empty = (find accept (candidates kind controls cap t p) ≡ None) × (shows_empty controls p ≡ true)
 IsSeen kind controls cap t p accept Full = (find accept (candidates kind controls cap t p) ≡ None) × (shows_empty controls p ≡ false)
+
+-- an accepted bucket is one of which the comparison answered true
+abbrev pub IsAcceptedBy : (ℕ → Bool → Type 0) → Seen → Type 0
+IsAcceptedBy post (Accepted b) = post b true
+IsAcceptedBy post Empty = ⊤
+IsAcceptedBy post Full = ⊤

@@ -14,7 +14,7 @@ module _ (w : Width) (kind : IsArchiveWord w) where
   word : IsWord w
   word = by_archive_word IsWord (inr (inr (inl refl))) (inr (inr (inr refl))) w kind
 
-  number_reads : (c : List ℕ) (p n : ℕ) → n < 2 ^ bits w → Sits c p (to_le_bytes w n) → number_at w c p ≡ n
+  pub number_reads : (c : List ℕ) (p n : ℕ) → n < 2 ^ bits w → Sits c p (to_le_bytes w n) → number_at w c p ≡ n
   number_reads c p n fits s = ap (from_le_bytes w) (ap (λ k. slice_range c p (p + k)) (sym (word_bytes w word n)) ∙ s.there) ∙ word_reads_back w word n fits
 
   pub header_length : (d : ℤ) (len cap : ℕ) → length (header_bytes w d len cap) ≡ 3 * byte_len w

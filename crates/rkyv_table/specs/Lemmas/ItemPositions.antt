@@ -30,7 +30,7 @@ pub record HoldsWithin (s : Shape) (b : List ℕ) (q lo hi l : ℕ) : Type 0 whe
 
 module _ (s : Shape) (law : IsElement s) (at : ℕ → ℕ) where
   -- each of the values that hold, one after the other, holds so
-  each_holds : (P : ℕ → Bool) (b : List ℕ) (hi a n lo l i : ℕ) → lo ≤ hi → AllHold s at b hi (filter P (range_with_len a n)) lo l → a ≤ i → i < a + n → P i ≡ true
+  pub each_holds : (P : ℕ → Bool) (b : List ℕ) (hi a n lo l i : ℕ) → lo ≤ hi → AllHold s at b hi (filter P (range_with_len a n)) lo l → a ≤ i → i < a + n → P i ≡ true
       → HoldsWithin s b (at i) lo hi l
   each_holds P b hi a zero lo l i o h from to t = absurd (omega arith)
   each_holds P b hi a (suc n) lo l i o h from to t = elim (cases_Bool (P a)) [

@@ -3,10 +3,11 @@ use Rattle.std.specs.Prelude.{◌≡◌, ℕ, ◌+◌, ◌*◌, ◌<◌, ◌⊎�
 use Rattle.std.specs.Int.{Width, byte_len, to_le_bytes, cast_unsigned}
 use Rattle.rkyv_base.specs.Bytes.{number_at, signed_at}
 
--- what the header at p tells: how many items there are, and how many buckets
+-- how many items the header at p tells
 abbrev pub len_at : Width → List ℕ → ℕ → ℕ
 len_at w b p = number_at w b (p + byte_len w)
 
+-- how many buckets the header at p tells
 abbrev pub cap_at : Width → List ℕ → ℕ → ℕ
 cap_at w b p = number_at w b (p + 2 * byte_len w)
 

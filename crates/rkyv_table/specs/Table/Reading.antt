@@ -1,5 +1,5 @@
 -- What an accepted table shows: where its controls and items stand, and what a lookup in it answers.
-use Rattle.std.specs.Prelude.{◌≡◌, ℕ, ◌+◌, ◌-◌, ◌*◌, ◌/◌, ◌<◌, ◌^◌, ◌⊎◌, List, [], Bool, Option, pos, ◌+ℤ◌, unsigned_abs, slice_range, length, map}
+use Rattle.std.specs.Prelude.{◌≡◌, ℕ, ◌+◌, ◌-◌, ◌*◌, ◌/◌, ◌<◌, ◌^◌, ◌⊎◌, List, [], Bool, true, Option, pos, ◌+ℤ◌, unsigned_abs, slice_range, length, map}
 use Rattle.std.specs.Int.{Width}
 use Rattle.std.specs.List.{find}
 use Rattle.std.specs.Option.{option_map}
@@ -68,6 +68,7 @@ IsTable w s t = IsView (table_shape w s) t.view
 abbrev pub table_bytes : {T W : Type 0} → ArchivedHashTable T W → List ℕ
 table_bytes t = bytes_of t.view
 
+-- the position of the table's header
 abbrev pub table_pos : {T W : Type 0} → ArchivedHashTable T W → ℕ
 table_pos t = pos_of t.view
 
@@ -89,6 +90,10 @@ IsItemPos w s t q = (i : ℕ) × IsWalked w (table_bytes t) (table_pos t) i × (
 -- the comparison may be asked of each item
 abbrev pub MayAsk : {T W : Type 0} → (View T → Type 0) → Width → Shape → ArchivedHashTable T W → Type 0
 MayAsk {T} pre w s t = (v : View T) → IsItem w s t v → pre v
+
+-- at position q an item of the table stands of which the comparison answered true
+abbrev pub IsAcceptedAt : {T W : Type 0} → (View T → Bool → Type 0) → Width → Shape → ArchivedHashTable T W → ℕ → Type 0
+IsAcceptedAt {T} post w s t q = (v : View T) × IsItem w s t v × (v.pos ≡ q) × post v true
 
 -- of each item the comparison answers what accept tells of its position
 abbrev pub Answers : {T W : Type 0} → (View T → Bool → Type 0) → Width → Shape → ArchivedHashTable T W → (ℕ → Bool) → Type 0

@@ -14,10 +14,11 @@ use Rattle.rkyv_table.specs.Controls.Walking.{full_from}
 use Rattle.rkyv_table.specs.declared.table.raw_iter_seal.Place.{Place}
 use Rattle.rkyv_table.specs.declared.table.raw_iter_seal.RawIterSeal.{RawIterSeal}
 
--- the archive of a cursor, and how many items it has left
+-- the bytes of a cursor's archive
 abbrev pub cursor_bytes : {T : Type 0} → RawIterSeal T → List ℕ
 cursor_bytes r = r.archive.now
 
+-- how many items a cursor still gives
 abbrev pub items_left : {T : Type 0} → RawIterSeal T → ℕ
 items_left r = r.left
 

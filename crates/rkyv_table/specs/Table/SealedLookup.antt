@@ -49,7 +49,7 @@ abbrev pub SealsFound : {T W : Type 0} → (View T → Bool → Type 0) → Kind
 SealsFound post kind w s a hash result =
     (accept : ℕ → Bool) → AnswersAt post w s a accept → result ≡ pos_found kind w s.size (archive_in a) (pos_in a) hash accept
 
--- and on a written one, where only items under the asked hash are accepted: the first accepted one in the order handed in
+-- by position on a written table, where only items under the asked hash are accepted: the first
 abbrev pub SealsFirst : {T W : Type 0} → (View T → Bool → Type 0) → Width → Shape → ArchiveSeal (TableOf T W) → ℕ → Option ℕ → Type 0
 SealsFirst post w s a hash result =
     (hashes homes : List ℕ) (accept : ℕ → Bool) → WrittenAt w (archive_in a) (pos_in a) hashes homes → AnswersAt post w s a accept

@@ -1,11 +1,11 @@
 //! Finding an item by the controls.
-ghost use Rattle.std.specs.Prelude.{Bool, IfSome, List, drop, length, map, slice_index, take, ℕ, ◌%◌, ◌*◌, ◌+◌, ◌/◌, ◌<◌, ◌^◌, ◌≡◌, ◌≤◌};
+ghost use Rattle.std.specs.Prelude.{Bool, IfSome, List, drop, length, map, slice_index, take, true, ℕ, ◌%◌, ◌*◌, ◌+◌, ◌/◌, ◌<◌, ◌^◌, ◌≡◌, ◌≤◌};
 ghost use Rattle.std.specs.List.{find};
 ghost use Rattle.rkyv_table.specs.Controls.Shown.{IsFullBucket};
 ghost use Rattle.rkyv_table.specs.Controls.Finding.{AnswersAs, ReadsWithin, end, found};
 ghost use Rattle.rkyv_table.specs.Controls.Numbers.{probe_capacity};
 ghost use Rattle.rkyv_table.specs.Controls.Placing.{Accepted};
-ghost use Rattle.rkyv_table.specs.Controls.Seen.{IsMarked, IsSeen, IsShown, IsShownIfAccepted};
+ghost use Rattle.rkyv_table.specs.Controls.Seen.{IsAcceptedBy, IsMarked, IsSeen, IsShown, IsShownIfAccepted};
 
 use crate::controls::numbers::{bucket_of, tag};
 use crate::controls::probe::Probe;
@@ -66,6 +66,7 @@ fn first_accepted<M: Marks, F: Fn(usize) -> bool>(
         → at + slice_index (M.places marks) k < 2 * cap }
     requires callable { (b : ℕ) → IsMarked at cap (M.places marks) b → F.pre cmp.now b }
     ensures among { IfSome result (IsMarked at cap (M.places marks)) }
+    ensures accepted { IfSome result (λ b. F.post cmp.now b true) }
     ensures first { (accept : ℕ → Bool)
         → AnswersAs (F.post cmp.now) (IsMarked at cap (M.places marks)) accept
         → result ≡ find accept (map (λ j. (at + j) % cap) (M.places marks)) }
@@ -106,6 +107,7 @@ fn scan_whole<G: GroupKind, F: Fn(usize) -> bool>(
     requires below { (q : ℕ) → q < 16 → slice_index stride.now q < 128 → pos + q < 2 * cap }
     requires callable { (b : ℕ) → IsShown stride.now pos cap b → F.pre cmp.now b }
     ensures full { IsShownIfAccepted stride.now pos cap result }
+    ensures accepted { IsAcceptedBy (F.post cmp.now) result }
     ensures seen { (controls : List ℕ) → stride.now ≡ take 16 (drop pos controls)
         → (accept : ℕ → Bool) → AnswersAs (F.post cmp.now) (IsShown stride.now pos cap) accept
         → IsSeen G.kind controls cap tag pos accept result }
@@ -139,6 +141,7 @@ fn scan_groups<G: GroupKind, F: Fn(usize) -> bool>(
     requires below { (q : ℕ) → q < 16 → slice_index stride.now q < 128 → pos + q < 2 * cap }
     requires callable { (b : ℕ) → IsShown stride.now pos cap b → F.pre cmp.now b }
     ensures full { IsShownIfAccepted stride.now pos cap result }
+    ensures accepted { IsAcceptedBy (F.post cmp.now) result }
     ensures seen { (controls : List ℕ) → stride.now ≡ take 16 (drop pos controls)
         → (accept : ℕ → Bool) → AnswersAs (F.post cmp.now) (IsShown stride.now pos cap) accept
         → IsSeen G.kind controls cap tag pos accept result }
@@ -173,6 +176,7 @@ fn scan<G: GroupKind, F: Fn(usize) -> bool>(
     requires below { (q : ℕ) → q < 16 → slice_index stride.now q < 128 → pos + q < 2 * cap }
     requires callable { (b : ℕ) → IsShown stride.now pos cap b → F.pre cmp.now b }
     ensures full { IsShownIfAccepted stride.now pos cap result }
+    ensures accepted { IsAcceptedBy (F.post cmp.now) result }
     ensures seen { (controls : List ℕ) → stride.now ≡ take 16 (drop pos controls)
         → (accept : ℕ → Bool) → AnswersAs (F.post cmp.now) (IsShown stride.now pos cap) accept
         → IsSeen G.kind controls cap tag pos accept result }
@@ -186,7 +190,8 @@ fn scan<G: GroupKind, F: Fn(usize) -> bool>(
 
 /// Finds the bucket of an item under `hash` that the comparison accepts.
 ///
-/// The comparison is asked for buckets whose control is full. Each stride that is read is counted.
+/// The comparison is asked for buckets whose control is full, and accepted the one that is answered.
+/// Each stride that is read is counted.
 #[inline]
 pub fn find<G: GroupKind, F: Fn(usize) -> bool>(
     controls: &[u8],
@@ -200,6 +205,7 @@ pub fn find<G: GroupKind, F: Fn(usize) -> bool>(
     requires room { strides.old ≤ 2 ^ 63 }
     requires callable { (b : ℕ) → IsFullBucket cap controls.now b → F.pre cmp b }
     ensures walked { IfSome result (IsFullBucket cap controls.now) }
+    ensures accepted { IfSome result (λ b. F.post cmp b true) }
     ensures bounded { ReadsWithin len (probe_capacity cap / 16) strides.old strides.new }
     ensures answer { (accept : ℕ → Bool)
         → AnswersAs (F.post cmp) (IsFullBucket cap controls.now) accept

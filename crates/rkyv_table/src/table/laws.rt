@@ -1,7 +1,44 @@
 //! Laws of walks and lookups in tables, over their definitions alone.
+ghost use Rattle.std.specs.Prelude.{ℕ};
+ghost use Rattle.rkyv_base.specs.Empty.{unit_format};
+ghost use Rattle.rkyv_base.specs.Pairs.{pair_format, written_as};
+ghost use Rattle.rkyv_base.specs.Scalar.{scalar_format};
+ghost use Rattle.rkyv_base.specs.TextWriting.{text_format};
+ghost use Rattle.rkyv_table.specs.Table.FirstItem.{AnswersFirst};
+ghost use Rattle.rkyv_table.specs.Table.Lending.{lent_stands};
+ghost use Rattle.rkyv_table.specs.Table.OneWay.{WritesOneWay};
+ghost use Rattle.rkyv_table.specs.Table.TableFormat.{table_format};
 ghost use Rattle.rkyv_table.specs.Table.WalkLaws.{WalkVisitsHomes};
+
+use rkyv_base::archive::Archive;
+use rkyv_base::lend::Lend;
+use rkyv_base::scalars::Scalar;
+use rkyv_base::width::Width;
 
 /// On written controls a walk visits the home of each item once, ascending, and nothing else.
 pub fn walk_visits_homes()
     ensures { WalkVisitsHomes }
+{}
+
+/// In a table that was written, where each item that is accepted is under the asked hash, a lookup
+/// answers where the first accepted item of the list stands, and none exactly where none is accepted.
+pub fn lookups_answer_the_first<W: Width, U: Archive<W>, X: Lend<U>>()
+    ensures { (load_factor : ℕ × ℕ) →
+        AnswersFirst W.word U.Archived.shape (lent_stands X.lent U.Archived.stands) load_factor }
+{}
+
+/// Where an item's bytes and its parts are functions of the item and the position, so is what is
+/// written of a list of them: no matter by which kind of group they were placed.
+pub fn tables_are_written_one_way<W: Width, U: Archive<W>, X: Lend<U>>()
+    ensures { (load_factor : ℕ × ℕ) → WritesOneWay U.format
+        → WritesOneWay (table_format W.word U.Archived.shape (written_as X.lent U.format) load_factor) }
+{}
+
+/// So the ready elements are: scalars, text, the unit value, and pairs of such.
+pub fn ready_elements_are_written_one_way<W: Width, N: Scalar, A: Archive<W>, B: Archive<W>>()
+    ensures scalars { WritesOneWay (scalar_format N.encoding) }
+    ensures texts { WritesOneWay (text_format W.word) }
+    ensures units { WritesOneWay unit_format }
+    ensures pairs { WritesOneWay A.format → WritesOneWay B.format
+        → WritesOneWay (pair_format A.Archived.shape B.Archived.shape A.format B.format) }
 {}

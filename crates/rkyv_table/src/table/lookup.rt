@@ -1,7 +1,9 @@
 //! Finding an item.
-ghost use Rattle.std.specs.Prelude.{IfSome, ◌≡◌, ◌≤◌, ◌^◌};
+ghost use Rattle.std.specs.Prelude.{IfSome, true, ◌≡◌, ◌≤◌, ◌^◌};
 ghost use Rattle.rkyv_scan.specs.Groups.{generic_kind};
-ghost use Rattle.rkyv_table.specs.Table.Reading.{AreItems, CountsEnd, CountsWithin, FindsBucket, FindsFirst, FindsFound, IsItem, IsItemIn, IsItemPos, IsTable, IsWalked, MayAsk, bucket_of_found, pos_of_found, table_bytes, table_pos};
+ghost use Rattle.rkyv_table.specs.Table.Reading.{AreItems, CountsEnd, CountsWithin, FindsBucket, FindsFirst, FindsFound};
+ghost use Rattle.rkyv_table.specs.Table.Reading.{IsAcceptedAt, IsItem, IsItemIn, IsItemPos, IsTable};
+ghost use Rattle.rkyv_table.specs.Table.Reading.{IsWalked, MayAsk, bucket_of_found, pos_of_found, table_bytes, table_pos};
 ghost use Rattle.rkyv_base.specs.View.{IsView};
 
 use crate::controls::find::{Strides, find};
@@ -28,6 +30,7 @@ impl<'a, T: Element, W: Width> ArchivedHashTable<'a, T, W> {
         requires room { strides.old ≤ 2 ^ 63 }
         requires callable { MayAsk (F.pre cmp) W.word T.shape self }
         ensures walked { IfSome result (λ found. IsItemIn W.word T.shape self.entry found.bucket found.item) }
+        ensures accepted { IfSome result (λ found. F.post cmp found.item true) }
         ensures answer { FindsBucket (F.post cmp) G.kind W.word T.shape self.entry hash (bucket_of_found result) }
         ensures bounded { CountsWithin W.word self.entry strides.old strides.new }
         ensures counted { CountsEnd (F.post cmp) G.kind W.word T.shape self.entry hash strides.old strides.new }
@@ -66,6 +69,7 @@ impl<'a, T: Element, W: Width> ArchivedHashTable<'a, T, W> {
         requires table { IsTable W.word T.shape self }
         requires callable { MayAsk (F.pre cmp) W.word T.shape self }
         ensures walked { IfSome result (IsItem W.word T.shape self.entry) }
+        ensures accepted { IfSome result (λ v. F.post cmp v true) }
         ensures answer { FindsFound (F.post cmp) generic_kind W.word T.shape self.entry hash (pos_of_found result) }
         ensures first { FindsFirst (F.post cmp) W.word T.shape self.entry hash (pos_of_found result) }
     {
@@ -82,6 +86,7 @@ impl<'a, T: Element, W: Width> ArchivedHashTable<'a, T, W> {
         requires table { IsTable W.word T.shape self }
         requires callable { MayAsk (F.pre cmp) W.word T.shape self }
         ensures walked { IfSome result (IsItem W.word T.shape self.entry) }
+        ensures accepted { IfSome result (λ v. F.post cmp v true) }
         ensures answer { FindsFound (F.post cmp) G.kind W.word T.shape self.entry hash (pos_of_found result) }
         ensures first { FindsFirst (F.post cmp) W.word T.shape self.entry hash (pos_of_found result) }
     {
@@ -97,6 +102,7 @@ impl<'a, T: Element, W: Width> ArchivedHashTable<'a, T, W> {
         requires table { IsTable W.word T.shape self }
         requires callable { MayAsk (F.pre cmp) W.word T.shape self }
         ensures walked { IfSome result (IsItemPos W.word T.shape self.entry) }
+        ensures accepted { IfSome result (IsAcceptedAt (F.post cmp) W.word T.shape self.entry) }
         ensures answer { FindsFound (F.post cmp) generic_kind W.word T.shape self.entry hash result }
         ensures first { FindsFirst (F.post cmp) W.word T.shape self.entry hash result }
     {
@@ -121,6 +127,7 @@ impl<'a, T: Element, W: Width> ArchivedHashTable<'a, T, W> {
         requires room { strides.old ≤ 2 ^ 63 }
         requires callable { MayAsk (F.pre cmp) W.word T.shape self }
         ensures walked { IfSome result (IsItem W.word T.shape self.entry) }
+        ensures accepted { IfSome result (λ v. F.post cmp v true) }
         ensures answer { FindsFound (F.post cmp) generic_kind W.word T.shape self.entry hash (pos_of_found result) }
         ensures first { FindsFirst (F.post cmp) W.word T.shape self.entry hash (pos_of_found result) }
         ensures bounded { CountsWithin W.word self.entry strides.old strides.new }

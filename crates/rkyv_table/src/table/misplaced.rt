@@ -13,9 +13,9 @@ use rkyv_base::view::View;
 use rkyv_base::width::Width;
 use rkyv_scan::Group;
 
-// Whether a lookup didn't answer the bucket.
+/// Whether a lookup didn't answer the bucket.
 #[inline]
-fn is_elsewhere(bucket: usize, found: Option<usize>) -> bool
+pub fn is_elsewhere(bucket: usize, found: Option<usize>) -> bool
     ensures { result ≡ not (is_answer bucket found) }
 {
     match found {

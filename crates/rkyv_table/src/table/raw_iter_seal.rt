@@ -312,13 +312,15 @@ pub fn set_all_by_seals<N: Scalar, W: Width>(archive: &mut [u8], pos: u64, value
 {
     let mut rest = ArchivedHashTable::<N, W>::raw_iter_over(archive, pos);
     for _ in 0..rest.len() {
-        rest.next_seal_with(|seal: &mut Seal<'_, N>|
-            requires { LiesIn (scalar_shape N.encoding) seal.old }
-            ensures stays { SealStays seal.old seal.new }
-            ensures sealed { Sealed (bytes_in seal.old) (seal_pos seal.old) (byte_len N.encoding.word) (bytes_in seal.new) }
-            ensures holds { Keeps (scalar_shape N.encoding) (bytes_in seal.old) (bytes_in seal.new) (seal_pos seal.old) }
-        {
-            seal.set(value);
-        });
+        rest.next_seal_with(
+            |seal: &mut Seal<'_, N>|
+                requires { LiesIn (scalar_shape N.encoding) seal.old }
+                ensures stays { SealStays seal.old seal.new }
+                ensures sealed { Sealed (bytes_in seal.old) (seal_pos seal.old) (byte_len N.encoding.word) (bytes_in seal.new) }
+                ensures holds { Keeps (scalar_shape N.encoding) (bytes_in seal.old) (bytes_in seal.new) (seal_pos seal.old) }
+            {
+                seal.set(value);
+            },
+        );
     }
 }

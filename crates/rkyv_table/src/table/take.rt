@@ -9,9 +9,9 @@ ghost use Rattle.rkyv_table.specs.Table.Taking.{Placed};
 use crate::controls::place::place_one;
 use rkyv_scan::simd::GroupKind;
 
-// Asks the iterator, which need not end.
+/// Asks the iterator, which need not end.
 #[inline]
-pub(crate) fn next_item<I: Iterator>(rest: &mut I) -> Option<I::Item>
+pub fn next_item<I: Iterator>(rest: &mut I) -> Option<I::Item>
     requires { I.can_next rest.old }
     ensures steps { I.next_gives rest.old result rest.new }
     ensures keeps { IfSome result (λ _. I.can_next rest.new) }

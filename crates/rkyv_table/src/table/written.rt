@@ -6,6 +6,7 @@ ghost use Rattle.rkyv_base.specs.Pairs.{written_as};
 ghost use Rattle.rkyv_table.specs.Table.Lending.{lent_stands};
 ghost use Rattle.rkyv_table.specs.Table.Layout.{table_shape};
 ghost use Rattle.rkyv_table.specs.Table.TableFormat.{TableStands, table_format};
+ghost use Rattle.rkyv_table.specs.Table.Passing.{WrittenTablesPass};
 ghost use Rattle.rkyv_table.specs.Table.WrittenTables.{StandingWereWritten};
 
 use rkyv_base::archive::Archive;
@@ -18,6 +19,13 @@ use rkyv_base::width::Width;
 pub fn written_tables_stand<W: Width, U: Archive<W>, X: Lend<U>>()
     ensures { (load_factor : ℕ × ℕ) → let s = U.Archived.shape in
         IsFormat (table_shape W.word s) (TableStands W.word s (lent_stands X.lent U.Archived.stands) load_factor) (table_format W.word s (written_as X.lent U.format) load_factor) }
+{}
+
+/// And it passes the check in each range from where the write began, or before, to where it ended,
+/// or behind.
+pub fn written_tables_pass<W: Width, U: Archive<W>, X: Lend<U>>()
+    ensures { (load_factor : ℕ × ℕ) →
+        WrittenTablesPass W.word U.Archived.shape (written_as X.lent U.format) load_factor }
 {}
 
 /// That the items of a table stand rests on its header, and on the bytes up to its new lower end.

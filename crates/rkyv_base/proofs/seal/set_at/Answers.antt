@@ -5,16 +5,16 @@ use Rattle.rkyv_base.proofs.seal.set_at.Goals as goal
 
 pub returns-clause-sealed : goal.returns-clause-sealed
 returns-clause-sealed g c =
-    value_sealed g.N.Scalar.encoding g.met.N.Scalar.word c.args.bytes.now _ c.args.place c.args.value _ c.requires c.write.ensures (grind (arith, common_steps))
+    value_sealed g.N.Scalar.encoding g.met.N.Scalar.word c.args.bytes.now _ c.args.pos c.args.value _ c.requires c.write.ensures (grind (arith, common_steps))
 
 pub returns-clause-reads : goal.returns-clause-reads
 returns-clause-reads g c =
-    value_there g.N.Scalar.encoding g.met.N.Scalar.word c.args.bytes.now _ c.args.place c.args.value _ c.requires c.write.ensures (grind (arith, common_steps))
+    value_there g.N.Scalar.encoding g.met.N.Scalar.word c.args.bytes.now _ c.args.pos c.args.value _ c.requires c.write.ensures (grind (arith, common_steps))
 
 pub returns-clause-value : goal.returns-clause-value
 returns-clause-value g c =
-    value_good g.N.Scalar.encoding g.met.N.Scalar.word c.args.bytes.now _ c.args.place c.args.value _ c.requires c.write.ensures (grind (arith, common_steps))
+    value_good g.N.Scalar.encoding g.met.N.Scalar.word c.args.bytes.now _ c.args.pos c.args.value _ c.requires c.write.ensures (grind (arith, common_steps))
 
 pub returns-clause-holds : goal.returns-clause-holds
 returns-clause-holds g c =
-    value_holds g.N.Scalar.encoding g.met.N.Scalar.word c.args.bytes.now _ c.args.place c.args.value _ c.requires c.write.ensures (grind (arith, common_steps))
+    value_holds g.N.Scalar.encoding g.met.N.Scalar.word c.args.bytes.now _ c.args.pos c.args.value _ c.requires c.write.ensures (grind (arith, common_steps))

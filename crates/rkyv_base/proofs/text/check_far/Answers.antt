@@ -26,7 +26,7 @@ returns-in-Ok-check_utf8 g c =
           (text_passes g.W.Width.word c.fixed_at-fixed.result.now c.args.bytes.now c.args.pos c.args.range.lo c.args.range.hi _ c.far_len-len.result
           (ap is_far c.fixed_at-fixed.ensures ∙ c.requires.far) large
           (to_z-of_z w128 c.far_start-begin.result fits ∙ c.far_start-begin.ensures) c.far_len-len.ensures
-          c.in-Ok.place (rw c.from.ensures at c.in-Ok.ensures) c.in-Ok-check_utf8.ensures),
+          c.in-Ok.at (rw c.from.ensures at c.in-Ok.ensures) c.in-Ok-check_utf8.ensures),
     )
 
 pub returns-in-Err-check_utf8 : goal.returns-in-Err-check_utf8
@@ -38,4 +38,4 @@ returns-in-Err-check_utf8 g c =
     (no_text_fails g.W.Width.word c.fixed_at-fixed.result.now c.args.bytes.now c.args.pos c.args.range.lo c.args.range.hi _ c.far_len-len.result
     (ap is_far c.fixed_at-fixed.ensures ∙ c.requires.far) large
     (to_z-of_z w128 c.far_start-begin.result fits ∙ c.far_start-begin.ensures) c.far_len-len.ensures
-    c.in-Ok.place c.in-Err-check_utf8.e (rw c.from.ensures at c.in-Ok.ensures) c.in-Err-check_utf8.ensures.0 c.in-Err-check_utf8.ensures.1)
+    c.in-Ok.at c.in-Err-check_utf8.e (rw c.from.ensures at c.in-Ok.ensures) c.in-Err-check_utf8.ensures.0 c.in-Err-check_utf8.ensures.1)

@@ -1,11 +1,13 @@
-use Rattle.std.proofs.Common.{◌≡◌, ℕ, ◌∙◌, ◌<◌, ◌^◌, None, Option, Some, ap, refl, subst, sym}
+use Rattle.std.proofs.Common.{◌≡◌, ℕ, ◌∙◌, None, Option, Some, ap, refl, subst, sym}
 use Rattle.std.specs.Option.{option_map}
 use Rattle.std.proofs.lemmas.Option.{none-some, same_Some}
 use Rattle.rkyv_scan.specs.Hash.{hash_of_calls}
 use Rattle.rkyv_base.specs.Scalar.{ScalarStands, scalar_element, scalar_shape}
 use Rattle.rkyv_base.specs.Sealing.{value_pos}
 use Rattle.rkyv_base.specs.Shape.{Viewed}
+use Rattle.rkyv_keys.specs.Asking.{rests_on_keys}
 use Rattle.rkyv_collections.proofs.SealedMap.{pair_place}
+use Rattle.rkyv_collections.proofs.ValueWrites.{rests_on_each}
 use Rattle.rkyv_collections_tests.proofs.sealed.stored.Goals as goal
 
 -- something was found
@@ -37,7 +39,8 @@ returns-in-Some-value_found g c =
     let f : ℕ → ℕ = value_pos g.K.Element.shape (scalar_shape e) in
     let d = c.write_value.new.bytes in
     let hash = hash_of_calls h.initial h.feed h.finish (g.Q.KeyHash.calls c.args.key.now) in
-    let one = c.write_value.ensures.kept.1.lookups hash (g.Q.Query.fits c.args.key.now) (subst (λ n. n < 2 ^ 64) c.hash_value-hash.ensures c.hash_value-hash.type_inv) c.requires.key in
+    let one = c.write_value.ensures.kept.1.lookups hash (g.Q.Query.fits c.args.key.now) (g.met.H.KeyHasher.fits (g.Q.KeyHash.calls c.args.key.now))
+    (rests_on_each g.K.Element.shape g.Q.KeyHash.can_read g.Q.Query.fits (rests_on_keys g.met.K.Element.laws g.met.K.ElementEquiv.equivalence g.met.K.KeyElement.key g.met.Q.Query.query) c.args.key.now c.requires.query) in
     let first = c.in-Some.ensures.answer in
     let place : c.in-Some-value_found.found ≡ c.in-Some.pos = same_Some c.in-Some-value_found.found c.in-Some.pos (c.in-Some-value_found.ensures.answer ∙ ap (option_map f) one ∙ sym first) in
     let read : ScalarStands e d c.in-Some-value_found.found c.to_native.result = rw (c.new.ensures.0, c.new.ensures.1) at c.to_native.ensures in
@@ -49,5 +52,6 @@ returns-in-None-value_found g c =
     let h = g.H.KeyHasher in
     let f : ℕ → ℕ = value_pos g.K.Element.shape (scalar_shape g.N.Scalar.encoding) in
     let hash = hash_of_calls h.initial h.feed h.finish (g.Q.KeyHash.calls c.args.key.now) in
-    let one = c.write_value.ensures.kept.1.lookups hash (g.Q.Query.fits c.args.key.now) (subst (λ n. n < 2 ^ 64) c.hash_value-hash.ensures c.hash_value-hash.type_inv) c.requires.key in
+    let one = c.write_value.ensures.kept.1.lookups hash (g.Q.Query.fits c.args.key.now) (g.met.H.KeyHasher.fits (g.Q.KeyHash.calls c.args.key.now))
+    (rests_on_each g.K.Element.shape g.Q.KeyHash.can_read g.Q.Query.fits (rests_on_keys g.met.K.Element.laws g.met.K.ElementEquiv.equivalence g.met.K.KeyElement.key g.met.Q.Query.query) c.args.key.now c.requires.query) in
     absurd (none-some c.in-Some.pos (c.in-None-value_found.ensures.answer ∙ ap (option_map f) one ∙ sym c.in-Some.ensures.answer))

@@ -1,8 +1,10 @@
-use Rattle.std.proofs.Common.{ap, ◌∙◌, ℕ, List, subst, sym}
+use Rattle.std.proofs.Common.{ap, ◌∙◌, ℕ, List}
 use Rattle.std.specs.Borrow.{Bor}
+use Rattle.rkyv_scan.specs.Groups.{generic_kind}
+use Rattle.rkyv_scan.specs.Hash.{hash_of_calls}
 use Rattle.rkyv_base.specs.Entry.{entry_shape}
+use Rattle.rkyv_table.specs.Table.Reading.{pos_found}
 use Rattle.rkyv_collections.specs.Map.{map_bytes, map_pos}
-use Rattle.rkyv_collections.specs.Misplaced.{FindsTheOne}
 use Rattle.rkyv_collections.proofs.Lookups.{query_under_hash}
 use Rattle.rkyv_collections.proofs.MisplacedKeys.{finds_the_one}
 use Rattle.rkyv_collections.proofs.map.ArchivedHashMap.find_key.Goals as goal
@@ -27,7 +29,9 @@ returns-clause-complete g c = λ none.
     let k = g.K.Element.shape in
     let v = g.V.Element.shape in
     let fits = g.Q.Query.fits c.args.key.now (map_bytes m) in
-    let found = c.find.ensures.answer fits (λ key r is e. e.1 ∙ ap (λ (archive : Bor (List ℕ)). g.Q.Query.fits c.args.key.now archive.now key.pos) is.archive) in
-    subst (FindsTheOne w (entry_shape k v).size (map_bytes m) (map_pos m) fits) (sym found)
-    (finds_the_one w k v g.met.K.Element.laws g.met.V.Element.laws g.H.KeyHasher.initial g.H.KeyHasher.feed g.H.KeyHasher.finish g.K.ElementEq.same g.K.KeyElement.key_calls
-    g.Q.KeyHash.can_read g.Q.KeyHash.calls g.Q.Query.fits g.met.Q.Query.query (map_bytes m) (map_pos m) c.requires.map c.args.key.now c.requires.query c.find.ensures.hash none)
+    let found = c.find.ensures.answer fits (λ key r is e. e.1 ∙ ap (λ (archive : Bor (List ℕ)). g.Q.Query.fits c.args.key.now archive.now key.pos) is.archive) in (
+      pos_found generic_kind w (entry_shape k v).size (map_bytes m) (map_pos m) (hash_of_calls g.H.KeyHasher.initial g.H.KeyHasher.feed g.H.KeyHasher.finish (g.Q.KeyHash.calls c.args.key.now)) fits,
+      finds_the_one w k v g.met.K.Element.laws g.met.V.Element.laws g.H.KeyHasher.initial g.H.KeyHasher.feed g.H.KeyHasher.finish g.K.ElementEq.same g.K.KeyElement.key_calls
+          g.Q.KeyHash.can_read g.Q.KeyHash.calls g.Q.Query.fits g.met.Q.Query.query (map_bytes m) (map_pos m) c.requires.map c.args.key.now c.requires.query c.find.ensures.hash none,
+      found,
+    )

@@ -20,5 +20,5 @@ returns g c =
     let o = g.S.Writer.output c.args.serializer.now in
     let o' = g.S.Writer.output c.serialize_by.new.serializer in
     let f = written_as (lent_pairs g.BK.Lend.lent g.BV.Lend.lent) (map_format w k v g.A.Archive.format g.B.Archive.format hash factor) in
-    subst (λ iter. MatchResult c.serialize_by.result (WroteItems (Drains steps iter) len factor max f o o' g.W.Width.LIMIT) (NoItems (Drains steps iter) len factor max f o o' g.W.Width.LIMIT (GaveOther steps len iter))) c.new.ensures
-    (answers_map (λ s. s.pairs) steps g.BK.Lend.lent g.BV.Lend.lent hash len factor max w k v g.A.Archive.format g.B.Archive.format o o' c.new.result g.W.Width.LIMIT c.serialize_by.result c.serialize_by.ensures)
+    subst (λ iter. MatchResult c.serialize_by.result (WroteItems (Drains steps iter) len factor max f o o' g.W.Width.LIMIT) (NoItems (Drains steps iter) len factor max f o o' g.W.Width.LIMIT (GaveOther steps len iter))) c.new-entries.ensures
+    (answers_map (λ s. s.pairs) steps g.BK.Lend.lent g.BV.Lend.lent hash len factor max w k v g.A.Archive.format g.B.Archive.format o o' c.new-entries.result g.W.Width.LIMIT c.serialize_by.result c.serialize_by.ensures)

@@ -1,5 +1,5 @@
 use Rattle.rkyv_collections.specs.MapFormat.{hash_of}
-use Rattle.rkyv_collections.proofs.SetItems.{answers_set}
+use Rattle.rkyv_collections.proofs.UnitItems.{answers_set}
 use Rattle.rkyv_collections.proofs.set.ArchivedHashSet.serialize_from_iter.Goals as goal
 
 pub returns : goal.returns

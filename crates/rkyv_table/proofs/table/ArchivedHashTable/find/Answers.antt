@@ -1,6 +1,6 @@
-use Rattle.std.proofs.Common.{refl, ap, subst, ◌∙◌, ◌+◌, ℕ}
+use Rattle.std.proofs.Common.{◌≡◌, refl, sym, ap, subst, ◌∙◌, ◌+◌, ℕ, true}
 use Rattle.rkyv_table.specs.Table.Reading.{IsItem, bucket_found, item_at, lookup_end, table_bytes, table_pos}
-use Rattle.rkyv_table.proofs.Items.{read_accepted, read_end, read_found, read_walked}
+use Rattle.rkyv_table.proofs.Items.{read_accepted, read_end, read_found, read_walked, view_is}
 use Rattle.rkyv_table.proofs.table.ArchivedHashTable.find.Goals as goal
 
 pub find-bucket-requires : goal.find-bucket-requires
@@ -63,3 +63,9 @@ returns-clause-counted g c = λ accept alone.
     let h = c.in-None.ensures.counted (λ i. accept (at i)) (λ b r full e. alone e.0 r (subst (λ t. IsItem w s t e.0) same (b, e.1)) e.2 ∙ ap accept e.1.place) in
     let f = read_end w s g.met.T.Element.laws items are g.G.GroupKind.kind c.args.hash (λ i. accept (at i)) in
     h ∙ ap (λ n. c.args.strides.now + n) (f ∙ ap (λ t. lookup_end g.G.GroupKind.kind w s.size (table_bytes t) (table_pos t) c.args.hash accept) same)
+
+pub returns-in-Some-clause-accepted : goal.returns-in-Some-clause-accepted
+returns-in-Some-clause-accepted g c =
+    let e = c.in-Some.ensures.accepted in
+    let same : e.0 ≡ c.item.result = view_is e.0 c.item.result (e.1.archive ∙ sym c.item.ensures.archive) (e.1.place ∙ sym c.item.ensures.place) in
+    subst (λ v. goal.F-post g c.args.cmp v true) same e.2

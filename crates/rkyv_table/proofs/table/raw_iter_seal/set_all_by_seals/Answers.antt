@@ -25,9 +25,9 @@ step_keeps w s p before after result h is good = step_kept w s p _ good before a
 
 pub loop-preserved : goal.loop-preserved
 loop-preserved g c = (
-    c.next_seal_with.ensures.reference ∙ c.loop.invariant.0,
-    step_keeps g.W.Width.word (scalar_shape g.N.Scalar.encoding) c.args.pos _ _ _ c.next_seal_with.ensures.steps c.loop.invariant.1 (λ b d q h. rw (sym h.bytes, sym h.place, sym (h.leaves h.met.0.same_reference)) h.met.1),
-  )
+  c.next_seal_with.ensures.reference ∙ c.loop.invariant.0,
+  step_keeps g.W.Width.word (scalar_shape g.N.Scalar.encoding) c.args.pos _ _ _ c.next_seal_with.ensures.steps c.loop.invariant.1 (λ b d q h. rw (sym h.bytes, sym h.place, sym (h.leaves h.met.0.same_reference)) h.met.1),
+)
 
 pub returns : goal.returns
 returns g c =

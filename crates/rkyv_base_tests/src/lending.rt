@@ -1,0 +1,86 @@
+//! Archives whose bytes are given to a closure.
+
+ghost use Rattle.std.specs.Prelude.{◌≡◌, ◌+◌, ◌-◌, ◌≤◌, IsOk, MatchResult, length};
+ghost use Rattle.std.specs.Int.{byte_len};
+ghost use Rattle.rkyv_base.specs.Access.{Accepted};
+ghost use Rattle.rkyv_base.specs.Scalar.{scalar_shape};
+ghost use Rattle.rkyv_base.specs.Sealing.{with_value};
+
+use rkyv_base::access::{access_mut_with, access_mut_with_in};
+use rkyv_base::errors::VerifyError;
+use rkyv_base::scalars::Scalar;
+use rkyv_base::seal::{ArchiveSeal, Seal, set_at};
+use rkyv_base::width::{Narrow, Wide, Width};
+
+// Writes the root of an archive of a scalar: where it is none, no byte is changed.
+fn root_written<W: Width, N: Scalar>(bytes: &mut [u8], value: N) -> Result<(), VerifyError>
+    ensures written { MatchResult result
+        (λ _. bytes.new ≡ with_value N.encoding bytes.old
+        (length bytes.old - byte_len N.encoding.word) value)
+        (λ _. bytes.new ≡ bytes.old) }
+    ensures accepts { Accepted W.LIMIT (scalar_shape N.encoding) bytes.old → IsOk result }
+{
+    access_mut_with_in::<W, N, (), _>(
+        bytes,
+        |archive: &mut [u8], pos: u64|
+            requires { pos + byte_len N.encoding.word ≤ length archive.old }
+            ensures { archive.new ≡ with_value N.encoding archive.old pos value }
+        {
+            set_at(archive, pos as usize, value);
+        },
+    )
+}
+
+// Writes the value at a position of some bytes.
+fn value_written<N: Scalar>(bytes: &mut [u8], pos: u64, value: N)
+    requires { pos + byte_len N.encoding.word ≤ length bytes.old }
+    ensures { bytes.new ≡ with_value N.encoding bytes.old pos value }
+{
+    let mut whole = ArchiveSeal::<N>::new(bytes, pos);
+    whole.write_with(
+        |archive: &mut [u8], pos: u64|
+            requires { pos + byte_len N.encoding.word ≤ length archive.old }
+            ensures { archive.new ≡ with_value N.encoding archive.old pos value }
+        {
+            set_at(archive, pos as usize, value);
+        },
+    );
+}
+
+#[test]
+fn an_accepted_root_is_written(rt: HostRuntime) {
+    let mut bytes = [1, 0, 0, 0];
+    let told = access_mut_with::<u32, u64, _>(&mut bytes, |archive: &mut [u8], pos: u64| {
+        archive.fill(7);
+        pos
+    });
+    assert_eq!(rt; told.ok(), Some(0));
+    assert_eq!(rt; bytes, [7; 4]);
+}
+
+#[test]
+fn a_refused_archive_is_as_before(rt: HostRuntime) {
+    let mut bytes = [1, 0, 0];
+    let told = access_mut_with::<u32, (), _>(&mut bytes, |archive: &mut [u8], _pos: u64| {
+        archive.fill(7);
+    });
+    assert!(rt; told.is_err());
+    assert_eq!(rt; bytes, [1, 0, 0]);
+}
+
+#[test]
+fn callers_write_exact_bytes(rt: HostRuntime) {
+    let mut bytes = [9; 6];
+    value_written(&mut bytes, 1, 16_909_060u32);
+    let refused = root_written::<Narrow, u32>(&mut bytes, 7).is_err();
+    assert_eq!(rt; (refused, bytes), (true, [9, 4, 3, 2, 1, 9]));
+    let written = root_written::<Wide, u16>(&mut bytes, 7).is_ok();
+    assert_eq!(rt; (written, bytes), (true, [9, 4, 3, 2, 7, 0]));
+}
+
+#[test]
+fn a_seal_is_a_whole_archive(rt: HostRuntime) {
+    let mut bytes = [1, 2, 3];
+    let whole = Seal::<u8>::over(&mut bytes, 1).into_archive();
+    assert_eq!(rt; whole.pos(), 1);
+}

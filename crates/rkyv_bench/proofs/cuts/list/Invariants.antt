@@ -1,6 +1,0 @@
-use Rattle.std.proofs.Common.{◌≡◌}
-use Rattle.rkyv_bench.proofs.cuts.list.Given as goal
-
--- the texts that came are listed
-abbrev pub invariant-loop-text : goal.invariant-loop-text
-invariant-loop-text l = l.list.items ≡ l.yielded

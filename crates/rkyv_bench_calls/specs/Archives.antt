@@ -1,0 +1,41 @@
+-- The archives of maps to numbers that are measured.
+use Rattle.std.specs.Prelude.{◌≡◌, ℕ, ◌+◌, ◌-◌, ◌⊎◌, List, length}
+use Rattle.std.specs.Borrow.{Bor}
+use Rattle.std.specs.Int.{w32}
+use Rattle.rkyv_base.specs.Access.{Accepted}
+use Rattle.rkyv_base.specs.Numbers.{unsigned}
+use Rattle.rkyv_base.specs.Scalar.{scalar_shape}
+use Rattle.rkyv_base.specs.Shape.{Shape}
+use Rattle.rkyv_base.specs.Text.{text_shape}
+use Rattle.rkyv_base.specs.View.{IsAt}
+use Rattle.rkyv_collections.specs.Map.{map_shape}
+use Rattle.rkyv_collections.specs.declared.map.ArchivedHashMap.{ArchivedHashMap}
+use Rattle.rkyv_table.specs.Table.Header.{len_at}
+
+-- a number of 32 bits, and a text
+abbrev pub number_shape : Shape
+number_shape = scalar_shape (unsigned w32)
+
+-- text in a narrow archive
+abbrev pub short_text : Shape
+short_text = text_shape w32
+
+-- a map of such keys to numbers of 32 bits
+abbrev pub map_of : Shape → Shape
+map_of key = map_shape w32 key number_shape
+
+-- the bytes are accepted as the archive of a map of such keys
+abbrev pub IsArchive : Shape → List ℕ → Type 0
+IsArchive key b = Accepted 4294967295 (map_of key) b
+
+-- where its header stands
+abbrev pub root : List ℕ → ℕ
+root b = length b - 12
+
+-- the map is that of these bytes
+abbrev pub IsMapAtRoot : {K V H W : Type 0} → ArchivedHashMap K V H W → Bor (List ℕ) → Type 0
+IsMapAtRoot m archive = IsAt m.view archive (root archive.now)
+
+-- the map's length and one more, or 0 where the bytes are no archive
+abbrev pub IsLengthAnd1 : Shape → List ℕ → ℕ → Type 0
+IsLengthAnd1 key b n = (IsArchive key b × (n ≡ len_at w32 b (root b) + 1)) ⊎ ((IsArchive key b → ⊥) × (n ≡ 0))

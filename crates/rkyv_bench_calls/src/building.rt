@@ -1,0 +1,162 @@
+//! Pairs that are archived as a map.
+
+ghost use Rattle.std.specs.Iterator.{YieldsFirstBy, at_most};
+ghost use Rattle.std.specs.List.{zip};
+ghost use Rattle.std.specs.Prelude.{length, ◌≡◌};
+ghost use Rattle.std.specs.Slice.Iter.{iter_rest};
+ghost use Rattle.rkyv_base.specs.Pairs.{written_as, written_as-format};
+ghost use Rattle.rkyv_base.specs.Root.{ArchiveOf};
+ghost use Rattle.rkyv_collections.specs.Listed.{listed, listed_format};
+ghost use Rattle.rkyv_collections.specs.Map.{hash_at, map_shape};
+ghost use Rattle.rkyv_collections.specs.MapFormat.{MapStands, hash_of, map_format};
+ghost use Rattle.rkyv_collections.specs.Lemmas.MapSound.{map_near, map_sound};
+ghost use Rattle.rkyv_bench_calls.specs.Building.{IsBuilt, IsPut};
+
+use rkyv_base::archive::{Archive, Serialize};
+use rkyv_base::element::{Element, StandsFor};
+use rkyv_base::errors::{DistanceTooLarge, WriteError};
+use rkyv_base::root::to_bytes;
+use rkyv_base::width::{Narrow, Width};
+use rkyv_base::writer::{VecWriter, Writer};
+use rkyv_collections::map::writing::HashMapResolver;
+use rkyv_collections::map::{ArchivedHashMap, HashMapOf};
+use rkyv_keys::keys::{KeyElement, NativeKey};
+use rkyv_scan::hash::KeyHasher;
+use std::alloc::Global;
+use std::marker::PhantomData;
+
+/// Keys, each with the value at its place, that are archived as a map under the load factor 7 / 8.
+#[derive(Drop)]
+pub(crate) struct Pairs<'a, A, B, H> {
+    pub(crate) keys: &'a [A],
+    pub(crate) values: &'a [B],
+    pub(crate) hasher: PhantomData<H>,
+}
+
+/// The pairs that are still to come.
+#[derive(Drop)]
+struct Both<'a, A, B> {
+    keys: std::slice::Iter<'a, A>,
+    values: std::slice::Iter<'a, B>,
+}
+
+impl<'a, A: Copy, B: Copy> Iterator for Both<'a, A, B> {
+    type Item = (A, B);
+
+    ghost next_gives = { YieldsFirstBy (λ both. both) (λ s. zip (iter_rest s.keys) (iter_rest s.values)) };
+
+    ghost remaining = { λ s. at_most (length (iter_rest s.keys)) };
+
+    #[inline]
+    fn next(&mut self) -> Option<(A, B)> {
+        match self.keys.next() {
+            Some(key) => match self.values.next() {
+                Some(value) => Some((*key, *value)),
+                None => None,
+            },
+            None => None,
+        }
+    }
+}
+
+impl<'a, W: Width, H: KeyHasher, A, B, K: KeyElement + StandsFor<A>, V: StandsFor<B>> StandsFor<
+    Pairs<'a, A, B, H>,
+> for HashMapOf<K, V, H, W> {
+    ghost stands = { λ b p x. MapStands W.word K.shape V.shape K.stands V.stands (hash_at H.initial H.feed H.finish K.key_calls) (7, 8) b p (zip x.keys.now x.values.now) };
+
+    ghost near = { λ x. map_near H.initial H.feed H.finish W.word K.laws V.laws (7, 8) K.key K.near V.near (zip x.keys.now x.values.now) };
+}
+
+impl<'a, W: Width, H: KeyHasher, A: Archive<W>, B: Archive<W>> Archive<W> for Pairs<'a, A, B, H>
+where
+    A::Archived: KeyElement,
+    A: NativeKey<A::Archived>,
+{
+    type Archived = HashMapOf<A::Archived, B::Archived, H, W>;
+
+    type Resolver = HashMapResolver<W>;
+
+    ghost format = { written_as (λ x. zip x.keys.now x.values.now) (listed W.MAX_CAPACITY (7, 8)
+        (map_format W.word A.Archived.shape B.Archived.shape A.format B.format (hash_of H.initial H.feed H.finish A.calls) (7, 8))) };
+
+    fn resolve(
+        &self,
+        resolver: HashMapResolver<W>,
+        pos: u64,
+        out: &mut [u8],
+    ) -> Result<(), DistanceTooLarge> {
+        let len = resolver.len();
+        let load_factor = resolver.load_factor();
+        ArchivedHashMap::<A::Archived, B::Archived, H, W>::resolve_from_len(
+            len,
+            load_factor,
+            resolver,
+            pos,
+            out,
+        )
+    }
+
+    ghost laws = { let stands = MapStands W.word A.Archived.shape B.Archived.shape A.Archived.stands B.Archived.stands (hash_at H.initial H.feed H.finish A.Archived.key_calls) (7, 8) in
+        let format = map_format W.word A.Archived.shape B.Archived.shape A.format B.format (hash_of H.initial H.feed H.finish A.calls) (7, 8) in
+        let shape = map_shape W.word A.Archived.shape B.Archived.shape in
+        written_as-format (λ x. zip x.keys.now x.values.now) shape stands (listed W.MAX_CAPACITY (7, 8) format) (listed_format W.MAX_CAPACITY (7, 8) shape stands format
+        (map_sound H.initial H.feed H.finish W.word A.Archived.laws B.Archived.laws (7, 8) W.layout.kind A.query A.native A.Eq.laws.refl A.reads A.Archive.laws B.laws)) };
+}
+
+impl<
+    'a,
+    S: Writer,
+    W: Width,
+    H: KeyHasher,
+    A: Serialize<S, W> + Copy,
+    B: Serialize<S, W> + Copy,
+> Serialize<S, W> for Pairs<'a, A, B, H>
+where
+    A::Archived: KeyElement,
+    A: NativeKey<A::Archived>,
+{
+    fn serialize(
+        &self,
+        alloc: Global,
+        serializer: &mut S,
+    ) -> Result<HashMapResolver<W>, WriteError<S::Fault>> {
+        let both = Both {
+            keys: self.keys.iter(),
+            values: self.values.iter(),
+        };
+        let len = self.keys.len().min(self.values.len());
+        ArchivedHashMap::<A::Archived, B::Archived, H, W>::serialize_from_iter::<
+            S,
+            A,
+            B,
+            A,
+            B,
+            Both<'_, A, B>,
+        >(alloc, both, len, (7, 8), serializer)
+    }
+}
+
+/// Copies the bytes into the front of `out`, and answers their number, or 0 where they don't fit.
+fn put(bytes: &[u8], out: &mut [u8]) -> usize
+    ensures { IsPut bytes.now out.old out.new result }
+{
+    if bytes.len() > out.len() {
+        return 0;
+    }
+    out[..bytes.len()].copy_from_slice(bytes);
+    bytes.len()
+}
+
+/// Archives a value into the front of `out`, and answers the archive's length, or 0.
+pub(crate) fn build<V: Serialize<VecWriter, Narrow>>(
+    alloc: Global,
+    value: &V,
+    out: &mut [u8],
+) -> usize
+    ensures { IsBuilt (ArchiveOf 4294967295 V.Archived.shape V.Archived.stands V.format value.now) out.old out.new result }
+{
+    match to_bytes(alloc, value) {
+        Ok(bytes) => put(bytes.as_slice(), out),
+        Err(_) => 0,
+    }
+}

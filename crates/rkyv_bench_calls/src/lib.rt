@@ -1,0 +1,13 @@
+//! Hash maps of numbers and of texts, as they are measured: hashing, building, checking, looking up
+//! and walking, each by one call that sums up what it sees.
+//!
+//! Of texts that lie one behind the other in `bytes`, the one at `i` ends at `ends[i]`, and begins
+//! where the one in front of it ends, or at 0.
+#![tactic(auto)]
+
+mod building;
+mod cuts;
+pub mod numbers;
+pub mod texts;
+mod totals;
+mod weighing;

@@ -1,0 +1,5 @@
+//! Tests of `rkyv_bench_calls`: what each call answers of one pair.
+#![tactic(auto)]
+
+#[cfg(test)]
+mod maps;

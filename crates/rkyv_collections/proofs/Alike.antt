@@ -1,0 +1,81 @@
+-- A map whose keys feed no `usize` and no `isize`, under hashers that differ in these alone.
+use Rattle.std.proofs.Common.{◌≡◌, ℕ, zero, ◌^◌, ◌<◌, ◌∙◌, arith, sym, ap, subst, Bool, true, List, [], ◌∷◌, fold, length, map, slice_index}
+use Rattle.std.specs.Int.{Width}
+use Rattle.std.specs.List.{find}
+use Rattle.std.proofs.lemmas.List.{ext_get_or, get_or-map, length-map}
+use Rattle.rkyv_scan.specs.Groups.{generic_kind}
+use Rattle.rkyv_scan.specs.Hash.{HasherCall, SizeWords, call_words, fx_feed, fx_hash, hash_word, hash_words}
+use Rattle.rkyv_scan.specs.Laws.{IsFixed}
+use Rattle.rkyv_scan.proofs.HashLaws.{fixed_alike}
+use Rattle.rkyv_base.specs.Entry.{entry_shape}
+use Rattle.rkyv_base.specs.Shape.{IsElement, Shape, Standing, Viewed}
+use Rattle.rkyv_keys.specs.Equality.{Comparison}
+use Rattle.rkyv_keys.specs.Fixed.{MakesFixedCalls}
+use Rattle.rkyv_keys.specs.Keys.{IsQuery}
+use Rattle.rkyv_keys.specs.OfEntries.{standing_key}
+use Rattle.rkyv_table.specs.Table.Reading.{WrittenAt, home_positions, item_at, pos_found}
+use Rattle.rkyv_collections.specs.BothHashers.{QueriedAlike, WrittenAlike, fx_hash_at}
+use Rattle.rkyv_collections.specs.Equality.{pair_at}
+use Rattle.rkyv_collections.specs.Map.{MapWrittenAt, map_shape}
+use Rattle.rkyv_collections.proofs.WrittenPairs.{first_accepted, hash_of_pair, pair_stands, place_of_pair}
+
+-- the number of a hasher fits 64 bits
+word_small : (held word : ℕ) → hash_word held word < 2 ^ 64
+unfolding hash_word
+word_small held word = omega arith
+
+words_small : (held : ℕ) (words : List ℕ) → held < 2 ^ 64 → hash_words held words < 2 ^ 64
+words_small held [] h = h
+words_small held (x ∷ xs) h = words_small (hash_word held x) xs (word_small held x)
+
+calls_small : (sizes : SizeWords) (held : ℕ) (calls : List HasherCall) → held < 2 ^ 64 → fold (fx_feed sizes) held calls < 2 ^ 64
+calls_small sizes held [] h = h
+calls_small sizes held (x ∷ xs) h = calls_small sizes (fx_feed sizes held x) xs (words_small held (call_words sizes x) h)
+
+fx_small : (sizes : SizeWords) (calls : List HasherCall) → fx_hash sizes calls < 2 ^ 64
+fx_small sizes calls = calls_small sizes 0 calls (omega arith)
+
+module _ (w : Width) (k v : Shape) (kl : IsElement k) (vl : IsElement v) (key_calls : List ℕ → ℕ → List HasherCall) (fixed : MakesFixedCalls k key_calls)
+    (one other : SizeWords) (b : List ℕ) (p : ℕ) (homes : List ℕ) (view : Viewed (map_shape w k v) b p)
+    (written : MapWrittenAt w (entry_shape k v) (fx_hash_at one key_calls) b p homes) where
+  key_stands : (i : ℕ) → i < length homes → Standing k b (pair_at w k v b p homes i)
+  key_stands i h = standing_key kl vl b (pair_at w k v b p homes i) (pair_stands w k v kl vl (fx_hash_at one key_calls) b p homes view written i h)
+
+  keys_alike : (i : ℕ) → i < length homes → fx_hash_at one key_calls b (pair_at w k v b p homes i) ≡ fx_hash_at other key_calls b (pair_at w k v b p homes i)
+  keys_alike i h = fixed_alike one other (key_calls b (pair_at w k v b p homes i)) (fixed b (pair_at w k v b p homes i) (key_stands i h))
+
+  hashes_alike : map (fx_hash_at one key_calls b) (home_positions w (entry_shape k v).size b p homes)
+      ≡ map (fx_hash_at other key_calls b) (home_positions w (entry_shape k v).size b p homes)
+  hashes_alike =
+      let places = home_positions w (entry_shape k v).size b p homes in
+      let f = fx_hash_at one key_calls b in
+      let g = fx_hash_at other key_calls b in
+      let total : length places ≡ length homes = length-map homes (item_at w (entry_shape k v).size b p) in
+      ext_get_or 0 (map f places) (map g places) (length-map places f ∙ sym (length-map places g))
+      (λ i below.
+      let n : i < length homes = omega (arith, below, length-map places f, total) in
+      let here : slice_index places i ≡ pair_at w k v b p homes i = place_of_pair w k v kl vl f' b p homes view written i n in
+      get_or-map f places i 0 0 (omega (arith, n, total)) ∙ ap f here ∙ keys_alike i n ∙ ap g (sym here) ∙ sym (get_or-map g places i 0 0 (omega (arith, n, total))))
+    where
+      f' : List ℕ → ℕ → ℕ
+      f' = fx_hash_at one key_calls
+
+  pub written_alike : MapWrittenAt w (entry_shape k v) (fx_hash_at other key_calls) b p homes
+  written_alike = subst (λ (hashes : List ℕ). WrittenAt w b p hashes homes) hashes_alike written
+
+-- a query finds the first key that it fits, under either
+pub queried_alike : (w : Width) (k v : Shape) (kl : IsElement k) (vl : IsElement v) {Q : Type 0} (same : Comparison) (key_calls : List ℕ → ℕ → List HasherCall)
+    (can_read : Q → Type 0) (calls : Q → List HasherCall) (fits : Q → List ℕ → ℕ → Bool)
+    → IsQuery k same key_calls can_read calls fits → MakesFixedCalls k key_calls → QueriedAlike w k v key_calls can_read calls fits
+queried_alike w k v kl vl same key_calls can_read calls fits is fixed one other b p homes view written query can =
+    first one written ∙ sym (first other (written_alike w k v kl vl key_calls fixed one other b p homes view written))
+  where
+    first : (sizes : SizeWords) → MapWrittenAt w (entry_shape k v) (fx_hash_at sizes key_calls) b p homes
+        → pos_found generic_kind w (entry_shape k v).size b p (fx_hash sizes (calls query)) (fits query b) ≡ find (fits query b) (home_positions w (entry_shape k v).size b p homes)
+    first sizes there =
+        let h = fx_hash_at sizes key_calls in
+        first_accepted w k v kl vl h b p homes view there (fx_hash sizes (calls query)) (fits query b) (fx_small sizes (calls query))
+        (λ i below accepted.
+        let q = pair_at w k v b p homes i in
+        let stands = standing_key kl vl b q (pair_stands w k v kl vl h b p homes view there i below) in
+        ap (fx_hash sizes) (sym (is.alike query b q can stands accepted)))

@@ -1,0 +1,97 @@
+-- What a lookup finds in a map that stands for a list, in terms of the list.
+use Rattle.std.proofs.Common.{◌≡◌, ℕ, suc, ◌+◌, ◌<◌, ap, sym, ◌∙◌, arith, inl, inr, Bool, true, false, List, [], ◌∷◌, length, map, slice_get, slice_index, Option, None, Some, subst, refl}
+use Rattle.std.specs.Int.{Width}
+use Rattle.std.specs.List.{find}
+use Rattle.std.specs.Option.{is_some, option_map}
+use Rattle.std.specs.Prelude.{IfSome, IsSome, IsTrue, ◌↔◌}
+use Rattle.std.proofs.lemmas.Bool.{cases_Bool, true≢false}
+use Rattle.std.proofs.lemmas.List.{length-map}
+use Rattle.std.proofs.lemmas.Option.{same_Some, slice_get_within}
+use Rattle.rkyv_base.specs.Entry.{entry_shape, value_offset}
+use Rattle.rkyv_base.specs.Pairs.{PairStands}
+use Rattle.rkyv_base.specs.Shape.{IsElement, Shape, Standing, Viewed}
+use Rattle.rkyv_base.specs.View.{StandsAt}
+use Rattle.rkyv_base.specs.declared.view.View.{View}
+use Rattle.rkyv_keys.specs.OfEntries.{standing_key}
+use Rattle.rkyv_table.specs.Table.Reading.{home_positions, item_at, pos_of_found}
+use Rattle.rkyv_collections.specs.ListedLookups.{AsksFor, IsFoundPair, IsFoundValue, IsPairOf, first_pair, first_value}
+use Rattle.rkyv_collections.specs.Map.{IsEntryAt, IsFoundAt, IsPairAt, IsValueAt, map_shape}
+use Rattle.rkyv_collections.specs.MapFormat.{MapStands}
+use Rattle.rkyv_collections.proofs.WrittenPairs.{pair_stands, place_of_pair}
+
+module _ {A B : Type 0} (k v : Shape) (key : List ℕ → ℕ → A → Type 0) (value : List ℕ → ℕ → B → Type 0) (b : List ℕ) where
+  -- of lists that belong together, what is found belongs together
+  found_together : (fits : ℕ → Bool) (asks : A → Bool) (xs : List ℕ) (ys : List (A × B)) → length xs ≡ length ys
+      → ((i : ℕ) (y : A × B) → slice_get ys i ≡ Some y → (fits (slice_index xs i) ≡ asks y.0) × PairStands k v key value b (slice_index xs i) y)
+      → IsPairOf k v key value b (find fits xs) (first_pair asks ys)
+  found_together fits asks [] [] n h = tt
+  found_together fits asks [] (y ∷ ys) n h = absurd (omega (arith, n))
+  found_together fits asks (x ∷ xs) [] n h = absurd (omega (arith, n))
+  found_together fits asks (x ∷ xs) (y ∷ ys) n h =
+      let here = h 0 y refl in
+      let rest = found_together fits asks xs ys (omega (arith, n)) (λ i z e. h (suc i) z e) in
+      elim (cases_Bool (asks y.0)) [
+        | inl t ↦ rw (here.0, t) here.1
+        | inr f ↦ rw (here.0, f) rest
+      ]
+
+  -- the views of what was found
+  pub value_listed : {V : Type 0} (place : Option ℕ) (o : Option (A × B)) (result : Option (View V)) → IfSome result (λ x. x.archive.now ≡ b)
+      → IsPairOf k v key value b place o → IsValueAt k v result place → IsFoundValue value result (option_map (λ pair. pair.1) o)
+  value_listed None None None same t e = tt
+  value_listed None None (Some x) same t e = absurd cc
+  value_listed (Some q) (Some pair) None same t e = absurd cc
+  value_listed (Some q) (Some pair) (Some x) same t e =
+      subst (λ c. value c x.pos pair.1) (sym same) (subst (λ n. value b n pair.1) (sym (same_Some x.pos (q + value_offset k v) e)) t.1)
+  value_listed None (Some pair) result same t e = absurd t
+  value_listed (Some q) None result same t e = absurd t
+
+  pub key_listed : {K : Type 0} (place : Option ℕ) (o : Option (A × B)) (result : Option (View K)) → IfSome result (λ x. x.archive.now ≡ b)
+      → IsPairOf k v key value b place o → IsEntryAt result place → IsFoundValue key result (option_map (λ pair. pair.0) o)
+  key_listed None None None same t e = tt
+  key_listed None None (Some x) same t e = absurd cc
+  key_listed (Some q) (Some pair) None same t e = absurd cc
+  key_listed (Some q) (Some pair) (Some x) same t e = subst (λ c. key c x.pos pair.0) (sym same) (subst (λ n. key b n pair.0) (sym (same_Some x.pos q e)) t.0)
+  key_listed None (Some pair) result same t e = absurd t
+  key_listed (Some q) None result same t e = absurd t
+
+  pub pair_listed : {K V : Type 0} (place : Option ℕ) (o : Option (A × B)) (result : Option (View K × View V))
+      → IfSome result (λ x. (x.0.archive.now ≡ b) × (x.1.archive.now ≡ b) × (x.1.pos ≡ x.0.pos + value_offset k v))
+      → IsPairOf k v key value b place o → IsPairAt result place → IsFoundPair key value result o
+  pair_listed None None None same t e = tt
+  pair_listed None None (Some x) same t e = absurd cc
+  pair_listed (Some q) (Some pair) None same t e = absurd cc
+  pair_listed (Some q) (Some pair) (Some x) same t e =
+      let at : x.0.pos ≡ q = same_Some x.0.pos q e in
+      let behind : x.1.pos ≡ q + value_offset k v = same.2 ∙ ap (λ n. n + value_offset k v) at in (
+        subst (λ c. key c x.0.pos pair.0) (sym same.0) (subst (λ n. key b n pair.0) (sym at) t.0),
+        subst (λ c. value c x.1.pos pair.1) (sym same.1) (subst (λ n. value b n pair.1) (sym behind) t.1),
+      )
+  pair_listed None (Some pair) result same t e = absurd t
+  pair_listed (Some q) None result same t e = absurd t
+
+  pub contains_listed : (place : Option ℕ) (o : Option (A × B)) (result : Bool) → IsPairOf k v key value b place o → IsFoundAt result place → result ≡ is_some o
+  contains_listed None None true t e = absurd (true≢false (sym (e.0 refl)))
+  contains_listed None None false t e = refl
+  contains_listed (Some q) (Some pair) true t e = refl
+  contains_listed (Some q) (Some pair) false t e = absurd (true≢false (sym (e.1 refl)))
+  contains_listed None (Some pair) result t e = absurd t
+  contains_listed (Some q) None result t e = absurd t
+
+-- the first accepted key is that of the first pair that is asked for
+pub first_listed : (w : Width) (k v : Shape) (kl : IsElement k) (vl : IsElement v) {A B : Type 0} (key : List ℕ → ℕ → A → Type 0) (value : List ℕ → ℕ → B → Type 0) (hash : List ℕ → ℕ → ℕ)
+    (factor : ℕ × ℕ) (b : List ℕ) (p : ℕ) (pairs : List (A × B)) → Viewed (map_shape w k v) b p → (accept : ℕ → Bool) (asks : A → Bool) → AsksFor k key b accept asks
+    → (h : MapStands w k v key value hash factor b p pairs)
+    → IsPairOf k v key value b (find accept (home_positions w (entry_shape k v).size b p h.homes)) (first_pair asks pairs)
+first_listed w k v kl vl key value hash factor b p pairs view accept asks alike h =
+    let places = home_positions w (entry_shape k v).size b p h.homes in
+    let n = length-map places (hash b) in
+    let m = length-map h.homes (item_at w (entry_shape k v).size b p) in
+    let count : length places ≡ length pairs = sym n ∙ sym h.written.count ∙ h.len in
+    found_together k v key value b accept asks places pairs count
+    (λ i pair get.
+    let inside = slice_get_within pairs i pair get in
+    let below : i < length h.homes = omega (arith, inside, count, m) in
+    let there = h.at i pair get in
+    let at = subst (λ q. Standing (entry_shape k v) b q) (sym (place_of_pair w k v kl vl hash b p h.homes view h.written i below)) (pair_stands w k v kl vl hash b p h.homes view h.written i below) in
+    (alike pair.0 (slice_index places i) (standing_key kl vl b (slice_index places i) at) there.0, there))

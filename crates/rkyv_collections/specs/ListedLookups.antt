@@ -1,0 +1,78 @@
+-- What a lookup answers in a map that stands for a list of pairs, in terms of the list alone.
+use Rattle.std.specs.Prelude.{◌≡◌, ℕ, Bool, IfSome, List, None, Option, Some}
+use Rattle.std.specs.Int.{Width}
+use Rattle.std.specs.List.{find}
+use Rattle.std.specs.Option.{is_some, option_map}
+use Rattle.rkyv_base.specs.Pairs.{PairStands}
+use Rattle.rkyv_base.specs.Shape.{Shape, Standing}
+use Rattle.rkyv_base.specs.View.{StandsAt}
+use Rattle.rkyv_base.specs.declared.view.View.{View}
+use Rattle.rkyv_collections.specs.Map.{FindsFirstKey, IsEntryAt, IsFoundAt, IsKeyIn, IsMap}
+use Rattle.rkyv_collections.specs.Map.{IsPairAt, IsPairIn, IsValueAt, IsValueIn, map_bytes, map_pos}
+use Rattle.rkyv_collections.specs.MapFormat.{MapStands}
+use Rattle.rkyv_collections.specs.declared.map.ArchivedHashMap.{ArchivedHashMap}
+
+-- of each key the comparison accepts exactly that which was written of a value that is asked for
+abbrev pub AsksFor : {A : Type 0} → Shape → (List ℕ → ℕ → A → Type 0) → List ℕ → (ℕ → Bool)
+    → (A → Bool) → Type 0
+AsksFor {A} k key b accept asks = (a : A) (q : ℕ) → Standing k b q → key b q a → accept q ≡ asks a
+
+-- the first pair whose key is asked for, and its value
+abbrev pub first_pair : {A B : Type 0} → (A → Bool) → List (A × B) → Option (A × B)
+first_pair asks pairs = find (λ pair. asks pair.0) pairs
+
+abbrev pub first_value : {A B : Type 0} → (A → Bool) → List (A × B) → Option B
+first_value asks pairs = option_map (λ pair. pair.1) (first_pair asks pairs)
+
+-- the value stands where the view is, or there is neither
+abbrev pub IsFoundValue : {V B : Type 0} → (List ℕ → ℕ → B → Type 0) → Option (View V) → Option B
+    → Type 0
+IsFoundValue stands None None = Unit {0}
+IsFoundValue stands (Some view) (Some value) = StandsAt stands view value
+IsFoundValue stands None (Some value) = ⊥
+IsFoundValue stands (Some view) None = ⊥
+
+-- the key and the value of the pair stand where the views are, or there is neither
+abbrev pub IsFoundPair : {K V A B : Type 0} → (List ℕ → ℕ → A → Type 0) → (List ℕ → ℕ → B → Type 0)
+    → Option (View K × View V) → Option (A × B) → Type 0
+IsFoundPair key value None None = Unit {0}
+IsFoundPair key value (Some views) (Some pair) =
+    StandsAt key views.0 pair.0 × StandsAt value views.1 pair.1
+IsFoundPair key value None (Some pair) = ⊥
+IsFoundPair key value (Some views) None = ⊥
+
+module _ {A B : Type 0} (k v : Shape) (key : List ℕ → ℕ → A → Type 0)
+    (value : List ℕ → ℕ → B → Type 0) where
+  -- the pair stands at the position, or there is neither
+  abbrev pub IsPairOf : List ℕ → Option ℕ → Option (A × B) → Type 0
+  IsPairOf b None None = Unit {0}
+  IsPairOf b (Some q) (Some pair) = PairStands k v key value b q pair
+  IsPairOf b None (Some pair) = ⊥
+  IsPairOf b (Some q) None = ⊥
+
+  -- What `get_key_value`, a set's `get`, `get` and `contains_key` answer, by their clauses on the
+  -- first accepted key: the first pair of the list whose key is asked for, its key, its value, and
+  -- whether there is one.
+  pub record FindsListed {K V H W : Type 0} (w : Width) (key_hash : List ℕ → ℕ → ℕ)
+      (m : ArchivedHashMap K V H W) (accept : ℕ → Bool) (asks : A → Bool) (pairs : List (A × B))
+      : Type 0 where
+    pub gives_pair : (result : Option (View K × View V)) → IfSome result (IsPairIn w k v m)
+        → FindsFirstKey w k v m key_hash accept (IsPairAt result)
+        → IsFoundPair key value result (first_pair asks pairs)
+    pub gives_key : (result : Option (View K)) → IfSome result (IsKeyIn w k v m)
+        → FindsFirstKey w k v m key_hash accept (IsEntryAt result)
+        → IsFoundValue key result (option_map (λ pair. pair.0) (first_pair asks pairs))
+    pub gives_value : (result : Option (View V)) → IfSome result (IsValueIn w k v m)
+        → FindsFirstKey w k v m key_hash accept (IsValueAt k v result)
+        → IsFoundValue value result (first_value asks pairs)
+    pub contains : (result : Bool) → FindsFirstKey w k v m key_hash accept (IsFoundAt result)
+        → result ≡ is_some (first_pair asks pairs)
+
+  -- in a map that stands for a list of pairs, lookups answer what is asked for in the list
+  abbrev pub LookupsFindListed : (K V H W : Type 0) → Width → (List ℕ → ℕ → ℕ) → Type 0
+  LookupsFindListed K V H W w key_hash =
+      (m : ArchivedHashMap K V H W) (accept : ℕ → Bool) (asks : A → Bool) (factor : ℕ × ℕ)
+      (pairs : List (A × B))
+      → IsMap w k v m → AsksFor k key (map_bytes m) accept asks
+      → MapStands w k v key value key_hash factor (map_bytes m) (map_pos m) pairs
+      → FindsListed w key_hash m accept asks pairs

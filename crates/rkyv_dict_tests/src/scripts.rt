@@ -1,0 +1,76 @@
+//! Scripts, and whether they answer what they should.
+
+use rkyv_dict::run::run;
+use std::alloc::{AllocError, Global};
+
+/// The archive of the one pair 1 2.
+pub(crate) const ONE: &str =
+    "01000000020000000000000000000000ff28ff28ffffffffffffffffffffffffffffffffffffffffffffffffffffff00e0ffffff0100000002000000";
+
+/// A script.
+pub(crate) const SCRIPT: &[u8] = b"put 1 2\nbuild\nhex\nget 1\nget 2\nlist\n";
+
+/// What it answers.
+pub(crate) const ANSWERS: &str =
+    "built 60\n01000000020000000000000000000000ff28ff28ffffffffffffffffffffffffffffffffffffffffffffffffffffff00e0ffffff0100000002000000\n2\nnone\nentries 1\n1 2\n";
+
+/// Whether a script answers this.
+pub(crate) fn answers(alloc: Global, script: &[u8], want: &str) -> bool {
+    let mut reader = script;
+    let mut out = Vec::new(alloc);
+    let outcome = run(alloc, &mut reader, &mut out);
+    outcome.is_ok() && out.as_slice() == want.as_bytes()
+}
+
+/// The first script that doesn't answer what stands beside it.
+pub(crate) fn first_wrong<'a>(alloc: Global, rows: &[(&'a str, &str)]) -> Option<&'a str> {
+    for (script, want) in rows {
+        if !answers(alloc, script.as_bytes(), want) {
+            return Some(script);
+        }
+    }
+    None
+}
+
+/// A script of a head, `put K 0` for the keys below `count`, and a tail.
+pub(crate) fn puts(
+    alloc: Global,
+    head: &str,
+    count: u32,
+    tail: &str,
+) -> Result<String, AllocError> {
+    let mut script = String::new(alloc);
+    script.push_str(head)?;
+    for key in 0..count {
+        write!(script, "put {key} 0\n")?;
+    }
+    script.push_str(tail)?;
+    Ok(script)
+}
+
+/// Whether such a script answers this.
+pub(crate) fn answers_puts(alloc: Global, head: &str, count: u32, tail: &str, want: &str) -> bool {
+    match puts(alloc, head, count, tail) {
+        Ok(script) => answers(alloc, script.as_bytes(), want),
+        Err(_) => false,
+    }
+}
+
+/// The digits of the first row whose script doesn't answer what stands last: a head, `check` with
+/// the digits, and a tail.
+pub(crate) fn first_wrong_check<'a>(
+    alloc: Global,
+    rows: &[(&str, &'a str, &str, &str)],
+) -> Option<&'a str> {
+    for (head, digits, tail, want) in rows {
+        let script = format!(in alloc; "{head}check {digits}\n{tail}");
+        let right = match script {
+            Ok(script) => answers(alloc, script.as_bytes(), want),
+            Err(_) => false,
+        };
+        if !right {
+            return Some(digits);
+        }
+    }
+    None
+}

@@ -1,0 +1,136 @@
+-- Where no place is misplaced, a lookup finds the one key that fits.
+use Rattle.std.proofs.Common.{◌≡◌, ℕ, zero, suc, ◌+◌, ◌^◌, ◌<◌, ◌≤◌, ◌∙◌, inl, inr, refl, sym, ap, arith, subst, List, Bool, true, false, not, Option, Some, None, length, filter}
+use Rattle.std.specs.Option.{option_map}
+use Rattle.std.specs.Int.{Width, byte_len}
+use Rattle.std.specs.List.{range_with_len}
+use Rattle.std.proofs.lemmas.Bool.{cases_Bool, cases_eq, eqb-true, not-false, true≢false}
+use Rattle.std.proofs.lemmas.Option.{none-some, same_Some}
+use Rattle.rkyv_scan.specs.Groups.{generic_kind}
+use Rattle.rkyv_scan.specs.Hash.{HasherCall, hash_of_calls}
+use Rattle.rkyv_scan.specs.Lemmas.KindLaws.{word_lawful}
+use Rattle.rkyv_base.specs.Bytes.{number_at}
+use Rattle.rkyv_base.specs.Entry.{entry_element, entry_shape}
+use Rattle.rkyv_base.specs.Shape.{IsElement, Shape, Standing, Viewed}
+use Rattle.rkyv_base.specs.Text.{IsArchiveWord}
+use Rattle.rkyv_keys.specs.Equality.{Comparison}
+use Rattle.rkyv_keys.specs.Keys.{IsQuery}
+use Rattle.rkyv_keys.specs.OfEntries.{standing_key}
+use Rattle.rkyv_table.specs.Controls.Finding.{found}
+use Rattle.rkyv_table.specs.Table.Header.{cap_at, len_at}
+use Rattle.rkyv_table.specs.Table.Misplaced.{is_answer}
+use Rattle.rkyv_table.specs.Table.Reading.{item_at, table_controls}
+use Rattle.rkyv_table.proofs.Items.{controls_accepted, no_items}
+use Rattle.rkyv_table.proofs.Misplaced.{found_agree, found_walked}
+use Rattle.rkyv_table.proofs.Walks.{walked_full}
+use Rattle.rkyv_index.specs.Complete.{FindsTheOne}
+use Rattle.rkyv_index.specs.Equality.{index_misplaced, own_found}
+use Rattle.rkyv_index.specs.Index.{hash_at, index_found}
+use Rattle.rkyv_index.specs.IndexLayout.{pair_pos}
+use Rattle.rkyv_index.specs.IndexLayout.{index_shape, place_shape}
+use Rattle.rkyv_index.specs.Lemmas.IndexLaws.{place_element}
+use Rattle.rkyv_index.proofs.Held.{entry_viewed, place_below, table_there}
+
+-- what is never kept fails everywhere
+none_kept : (P : ℕ → Bool) (a n : ℕ) → length (filter P (range_with_len a n)) ≡ 0 → (i : ℕ) → a ≤ i → i < a + n → P i ≡ false
+none_kept P a zero e i from to = absurd (omega arith)
+none_kept P a (suc n) e i from to = elim (cases_Bool (P a)) [
+  | inl t ↦ let e' : suc (length (filter P (range_with_len (a + 1) n))) ≡ 0 = rw t at e in absurd (omega (arith, e'))
+  | inr f ↦
+      let e' : length (filter P (range_with_len (a + 1) n)) ≡ 0 = rw f at e in
+      elim (cases_eq a i) [
+        | inl same ↦ subst (λ j. P j ≡ false) same f
+        | inr ne ↦ none_kept P (a + 1) n e' i (omega (arith, from, ne)) (omega (arith, to))
+      ]
+]
+
+answer_is : (b : ℕ) (o : Option ℕ) → is_answer b o ≡ true → o ≡ Some b
+answer_is b None e = absurd (true≢false (sym e))
+answer_is b (Some x) e = ap Some (sym (eqb-true b x e))
+
+-- what is found is found somewhere
+found_somewhere : {A B : Type 0} (f : A → B) (o : Option A) (y : B) → option_map f o ≡ Some y → (x : A) × (o ≡ Some x) × (f x ≡ y)
+found_somewhere f None y e = absurd (none-some y e)
+found_somewhere f (Some x) y e = (x, refl, same_Some (f x) y e)
+
+module _ {Q : Type 0} (w : Width) (kind : IsArchiveWord w) (k v : Shape) (kl : IsElement k) (vl : IsElement v)
+    {State : Type 0} (initial : State) (feed : State → HasherCall → State) (finish : State → ℕ) (same : Comparison) (key_calls : List ℕ → ℕ → List HasherCall) (can_read : Q → Type 0) (calls : Q → List HasherCall) (fits : Q → List ℕ → ℕ → Bool)
+    (query : IsQuery k same key_calls can_read calls fits) (b : List ℕ) (p : ℕ) (view : Viewed (index_shape w (entry_shape k v)) b p) (q : Q) (can : can_read q)
+    (small : hash_of_calls initial feed finish (calls q) < 2 ^ 64) (none : index_misplaced w k v (hash_at initial feed finish key_calls) same b p ≡ 0) where
+  abbrev s : Shape
+  s = entry_shape k v
+
+  abbrev law : IsElement s
+  law = entry_element k v kl vl
+
+  abbrev len : ℕ
+  len = len_at w b p
+
+  abbrev at : ℕ → ℕ
+  at = pair_pos w s.size b p
+
+  abbrev accept : ℕ → Bool
+  accept i = fits q b (at i)
+
+  abbrev controls : List ℕ
+  controls = table_controls w b p
+
+  abbrev cap : ℕ
+  cap = cap_at w b p
+
+  abbrev read : ℕ → ℕ
+  read i = number_at w b (item_at w (byte_len w) b p i)
+
+  key_standing : (i : ℕ) → i < len → Standing k b (at i)
+  key_standing i below = standing_key kl vl b (at i) (entry_viewed w kind s law b p view i below).stands
+
+  -- what is found is a place whose key fits
+  found_fits : (i : ℕ) → index_found w b p (hash_of_calls initial feed finish (calls q)) accept ≡ Some i → (i < len) × (accept i ≡ true)
+  found_fits i e = elim (cases_eq cap 0) [
+    | inl z ↦
+        let n = no_items w (place_shape w) (place_element w kind) b p (table_there w kind s law b p view) z in
+        let f = found_somewhere (number_at w b) _ i e in
+        let g = found_somewhere (item_at w (byte_len w) b p) (found generic_kind controls cap (len_at w b p) (hash_of_calls initial feed finish (calls q)) (λ j. accept (read j))) f.0 f.1 in
+        absurd (none-some g.0 (subst (λ m. found generic_kind controls cap m (hash_of_calls initial feed finish (calls q)) (λ j. accept (read j)) ≡ Some g.0) n g.1))
+    | inr some ↦
+        let f = found_somewhere (number_at w b) _ i e in
+        let g = found_somewhere (item_at w (byte_len w) b p) (found generic_kind controls cap (len_at w b p) (hash_of_calls initial feed finish (calls q)) (λ j. accept (read j))) f.0 f.1 in
+        let ok = controls_accepted w (place_shape w) (place_element w kind) b p (table_there w kind s law b p view) (omega arith) in
+        let there = found_walked generic_kind cap (len_at w b p) (hash_of_calls initial feed finish (calls q)) controls word_lawful ok small (λ j. accept (read j)) g.0 g.1 in
+        let is : read g.0 ≡ i = ap (number_at w b) g.2 ∙ f.2 in
+        let below = place_below w kind s law b p view g.0 (walked_full cap controls g.0 there.1) in
+        (subst (λ n. n < len) is below, subst (λ n. accept n ≡ true) is there.0)
+  ]
+
+  -- a place whose key fits is found
+  found_itself : (i : ℕ) → i < len → accept i ≡ true → index_found w b p (hash_of_calls initial feed finish (calls q)) accept ≡ Some i
+  found_itself i below ok =
+      let own = own_found w k v (hash_at initial feed finish key_calls) same b p in
+      let P : ℕ → Bool = λ j. not (is_answer j (own j)) in
+      let answered = answer_is i (own i) (not-false (is_answer i (own i)) (none_kept P 0 len none i (omega arith) (omega (arith, below)))) in
+      let alike : hash_of_calls initial feed finish (calls q) ≡ hash_at initial feed finish key_calls b (at i) = ap (hash_of_calls initial feed finish) (query.alike q b (at i) can (key_standing i below) ok) in
+      let agree : (j : ℕ) → j < len → accept j ≡ same b (at i) b (at j) = λ j less. query.class q b b (at i) (at j) can (key_standing i below) (key_standing j less) ok in
+      let of : Option ℕ → Option ℕ = λ o. option_map (number_at w b) (option_map (item_at w (byte_len w) b p) o) in
+      let lookup : found generic_kind controls cap (len_at w b p) (hash_of_calls initial feed finish (calls q)) (λ j. accept (read j))
+      ≡ found generic_kind controls cap (len_at w b p) (hash_of_calls initial feed finish (calls q)) (λ j. same b (at i) b (at (read j))) = elim (cases_eq cap 0) [
+        | inl z ↦
+            let n = no_items w (place_shape w) (place_element w kind) b p (table_there w kind s law b p view) z in
+            ap (λ m. found generic_kind controls cap m (hash_of_calls initial feed finish (calls q)) (λ j. accept (read j))) n
+            ∙ sym (ap (λ m. found generic_kind controls cap m (hash_of_calls initial feed finish (calls q)) (λ j. same b (at i) b (at (read j)))) n)
+        | inr some ↦
+            let full = controls_accepted w (place_shape w) (place_element w kind) b p (table_there w kind s law b p view) (omega arith) in
+            found_agree generic_kind cap (len_at w b p) (hash_of_calls initial feed finish (calls q)) controls word_lawful full small (λ j. accept (read j)) (λ j. same b (at i) b (at (read j)))
+            (λ j there. agree (read j) (place_below w kind s law b p view j (walked_full cap controls j there)))
+      ] in
+      ap of lookup ∙ ap (λ h. index_found w b p h (λ j. same b (at i) b (at j))) alike ∙ answered
+
+  by_found : (o : Option ℕ) → index_found w b p (hash_of_calls initial feed finish (calls q)) accept ≡ o → FindsTheOne len accept o
+  by_found None e = λ i below. elim (cases_Bool (accept i)) [
+    | inr f ↦ f
+    | inl t ↦ absurd (none-some i (sym e ∙ found_itself i below t))
+  ]
+  by_found (Some i) e =
+      let f = found_fits i e in
+      record { below = f.0; fitting = f.1; alone = λ j below t. same_Some j i (sym (found_itself j below t) ∙ e) }
+
+  pub finds_the_one : FindsTheOne len accept (index_found w b p (hash_of_calls initial feed finish (calls q)) accept)
+  finds_the_one = by_found (index_found w b p (hash_of_calls initial feed finish (calls q)) accept) refl

@@ -1,0 +1,86 @@
+-- What an accepted index map gives to its readers.
+use Rattle.std.proofs.Common.{◌≡◌, ℕ, zero, suc, ◌+◌, ◌*◌, ◌<◌, ◌≤◌, sym, ap, subst, ◌∙◌, arith, List, length, pos}
+use Rattle.std.specs.Prelude.{unsigned_abs}
+use Rattle.std.specs.Int.{Width, byte_len}
+use Rattle.std.specs.List.{All}
+use Rattle.std.proofs.lemmas.List.Elements.{All-contains, All-cons, All-nil}
+use Rattle.rkyv_base.specs.Bytes.{number_at}
+use Rattle.rkyv_base.specs.Layout.{IsPlace}
+use Rattle.rkyv_base.specs.Scalar.{Encoding, scalar_shape}
+use Rattle.rkyv_base.specs.Shape.{IsElement, Shape, Viewed, standing}
+use Rattle.rkyv_base.specs.Text.{IsArchiveWord}
+use Rattle.rkyv_table.specs.Table.Header.{cap_at, len_at}
+use Rattle.rkyv_table.specs.Controls.Placing.{walk}
+use Rattle.rkyv_table.specs.Table.Reading.{IsWalked, item_at, table_controls}
+use Rattle.rkyv_table.specs.Table.Layout.{table_shape}
+use Rattle.rkyv_table.specs.Lemmas.TableLaws.{table_element}
+use Rattle.rkyv_table.proofs.Items.{item_viewed}
+use Rattle.rkyv_table.proofs.Walks.{full_walked}
+use Rattle.rkyv_index.specs.Index.{pair_positions, row}
+use Rattle.rkyv_index.specs.IndexLayout.{entries_pos, pair_pos}
+use Rattle.rkyv_index.specs.IndexLayout.{IndexHolds, entries_told, entry_at, index_shape, place_shape}
+use Rattle.rkyv_index.specs.Lemmas.IndexLaws.{All-unmap, each_holds, entry_inside, place_element}
+use Rattle.rkyv_index.specs.Lemmas.PlaceShapes.{places_viewed}
+use Rattle.rkyv_index.proofs.Checking.{entry_aligned}
+
+-- what holds of each value of a row holds of the row
+pub All-row : (P : ℕ → Type 0) (size q n : ℕ) → ((i : ℕ) → i < n → P (entry_at size q i)) → All P (row size q n)
+All-row P size q zero h = All-nil P
+All-row P size q (suc n) h =
+    let first : P q = subst P (omega arith) (h 0 (omega arith)) in
+    All-cons P q (row size (q + size) n) first (All-row P size (q + size) n (λ i below. subst P (omega arith) (h (suc i) (omega arith))))
+
+module _ (w : Width) (kind : IsArchiveWord w) (s : Shape) (law : IsElement s) (b : List ℕ) (p : ℕ) (v : Viewed (index_shape w s) b p) where
+  abbrev held : IndexHolds w s b p 0 p v.stands.0
+  held = v.stands.1
+
+  -- its table of places
+  pub table_there : Viewed (table_shape w (place_shape w)) b p
+  table_there =
+      let inside = v.inside in
+      record {
+        inside = omega arith;
+        aligned = v.aligned;
+        stands = standing (table_shape w (place_shape w)) (table_element w kind (place_shape w) (place_element w kind)) b p 0 p held.middle (omega arith) (omega arith) held.table;
+      }
+
+  -- where its entries begin
+  pub begin_is : entries_pos w b p ≡ held.entries.begin
+  begin_is = sym (ap unsigned_abs held.entries.part.begins)
+
+  pub begin_told : pos (entries_pos w b p) ≡ entries_told w b p
+  begin_told = ap pos begin_is ∙ held.entries.part.begins
+
+  pub entries_inside : entries_pos w b p + len_at w b p * s.size ≤ p
+  entries_inside = let below = held.entries.part.below in omega (arith, below, begin_is)
+
+  -- an entry stands behind each place below the length
+  pub entry_viewed : (i : ℕ) → i < len_at w b p → Viewed s b (pair_pos w s.size b p i)
+  entry_viewed i below =
+      let begin = held.entries.begin in
+      let r = each_holds s law (entry_at s.size begin) b begin 0 (len_at w b p) held.middle held.entries.last i held.entries.part.above held.entries.hold (omega arith) (omega (arith, below)) in
+      let u = entry_inside s.size begin (len_at w b p) i below in
+      let room = held.entries.part.below in
+      let inside = v.inside in
+      subst (λ n. Viewed s b (entry_at s.size n i)) (sym begin_is) (record {
+        inside = omega (arith, u.1);
+        aligned = entry_aligned s law begin i held.entries.part.aligned;
+        stands = standing s law b (entry_at s.size begin i) r.lower begin r.rest r.below u.0 r.holds;
+      })
+
+  pub entries_viewed : All (Viewed s b) (pair_positions w s.size b p)
+  entries_viewed = All-row (Viewed s b) s.size (entries_pos w b p) (len_at w b p) entry_viewed
+
+  -- the place in a bucket lies in the archive, and is below the length
+  pub place_inside : (i : ℕ) → IsWalked w b p i → item_at w (byte_len w) b p i + byte_len w ≤ length b
+  place_inside i walked = (item_viewed w (place_shape w) (place_element w kind) b p table_there i walked).inside
+
+  pub place_below : (i : ℕ) → IsWalked w b p i → number_at w b (item_at w (byte_len w) b p i) < len_at w b p
+  place_below i walked =
+      All-contains (λ j. number_at w b (item_at w (byte_len w) b p j) < len_at w b p) (walk (table_controls w b p) (cap_at w b p)) i
+      (All-unmap (λ q. number_at w b q < len_at w b p) (item_at w (byte_len w) b p) (walk (table_controls w b p) (cap_at w b p)) held.below)
+      (full_walked (cap_at w b p) (table_controls w b p) i walked)
+
+  module _ {V : Type 0} (e : Encoding V) (is : IsPlace w e) where
+    pub table_of_places : Viewed (table_shape w (scalar_shape e)) b p
+    table_of_places = places_viewed w e is b p table_there

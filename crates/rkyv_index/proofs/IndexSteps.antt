@@ -1,0 +1,139 @@
+-- The parts of an index map, one after the other.
+use Rattle.std.proofs.Common.{◌≡◌, ℕ, suc, ◌+◌, refl, sym, ap, ◌∙◌, subst, arith, ◌≤◌, List, [], ◌∷◌, ◌++◌, length, append-nil, length-append, inl, inr}
+use Rattle.std.specs.Int.{Width}
+use Rattle.std.specs.Iterator.{Drains, Yields, YieldsFirst}
+use Rattle.rkyv_base.specs.declared.errors.WriteError.{WriteError}
+use Rattle.rkyv_base.specs.Format.{Format, GaveUp, Serialized}
+use Rattle.rkyv_base.specs.Scalar.{Encoding, scalar_format, scalar_shape}
+use Rattle.rkyv_base.specs.Shape.{Shape}
+use Rattle.rkyv_base.specs.Writing.{Appends, Only, Output, Step, Told, Within, end_of, padding, piece, zeros}
+use Rattle.rkyv_base.proofs.GivingUp.{appends_after, end-appends, grows, told_after, told_as, within_after}
+use Rattle.rkyv_table.specs.Table.Counting.{GaveOther}
+use Rattle.rkyv_table.specs.Table.Serializing.{NoTable, WroteTable}
+use Rattle.rkyv_table.specs.Table.TableFormat.{PairsNext, TableResolver, table_format}
+use Rattle.rkyv_index.specs.Handing.{NoOther, OwnOrGaveUp}
+use Rattle.rkyv_index.specs.IndexFormat.{BeforeRow, BeforeZeros, IndexNext, places_from, row_format}
+use Rattle.rkyv_index.specs.Row.{RowNext, RowParts, RowPartsNext, WroteRow}
+use Rattle.rkyv_index.proofs.Through.{own_counted}
+
+-- an iterator whose state shows the list of what is left
+module _ {S A : Type 0} (rest : S → List A) where
+  left_after : (xs : List A) (s t : S) → Yields (YieldsFirst rest) s xs t → rest s ≡ xs ++ rest t
+  left_after [] s t e = ap rest e
+  left_after (x ∷ xs) s t h = h.1 ∙ ap (λ (l : List A). x ∷ l) (left_after xs h.0 t h.2)
+
+  pub drained : (xs : List A) (s : S) → Drains (YieldsFirst rest) s xs → xs ≡ rest s
+  drained xs s d = sym (left_after xs s d.1.0 d.1.1 ∙ ap (λ (l : List A). xs ++ l) d.1.2.0 ∙ append-nil xs)
+
+  pub no_other_drained : (len : ℕ) (s : S) → length (rest s) ≡ len → (n : ℕ) → GaveOther (YieldsFirst rest) len s n → ⊥
+  no_other_drained len s e n h =
+      let xs = h.0.0 in
+      elim h.0.2 [
+        | inl d ↦ h.1 (h.0.1 ∙ omega (arith, ap length (drained xs s d.1), e))
+        | inr d ↦
+            let l = ap length (left_after xs s d.1.0 d.1.1) in
+            let a = length-append xs (rest d.1.0) in
+            omega (arith, h.0.1, d.0, l, a, e)
+      ]
+
+pub places_count : {X P : Type 0} (hash : X → ℕ) (place : ℕ → P) (i : ℕ) (xs : List X) → length (places_from hash place i xs) ≡ length xs
+places_count hash place i [] = refl
+places_count hash place i (x ∷ xs) = ap suc (places_count hash place (i + 1) xs)
+
+module _ (F : Type 0) {P X R : Type 0} (w : Width) (e : Encoding P) (s : Shape) (f : Format X R) (hash : X → ℕ) (factor : ℕ × ℕ) (limit : ℕ) (xs : List X) (o : Output) where
+  abbrev Next : List ℕ → Step → Type 0
+  Next = IndexNext w e s f hash factor xs (end_of o)
+
+  abbrev Stopped : Output → WriteError F → Type 0
+  Stopped o' err = Told limit Next o o' err
+
+  abbrev Places : List (ℕ × P)
+  Places = places_from hash e.value 0 xs
+
+  abbrev TableOf : Format (List (ℕ × P)) TableResolver
+  TableOf = table_format w (scalar_shape e) (scalar_format e) factor
+
+  stopped_table : (o1 : Output) (err : WriteError F) → GaveUp limit TableOf Places o o1 err → Stopped o1 err
+  stopped_table o1 err t =
+      told_as limit Next (PairsNext w (scalar_shape e) (scalar_format e) factor Places (end_of o)) o o1 err (λ g step h. inl h) t
+
+  module _ {S : Type 0} (rest : S → List (ℕ × P)) (state : S) (there : rest state ≡ Places) (max : ℕ) (o1 : Output) where
+    abbrev Gave : List (ℕ × P) → Type 0
+    Gave = Drains (YieldsFirst rest) state
+
+    pub wrote_places : (r : TableResolver) → WroteTable Gave (length xs) factor max TableOf o o1 limit r → Serialized limit TableOf Places o o1 r
+    wrote_places r h = subst (λ ps. Serialized limit TableOf ps o o1 r) (drained rest h.1.0 state h.1.1.0 ∙ there) h.1.2
+
+    pub no_places : (err : WriteError F) → NoTable Gave (length xs) factor max TableOf o o1 limit (GaveOther (YieldsFirst rest) (length xs) state) err
+        → OwnOrGaveUp (length xs) factor max NoOther limit (row_format w e s f hash factor) xs o o1 err
+    no_places err (inl h) =
+        let n : length (rest state) ≡ length xs = ap length there ∙ places_count hash e.value 0 xs in
+        inl (own_counted (length xs) factor max (GaveOther (YieldsFirst rest) (length xs) state) NoOther (λ k g. no_other_drained rest (length xs) state n k g) err h.0, h.1)
+    no_places err (inr h) = inr (stopped_table o1 err (subst (λ ps. GaveUp limit TableOf ps o o1 err) (drained rest h.1.0 state h.1.1.0 ∙ there) h.1.2))
+
+  module _ (o1 : Output) (t : TableResolver) (wrote : Serialized limit TableOf Places o o1 t) where
+    abbrev table : List ℕ
+    table = wrote.0
+
+    at1 : end_of o1 ≡ end_of o + length table
+    at1 = end-appends o o1 table wrote.1
+
+    pub stopped_parts : (o2 : Output) (err : WriteError F) → Told limit (RowPartsNext f xs (end_of o1)) o1 o2 err → Stopped o2 err
+    stopped_parts o2 err h =
+        told_after limit Next (RowPartsNext f xs (end_of o1)) o o1 o2 table err wrote.1 wrote.3
+        (λ g step n. inr (inl (table, t, g, wrote.2, subst (λ k. RowPartsNext f xs k g step) at1 n, refl)))
+        h
+
+    module _ (o2 : Output) (row : List ℕ) (rs : List R) (b : Appends o1 o2 row) (parts : RowParts f xs (end_of o1) row rs) (inside : Within limit o2 row) where
+      abbrev head : List ℕ
+      head = table ++ row
+
+      whole2 : Appends o o2 head
+      whole2 = appends_after o o1 o2 table row wrote.1 b
+
+      within2 : Within limit o2 head
+      within2 = within_after limit o1 o2 table row (grows o1 o2 row b) wrote.3 inside
+
+      before : BeforeZeros w e s f hash factor xs (end_of o) head t rs
+      before = record { table = table; row = row; made = wrote.2; parts = subst (λ k. RowParts f xs k row rs) at1 parts; is = refl }
+
+      abbrev pad : List ℕ
+      pad = zeros (padding s.align (end_of o2))
+
+      same_zeros : pad ≡ zeros (padding s.align (end_of o + length head))
+      same_zeros = ap (λ (n : ℕ). zeros (padding s.align n)) (end-appends o o2 head whole2)
+
+      pub stopped_zeros : (o3 : Output) (err : WriteError F) → Told limit (Only (piece pad)) o2 o3 err → Stopped o3 err
+      stopped_zeros o3 err h =
+          told_after limit Next (Only (piece pad)) o o2 o3 head err whole2 within2
+          (λ g step n.
+          let k : head ++ g ≡ head = ap (λ (y : List ℕ). head ++ y) n.0 ∙ append-nil head in
+          rw k (inr (inr (inl (t, rs, before, n.1 ∙ ap piece same_zeros)))))
+          h
+
+      module _ (o3 : Output) (z : Appends o2 o3 pad) (low : end_of o3 ≤ limit) where
+        abbrev front : List ℕ
+        front = head ++ pad
+
+        whole3 : Appends o o3 front
+        whole3 = appends_after o o2 o3 head pad whole2 z
+
+        at3 : end_of o3 ≡ end_of o + length front
+        at3 = end-appends o o3 front whole3
+
+        before_row : BeforeRow w e s f hash factor xs (end_of o) front t rs
+        before_row = record { head = head; made = before; is = ap (λ (y : List ℕ). head ++ y) same_zeros }
+
+        pub stopped_row : (o4 : Output) (err : WriteError F) → Told limit (RowNext f xs rs (end_of o3)) o3 o4 err → Stopped o4 err
+        stopped_row o4 err h =
+            told_after limit Next (RowNext f xs rs (end_of o3)) o o3 o4 front err whole3 (inr low)
+            (λ g step n. inr (inr (inr (front, t, rs, g, before_row, subst (λ k. RowNext f xs rs k g step) at3 n, refl))))
+            h
+
+        pub index_wrote : (o4 : Output) → WroteRow f limit xs rs o3 o4 → Serialized limit (row_format w e s f hash factor) xs o o4 (record { table = t; entries = end_of o3 })
+        index_wrote o4 wr = (
+          front ++ wr.0,
+          appends_after o o3 o4 front wr.0 whole3 wr.1.0,
+          record { front = front; resolvers = rs; row = wr.0; before = before_row; at = at3; shown = wr.2; is = refl },
+          inr wr.1.1,
+        )

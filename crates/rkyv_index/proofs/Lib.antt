@@ -1,0 +1,16 @@
+pub mod Checking
+pub mod Held
+pub mod Lookups
+pub mod Queries
+pub mod Rows
+pub mod Told
+pub mod SameEntries
+pub mod Completeness
+pub mod RowSteps
+pub mod IndexSteps
+pub mod SeenRow
+pub mod Taking
+pub mod Listing
+pub mod Through
+pub mod SetItems
+pub mod Repeats

@@ -1,0 +1,125 @@
+-- From what a table of places finds to what an index map does.
+use Rattle.std.proofs.Common.{◌≡◌, ℕ, ◌+◌, ◌<◌, ◌≤◌, ◌∙◌, refl, ap, sym, subst, arith, cond, Bool, true, false, length, map, List, [], ◌∷◌, Option, Some, slice_index}
+use Rattle.std.specs.Borrow.{Bor}
+use Rattle.std.specs.Int.{Width, byte_len}
+use Rattle.std.specs.List.{find}
+use Rattle.std.specs.Option.{option_map}
+use Rattle.std.proofs.lemmas.List.{get_or-map, length-map}
+use Rattle.std.proofs.lemmas.List.FromFn.{get_or-range_with_len, length-range_with_len}
+use Rattle.rkyv_scan.specs.Groups.{generic_kind}
+use Rattle.rkyv_base.specs.Bytes.{number_at}
+use Rattle.rkyv_base.specs.Entry.{entry_element, entry_shape}
+use Rattle.rkyv_base.specs.Layout.{IsPlace}
+use Rattle.rkyv_base.specs.Scalar.{Encoding, scalar_shape}
+use Rattle.rkyv_base.specs.Shape.{IsElement, Shape}
+use Rattle.rkyv_base.specs.Text.{IsArchiveWord}
+use Rattle.rkyv_base.specs.View.{IsAt, bytes_of}
+use Rattle.rkyv_base.specs.declared.view.View.{View}
+use Rattle.rkyv_table.specs.Controls.Laws.{IsUnderHash}
+use Rattle.rkyv_table.specs.Table.Reading.{IsItem, IsWalked, WrittenAt, home_positions, item_at, pos_found, pos_of_found, table_bytes, table_pos}
+use Rattle.rkyv_table.specs.declared.table.ArchivedHashTable.{ArchivedHashTable}
+use Rattle.rkyv_index.specs.Index.{AreUnderHash, IsHeld, IsIndexMap, IsPlaceOf, index_archive, index_bytes, index_len, index_pos, key_pos}
+use Rattle.rkyv_index.specs.IndexFormat.{IndexWrittenAt}
+use Rattle.rkyv_index.specs.IndexLayout.{places_of}
+use Rattle.rkyv_index.specs.declared.map.ArchivedIndexMap.{ArchivedIndexMap}
+use Rattle.rkyv_index.proofs.Held.{place_below, place_inside}
+
+-- the first element whose image is accepted, by its image
+find-step : (f : ℕ → ℕ) (accept : ℕ → Bool) (x : ℕ) (r : Option ℕ) (r' : Option ℕ) (t : Bool) → option_map f r ≡ r'
+    → option_map f (cond t (Some x) r) ≡ cond t (Some (f x)) r'
+find-step f accept x r r' true e = refl
+find-step f accept x r r' false e = e
+
+pub find-map : (f : ℕ → ℕ) (accept : ℕ → Bool) (xs : List ℕ) → option_map f (find (λ x. accept (f x)) xs) ≡ find accept (map f xs)
+find-map f accept [] = refl
+find-map f accept (x ∷ xs) = find-step f accept x (find (λ y. accept (f y)) xs) (find accept (map f xs)) (accept (f x)) (find-map f accept xs)
+
+-- what is read at the i-th place is i
+place_read : (n i : ℕ) → i < n → slice_index (places_of n) i ≡ i
+place_read n i below = get_or-range_with_len 0 n i 0 below ∙ omega arith
+
+module _ {K V H W P N : Type 0} (w : Width) (kind : IsArchiveWord w) (k v : Shape) (kl : IsElement k) (vl : IsElement v) (m : ArchivedIndexMap K V H W) (is : IsIndexMap w k v m)
+    (e : Encoding N) (place : IsPlace w e) (t : ArchivedHashTable P W) (at : IsAt t.view (index_archive m) (index_pos m)) where
+  bytes_same : table_bytes t ≡ index_bytes m
+  bytes_same = ap (λ (x : Bor (List ℕ)). x.now) at.0
+
+  pub found_is : (hash : ℕ) (accept : ℕ → Bool) → pos_found generic_kind w (scalar_shape e).size (table_bytes t) (table_pos t) hash accept
+      ≡ pos_found generic_kind w (byte_len w) (index_bytes m) (index_pos m) hash accept
+  found_is hash accept =
+      ap (λ n. pos_found generic_kind w n (table_bytes t) (table_pos t) hash accept) (ap byte_len place.word)
+      ∙ ap (λ (x : List ℕ). pos_found generic_kind w (byte_len w) x (table_pos t) hash accept) bytes_same
+      ∙ ap (λ q. pos_found generic_kind w (byte_len w) (index_bytes m) q hash accept) at.1
+
+  homes_are : (homes : List ℕ) → home_positions w (scalar_shape e).size (table_bytes t) (table_pos t) homes ≡ home_positions w (byte_len w) (index_bytes m) (index_pos m) homes
+  homes_are homes =
+      ap (λ n. home_positions w n (table_bytes t) (table_pos t) homes) (ap byte_len place.word)
+      ∙ ap (λ (x : List ℕ). home_positions w (byte_len w) x (table_pos t) homes) bytes_same
+      ∙ ap (λ q. home_positions w (byte_len w) (index_bytes m) q homes) at.1
+
+  -- an item of the table is a bucket's
+  item_there : (h : View P) → IsItem w (scalar_shape e) t h → (i : ℕ) × IsWalked w (index_bytes m) (index_pos m) i × (h.pos ≡ item_at w (byte_len w) (index_bytes m) (index_pos m) i)
+  item_there h item =
+      let walked = subst (λ q. IsWalked w (index_bytes m) q item.0) at.1 (subst (λ (x : List ℕ). IsWalked w x (table_pos t) item.0) bytes_same item.1.walked) in
+      let pos = item.1.place ∙ ap (λ n. item_at w n (table_bytes t) (table_pos t) item.0) (ap byte_len place.word)
+      ∙ ap (λ (x : List ℕ). item_at w (byte_len w) x (table_pos t) item.0) bytes_same
+      ∙ ap (λ q. item_at w (byte_len w) (index_bytes m) q item.0) at.1 in
+      (item.0, walked, pos)
+
+  -- and is read in the archive of the map
+  pub read_there : (h : View P) → IsItem w (scalar_shape e) t h → bytes_of h ≡ index_bytes m
+  read_there h item = ap (λ (x : Bor (List ℕ)). x.now) (item.1.archive ∙ at.0)
+
+  -- the number there is a place of the map
+  pub item_place : (h : View P) → IsItem w (scalar_shape e) t h → IsPlaceOf w m h
+  item_place h item =
+      let there = item_there h item in
+      let s = entry_shape k v in
+      let law = entry_element k v kl vl in
+      let inside = place_inside w kind s law (index_bytes m) (index_pos m) is there.0 there.1 in
+      let below = place_below w kind s law (index_bytes m) (index_pos m) is there.0 there.1 in (
+        subst (λ (x : List ℕ). h.pos + byte_len w ≤ length x) (sym (read_there h item)) (subst (λ q. q + byte_len w ≤ length (index_bytes m)) (sym there.2) inside),
+        subst (λ (x : List ℕ). number_at w x h.pos < index_len w m) (sym (read_there h item)) (subst (λ q. number_at w (index_bytes m) q < index_len w m) (sym there.2) below),
+      )
+
+  -- and a bucket holds it
+  pub item_held : (h : View P) → IsItem w (scalar_shape e) t h → IsHeld w m (number_at w (bytes_of h) h.pos)
+  item_held h item =
+      let there = item_there h item in
+      (there.0, there.1, ap (number_at w (index_bytes m)) (sym there.2) ∙ ap (λ (x : List ℕ). number_at w x h.pos) (sym (read_there h item)))
+
+  -- from the position that is found to the place that is read there
+  pub place_is : (result : Option (View P)) (hash : ℕ) (accept : ℕ → Bool)
+      → pos_of_found result ≡ pos_found generic_kind w (scalar_shape e).size (table_bytes t) (table_pos t) hash (λ q. accept (number_at w (index_bytes m) q))
+      → option_map (number_at w (index_bytes m)) (pos_of_found result)
+      ≡ option_map (number_at w (index_bytes m)) (pos_found generic_kind w (byte_len w) (index_bytes m) (index_pos m) hash (λ q. accept (number_at w (index_bytes m) q)))
+  place_is result hash accept found =
+      ap (option_map (number_at w (index_bytes m))) (found ∙ found_is hash (λ q. accept (number_at w (index_bytes m) q)))
+
+  module _ (key_hash : List ℕ → ℕ → ℕ) (homes : List ℕ) (written : IndexWrittenAt w (entry_shape k v).size key_hash (index_bytes m) (index_pos m) homes) where
+    abbrev hashes : List ℕ
+    hashes = map (λ i. key_hash (index_bytes m) (key_pos w k v m i)) (places_of (index_len w m))
+
+    pub written_there : WrittenAt w (table_bytes t) (table_pos t) hashes homes
+    written_there = subst (λ q. WrittenAt w (table_bytes t) q hashes homes) (sym at.1) (subst (λ (x : List ℕ). WrittenAt w x (index_pos m) hashes homes) (sym bytes_same) written.table)
+
+    pub under_there : (hash : ℕ) (accept : ℕ → Bool) → AreUnderHash w k v m hash key_hash accept
+        → IsUnderHash hash hashes (home_positions w (scalar_shape e).size (table_bytes t) (table_pos t) homes) (λ q. accept (number_at w (index_bytes m) q))
+    under_there hash accept under i h accepted =
+        let n = index_len w m in
+        let items = home_positions w (byte_len w) (index_bytes m) (index_pos m) homes in
+        let count : length hashes ≡ n = length-map (places_of n) (λ j. key_hash (index_bytes m) (key_pos w k v m j)) ∙ length-range_with_len 0 n in
+        let below : i < n = omega (arith, h, count) in
+        let many : length items ≡ n = sym (length-map items (number_at w (index_bytes m))) ∙ ap length written.places ∙ length-range_with_len 0 n in
+        let read : number_at w (index_bytes m) (slice_index items i) ≡ i =
+        sym (get_or-map (number_at w (index_bytes m)) items i 0 0 (omega (arith, below, many))) ∙ ap (λ (xs : List ℕ). slice_index xs i) written.places ∙ place_read n i below in
+        let here : accept i ≡ true = sym (ap accept (ap (λ (xs : List ℕ). number_at w (index_bytes m) (slice_index xs i)) (homes_are homes) ∙ read)) ∙ accepted in
+        get_or-map (λ j. key_hash (index_bytes m) (key_pos w k v m j)) (places_of n) i 0 0 (omega (arith, below, length-range_with_len 0 n))
+        ∙ ap (λ j. key_hash (index_bytes m) (key_pos w k v m j)) (place_read n i below) ∙ under i below here
+
+    pub first_is : (result : Option (View P)) (accept : ℕ → Bool)
+        → pos_of_found result ≡ find (λ q. accept (number_at w (index_bytes m) q)) (home_positions w (scalar_shape e).size (table_bytes t) (table_pos t) homes)
+        → option_map (number_at w (index_bytes m)) (pos_of_found result) ≡ find accept (places_of (index_len w m))
+    first_is result accept found =
+        ap (option_map (number_at w (index_bytes m))) (found ∙ ap (find (λ q. accept (number_at w (index_bytes m) q))) (homes_are homes))
+        ∙ find-map (number_at w (index_bytes m)) accept (home_positions w (byte_len w) (index_bytes m) (index_pos m) homes)
+        ∙ ap (find accept) written.places

@@ -1,0 +1,141 @@
+-- One value more of a row.
+use Rattle.std.proofs.Common.{◌≡◌, ℕ, suc, ◌+◌, ◌-◌, ◌≤◌, refl, sym, ap, ◌∙◌, subst, arith, inl, inr, List, [], ◌∷◌, ◌++◌, length, get_or, take, drop, Some, append-nil, append_assoc, length-append}
+use Rattle.std.specs.Prelude.{slice_get}
+use Rattle.std.proofs.lemmas.List.{drop-drop, get_or-drop, length-drop, take_more, take_all}
+use Rattle.std.proofs.lemmas.Option.{get_or_from_slice_get, slice_get_read, slice_get_within}
+use Rattle.rkyv_base.specs.declared.errors.WriteError.{WriteError}
+use Rattle.rkyv_base.specs.declared.errors.WriteError.TheVariants.{DistanceTooLarge}
+use Rattle.rkyv_base.specs.Format.{Format}
+use Rattle.rkyv_base.specs.Writing.{Appends, Only, Output, Told, Within, end_of, piece}
+use Rattle.rkyv_base.proofs.GivingUp.{appends_after, end-appends, grows, none_appended, told_after}
+use Rattle.rkyv_index.specs.Row.{Before, RowImages, RowNext, RowParts, RowPartsNext, WroteRow}
+
+plus_zero : (p : ℕ) → p + 0 ≡ p
+plus_zero p = omega arith
+
+-- one value more at the end of a front
+pub take_one : {A : Type 0} (xs : List A) (i : ℕ) (x : A) → slice_get xs i ≡ Some x → take (i + 1) xs ≡ take i xs ++ x ∷ []
+take_one xs i x e = take_more xs i x (slice_get_within xs i x e) ∙ ap (λ y. take i xs ++ y ∷ []) (get_or_from_slice_get xs i x x e)
+
+-- the first of what is left is the i-th
+front_resolver : {A : Type 0} (xs : List A) (i : ℕ) (x : A) (rest : List A) → drop i xs ≡ x ∷ rest → slice_get xs i ≡ Some x
+front_resolver {A = A} xs i x rest e =
+    let n : length xs - i ≡ suc (length rest) = sym (length-drop i xs) ∙ ap length e in
+    let z : i + 0 ≡ i = omega arith in
+    slice_get_read xs (length xs) i x refl (omega (arith, n)) (sym (ap (λ (l : List A). get_or l 0 x) e) ∙ get_or-drop i xs 0 x ∙ ap (λ k. get_or xs k x) z)
+
+others_resolver : {A : Type 0} (xs : List A) (i : ℕ) (x : A) (rest : List A) → drop i xs ≡ x ∷ rest → rest ≡ drop (i + 1) xs
+others_resolver xs i x rest e = sym (ap (λ l. drop 1 l) e) ∙ drop-drop 1 i xs ∙ ap (λ n. drop n xs) (omega arith)
+
+module _ {X R : Type 0} (f : Format X R) where
+  pub parts_more : (xs : List X) (p : ℕ) (part : List ℕ) (rs : List R) (x : X) (a : List ℕ) (r : R)
+      → RowParts f xs p part rs → f.parts x (p + length part) a r → RowParts f (xs ++ x ∷ []) p (part ++ a) (rs ++ r ∷ [])
+  parts_more [] p part rs x a r h g =
+      let z : p + length part ≡ p = ap (λ (l : List ℕ). p + length l) h.0 ∙ plus_zero p in
+      (a, r, [], [], subst (λ n. f.parts x n a r) z g, (refl, refl), ap (λ l. l ++ a) h.0 ∙ sym (append-nil a), ap (λ l. l ++ r ∷ []) h.1)
+  parts_more (y ∷ ys) p part rs x a r h g =
+      let n : p + length part ≡ p + length h.0 + length h.2 = ap (λ (l : List ℕ). p + length l) h.6 ∙ omega (arith, length-append h.0 h.2) in (
+        h.0,
+        h.1,
+        h.2 ++ a,
+        h.3 ++ r ∷ [],
+        h.4,
+        parts_more ys (p + length h.0) h.2 h.3 x a r h.5 (subst (λ k. f.parts x k a r) n g),
+        ap (λ l. l ++ a) h.6 ∙ append_assoc h.0 h.2 a,
+        ap (λ l. l ++ r ∷ []) h.7,
+      )
+
+  -- as many resolvers as values
+  pub parts_count : (xs : List X) (p : ℕ) (part : List ℕ) (rs : List R) → RowParts f xs p part rs → length rs ≡ length xs
+  parts_count [] p part rs h = ap length h.1
+  parts_count (x ∷ xs) p part rs h = ap length h.7 ∙ ap (λ n. suc n) (parts_count xs (p + length h.0) h.2 h.3 h.5)
+
+  module _ (xs : List X) (i : ℕ) (x : X) (there : slice_get xs i ≡ Some x) (o o1 : Output) (part : List ℕ) (rs : List R) (a1 : Appends o o1 part)
+      (h : RowParts f (take i xs) (end_of o) part rs) where
+    pub step_part : (a : List ℕ) (r : R) → f.parts x (end_of o1) a r → RowParts f (take (i + 1) xs) (end_of o) (part ++ a) (rs ++ r ∷ [])
+    step_part a r g = rw (take_one xs i x there) (parts_more (take i xs) (end_of o) part rs x a r h (subst (λ n. f.parts x n a r) (end-appends o o1 part a1) g))
+
+    pub step_told : {F : Type 0} (limit : ℕ) (o2 : Output) (err : WriteError F) → Within limit o1 part
+        → Told limit (f.next x (end_of o1)) o1 o2 err
+        → Told limit (RowPartsNext f xs (end_of o)) o o2 err
+    step_told limit o2 err within t =
+        let at : end_of o1 ≡ end_of o + length part = end-appends o o1 part a1 in
+        told_after limit (RowPartsNext f xs (end_of o)) (f.next x (end_of o1)) o o1 o2 part err a1 within
+        (λ g step n. (i, x, part, rs, g, there, h, subst (λ k. f.next x k g step) at n, refl))
+        t
+
+  pub images_more : (xs : List X) (rs : List R) (p : ℕ) (out : List ℕ) (x : X) (r : R) (one : List ℕ)
+      → RowImages f xs rs p out → f.image x r (p + length out) one → RowImages f (xs ++ x ∷ []) (rs ++ r ∷ []) p (out ++ one)
+  images_more [] rs p out x r one h g =
+      let z : p + length out ≡ p = ap (λ (l : List ℕ). p + length l) h.1 ∙ plus_zero p in
+      (r, [], one, [], ap (λ l. l ++ r ∷ []) h.0, subst (λ n. f.image x r n one) z g, (refl, refl), ap (λ l. l ++ one) h.1 ∙ sym (append-nil one))
+  images_more (y ∷ ys) rs p out x r one h g =
+      let n : p + length out ≡ p + length h.2 + length h.3 = ap (λ (l : List ℕ). p + length l) h.7 ∙ omega (arith, length-append h.2 h.3) in (
+        h.0,
+        h.1 ++ r ∷ [],
+        h.2,
+        h.3 ++ one,
+        ap (λ l. l ++ r ∷ []) h.4,
+        h.5,
+        images_more ys h.1 (p + length h.2) h.3 x r one h.6 (subst (λ k. f.image x r k one) n g),
+        ap (λ l. l ++ one) h.7 ∙ append_assoc h.2 h.3 one,
+      )
+
+module _ {X R : Type 0} (f : Format X R) (limit : ℕ) (xs : List X) (rs : List R) (o : Output) where
+  -- the values before the i-th were written, and left resolves the others
+  pub record Written (i : ℕ) (others : List R) (o1 : Output) : Type 0 where
+    pub out : List ℕ
+    pub appended : Appends o o1 out
+    pub shown : RowImages f (take i xs) (take i rs) (end_of o) out
+    pub left : others ≡ drop i rs
+    pub within : end_of o1 ≤ limit
+
+  pub written_none : end_of o ≤ limit → Written 0 rs o
+  written_none h = record { out = []; appended = none_appended o; shown = (refl, refl); left = refl; within = h }
+
+  pub written_all : (i : ℕ) (left : List R) (o1 : Output) → length xs ≤ i → length rs ≡ length xs → Written i left o1 → WroteRow f limit xs rs o o1
+  written_all i left o1 all count w =
+      let e : take i xs ≡ xs = take_all i xs all in
+      let d : take i rs ≡ rs = take_all i rs (omega (arith, all, count)) in
+      (w.out, (w.appended, w.within), subst (λ (ys : List X). RowImages f ys rs (end_of o) w.out) e (subst (λ (qs : List R). RowImages f (take i xs) qs (end_of o) w.out) d w.shown))
+
+  module _ (i : ℕ) (x : X) (r : R) (left more : List R) (o1 : Output) (w : Written i left o1) (value : slice_get xs i ≡ Some x) (first : left ≡ r ∷ more) where
+    dropped : drop i rs ≡ r ∷ more
+    dropped = sym w.left ∙ first
+
+    next_resolver : slice_get rs i ≡ Some r
+    next_resolver = front_resolver rs i r more dropped
+
+    here : end_of o1 ≡ end_of o + length w.out
+    here = end-appends o o1 w.out w.appended
+
+    before : Before f xs rs (end_of o) i x r w.out
+    before = record { value = value; resolver = next_resolver; shown = w.shown }
+
+    pub written_more : (one : List ℕ) (o2 : Output) → f.image x r (end_of o1) one → Appends o1 o2 one → end_of o2 ≤ limit → Written (i + 1) more o2
+    written_more one o2 im a lim = record {
+      out = w.out ++ one;
+      appended = appends_after o o1 o2 w.out one w.appended a;
+      shown = rw (take_one xs i x value, take_one rs i r next_resolver) (images_more f (take i xs) (take i rs) (end_of o) w.out x r one w.shown (subst (λ n. f.image x r n one) here im));
+      left = others_resolver rs i r more dropped;
+      within = lim;
+    }
+
+    module _ {F : Type 0} where
+      abbrev RowTold : Output → WriteError F → Type 0
+      RowTold o' err = Told limit (RowNext f xs rs (end_of o)) o o' err
+
+      pub told_piece : (one : List ℕ) (o2 : Output) (err : WriteError F) → f.image x r (end_of o1) one → Told limit (Only (piece one)) o1 o2 err → RowTold o2 err
+      told_piece one o2 err im t =
+          told_after limit (RowNext f xs rs (end_of o)) (Only (piece one)) o o1 o2 w.out err w.appended (inr w.within)
+          (λ g step h.
+          let k : w.out ++ g ≡ w.out = ap (λ (y : List ℕ). w.out ++ y) h.0 ∙ append-nil w.out in
+          rw k (i, x, r, before, inl (one, subst (λ n. f.image x r n one) here im, h.1)))
+          t
+
+      pub told_far : f.far x r (end_of o1) → RowTold o1 DistanceTooLarge
+      told_far h = record {
+        front = w.out;
+        kept = grows o o1 w.out w.appended;
+        cause = (inr w.within, w.appended.failures, (i, x, r, before, inr (subst (λ n. f.far x r n) here h, refl)));
+      }

@@ -1,0 +1,24 @@
+-- Two entries of one place, as the equality of maps compares them.
+use Rattle.std.proofs.Common.{◌≡◌, ◌∙◌, ap, subst, ℕ, List}
+use Rattle.std.specs.Borrow.{Bor}
+use Rattle.std.specs.Int.{Width}
+use Rattle.rkyv_base.specs.Entry.{entry_shape}
+use Rattle.rkyv_base.specs.Shape.{Shape}
+use Rattle.rkyv_base.specs.View.{bytes_of, pos_of}
+use Rattle.rkyv_base.specs.declared.entry.Entry.{Entry}
+use Rattle.rkyv_base.specs.declared.view.View.{View}
+use Rattle.rkyv_keys.specs.Equality.{Comparison}
+use Rattle.rkyv_index.specs.Equality.{same_at}
+use Rattle.rkyv_index.specs.Index.{IsEntryOf, index_bytes, index_pos, key_pos}
+use Rattle.rkyv_index.specs.declared.map.ArchivedIndexMap.{ArchivedIndexMap}
+
+module _ {K V H W : Type 0} (w : Width) (k v : Shape) (same : Comparison) where
+  pub same_there : (own other : View (Entry K V)) (x y a o : ArchivedIndexMap K V H W) (i : ℕ) → IsEntryOf w k v x i own → IsEntryOf w k v y i other → x ≡ a → y ≡ o
+      → same (bytes_of own) (pos_of own) (bytes_of other) (pos_of other) ≡ same_at w (entry_shape k v) same (index_bytes a) (index_pos a) (index_bytes o) (index_pos o) i
+  same_there own other x y a o i p q e f =
+      let p' : IsEntryOf w k v a i own = subst (λ z. IsEntryOf w k v z i own) e p in
+      let q' : IsEntryOf w k v o i other = subst (λ z. IsEntryOf w k v z i other) f q in
+      ap (λ (z : Bor (List ℕ)). same z.now own.pos (bytes_of other) other.pos) p'.at.0
+      ∙ ap (λ n. same (index_bytes a) n (bytes_of other) other.pos) p'.at.1
+      ∙ ap (λ (z : Bor (List ℕ)). same (index_bytes a) (key_pos w k v a i) z.now other.pos) q'.at.0
+      ∙ ap (λ n. same (index_bytes a) (key_pos w k v a i) (index_bytes o) n) q'.at.1

@@ -1,0 +1,63 @@
+-- What an iterator gives that passes on what another one gives.
+use Rattle.std.proofs.Common.{◌≡◌, ℕ, ◌+◌, sym, ap, subst, ◌∙◌, inl, inr, List, [], ◌∷◌, map, Option, Some, None, Result, Ok, Err, MatchResult}
+use Rattle.std.specs.Iterator.{Drains, Yields}
+use Rattle.std.proofs.lemmas.List.{length-map}
+use Rattle.rkyv_base.specs.Format.{Format, GaveUp, Serialized}
+use Rattle.rkyv_base.specs.Pairs.{written_as}
+use Rattle.rkyv_base.specs.Writing.{Output}
+use Rattle.rkyv_base.specs.declared.errors.WriteError.{WriteError}
+use Rattle.rkyv_base.specs.declared.errors.WriteError.TheVariants.{InvalidLoadFactor, IteratorLengthMismatch, CapacityTooLarge, PositionTooLarge, DistanceTooLarge, TextTooLong, Writer, Memory, Refused}
+use Rattle.rkyv_table.specs.Table.Counting.{GaveOther}
+use Rattle.rkyv_table.specs.Table.Serializing.{OwnCause}
+use Rattle.rkyv_index.specs.IndexHeader.{IndexResolver}
+use Rattle.rkyv_index.specs.Handing.{NoItems, WroteItems}
+
+-- a state of the outer iterator has one of the inner; each step of it is one of that, which gives what is seen in the item
+module _ {T S X Y : Type 0} (inner : T → S) (outer : T → Option X → T → Type 0) (steps : S → Option Y → S → Type 0) (seen : X → Y)
+    (ends : (s t : T) → outer s None t → steps (inner s) None (inner t)) (gives : (s t : T) (x : X) → outer s (Some x) t → steps (inner s) (Some (seen x)) (inner t)) where
+  pub yields_through : (xs : List X) (s t : T) → Yields outer s xs t → Yields steps (inner s) (map seen xs) (inner t)
+  yields_through [] s t e = ap inner e
+  yields_through (x ∷ xs) s t h = (inner h.0, gives s h.0 x h.1, yields_through xs h.0 t h.2)
+
+  pub drains_through : (xs : List X) (s : T) → Drains outer s xs → Drains steps (inner s) (map seen xs)
+  drains_through xs s d = (inner d.0, (inner d.1.0, yields_through xs s d.1.0 d.1.1, ends d.1.0 d.0 d.1.2))
+
+  pub other_through : (len : ℕ) (s : T) (n : ℕ) → GaveOther outer len s n → GaveOther steps len (inner s) n
+  other_through len s n h =
+      let xs = h.0.0 in (
+        (
+          map seen xs,
+          h.0.1 ∙ ap (λ k. 0 + k) (sym (length-map xs seen)),
+          elim h.0.2 [
+            | inl d ↦ inl (d.0, drains_through xs s d.1)
+            | inr d ↦ inr (d.0, (inner d.1.0, yields_through xs s d.1.0 d.1.1))
+          ],
+        ),
+        h.1,
+      )
+
+-- a cause of the call's own, where other counts come
+pub own_counted : {F : Type 0} (len : ℕ) (factor : ℕ × ℕ) (max : ℕ) (other other' : ℕ → Type 0) → ((n : ℕ) → other n → other' n)
+    → (e : WriteError F) → OwnCause len factor max other e → OwnCause len factor max other' e
+own_counted len factor max other other' f (InvalidLoadFactor n d) h = h
+own_counted len factor max other other' f (CapacityTooLarge l) h = h
+own_counted len factor max other other' f Memory h = h
+own_counted len factor max other other' f (IteratorLengthMismatch m) h = (h.0, h.1, f m.actual h.2)
+own_counted len factor max other other' f PositionTooLarge h = h
+own_counted len factor max other other' f DistanceTooLarge h = h
+own_counted len factor max other other' f TextTooLong h = h
+own_counted len factor max other other' f (Writer fault) h = h
+own_counted len factor max other other' f (Refused c) h = h
+
+-- what writing the outer items answers, as what writing the inner ones does
+module _ {F X Y V : Type 0} (seen : X → Y) (gave : List X → Type 0) (gave' : List Y → Type 0) (other other' : ℕ → Type 0) (came : (xs : List X) → gave xs → gave' (map seen xs))
+    (counted : (n : ℕ) → other n → other' n) (of_outer : List X → V) (of_inner : List Y → V) (same : (xs : List X) → of_outer xs ≡ of_inner (map seen xs))
+    (base : Format V IndexResolver) (len : ℕ) (factor : ℕ × ℕ) (max limit : ℕ) (o o' : Output) where
+  pub answers_through : (result : Result IndexResolver (WriteError F))
+      → MatchResult result (WroteItems gave len factor max (written_as of_outer base) o o' limit) (NoItems gave len factor max (written_as of_outer base) o o' limit other)
+      → MatchResult result (WroteItems gave' len factor max (written_as of_inner base) o o' limit) (NoItems gave' len factor max (written_as of_inner base) o o' limit other')
+  answers_through (Ok r) h =
+      (h.0, map seen h.1, (came h.1 h.2.0, length-map h.1 seen ∙ h.2.1), subst (λ v. Serialized limit base v o o' r) (same h.1) h.3)
+  answers_through (Err e) (inl h) = inl (own_counted len factor max other other' counted e h.0, h.1)
+  answers_through (Err e) (inr h) =
+      inr (h.0, map seen h.1, (came h.1 h.2.0, length-map h.1 seen ∙ h.2.1), subst (λ v. GaveUp limit base v o o' e) (same h.1) h.3)

@@ -1,0 +1,18 @@
+use Rattle.std.proofs.Common.{◌≡◌, ◌≤◌, ◌-◌, ℕ}
+use Rattle.std.specs.List.{range_with_len}
+use Rattle.rkyv_base.specs.declared.errors.VerifyError.{VerifyError}
+use Rattle.rkyv_table.specs.Table.Places.{AllHold, FirstFails}
+use Rattle.rkyv_index.specs.IndexLayout.{entry_at, places_of}
+use Rattle.rkyv_index.proofs.map.check.check_entries.Given as goal
+
+-- the next entry stands at `at`; and if the entries from i on hold, or one of them fails first, so it is with all
+abbrev pub invariant-loop-i : goal.invariant-loop-i
+invariant-loop-i g l =
+    let s = g.T.Element.shape in
+    let is = range_with_len l.i (l.len - l.i) in
+    record {
+      at : l.at ≡ entry_at s.size l.begin l.i;
+      ordered : l.low ≤ l.begin;
+      held : (m : ℕ) → AllHold s (entry_at s.size l.begin) l.bytes l.begin is l.low m → AllHold s (entry_at s.size l.begin) l.bytes l.begin (places_of l.len) l.lo m;
+      failed : (e : VerifyError) → FirstFails s (entry_at s.size l.begin) l.bytes l.begin is l.low e → FirstFails s (entry_at s.size l.begin) l.bytes l.begin (places_of l.len) l.lo e;
+    }

@@ -1,0 +1,22 @@
+use Rattle.std.proofs.Common.{◌≡◌}
+use Rattle.std.specs.Int.{byte_len}
+use Rattle.rkyv_base.specs.declared.errors.VerifyError.{VerifyError}
+use Rattle.rkyv_base.specs.Scalar.{scalar_shape}
+use Rattle.rkyv_table.specs.Table.Header.{len_at}
+use Rattle.rkyv_table.specs.Table.RawItems.{AllStand}
+use Rattle.rkyv_table.specs.Table.Reading.{item_positions}
+use Rattle.rkyv_index.specs.IndexLayout.{FirstNotBelow, PlacesBelow}
+use Rattle.rkyv_index.proofs.map.check.check_places.Given as goal
+
+-- the places that are left stand in the archive; and if they are below the length, or one of them isn't, so it is with all
+abbrev pub invariant-loop-at : goal.invariant-loop-at
+invariant-loop-at g l =
+    let w = g.W.Width.word in
+    let all = item_positions w (byte_len w) l.bytes l.pos in
+    record {
+      stand : AllStand (scalar_shape g.W.Place.Scalar.encoding) l.at-iterator;
+      archive : l.at-iterator.archive.now ≡ l.bytes;
+      len : l.len ≡ len_at w l.bytes l.pos;
+      below : PlacesBelow w l.bytes l.len l.at-iterator.places → PlacesBelow w l.bytes l.len all;
+      failed : (e : VerifyError) → FirstNotBelow w l.bytes l.len l.at-iterator.places e → FirstNotBelow w l.bytes l.len all e;
+    }

@@ -1,0 +1,50 @@
+use Rattle.std.proofs.Common.{◌∷◌, ◌∙◌, ◌≡◌, ◌+◌, ◌-◌, ◌<◌, ap, arith, length, refl, subst, sym, List, ℕ}
+use Rattle.std.specs.List.{All}
+use Rattle.std.proofs.lemmas.List.Elements.{All-head, All-rest}
+use Rattle.rkyv_base.specs.Entry.{entry_shape}
+use Rattle.rkyv_base.specs.Shape.{Viewed}
+use Rattle.rkyv_table.specs.Table.RawItems.{AllStand, ItemsLeft}
+use Rattle.rkyv_index.specs.Index.{row}
+use Rattle.rkyv_index.proofs.Checking.{view_there}
+use Rattle.rkyv_index.proofs.Rows.{row_step}
+use Rattle.rkyv_index.proofs.map.iter.IterIterator.next.Goals as goal
+
+pub value-requires : goal.value-requires
+value-requires g c =
+    let s = entry_shape g.K.Element.shape g.V.Element.shape in
+    let i = c.self.inside in
+    let none = c.if-self-eq0.false in
+    let some : 0 < i.left = omega arith in
+    let stand = subst (AllStand s) (sym c.self.view_is) c.requires in
+    let here = All-head (Viewed s i.archive.now) i.at (row i.size (i.at + i.size) (i.left - 1)) (subst (All (Viewed s i.archive.now)) (row_step i.size i.at i.left some) stand) in
+    view_there s c.new-entry.result i.archive i.at c.new-entry.ensures here
+
+pub returns-clause-steps : goal.returns-clause-steps
+returns-clause-steps g c =
+    let i = c.self.inside in
+    let before : ItemsLeft = c.args.self.now in
+    let none = c.if-self-eq0.false in
+    let some : 0 < i.left = omega arith in
+    let pos : c.key.result.pos ≡ i.at = c.key.ensures.at.1 ∙ c.new-entry.ensures.1 in
+    let archive : i.archive ≡ before.archive = ap (λ (l : ItemsLeft). l.archive) c.self.view_is in
+    let first : before.places ≡ c.key.result.pos ∷ row i.size (i.at + i.size) (i.left - 1) =
+    ap (λ (l : ItemsLeft). l.places) (sym c.self.view_is) ∙ row_step i.size i.at i.left some
+    ∙ ap (λ (q : ℕ). q ∷ row i.size (i.at + i.size) (i.left - 1)) (sym pos) in (
+      record { first = first; archive = archive },
+      record { at = (c.key.ensures.at.0 ∙ c.new-entry.ensures.0 ∙ archive, refl); viewed = c.key.ensures.viewed },
+      record { at = (c.value.ensures.at.0 ∙ c.new-entry.ensures.0 ∙ archive, c.value.ensures.at.1 ∙ ap (λ q. q + _) (sym c.key.ensures.at.1)); viewed = c.value.ensures.viewed },
+    )
+
+pub returns-clause-goes : goal.returns-clause-goes
+returns-clause-goes g c =
+    let s = entry_shape g.K.Element.shape g.V.Element.shape in
+    let i = c.self.inside in
+    let before : ItemsLeft = c.args.self.now in
+    let none = c.if-self-eq0.false in
+    let some : 0 < i.left = omega arith in
+    let rest : List ℕ = row i.size (i.at + i.size) (i.left - 1) in
+    let first : before.places ≡ i.at ∷ rest = ap (λ (l : ItemsLeft). l.places) (sym c.self.view_is) ∙ row_step i.size i.at i.left some in
+    let stand = subst (AllStand s) (sym c.self.view_is) c.requires in
+    let after : All (Viewed s i.archive.now) rest = All-rest (Viewed s i.archive.now) i.at rest (row i.size i.at i.left) (row_step i.size i.at i.left some) stand in
+    let n = ap length first in
+    record { on = λ f. (after, f, omega arith); keeps = after; rests = λ f. tt }

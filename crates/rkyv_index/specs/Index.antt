@@ -1,0 +1,202 @@
+-- What an index map is in an archive, and what a lookup in it answers.
+use Rattle.std.specs.Prelude.{◌≡◌, ℕ, suc, zero, ◌+◌, ◌/◌, ◌<◌, ◌≤◌, ◌↔◌, List, [], ◌∷◌, Bool, true}
+use Rattle.std.specs.Prelude.{Option, Some, None, IsSome, IsTrue, MatchOption, length, map}
+use Rattle.std.specs.Borrow.{Bor}
+use Rattle.std.specs.Int.{Width, byte_len}
+use Rattle.std.specs.List.{find}
+use Rattle.std.specs.Option.{option_map}
+use Rattle.rkyv_scan.specs.Groups.{generic_kind}
+use Rattle.rkyv_scan.specs.Hash.{HasherCall, hash_of_calls}
+use Rattle.rkyv_base.specs.Bytes.{number_at}
+use Rattle.rkyv_base.specs.Entry.{entry_shape, value_offset}
+use Rattle.rkyv_base.specs.Shape.{Shape}
+use Rattle.rkyv_base.specs.View.{IsAt, IsView, archive_of, bytes_of, pos_of}
+use Rattle.rkyv_base.specs.declared.entry.Entry.{Entry}
+use Rattle.rkyv_base.specs.declared.view.View.{View}
+use Rattle.rkyv_table.specs.Controls.Finding.{ReadsWithin}
+use Rattle.rkyv_table.specs.Table.Header.{cap_at, len_at}
+use Rattle.rkyv_table.specs.Controls.Numbers.{probe_capacity}
+use Rattle.rkyv_table.specs.Table.Reading.{IsWalked, item_at, pos_found}
+use Rattle.rkyv_index.specs.IndexFormat.{IndexWrittenAt}
+use Rattle.rkyv_index.specs.IndexLayout.{entries_pos, index_shape, pair_pos, places_of}
+use Rattle.rkyv_index.specs.declared.map.ArchivedIndexMap.{ArchivedIndexMap}
+use Rattle.rkyv_index.specs.declared.map.entries.Entries.{Entries}
+
+-- the hash of the key that stands at q
+abbrev pub hash_at : {State : Type 0} → State → (State → HasherCall → State) → (State → ℕ)
+    → (List ℕ → ℕ → List HasherCall) → List ℕ → ℕ → ℕ
+hash_at initial feed finish calls b q = hash_of_calls initial feed finish (calls b q)
+
+-- n values of this size, one behind the other, from q on
+abbrev pub row : ℕ → ℕ → ℕ → List ℕ
+row size q zero = []
+row size q (suc n) = q ∷ row size (q + size) n
+
+-- where the entries stand, in order
+abbrev pub pair_positions : Width → ℕ → List ℕ → ℕ → List ℕ
+pair_positions w size b p = row size (entries_pos w b p) (len_at w b p)
+
+-- a bucket in which an item stands holds the place i
+abbrev pub IsHeldAt : Width → List ℕ → ℕ → ℕ → Type 0
+IsHeldAt w b p i = (bucket : ℕ) × IsWalked w b p bucket
+    × (number_at w b (item_at w (byte_len w) b p bucket) ≡ i)
+
+-- the place that a lookup answers, where accept tells of the key of a place
+abbrev pub index_found : Width → List ℕ → ℕ → ℕ → (ℕ → Bool) → Option ℕ
+index_found w b p hash accept = option_map (number_at w b) (pos_found generic_kind w (byte_len w) b
+    p hash (λ q. accept (number_at w b q)))
+
+module _ {K V H W : Type 0} where
+  -- the header of an index map stands where the map is
+  abbrev pub IsIndexMap : Width → Shape → Shape → ArchivedIndexMap K V H W → Type 0
+  IsIndexMap w k v m = IsView (index_shape w (entry_shape k v)) m.view
+
+  -- the archive of the map, its bytes, and the position of its header
+  abbrev pub index_archive : ArchivedIndexMap K V H W → Bor (List ℕ)
+  index_archive m = archive_of m.view
+
+  -- the bytes of the index map's archive
+  abbrev pub index_bytes : ArchivedIndexMap K V H W → List ℕ
+  index_bytes m = bytes_of m.view
+
+  -- the position of the index map's header
+  abbrev pub index_pos : ArchivedIndexMap K V H W → ℕ
+  index_pos m = pos_of m.view
+
+  -- how many pairs it has
+  abbrev pub index_len : Width → ArchivedIndexMap K V H W → ℕ
+  index_len w m = len_at w (index_bytes m) (index_pos m)
+
+  -- where the key of place i stands, and where all keys do, in order
+  abbrev pub key_pos : Width → Shape → Shape → ArchivedIndexMap K V H W → ℕ → ℕ
+  key_pos w k v m i = pair_pos w (entry_shape k v).size (index_bytes m) (index_pos m) i
+
+  -- where the keys of the index map stand, in order
+  abbrev pub key_positions : Width → Shape → Shape → ArchivedIndexMap K V H W → List ℕ
+  key_positions w k v m = pair_positions w (entry_shape k v).size (index_bytes m) (index_pos m)
+
+  -- the view is that of the key of place i
+  pub record IsKeyOf (w : Width) (k v : Shape) (m : ArchivedIndexMap K V H W) (i : ℕ) (key : View K)
+      : Type 0 where
+    pub below : i < index_len w m
+    pub at : IsAt key (index_archive m) (key_pos w k v m i)
+    pub viewed : IsView k key
+
+  -- the view is that of the value of place i
+  pub record IsValueOf (w : Width) (k v : Shape) (m : ArchivedIndexMap K V H W) (i : ℕ)
+      (value : View V) : Type 0 where
+    pub below : i < index_len w m
+    pub at : IsAt value (index_archive m) (key_pos w k v m i + value_offset k v)
+    pub viewed : IsView v value
+
+  -- the view is that of the entry of place i
+  pub record IsEntryOf (w : Width) (k v : Shape) (m : ArchivedIndexMap K V H W) (i : ℕ)
+      (entry : View (Entry K V)) : Type 0 where
+    pub below : i < index_len w m
+    pub at : IsAt entry (index_archive m) (key_pos w k v m i)
+    pub viewed : IsView (entry_shape k v) entry
+
+  -- the views are those of the key and the value of place i
+  abbrev pub IsPairOf : Width → Shape → Shape → ArchivedIndexMap K V H W → ℕ → View K × View V
+      → Type 0
+  IsPairOf w k v m i pair = IsKeyOf w k v m i pair.0 × IsValueOf w k v m i pair.1
+
+  -- the view is inside its archive, and the number that stands there is a place of the map
+  abbrev pub IsPlaceOf : {P : Type 0} → Width → ArchivedIndexMap K V H W → View P → Type 0
+  IsPlaceOf w m held = (pos_of held + byte_len w ≤ length (bytes_of held))
+      × (number_at w (bytes_of held) (pos_of held) < index_len w m)
+
+  -- a bucket holds the place
+  abbrev pub IsHeld : Width → ArchivedIndexMap K V H W → ℕ → Type 0
+  IsHeld w m i = IsHeldAt w (index_bytes m) (index_pos m) i
+
+  -- the pair of a place that a bucket holds
+  abbrev pub IsFullIn : Width → Shape → Shape → ArchivedIndexMap K V H W → ℕ × View K × View V
+      → Type 0
+  IsFullIn w k v m full = IsHeld w m full.0 × IsPairOf w k v m full.0 (full.1, full.2)
+
+  -- the views are those of a pair at a place that a full bucket holds
+  abbrev pub IsPairIn : Width → Shape → Shape → ArchivedIndexMap K V H W → View K × View V → Type 0
+  IsPairIn w k v m pair = (i : ℕ) × IsHeld w m i × IsPairOf w k v m i pair
+
+  -- the view is that of a value at a place that a full bucket holds
+  abbrev pub IsValueIn : Width → Shape → Shape → ArchivedIndexMap K V H W → View V → Type 0
+  IsValueIn w k v m value = (i : ℕ) × IsHeld w m i × IsValueOf w k v m i value
+
+  -- a lookup reads no stride of an empty table, else one at least and at most one for each sixteen
+  -- buckets, rounded up
+  abbrev pub ReadsFew : Width → ArchivedIndexMap K V H W → ℕ → ℕ → Type 0
+  ReadsFew w m before after = ReadsWithin (index_len w m) (probe_capacity (cap_at w (index_bytes m)
+      (index_pos m)) / 16) before after
+
+module _ {K V H W : Type 0} (w : Width) (k v : Shape) (m : ArchivedIndexMap K V H W) where
+  -- the comparison may be asked of each key
+  abbrev pub MayAskKeys : (View K → Type 0) → Type 0
+  MayAskKeys pre = (i : ℕ) (key : View K) → IsKeyOf w k v m i key → pre key
+
+  -- of each key the comparison answers what accept tells of its place
+  abbrev pub AnswersKeys : (View K → Bool → Type 0) → (ℕ → Bool) → Type 0
+  AnswersKeys post accept = (i : ℕ) (key : View K) (r : Bool) → IsKeyOf w k v m i key → post key r
+      → r ≡ accept i
+
+  -- only keys under the hash are accepted
+  abbrev pub AreUnderHash : ℕ → (List ℕ → ℕ → ℕ) → (ℕ → Bool) → Type 0
+  AreUnderHash hash key_hash accept = (i : ℕ) → i < index_len w m → accept i ≡ true → key_hash
+      (index_bytes m) (key_pos w k v m i) ≡ hash
+
+  -- whether the key of a place fits
+  abbrev pub fits_at : (List ℕ → ℕ → Bool) → ℕ → Bool
+  fits_at fits i = fits (index_bytes m) (key_pos w k v m i)
+
+  -- what is told is told of the place that a lookup under the hash answers, on any accepted map
+  abbrev pub FindsPlace : ℕ → (ℕ → Bool) → (Option ℕ → Type 0) → Type 0
+  FindsPlace hash accept Told = Told (index_found w (index_bytes m) (index_pos m) hash accept)
+
+  -- and on a written one: of the first place whose key is accepted
+  abbrev pub FindsFirstPlace : (List ℕ → ℕ → ℕ) → (ℕ → Bool) → (Option ℕ → Type 0) → Type 0
+  FindsFirstPlace key_hash accept Told =
+      (homes : List ℕ) → IndexWrittenAt w (entry_shape k v).size key_hash (index_bytes m)
+      (index_pos m) homes → Told (find accept (places_of (index_len w m)))
+
+  -- the same where the comparison tells of keys
+  abbrev pub FindsBy : (View K → Bool → Type 0) → ℕ → (Option ℕ → Type 0) → Type 0
+  FindsBy post hash Told = (accept : ℕ → Bool) → AnswersKeys post accept → FindsPlace hash accept
+      Told
+
+  -- told tells of the first place whose key a comparison accepts, where the index map was written
+  abbrev pub FindsFirstBy : (View K → Bool → Type 0) → ℕ → (List ℕ → ℕ → ℕ) → (Option ℕ → Type 0)
+      → Type 0
+  FindsFirstBy post hash key_hash Told = (accept : ℕ → Bool) → AnswersKeys post accept
+      → AreUnderHash hash key_hash accept → FindsFirstPlace key_hash accept Told
+
+  -- the pair that was found is that of the place, or none was found
+  abbrev pub IsPairAt : Option (View K × View V) → Option ℕ → Type 0
+  IsPairAt result place = MatchOption place (result ≡ None) (λ i. (pair : View K × View V)
+      × (result ≡ Some pair) × IsPairOf w k v m i pair)
+
+  -- the value that was found is that of the place, or none was found
+  abbrev pub IsValueAt : Option (View V) → Option ℕ → Type 0
+  IsValueAt result place = MatchOption place (result ≡ None) (λ i. (value : View V)
+      × (result ≡ Some value) × IsValueOf w k v m i value)
+
+-- the place that was found is the place
+abbrev pub IsPlace : Option ℕ → Option ℕ → Type 0
+IsPlace result place = result ≡ place
+
+-- the place of a pair that was found
+abbrev pub full_place : {K V : Type 0} → Option (ℕ × View K × View V) → Option ℕ
+full_place {K} {V} result = option_map (λ (full : ℕ × View K × View V). full.0) result
+
+-- what was found is at the place, or none was found
+abbrev pub IsFullAt : {K V : Type 0} → Option (ℕ × View K × View V) → Option ℕ → Type 0
+IsFullAt result place = full_place result ≡ place
+
+-- the answer is true exactly where a key was found
+abbrev pub IsFoundAt : Bool → Option ℕ → Type 0
+IsFoundAt result place = IsTrue result ↔ IsSome place
+
+-- what was read of the header of a map that stands
+pub record AreEntries {K V H W : Type 0} (w : Width) (k v : Shape) (entries : Entries K V H W) :
+    Type 0 where
+  pub map : IsIndexMap w k v entries.map
+  pub begin : entries.begin ≡ entries_pos w (index_bytes entries.map) (index_pos entries.map)

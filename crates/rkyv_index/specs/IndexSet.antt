@@ -1,0 +1,48 @@
+-- What an index set is in an archive: all of it is said of the map of its keys.
+use Rattle.std.specs.Prelude.{◌≡◌, ℕ, Option, Some, None, MatchOption}
+use Rattle.std.specs.Int.{Width}
+use Rattle.std.specs.Option.{option_map}
+use Rattle.rkyv_base.specs.Empty.{unit_shape}
+use Rattle.rkyv_base.specs.Entry.{entry_shape}
+use Rattle.rkyv_base.specs.Shape.{Shape}
+use Rattle.rkyv_base.specs.declared.view.View.{View}
+use Rattle.rkyv_index.specs.Index.{IsHeld, IsIndexMap, IsKeyOf}
+use Rattle.rkyv_index.specs.IndexLayout.{index_shape}
+use Rattle.rkyv_index.specs.declared.map.ArchivedIndexMap.{ArchivedIndexMap}
+use Rattle.rkyv_index.specs.declared.set.ArchivedIndexSet.{ArchivedIndexSet}
+
+-- the header of an index set: that of an index map to the unit value
+abbrev pub index_set_shape : Width → Shape → Shape
+index_set_shape w k = index_shape w (entry_shape k unit_shape)
+
+module _ {K H W : Type 0} where
+  -- the map of the set's keys to the unit value
+  abbrev pub keys_of : ArchivedIndexSet K H W → ArchivedIndexMap K (Unit {0}) H W
+  keys_of s = s.map
+
+  -- the header of an index set stands where the set is
+  abbrev pub IsIndexSet : Width → Shape → ArchivedIndexSet K H W → Type 0
+  IsIndexSet w k s = IsIndexMap w k unit_shape (keys_of s)
+
+  -- the key of a place that a bucket holds
+  abbrev pub IsMemberIn : Width → Shape → ArchivedIndexSet K H W → View K → Type 0
+  IsMemberIn w k s key = (i : ℕ) × IsHeld w (keys_of s) i × IsKeyOf w k unit_shape (keys_of s) i key
+
+  -- the view is that of the key of a place that a full bucket holds
+  abbrev pub IsFullMemberIn : Width → Shape → ArchivedIndexSet K H W → ℕ × View K → Type 0
+  IsFullMemberIn w k s full = IsHeld w (keys_of s) full.0 × IsKeyOf w k unit_shape (keys_of s)
+      full.0 full.1
+
+  -- the key that was found is that of the place, or none was found
+  abbrev pub IsMemberAt : Width → Shape → ArchivedIndexSet K H W → Option (View K) → Option ℕ
+      → Type 0
+  IsMemberAt w k s result place = MatchOption place (result ≡ None) (λ i. (key : View K)
+      × (result ≡ Some key) × IsKeyOf w k unit_shape (keys_of s) i key)
+
+-- the place of a key that was found
+abbrev pub full_member_place : {K : Type 0} → Option (ℕ × View K) → Option ℕ
+full_member_place {K} result = option_map (λ (full : ℕ × View K). full.0) result
+
+-- what was found is at the place, or none was found
+abbrev pub IsFullMemberAt : {K : Type 0} → Option (ℕ × View K) → Option ℕ → Type 0
+IsFullMemberAt result place = full_member_place result ≡ place

@@ -1,0 +1,375 @@
+-- An index map is an element.
+use Rattle.std.specs.Prelude.{◌≡◌, ℕ, zero, suc, ◌+◌, ◌*◌, ◌%◌, ◌<◌, ◌≤◌, ℤ, pos, ◌+ℤ◌, List, []}
+use Rattle.std.specs.Prelude.{◌∷◌, map, slice_range}
+use Rattle.std.specs.Int.{Width, byte_len, cast_signed, from_le_bytes}
+use Rattle.std.specs.List.{All, range_with_len}
+use Rattle.std.proofs.lemmas.Bool.{cases_eq}
+use Rattle.std.proofs.Common.{get_or, refl, arith, subst, sym, ◌∙◌, ap, inl, inr}
+use Rattle.std.proofs.Math.Nat.{mul-le-mul_right}
+use Rattle.std.proofs.lemmas.List.Elements.{All-cons, All-head, All-map, All-nil, All-tail}
+use Rattle.rkyv_base.specs.declared.errors.VerifyError.{VerifyError}
+use Rattle.rkyv_base.specs.Bytes.{Same, number_at, same_part}
+use Rattle.rkyv_base.specs.Parts.{part_clear, part_one, part_one_failure, part_wider}
+use Rattle.rkyv_base.specs.Shape.{Shape, IsElement, IsAlign}
+use Rattle.rkyv_base.specs.Text.{IsArchiveWord, by_archive_word}
+use Rattle.rkyv_table.specs.Table.Header.{cap_at, len_at}
+use Rattle.rkyv_table.specs.Controls.Numbers.{control_count}
+use Rattle.rkyv_table.specs.Lemmas.ItemPositions.{HoldsWithin, holds_at, item_holds, told_pos}
+use Rattle.rkyv_table.specs.Lemmas.PlaceLaws.{AllBelow, all_between, all_clear, all_lower, all_near}
+use Rattle.rkyv_table.specs.Lemmas.PlaceLaws.{all_one_failure}
+use Rattle.rkyv_table.specs.Table.Places.{AllHold, FirstFails}
+use Rattle.rkyv_table.specs.Controls.Placing.{walk}
+use Rattle.rkyv_table.specs.Table.Reading.{IsWalked, controls_pos, item_at, item_positions}
+use Rattle.rkyv_table.specs.Table.Reading.{table_controls}
+use Rattle.rkyv_table.specs.Lemmas.SameHeader.{cap_same, item_same, len_same, pos_same}
+use Rattle.rkyv_table.specs.Table.Layout.{TableHolds, table_shape}
+use Rattle.rkyv_table.specs.Lemmas.TableLaws.{table_element}
+use Rattle.rkyv_table.proofs.RawWalks.{walked_all}
+use Rattle.rkyv_table.proofs.Walks.{walk_none}
+use Rattle.rkyv_index.specs.IndexLayout.{EntriesFail, EntriesIn, FirstNotBelow, IndexFails}
+use Rattle.rkyv_index.specs.IndexLayout.{IndexHolds, PlacesBelow, distance_pos, entries_told}
+use Rattle.rkyv_index.specs.IndexLayout.{entry_at, index_shape, place_shape, places_of}
+
+-- a place is an element
+pub place_element : (w : Width) → IsArchiveWord w → IsElement (place_shape w)
+place_element w kind = record {
+  align_is = by_archive_word (λ v. IsAlign (byte_len v)) (inr (inr (inl refl)))
+      (inr (inr (inr refl))) w kind;
+  size_whole = by_archive_word (λ v. byte_len v % byte_len v ≡ 0) refl refl w kind;
+  size_small = by_archive_word (λ v. byte_len v ≤ 1073741824) (omega arith) (omega arith) w kind;
+  between = λ b p lo hi l o h. (omega (arith, h), omega (arith, h));
+  one = λ b p lo hi l l' h h'. h ∙ sym h';
+  clear = λ b p lo hi l e h f. f;
+  one_failure = λ b p lo hi e e' f g. absurd f;
+  higher = λ b p lo hi hi' l o h. h;
+  lower = λ b p lo lo' hi l o o' h. (lo', refl, omega (arith, h));
+  near = λ b c p lo hi l o fixed part h. h;
+}
+
+-- the places of n entries are below n
+all_below : (a n m : ℕ) → a + n ≤ m → AllBelow m (range_with_len a n)
+all_below a zero m h = tt
+all_below a (suc n) m h = (omega arith, all_below (a + 1) n m (omega arith))
+
+pub places_below : (n : ℕ) → AllBelow n (places_of n)
+places_below n = all_below 0 n n (omega arith)
+
+-- an entry stands between the begin of the entries and their end
+pub entry_inside : (size begin n i : ℕ) → i < n → (begin ≤ entry_at size begin i)
+    × (entry_at size begin i + size ≤ begin + n * size)
+entry_inside size begin n i h =
+    let m : (suc i) * size ≤ n * size = mul-le-mul_right size (omega arith) in
+    (omega arith, omega (arith, m))
+
+-- each of the values that hold, one after the other, holds in a range of its own
+pub each_holds : (s : Shape) → IsElement s → (at : ℕ → ℕ) (b : List ℕ) (hi a n lo l i : ℕ) → lo ≤ hi
+    → AllHold s at b hi (range_with_len a n) lo l → a ≤ i → i < a + n
+    → HoldsWithin s b (at i) lo hi l
+each_holds s law at b hi a zero lo l i o h from to = absurd (omega arith)
+each_holds s law at b hi a (suc n) lo l i o h from to =
+    let k : (lo ≤ h.0) × (h.0 ≤ hi) = law.between b (at a) lo hi h.0 o h.1 in
+    let after = all_between s law at b hi (range_with_len (a + 1) n) h.0 l k.1 h.2 in
+    elim (cases_eq a i) [
+      | inl e ↦ subst (λ z. HoldsWithin s b (at z) lo hi l) e
+          (record {
+            lower = lo;
+            rest = h.0;
+            above = omega arith;
+            below = o;
+            ends = after.0;
+            holds =
+                h.1;
+          })
+      | inr ne ↦
+          let r = each_holds s law at b hi (a + 1) n h.0 l i k.1 h.2 (omega arith) (omega arith) in
+          record {
+            lower = r.lower;
+            rest = r.rest;
+            above = omega (arith, k.0, r.above);
+            below =
+                r.below;
+            ends = r.ends;
+            holds = r.holds;
+          }
+    ]
+
+-- where all places are below n, none is the first that isn't
+not_below_clear : (w : Width) (b : List ℕ) (n : ℕ) (qs : List ℕ) (e : VerifyError) → PlacesBelow w b
+    n qs → FirstNotBelow w b n qs e → ⊥
+not_below_clear w b n [] e h f = f
+not_below_clear w b n (q ∷ qs) e h (inl f) = let k = All-head (λ x. number_at w b x < n) q qs h
+    in omega (arith, f.0, k)
+not_below_clear w b n (q ∷ qs) e h (inr f) = not_below_clear w b n qs e
+    (All-tail (λ x. number_at w b x < n) q qs h) f.1
+
+-- one place alone is the first that isn't below n
+not_below_one : (w : Width) (b : List ℕ) (n : ℕ) (qs : List ℕ) (e e' : VerifyError) → FirstNotBelow
+    w b n qs e
+    → FirstNotBelow w b n qs e' → e ≡ e'
+not_below_one w b n [] e e' f g = absurd f
+not_below_one w b n (q ∷ qs) e e' (inl f) (inl g) = f.1 ∙ sym g.1
+not_below_one w b n (q ∷ qs) e e' (inl f) (inr g) = absurd (omega (arith, f.0, g.0))
+not_below_one w b n (q ∷ qs) e e' (inr f) (inl g) = absurd (omega (arith, f.0, g.0))
+not_below_one w b n (q ∷ qs) e e' (inr f) (inr g) = not_below_one w b n qs e e' f.1 g.1
+
+-- entries that stand in a part
+module _ (s : Shape) (law : IsElement s) where
+  entries_between : (b : List ℕ) (told : ℤ) (len lo hi l : ℕ) → EntriesIn s b told len lo hi l
+      → (lo ≤ l) × (l ≤ hi)
+  entries_between b told len lo hi l h = let e = h.ends in (
+    omega (arith, h.part.above, e),
+    omega
+        (arith, h.part.below, e),
+  )
+
+  entries_one : (b : List ℕ) (told : ℤ) (len lo hi l l' : ℕ) → EntriesIn s b told len lo hi l
+      → EntriesIn s b told len lo hi l' → l ≡ l'
+  entries_one b told len lo hi l l' h h' =
+      let same : h.begin ≡ h'.begin = part_one told (len * s.size) s.align lo hi h.begin h'.begin
+      h.part h'.part in
+      h.ends ∙ ap (λ x. x + len * s.size) same ∙ sym h'.ends
+
+  entries_clear : (b : List ℕ) (told : ℤ) (len lo hi l : ℕ) (e : VerifyError) → EntriesIn s b told
+      len lo hi l → EntriesFail s b told len lo hi e → ⊥
+  entries_clear b told len lo hi l e h (inl f) = part_clear told (len * s.size) s.align lo hi
+      h.begin e h.part f
+  entries_clear b told len lo hi l e h (inr f) =
+      let same : f.0 ≡ h.begin = part_one told (len * s.size) s.align lo hi f.0 h.begin f.1 h.part
+      in
+      all_clear s law (entry_at s.size h.begin) b h.begin (places_of len) lo h.last e h.hold
+      (subst (λ n. FirstFails s (entry_at s.size n) b n (places_of len) lo e) same f.2)
+
+  entries_one_failure : (b : List ℕ) (told : ℤ) (len lo hi : ℕ) (e e' : VerifyError) → EntriesFail s
+      b told len lo hi e
+      → EntriesFail s b told len lo hi e' → e ≡ e'
+  entries_one_failure b told len lo hi e e' (inl f) (inl g) = part_one_failure told (len * s.size)
+      s.align lo hi e e' f g
+  entries_one_failure b told len lo hi e e' (inl f) (inr g) = absurd (part_clear told (len * s.size)
+      s.align lo hi g.0 e g.1 f)
+  entries_one_failure b told len lo hi e e' (inr f) (inl g) = absurd (part_clear told (len * s.size)
+      s.align lo hi f.0 e' f.1 g)
+  entries_one_failure b told len lo hi e e' (inr f) (inr g) =
+      let same : g.0 ≡ f.0 = part_one told (len * s.size) s.align lo hi g.0 f.0 g.1 f.1 in
+      all_one_failure s law (entry_at s.size f.0) b f.0 (places_of len) lo e e' f.2
+      (subst (λ n. FirstFails s (entry_at s.size n) b n (places_of len) lo e') same g.2)
+
+  entries_higher : (b : List ℕ) (told : ℤ) (len lo hi hi' l : ℕ) → hi ≤ hi' → EntriesIn s b told len
+      lo hi l → EntriesIn s b told len lo hi' l
+  entries_higher b told len lo hi hi' l o h =
+      record {
+        begin = h.begin;
+        part = part_wider told (len * s.size) s.align lo lo hi hi' h.begin
+            (omega arith) o h.part;
+        last = h.last;
+        hold = h.hold;
+        ends = h.ends;
+      }
+
+  entries_lower : (b : List ℕ) (told : ℤ) (len lo lo' hi l : ℕ) → lo' ≤ lo → EntriesIn s b told len
+      lo hi l → EntriesIn s b told len lo' hi l
+  entries_lower b told len lo lo' hi l o h =
+      let d = all_lower s law (entry_at s.size h.begin) b h.begin (places_of len) lo lo' h.last o
+      h.part.above h.hold in
+      record {
+        begin = h.begin;
+        part = part_wider told (len * s.size) s.align lo lo' hi hi h.begin o
+            (omega arith) h.part;
+        last = d.0;
+        hold = d.1;
+        ends = h.ends;
+      }
+
+  entries_near : (b c : List ℕ) (told : ℤ) (len lo hi l : ℕ) → Same b c lo l → EntriesIn s b told
+      len lo hi l → EntriesIn s c told len lo hi l
+  entries_near b c told len lo hi l same h =
+      let e = h.ends in
+      let above = h.part.above in
+      record {
+        begin = h.begin;
+        part = h.part;
+        last = h.last;
+        hold = all_near s law (entry_at s.size h.begin) b c lo l len h.begin (places_of len) lo
+            h.last same (omega arith) above (omega arith) (places_below len)
+            (λ i below. let u = entry_inside s.size h.begin len i below in (
+              omega (arith, u.0),
+              omega (arith, u.1),
+            )) h.hold;
+        ends = h.ends;
+      }
+
+-- what holds of all images holds of what they are images of
+pub All-unmap : (Q : ℕ → Type 0) (f : ℕ → ℕ) (xs : List ℕ) → All Q (map f xs) → All (λ x. Q (f x))
+    xs
+All-unmap Q f [] h = All-nil (λ x. Q (f x))
+All-unmap Q f (x ∷ xs) h = All-cons (λ x. Q (f x)) x xs (All-head Q (f x) (map f xs) h)
+    (All-unmap Q f xs (All-tail Q (f x) (map f xs) h))
+
+module _ (w : Width) (kind : IsArchiveWord w) where
+  abbrev P : Shape
+  P = place_shape w
+
+  abbrev P_law : IsElement P
+  P_law = place_element w kind
+
+  -- where the header's bytes and those of the table are the same, so are the places
+  module _ (b c : List ℕ) (p lo hi m : ℕ) (o : lo ≤ hi) (fixed : Same b c p (p + 3 * byte_len w))
+      (part : Same b c lo m) (h : TableHolds w P b p lo hi m) where
+    item_within : (i : ℕ) → IsWalked w b p i → (lo ≤ item_at w (byte_len w) b p i)
+        × (item_at w (byte_len w) b p i + byte_len w ≤ m)
+    item_within i walked =
+        let t = holds_at w P P_law b p lo hi m h (omega (arith, walked.0)) in
+        let r = item_holds w P P_law b p lo hi m h i walked t in
+        let above = t.part.above in
+        (omega (arith, r.1), r.2)
+
+    pub place_same_at : (i : ℕ) → IsWalked w b p i → number_at w b (item_at w (byte_len w) b p i)
+        ≡ number_at w c (item_at w (byte_len w) c p i)
+    place_same_at i walked =
+        let u = item_within i walked in
+        let q = item_at w (byte_len w) b p i in
+        ap (from_le_bytes w) (same_part b c lo m q (q + byte_len w) u.0 u.1 (omega arith) part)
+        ∙ ap (number_at w c) (item_same w b c p fixed (byte_len w) i)
+
+    pub same_controls : 0 < cap_at w b p → table_controls w b p ≡ table_controls w c p
+    same_controls some =
+        let t = holds_at w P P_law b p lo hi m h some in
+        let at = told_pos w (byte_len w) b p t.begin t.part.begins in
+        let above = t.part.above in
+        let ends = t.ends in
+        let z = controls_pos w b p in
+        same_part b c lo m z (z + control_count (cap_at w b p)) (omega (arith, at, above))
+        (omega (arith, at, ends)) (omega arith) part
+        ∙ ap (λ n. slice_range c n (n + control_count (cap_at w b p))) (pos_same w b c p fixed)
+        ∙ ap (λ n. slice_range c (controls_pos w c p) (controls_pos w c p + control_count n))
+        (cap_same w b c p fixed)
+
+    same_walk : walk (table_controls w b p) (cap_at w b p) ≡ walk (table_controls w c p)
+        (cap_at w c p)
+    same_walk = elim (cases_eq (cap_at w b p) 0) [
+      | inl none ↦
+          let z : cap_at w c p ≡ 0 = sym (cap_same w b c p fixed) ∙ none in
+          ap (walk (table_controls w b p)) none ∙ walk_none (table_controls w b p)
+          ∙ sym (ap (walk (table_controls w c p)) z ∙ walk_none (table_controls w c p))
+      | inr some ↦
+          ap (λ (xs : List ℕ). walk xs (cap_at w b p)) (same_controls (omega arith))
+          ∙ ap (walk (table_controls w c p)) (cap_same w b c p fixed)
+    ]
+
+    places_near : (n : ℕ) → PlacesBelow w b n (item_positions w (byte_len w) b p) → PlacesBelow w c
+        n (item_positions w (byte_len w) c p)
+    places_near n below =
+        let at = item_at w (byte_len w) in
+        let ws = walk (table_controls w b p) (cap_at w b p) in
+        subst (λ (xs : List ℕ). PlacesBelow w c n (map (at c p) xs)) same_walk
+        (All-map (λ q. number_at w c q < n) (at c p) ws
+        (λ k d lt.
+        subst (λ x. x < n) (place_same_at (get_or ws k d) (walked_all w P P_law b p k d lt))
+        (All-unmap (λ q. number_at w b q < n) (at b p) ws below k d lt)))
+
+module _ (w : Width) (kind : IsArchiveWord w) (s : Shape) (law : IsElement s) where
+  abbrev T_law : IsElement (table_shape w (place_shape w))
+  T_law = table_element w kind (place_shape w) (place_element w kind)
+
+  index_clear : (b : List ℕ) (p lo hi l : ℕ) (e : VerifyError) → IndexHolds w s b p lo hi l
+      → IndexFails w s b p lo hi e → ⊥
+  index_clear b p lo hi l e h (inl f) = T_law.clear b p lo hi h.middle e h.table f
+  index_clear b p lo hi l e h (inr (m, t, inl f)) = not_below_clear w b (len_at w b p)
+      (item_positions w (byte_len w) b p) e h.below f
+  index_clear b p lo hi l e h (inr (m, t, inr (below, f))) =
+      let same : m ≡ h.middle = T_law.one b p lo hi m h.middle t h.table in
+      entries_clear s law b (entries_told w b p) (len_at w b p) h.middle hi l e h.entries
+      (subst (λ x. EntriesFail s b (entries_told w b p) (len_at w b p) x hi e) same f)
+
+  index_one_failure : (b : List ℕ) (p lo hi : ℕ) (e e' : VerifyError) → IndexFails w s b p lo hi e
+      → IndexFails w s b p lo hi e' → e ≡ e'
+  index_one_failure b p lo hi e e' (inl f) (inl g) = T_law.one_failure b p lo hi e e' f g
+  index_one_failure b p lo hi e e' (inl f) (inr (m, t, g)) = absurd (T_law.clear b p lo hi m e t f)
+  index_one_failure b p lo hi e e' (inr (m, t, f)) (inl g) = absurd (T_law.clear b p lo hi m e' t g)
+  index_one_failure b p lo hi e e' (inr (m, t, inl f)) (inr (m', t', inl g)) =
+      not_below_one w b (len_at w b p) (item_positions w (byte_len w) b p) e e' f g
+  index_one_failure b p lo hi e e' (inr (m, t, inl f)) (inr (m', t', inr g)) =
+      absurd (not_below_clear w b (len_at w b p) (item_positions w (byte_len w) b p) e g.0 f)
+  index_one_failure b p lo hi e e' (inr (m, t, inr f)) (inr (m', t', inl g)) =
+      absurd (not_below_clear w b (len_at w b p) (item_positions w (byte_len w) b p) e' f.0 g)
+  index_one_failure b p lo hi e e' (inr (m, t, inr f)) (inr (m', t', inr g)) =
+      let same : m' ≡ m = T_law.one b p lo hi m' m t' t in
+      entries_one_failure s law b (entries_told w b p) (len_at w b p) m hi e e' f.1
+      (subst (λ x. EntriesFail s b (entries_told w b p) (len_at w b p) x hi e') same g.1)
+
+  index_one : (b : List ℕ) (p lo hi l l' : ℕ) → IndexHolds w s b p lo hi l → IndexHolds w s b p lo
+      hi l' → l ≡ l'
+  index_one b p lo hi l l' h h' =
+      let same : h'.middle ≡ h.middle = T_law.one b p lo hi h'.middle h.middle h'.table h.table in
+      entries_one s law b (entries_told w b p) (len_at w b p) h.middle hi l l' h.entries
+      (subst (λ x. EntriesIn s b (entries_told w b p) (len_at w b p) x hi l') same h'.entries)
+
+  index_between : (b : List ℕ) (p lo hi l : ℕ) → lo ≤ hi → IndexHolds w s b p lo hi l → (lo ≤ l)
+      × (l ≤ hi)
+  index_between b p lo hi l o h =
+      let t = T_law.between b p lo hi h.middle o h.table in
+      let r = entries_between s law b (entries_told w b p) (len_at w b p) h.middle hi l h.entries in
+      (omega (arith, t.0, r.0), r.1)
+
+  index_lower : (b : List ℕ) (p lo lo' hi l : ℕ) → lo' ≤ lo → lo ≤ hi → IndexHolds w s b p lo hi l
+      → (l' : ℕ) × IndexHolds w s b p lo' hi l' × (l' ≤ l)
+  index_lower b p lo lo' hi l o o' h =
+      let t = T_law.lower b p lo lo' hi h.middle o o' h.table in (
+        l,
+        record {
+          middle = t.0;
+          table = t.1;
+          below = h.below;
+          entries = entries_lower s law b
+              (entries_told w b p) (len_at w b p) h.middle t.0 hi l t.2 h.entries;
+        },
+        omega arith,
+      )
+
+  index_near : (b c : List ℕ) (p lo hi l : ℕ) → lo ≤ hi → Same b c p (p + 4 * byte_len w) → Same b c
+      lo l → IndexHolds w s b p lo hi l → IndexHolds w s c p lo hi l
+  index_near b c p lo hi l o fixed part h =
+      let head : Same b c p (p + 3 * byte_len w) = same_part b c p (p + 4 * byte_len w) p
+      (p + 3 * byte_len w) (omega arith) (omega arith) (omega arith) fixed in
+      let field : Same b c (distance_pos w p) (distance_pos w p + byte_len w) =
+      same_part b c p (p + 4 * byte_len w) (distance_pos w p) (distance_pos w p + byte_len w)
+      (omega arith) (omega arith) (omega arith) fixed in
+      let told : entries_told w b p ≡ entries_told w c p =
+      ap (λ (x : List ℕ). pos (distance_pos w p) +ℤ cast_signed w (from_le_bytes w x)) field in
+      let len : len_at w b p ≡ len_at w c p = len_same w b c p head in
+      let t = T_law.between b p lo hi h.middle o h.table in
+      let r = entries_between s law b (entries_told w b p) (len_at w b p) h.middle hi l h.entries in
+      let front : Same b c lo h.middle = same_part b c lo l lo h.middle (omega arith) r.0 t.0 part
+      in
+      let back : Same b c h.middle l = same_part b c lo l h.middle l t.0 (omega arith) r.0 part in
+      record {
+        middle = h.middle;
+        table = T_law.near b c p lo hi h.middle o head front h.table;
+        below = subst (λ n. PlacesBelow w c n (item_positions w (byte_len w) c p)) len
+            (places_near w kind b c p lo hi h.middle o head front h.table (len_at w b p) h.below);
+        entries = subst (λ n. EntriesIn s c (entries_told w c p) n h.middle hi l) len
+            (subst (λ z. EntriesIn s c z (len_at w b p) h.middle hi l) told (entries_near s law b c
+            (entries_told w b p) (len_at w b p) h.middle hi l back h.entries));
+      }
+
+  -- an index map is an element
+  pub index_element : IsElement (index_shape w s)
+  index_element = record {
+    align_is = by_archive_word (λ v. IsAlign (byte_len v)) (inr (inr (inl refl)))
+        (inr (inr (inr refl))) w kind;
+    size_whole = by_archive_word (λ v. (4 * byte_len v) % byte_len v ≡ 0) refl refl w kind;
+    size_small = by_archive_word (λ v. 4 * byte_len v ≤ 1073741824) (omega arith) (omega arith) w
+        kind;
+    between = index_between;
+    one = index_one;
+    clear = index_clear;
+    one_failure = index_one_failure;
+    higher = λ b p lo hi hi' l o h. record {
+      middle = h.middle;
+      table = T_law.higher b p lo hi hi' h.middle o h.table;
+      below = h.below;
+      entries = entries_higher s law b (entries_told w b p) (len_at w b p) h.middle hi hi' l o
+          h.entries;
+    };
+    lower = index_lower;
+    near = index_near;
+  }

@@ -1,0 +1,225 @@
+-- An index map stands where the same bytes do.
+use Rattle.std.proofs.Common.{◌≡◌, ℕ, ◌+◌, ◌*◌, ◌<◌, ◌≤◌, sym, ap, subst, ◌∙◌, arith}
+use Rattle.std.proofs.Common.{inl, inr, List, length, map, get_or, slice_index, pos, ◌+ℤ◌}
+use Rattle.std.specs.Prelude.{unsigned_abs}
+use Rattle.std.specs.Int.{Width, byte_len, cast_signed, from_le_bytes}
+use Rattle.std.proofs.lemmas.List.{ext_get_or, get_or-map, length-map}
+use Rattle.std.proofs.lemmas.List.FromFn.{get_or-range_with_len, length-range_with_len}
+use Rattle.std.proofs.lemmas.Option.{slice_get_within}
+use Rattle.rkyv_scan.specs.Hash.{HasherCall, hash_of_calls}
+use Rattle.rkyv_base.specs.Bytes.{Same, number_at, same_part}
+use Rattle.rkyv_base.specs.Entry.{entry_element, entry_shape, same_key}
+use Rattle.rkyv_base.specs.Format.{StandsNear}
+use Rattle.rkyv_base.specs.Pairs.{PairStands, pair_near}
+use Rattle.rkyv_base.specs.Shape.{IsElement, Shape}
+use Rattle.rkyv_base.specs.Text.{IsArchiveWord}
+use Rattle.rkyv_keys.specs.Equality.{Comparison}
+use Rattle.rkyv_keys.specs.Keys.{IsKey}
+use Rattle.rkyv_table.specs.Table.Header.{cap_at, len_at}
+use Rattle.rkyv_table.specs.Lemmas.ItemPositions.{HoldsWithin}
+use Rattle.rkyv_table.specs.Lemmas.PlaceLaws.{all_between}
+use Rattle.rkyv_table.specs.Controls.Placing.{Written}
+use Rattle.rkyv_table.specs.Table.Reading.{WrittenAt, home_positions, item_at, table_controls}
+use Rattle.rkyv_table.specs.Lemmas.SameHeader.{cap_same, len_same}
+use Rattle.rkyv_table.specs.Lemmas.TableLaws.{table_element}
+use Rattle.rkyv_table.proofs.WrittenTables.{home_pos, home_walked}
+use Rattle.rkyv_index.specs.Index.{hash_at}
+use Rattle.rkyv_index.specs.IndexFormat.{IndexStands}
+use Rattle.rkyv_index.specs.IndexLayout.{entries_pos, pair_pos}
+use Rattle.rkyv_index.specs.Lemmas.IndexLaws.{each_holds, entry_inside, place_element}
+use Rattle.rkyv_index.specs.Lemmas.IndexLaws.{place_same_at, same_controls}
+use Rattle.rkyv_index.specs.IndexLayout.{IndexHolds, distance_pos, entries_told, entry_at}
+use Rattle.rkyv_index.specs.IndexLayout.{index_shape, place_shape, places_of}
+
+-- the hash of a key rests on the bytes on which it rests that the key holds
+abbrev pub HashNear : Shape → (List ℕ → ℕ → ℕ) → Type 0
+HashNear k hash = (b c : List ℕ) (q lo hi l : ℕ) → lo ≤ hi → k.holds b q lo hi l → Same b c q
+    (q + k.size) → Same b c lo l → hash b q ≡ hash c q
+
+module _ (w : Width) (kind : IsArchiveWord w) (k v : Shape) (kl : IsElement k) (vl : IsElement v)
+    {A B : Type 0} (key : List ℕ → ℕ → A → Type 0) (value : List ℕ → ℕ → B → Type 0)
+    (hash : List ℕ → ℕ → ℕ) (factor : ℕ × ℕ) (near : HashNear k hash) (kn : StandsNear k key)
+    (vn : StandsNear v value) (pairs : List (A × B)) (b c : List ℕ) (p lo hi l : ℕ)
+    (o : lo ≤ hi) where
+  abbrev S : Shape
+  S = entry_shape k v
+
+  abbrev law : IsElement S
+  law = entry_element k v kl vl
+
+  module _ (h : IndexHolds w S b p lo hi l) (fixed : Same b c p (p + 4 * byte_len w))
+      (part : Same b c lo l) (st : IndexStands w k v key value hash factor b p pairs) where
+    head : Same b c p (p + 3 * byte_len w)
+    head = same_part b c p (p + 4 * byte_len w) p (p + 3 * byte_len w) (omega arith) (omega arith)
+        (omega arith) fixed
+
+    told : entries_told w b p ≡ entries_told w c p
+    told =
+        let field : Same b c (distance_pos w p) (distance_pos w p + byte_len w) =
+        same_part b c p (p + 4 * byte_len w) (distance_pos w p) (distance_pos w p + byte_len w)
+        (omega arith) (omega arith) (omega arith) fixed in
+        ap (λ (x : List ℕ). pos (distance_pos w p) +ℤ cast_signed w (from_le_bytes w x)) field
+
+    same_pos : (i : ℕ) → pair_pos w S.size b p i ≡ pair_pos w S.size c p i
+    same_pos i = ap (λ z. entry_at S.size (unsigned_abs z) i) told
+
+    same_len : len_at w b p ≡ len_at w c p
+    same_len = len_same w b c p head
+
+    same_cap : cap_at w b p ≡ cap_at w c p
+    same_cap = cap_same w b c p head
+
+    begin_is : entries_pos w b p ≡ h.entries.begin
+    begin_is = ap unsigned_abs (sym h.entries.part.begins)
+
+    table_ends : (lo ≤ h.middle) × (h.middle ≤ hi)
+    table_ends = (table_element w kind (place_shape w) (place_element w kind)).between b p lo hi
+        h.middle o h.table
+
+    last_ends : (h.middle ≤ h.entries.last) × (h.entries.last ≤ h.entries.begin)
+    last_ends = all_between S law (entry_at S.size h.entries.begin) b h.entries.begin
+        (places_of (len_at w b p)) h.middle h.entries.last h.entries.part.above h.entries.hold
+
+    -- each entry holds, and stands in the part
+    entry_there : (i : ℕ) → i < len_at w b p → HoldsWithin S b (pair_pos w S.size b p i) h.middle
+        h.entries.begin h.entries.last
+        × (h.entries.begin ≤ pair_pos w S.size b p i) × (pair_pos w S.size b p i + S.size ≤ l)
+    entry_there i below =
+        let r = each_holds S law (entry_at S.size h.entries.begin) b h.entries.begin 0
+        (len_at w b p) h.middle h.entries.last i h.entries.part.above h.entries.hold
+        (omega arith) (omega arith) in
+        let u = entry_inside S.size h.entries.begin (len_at w b p) i below in
+        let e = h.entries.ends in
+        subst (λ n. HoldsWithin S b (entry_at S.size n i) h.middle h.entries.begin h.entries.last
+        × (h.entries.begin ≤ entry_at S.size n i) × (entry_at S.size n i + S.size ≤ l))
+        (sym begin_is)
+        (r, u.0, omega (arith, u.1, e))
+
+    module _ (i : ℕ) (below : i < len_at w b p) where
+      abbrev q : ℕ
+      q = pair_pos w S.size b p i
+
+      same_entry : Same b c q (q + S.size)
+      same_entry =
+          let r = entry_there i below in
+          let above = h.entries.part.above in
+          same_part b c lo l q (q + S.size) (omega (arith, r.1, above, table_ends)) r.2
+          (omega arith) part
+
+      same_hash : hash b q ≡ hash c q
+      same_hash =
+          let r = (entry_there i below).0 in
+          let e = r.holds in
+          let x = kl.between b q r.lower h.entries.begin e.1 r.below e.2 in
+          let y = vl.between b _ e.1 h.entries.begin r.rest x.1 e.3 in
+          let ends = h.entries.ends in
+          near b c q r.lower h.entries.begin e.1 r.below e.2 (same_key k v kl vl b c q e.0
+          same_entry)
+          (same_part b c lo l r.lower e.1 (omega (arith, r.above, table_ends))
+          (omega (arith, x.1, ends)) x.0 part)
+
+      same_pair : (pair : A × B) → PairStands k v key value b q pair → PairStands k v key value c q
+          pair
+      same_pair pair there =
+          let r = (entry_there i below).0 in
+          let x = law.between b q r.lower h.entries.begin r.rest r.below r.holds in
+          let ends = h.entries.ends in
+          let within = r.ends in
+          pair_near k v kl vl key value kn vn pair b c q r.lower h.entries.begin r.rest r.below
+          r.holds same_entry
+          (same_part b c lo l r.lower r.rest (omega (arith, r.above, table_ends))
+          (omega (arith, within, last_ends, ends)) x.0 part) there
+
+    abbrev hashes : List ℕ
+    hashes = map (λ i. hash b (pair_pos w S.size b p i)) (places_of (len_at w b p))
+
+    same_hashes : hashes ≡ map (λ i. hash c (pair_pos w S.size c p i)) (places_of (len_at w c p))
+    same_hashes =
+        let n = len_at w b p in
+        let is = places_of n in
+        let count = length-range_with_len 0 n in
+        let f : ℕ → ℕ = λ i. hash b (pair_pos w S.size b p i) in
+        let g : ℕ → ℕ = λ i. hash c (pair_pos w S.size c p i) in
+        ext_get_or 0 (map f is) (map g is) (length-map is f ∙ sym (length-map is g))
+        (λ i below.
+        let inside : i < n = omega (arith, below, length-map is f, count) in
+        let here : i < length is = omega (arith, inside, count) in
+        let at : get_or is i 0 ≡ i = get_or-range_with_len 0 n i 0 inside ∙ omega arith in
+        get_or-map f is i 0 0 here ∙ ap f at ∙ same_hash i inside ∙ ap (hash c) (same_pos i)
+        ∙ ap g (sym at) ∙ sym (get_or-map g is i 0 0 here))
+        ∙ ap (λ m. map g (places_of m)) same_len
+
+    table_near : Same b c lo h.middle
+    table_near =
+        let ends = h.entries.ends in
+        let above = h.entries.part.above in
+        same_part b c lo l lo h.middle (omega arith) (omega (arith, above, ends)) table_ends.0 part
+
+    written_near : WrittenAt w c p hashes st.homes
+    written_near =
+        let t = st.written.table in
+        record {
+          count = sym same_len ∙ t.count;
+          fit = t.fit;
+          placed = elim t.placed [
+            | inl e ↦ inl e
+            | inr e ↦ inr (
+              subst (λ n. length hashes < n) same_cap e.0,
+              subst (λ n. Written n hashes st.homes (table_controls w c p)) same_cap
+                  (subst (λ (xs : List ℕ). Written (cap_at w b p) hashes st.homes xs)
+                  (same_controls w kind b c p lo hi h.middle o head table_near h.table
+                  (omega (arith, e.0))) e.1),
+            )
+          ];
+        }
+
+    places_near : map (number_at w c) (home_positions w (byte_len w) c p st.homes) ≡ places_of
+        (len_at w c p)
+    places_near =
+        let t = st.written.table in
+        let hb = home_positions w (byte_len w) b p st.homes in
+        let hc = home_positions w (byte_len w) c p st.homes in
+        let nb : length hb ≡ length st.homes = length-map st.homes (item_at w (byte_len w) b p) in
+        let nc : length hc ≡ length st.homes = length-map st.homes (item_at w (byte_len w) c p) in
+        ext_get_or 0 (map (number_at w c) hc) (map (number_at w b) hb)
+        (length-map hc (number_at w c) ∙ nc ∙ sym nb ∙ sym (length-map hb (number_at w b)))
+        (λ i below.
+        let n : i < length st.homes = omega (arith, below, length-map hc (number_at w c), nc) in
+        let walked = home_walked w b p hashes st.homes t i n in
+        let same = place_same_at w kind b c p lo hi h.middle o head table_near h.table
+        (slice_index st.homes i) walked in
+        get_or-map (number_at w c) hc i 0 0 (omega (arith, n, nc)) ∙ ap (number_at w c)
+        (home_pos w (byte_len w) c p st.homes i n) ∙ sym same
+        ∙ ap (number_at w b) (sym (home_pos w (byte_len w) b p st.homes i n))
+        ∙ sym (get_or-map (number_at w b) hb i 0 0 (omega (arith, n, nb))))
+        ∙ st.written.places ∙ ap places_of same_len
+
+    stands_again : IndexStands w k v key value hash factor c p pairs
+    stands_again = record {
+      homes = st.homes;
+      written = record {
+        table = subst (λ (xs : List ℕ). WrittenAt w c p xs st.homes) same_hashes written_near;
+        places = places_near;
+      };
+      len = sym same_len ∙ st.len;
+      cap = sym same_cap ∙ st.cap;
+      at = λ i pair e.
+          let inside = slice_get_within pairs i pair e in
+          let n = st.len in
+          subst (λ z. PairStands k v key value c z pair) (same_pos i)
+          (same_pair i (omega (arith, inside, n)) pair (st.at i pair e));
+    }
+
+module _ {State : Type 0} (initial : State) (feed : State → HasherCall → State) (finish : State → ℕ)
+    (w : Width) (kind : IsArchiveWord w) {k v : Shape} (kl : IsElement k) (vl : IsElement v)
+    {A B : Type 0} {key : List ℕ → ℕ → A → Type 0} {value : List ℕ → ℕ → B → Type 0}
+    {same : Comparison} {key_calls : List ℕ → ℕ → List HasherCall} (factor : ℕ × ℕ) where
+  -- what stands as an index map rests on the bytes on which it rests that the index map holds
+  pub index_stands_near : IsKey k same key_calls → StandsNear k key → StandsNear v value
+      → StandsNear (index_shape w (entry_shape k v)) (IndexStands w k v key value
+      (hash_at initial feed finish key_calls) factor)
+  index_stands_near key_law kn vn pairs b c p lo hi l o h fixed part st =
+      stands_again w kind k v kl vl key value (hash_at initial feed finish key_calls) factor
+      (λ b' c' q lo' hi' l' o' h' fixed' part'. ap (hash_of_calls initial feed finish)
+      (key_law.near b' c' q lo' hi' l' o' h' fixed' part')) kn vn pairs b c p lo hi l o h fixed
+      part st

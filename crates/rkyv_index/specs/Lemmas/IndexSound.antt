@@ -1,0 +1,435 @@
+-- An index map that was written holds and stands, wherever its bytes sit.
+use Rattle.std.proofs.Common.{arith, get_or, refl, sym, ◌∙◌, ap, subst, inl, inr, zero}
+use Rattle.std.proofs.Common.{length-append}
+use Rattle.std.proofs.lemmas.Int.{ints, to_z-of_z}
+use Rattle.std.proofs.lemmas.List.{ext_get_or, get_or-map, get_or_default, length-map}
+use Rattle.std.proofs.lemmas.List.{length-replicate}
+use Rattle.std.proofs.lemmas.List.FromFn.{get_or-range_with_len, length-range_with_len}
+use Rattle.std.proofs.Math.Facts.{Fits-of_z}
+use Rattle.std.specs.Int.{Width, byte_len, cast_signed, cast_unsigned, from_le_bytes, to_le_bytes}
+use Rattle.std.specs.List.{range_with_len}
+use Rattle.std.specs.Prelude.{◌≡◌, ℕ, suc, ◌+◌, ◌*◌, ◌%◌, ◌<◌, ◌≤◌, ℤ, pos, ◌+ℤ◌, ◌-ℤ◌}
+use Rattle.std.specs.Prelude.{unsigned_abs, FitsSigned, Bool, true, List, [], ◌∷◌, ◌++◌, length}
+use Rattle.std.specs.Prelude.{map, slice_get, slice_index, slice_range, Some}
+use Rattle.rkyv_base.specs.Bytes.{Sits, number_at, signed_at, sits_back, sits_front}
+use Rattle.rkyv_base.specs.Entry.{entry_element, entry_shape, round_up, round_up-multiple}
+use Rattle.rkyv_base.specs.Format.{Format, IsFormat}
+use Rattle.rkyv_base.specs.Layout.{IsPlace}
+use Rattle.rkyv_base.specs.Pairs.{PairStands, pair_format, pair_is_format}
+use Rattle.rkyv_base.specs.Scalar.{Encoding, IsWord, ScalarStands, scalar_element, scalar_format}
+use Rattle.rkyv_base.specs.Scalar.{scalar_is_format, scalar_shape, word_bytes, word_reads_back}
+use Rattle.rkyv_base.specs.Shape.{IsElement, Shape, Standing}
+use Rattle.rkyv_base.specs.Text.{IsArchiveWord, by_archive_word}
+use Rattle.rkyv_base.specs.Writing.{padding, zeros}
+use Rattle.rkyv_keys.specs.Asking.{hashes_as_written}
+use Rattle.rkyv_keys.specs.Equality.{Comparison}
+use Rattle.rkyv_keys.specs.Keys.{FitsItsEqual, IsQuery}
+use Rattle.rkyv_scan.specs.Hash.{HasherCall, hash_of_calls}
+use Rattle.rkyv_index.specs.IndexFormat.{hash_of}
+use Rattle.rkyv_index.specs.Index.{hash_at}
+use Rattle.rkyv_table.specs.Table.Header.{cap_at, len_at}
+use Rattle.rkyv_table.specs.Lemmas.HeaderReads.{header_length}
+use Rattle.rkyv_table.specs.Controls.Numbers.{capacity}
+use Rattle.rkyv_table.specs.Lemmas.PlaceLaws.{all_lower}
+use Rattle.rkyv_table.specs.Table.Places.{AllHold}
+use Rattle.rkyv_table.specs.Controls.Placing.{walk}
+use Rattle.rkyv_table.specs.Table.Reading.{IsWalked, WrittenAt, home_positions, item_at}
+use Rattle.rkyv_table.specs.Table.Reading.{item_positions, table_controls}
+use Rattle.rkyv_table.specs.Table.Layout.{TableHolds, table_shape}
+use Rattle.rkyv_table.specs.Table.TableFormat.{TableStands, resolved_capacity}
+use Rattle.rkyv_table.specs.Lemmas.TableLaws.{table_element}
+use Rattle.rkyv_table.specs.Lemmas.TableSound.{table_is_format}
+use Rattle.rkyv_table.specs.Table.Taking.{hashes_of, items_of}
+use Rattle.rkyv_table.specs.Table.WrittenTables.{IsWrittenOf}
+use Rattle.rkyv_table.proofs.WalkedHomes.{walked_homes}
+use Rattle.rkyv_table.proofs.Walks.{full_walked, walked_full}
+use Rattle.rkyv_table.proofs.WrittenTables.{home_count, home_pos, table_written}
+use Rattle.rkyv_index.specs.IndexFormat.{BeforeZeros, CodesReadBack, IndexParts, IndexStands}
+use Rattle.rkyv_index.specs.IndexFormat.{RowStands, index_format, places_from, row_format}
+use Rattle.rkyv_index.specs.IndexHeader.{IndexFar, IndexResolver, IsIndexHeader}
+use Rattle.rkyv_index.specs.IndexLayout.{entries_pos, pair_pos}
+use Rattle.rkyv_index.specs.IndexLayout.{IndexHolds, PlacesBelow, distance_pos, entries_told}
+use Rattle.rkyv_index.specs.IndexLayout.{index_shape, places_of}
+use Rattle.rkyv_index.specs.Lemmas.PlaceShapes.{words_hold}
+use Rattle.rkyv_index.specs.Row.{RowImages}
+use Rattle.rkyv_index.specs.Lemmas.RowSound.{images_length, row_sound}
+
+module _ {X P : Type 0} (own : X → ℕ) (v : ℕ → P) where
+  pub places_count : (i : ℕ) (xs : List X) → length (places_from own v i xs) ≡ length xs
+  places_count i [] = refl
+  places_count i (x ∷ xs) = ap suc (places_count (i + 1) xs)
+
+  -- the j-th place
+  place_there : (i : ℕ) (xs : List X) (j : ℕ) → j < length xs → slice_get
+      (items_of (places_from own v i xs)) j ≡ Some (v (i + j))
+  place_there i [] j h = absurd (omega (arith, h))
+  place_there i (x ∷ xs) zero h = let k : i ≡ i + 0 = omega arith in ap (λ n. Some (v n)) k
+  place_there i (x ∷ xs) (suc j) h = let k : (i + 1) + j ≡ i + suc j = omega arith in place_there
+      (i + 1) xs j (omega (arith, h)) ∙ ap (λ n. Some (v n)) k
+
+  -- the hashes are those of what stands at the places
+  hashes_there : (at hash : ℕ → ℕ) (i : ℕ) (xs : List X) → ((j : ℕ) (x : X) → slice_get xs j
+      ≡ Some x → own x ≡ hash (at (i + j)))
+      → hashes_of (places_from own v i xs) ≡ map (λ k. hash (at k)) (range_with_len i (length xs))
+  hashes_there at hash i [] h = refl
+  hashes_there at hash i (x ∷ xs) h =
+      let k : i + 0 ≡ i = omega arith in
+      let rest = hashes_there at hash (i + 1) xs (λ j y e. let n : i + suc j ≡ (i + 1) + j =
+      omega arith in h (suc j) y e ∙ ap (λ m. hash (at m)) n) in
+      ap (λ (n : ℕ). n ∷ hashes_of (places_from own v (i + 1) xs)) (h 0 x refl
+      ∙ ap (λ m. hash (at m)) k) ∙ ap (λ (l : List ℕ). hash (at i) ∷ l) rest
+
+-- a distance reads back as it was written
+distance_back : (w : Width) → IsArchiveWord w → (d : ℤ) (c : List ℕ) (p : ℕ) → FitsSigned w d
+    → Sits c p (to_le_bytes w (cast_unsigned w d)) → signed_at w c p ≡ d
+distance_back w kind d c p fits s =
+    let word : IsWord w = by_archive_word IsWord (inr (inr (inl refl))) (inr (inr (inr refl))) w
+    kind in
+    let n = cast_unsigned w d in
+    let there : number_at w c p ≡ n = ap (from_le_bytes w) (ap (λ k. slice_range c p (p + k))
+    (sym (word_bytes w word n)) ∙ s.there) ∙ word_reads_back w word n (Fits-of_z fits).fits in
+    ap (cast_signed w) there ∙ to_z-of_z w d fits
+
+module _ {P X R : Type 0} (w : Width) (kind : IsArchiveWord w) (e : Encoding P)
+    (place : IsPlace w e) (back : CodesReadBack e) (word : IsWord e.word) (s : Shape)
+    (laws : IsElement s)
+    (stands : List ℕ → ℕ → X → Type 0) (f : Format X R) (fl : IsFormat s stands f) (own : X → ℕ)
+    (hash : List ℕ → ℕ → ℕ) (alike : (x : X) (b : List ℕ) (q : ℕ) → Standing s b q → stands b q
+    x → own x ≡ hash b q)
+    (factor : ℕ × ℕ) (xs : List X) where
+  abbrev Places : List (ℕ × P)
+  Places = places_from own e.value 0 xs
+
+  count : length Places ≡ length xs
+  count = places_count own e.value 0 xs
+
+  module _ (c : List ℕ) (p : ℕ) (stand : TableStands w (scalar_shape e) (ScalarStands e) factor c p
+      Places) where
+    tw : IsWrittenOf w (byte_len e.word) (ScalarStands e) c p Places
+    tw = table_written w (scalar_shape e) (ScalarStands e) factor c p Places stand
+
+    hashes_count : length (hashes_of Places) ≡ length xs
+    hashes_count = length-map Places (λ (y : ℕ × P). y.0) ∙ count
+
+    homes_count : length tw.homes ≡ length xs
+    homes_count = home_count w c p (hashes_of Places) tw.homes tw.written ∙ hashes_count
+
+    -- the place in the home of the j-th value is j
+    places_tell : (j : ℕ) → j < length xs → number_at w c
+        (slice_index (home_positions w (byte_len w) c p tw.homes) j) ≡ j
+    places_tell j h =
+        let z : 0 + j ≡ j = omega arith in
+        let q = slice_index (home_positions w (byte_len e.word) c p tw.homes) j in
+        let there : e.value (number_at e.word c q) ≡ e.value j = tw.at j (e.value j)
+        (place_there own e.value 0 xs j h ∙ ap (λ n. Some (e.value n)) z) in
+        let told : number_at e.word c q ≡ j = sym (back (number_at e.word c q)) ∙ ap e.code there
+        ∙ back j in
+        subst (λ v. number_at v c (slice_index (home_positions w (byte_len v) c p tw.homes) j) ≡ j)
+        place.word told
+
+    -- each place that is walked is that of a value
+    walked_below : (i : ℕ) → IsWalked w c p i → number_at w c (item_at w (byte_len w) c p i) <
+        length xs
+    walked_below i walked = elim tw.written.placed [
+      | inl none ↦
+          let n : length xs ≡ 0 = sym hashes_count ∙ ap length none.0 in
+          let z : cap_at w c p ≡ 0 = stand.cap ∙ ap (λ k. capacity k factor) (count ∙ n) in
+          absurd (omega (arith, walked.0, z))
+      | inr some ↦
+          let visits = walked_homes (cap_at w c p) (hashes_of Places) tw.homes _ some.0
+          tw.written.fit some.1 in
+          let home = (visits.members i).0 (full_walked (cap_at w c p) _ i walked) in
+          let j : ℕ = home.0 in
+          let below : j < length xs = omega (arith, home.1, homes_count) in
+          let at : slice_index tw.homes j ≡ i = get_or_default tw.homes j 0 i home.1 ∙ home.2 in
+          let q : slice_index (home_positions w (byte_len w) c p tw.homes) j ≡ item_at w
+          (byte_len w) c p i = home_pos w (byte_len w) c p tw.homes j home.1
+          ∙ ap (item_at w (byte_len w) c p) at in
+          let told : number_at w c (item_at w (byte_len w) c p i) ≡ j = ap (number_at w c) (sym q)
+          ∙ places_tell j below in
+          omega (arith, told, below)
+    ]
+
+    places_below : PlacesBelow w c (length xs) (item_positions w (byte_len w) c p)
+    places_below i d below =
+        let ws = walk (table_controls w c p) (cap_at w c p) in
+        let n : i < length ws = omega (arith, below, length-map ws (item_at w (byte_len w) c p)) in
+        let bucket : ℕ = get_or ws i d in
+        let walked : IsWalked w c p bucket = walked_full (cap_at w c p) (table_controls w c p)
+        bucket (i, n, get_or_default ws i bucket d n) in
+        let e = get_or-map (item_at w (byte_len w) c p) ws i d d n in
+        let h = walked_below bucket walked in
+        subst (λ q. number_at w c q < length xs) (sym e) h
+
+    places_are : map (number_at w c) (home_positions w (byte_len w) c p tw.homes) ≡ places_of
+        (length xs)
+    places_are =
+        let hs = home_positions w (byte_len w) c p tw.homes in
+        let n : length hs ≡ length xs = length-map tw.homes (item_at w (byte_len w) c p)
+        ∙ homes_count in
+        let m = length-map hs (number_at w c) in
+        ext_get_or 0 (map (number_at w c) hs) (places_of (length xs))
+        (m ∙ n ∙ sym (length-range_with_len 0 (length xs)))
+        (λ i below.
+        let k : i < length xs = omega (arith, below, m, n) in
+        get_or-map (number_at w c) hs i 0 0 (omega (arith, k, n)) ∙ places_tell i k
+        ∙ sym (get_or-range_with_len 0 (length xs) i 0 k ∙ omega arith))
+
+  module _ (r : IndexResolver) (c : List ℕ) (p0 p : ℕ) (part out : List ℕ) (t : IndexParts w e s f
+      own factor xs p0 part r) (i : IsIndexHeader w r.table.len (resolved_capacity r.table) r p out)
+      (sp : Sits c p0 part) (so : Sits c p out) (o : p0 + length part ≤ p) (al : p % byte_len w ≡ 0)
+    where
+      abbrev row : List ℕ
+      row = t.row
+
+      abbrev zb : BeforeZeros w e s f own factor xs p0 t.before.head r.table t.resolvers
+      zb = t.before.made
+
+      abbrev pad : List ℕ
+      pad = zeros (padding s.align (p0 + length t.before.head))
+
+      abbrev begin : ℕ
+      begin = r.entries
+
+      front_sits : Sits c p0 t.front
+      front_sits = sits_front c p0 t.front row (subst (Sits c p0) t.is sp)
+
+      row_sits : Sits c begin row
+      row_sits = subst (λ k. Sits c k row) (sym t.at) (sits_back c p0 t.front row
+          (subst (Sits c p0) t.is sp))
+
+      head_sits : Sits c p0 (zb.table ++ zb.row)
+      head_sits = subst (Sits c p0) zb.is (sits_front c p0 t.before.head pad
+          (subst (Sits c p0) t.before.is front_sits))
+
+      front_length : length t.front ≡ length t.before.head + padding s.align
+          (p0 + length t.before.head)
+      front_length = ap length t.before.is ∙ length-append t.before.head pad
+          ∙ ap (λ n. length t.before.head + n) (length-replicate {A = ℕ}
+          (padding s.align (p0 + length t.before.head)) 0)
+
+      head_length : length t.before.head ≡ length zb.table + length zb.row
+      head_length = ap length zb.is ∙ length-append zb.table zb.row
+
+      part_length : length part ≡ length t.front + length row
+      part_length = ap length t.is ∙ length-append t.front row
+
+      row_length : length row ≡ length xs * s.size
+      row_length = images_length s laws stands f fl xs t.resolvers begin row t.shown
+
+      begin_aligned : begin % s.align ≡ 0
+      begin_aligned =
+          let k : begin ≡ round_up (p0 + length t.before.head) s.align = t.at
+          ∙ omega (arith, front_length) in
+          subst (λ n. n % s.align ≡ 0) (sym k) (round_up-multiple (p0 + length t.before.head)
+          s.align
+          laws.align_is)
+
+      table_length : length i.table ≡ 3 * byte_len w
+      table_length = ap length i.header.is ∙ header_length w kind i.header.distance r.table.len
+          (resolved_capacity r.table)
+
+      header_sits : Sits c p (i.table ++ to_le_bytes w (cast_unsigned w i.distance))
+      header_sits = subst (Sits c p) i.is so
+
+      told : entries_told w c p ≡ pos begin
+      told =
+          let d = distance_back w kind i.distance c (distance_pos w p) i.fits
+          (subst (λ k. Sits c (p + k) (to_le_bytes w (cast_unsigned w i.distance))) table_length
+          (sits_back c p i.table (to_le_bytes w (cast_unsigned w i.distance)) header_sits)) in
+          let k : pos (distance_pos w p) +ℤ (pos begin -ℤ pos (distance_pos w p)) ≡ pos begin =
+          omega (arith, ints) in
+          ap (λ z. pos (distance_pos w p) +ℤ z) (d ∙ i.told) ∙ k
+
+      place_told : entries_pos w c p ≡ begin
+      place_told = ap unsigned_abs told
+
+      table : (l : ℕ) × TableHolds w (scalar_shape e) c p p0 (p0 + length zb.table) l × TableStands
+          w
+          (scalar_shape e) (ScalarStands e) factor c p Places
+      table = (table_is_format w kind (scalar_shape e) (scalar_element e word) (ScalarStands e)
+          (scalar_format e) (scalar_is_format e word) factor).sound Places r.table c p0 p zb.table
+          i.table
+          zb.made i.header (sits_front c p0 zb.table zb.row head_sits) (sits_front c p i.table
+          (to_le_bytes w (cast_unsigned w i.distance)) header_sits)
+          (omega (arith, o, part_length, front_length, head_length)) al
+
+      first_place : begin ≡ begin + 0 * s.size
+      first_place = omega arith
+
+      rows : (l : ℕ) × AllHold s (λ k. begin + k * s.size) c begin (range_with_len 0 (length xs))
+          (p0 + length zb.table) l × (l ≤ (p0 + length zb.table) + length zb.row)
+          × ((j : ℕ) (x : X) → slice_get xs j ≡ Some x → Standing s c (begin + (0 + j) * s.size)
+          × stands c (begin + (0 + j) * s.size) x)
+      rows =
+          row_sound s laws stands f fl c begin xs 0 (p0 + length zb.table) zb.row row t.resolvers
+          zb.parts (subst (λ k. RowImages f xs t.resolvers k row) first_place t.shown)
+          (sits_back c p0 zb.table zb.row head_sits) (subst (λ k. Sits c k row) first_place
+          row_sits)
+          (omega (arith, t.at, front_length, head_length)) (subst (λ k. k % s.align ≡ 0)
+          first_place begin_aligned)
+
+      stand : TableStands w (scalar_shape e) (ScalarStands e) factor c p Places
+      stand = table.2
+
+      len_told : len_at w c p ≡ length xs
+      len_told = stand.len ∙ count
+
+      abbrev homes : List ℕ
+      homes = (tw c p stand).homes
+
+      at_told : (j : ℕ) → begin + (0 + j) * s.size ≡ pair_pos w s.size c p j
+      at_told j =
+          let z : 0 + j ≡ j = omega arith in
+          ap (λ k. begin + k * s.size) z ∙ ap (λ b. b + j * s.size) (sym place_told)
+
+      hashes_told : hashes_of Places ≡ map (λ k. hash c (pair_pos w s.size c p k))
+          (places_of (len_at w c p))
+      hashes_told =
+          hashes_there own e.value (pair_pos w s.size c p) (hash c) 0 xs (λ j x there.
+          let z : j ≡ 0 + j = omega arith in
+          let st = rows.3 j x there in
+          alike x c (begin + (0 + j) * s.size) st.0 st.1 ∙ ap (hash c) (at_told j)
+          ∙ ap (λ k. hash c (pair_pos w s.size c p k)) z)
+          ∙ ap (λ n. map (λ k. hash c (pair_pos w s.size c p k)) (places_of n)) (sym len_told)
+
+      row_stands : RowStands w s.size stands hash factor c p xs
+      row_stands = record {
+        homes = homes;
+        written = record {
+          table = subst (λ (hs : List ℕ). WrittenAt w c p hs homes) hashes_told
+              (tw c p stand).written;
+          places = places_are c p stand ∙ ap places_of (sym len_told);
+        };
+        len = len_told;
+        cap = stand.cap ∙ ap (λ n. capacity n factor) count;
+        at = λ j x there. subst (λ q. stands c q x) (at_told j) (rows.3 j x there).1;
+      }
+
+      table_law : IsElement (table_shape w (scalar_shape e))
+      table_law = table_element w kind (scalar_shape e) (scalar_element e word)
+
+      holds : (l : ℕ) × IndexHolds w s c p p0 (p0 + length part) l
+      holds =
+          let b = table_law.between c p p0 (p0 + length zb.table) table.0 (omega arith) table.1 in
+          let up = table_law.higher c p p0 (p0 + length zb.table) (p0 + length part) table.0
+          (omega (arith, part_length, front_length, head_length)) table.1 in
+          let low = all_lower s laws (λ k. begin + k * s.size) c begin
+          (range_with_len 0 (length xs))
+          (p0 + length zb.table) table.0 rows.0 b.1
+          (omega (arith, t.at, front_length, head_length)) rows.1 in
+          let size : len_at w c p * s.size ≡ length xs * s.size = ap (λ n. n * s.size) len_told in (
+            begin + len_at w c p * s.size,
+            record {
+              middle = table.0;
+              table = words_hold w e place c p p0 (p0 + length part) table.0 up;
+              below = subst (λ n. PlacesBelow w c n (item_positions w (byte_len w) c p))
+                  (sym len_told) (places_below c p stand);
+              entries = record {
+                begin = begin;
+                part = record {
+                  begins = sym told;
+                  above = omega (
+                    arith,
+                    b.1,
+                    t.at,
+                    front_length,
+                    head_length,
+                  );
+                  below = omega (arith, t.at, part_length, row_length, size);
+                  aligned = begin_aligned;
+                };
+                last = low.0;
+                hold = subst (λ n. AllHold s (λ k. begin + k * s.size) c begin (range_with_len 0 n)
+                    table.0 low.0) (sym len_told) low.1;
+                ends = refl;
+              };
+            },
+          )
+
+module _ {P X R : Type 0} (w : Width) (kind : IsArchiveWord w) (e : Encoding P)
+    (place : IsPlace w e) (back : CodesReadBack e) (word : IsWord e.word) (s : Shape)
+    (laws : IsElement s)
+    (stands : List ℕ → ℕ → X → Type 0) (f : Format X R) (fl : IsFormat s stands f) (own : X → ℕ)
+    (hash : List ℕ → ℕ → ℕ) (alike : (x : X) (b : List ℕ) (q : ℕ) → Standing s b q → stands b q
+    x → own x ≡ hash b q)
+    (factor : ℕ × ℕ) where
+  header_whole : (r : IndexResolver) (p : ℕ) (out : List ℕ) → IsIndexHeader w r.table.len
+      (resolved_capacity r.table) r p out → length out ≡ 4 * byte_len w
+  header_whole r p out i =
+      let t : length i.table ≡ 3 * byte_len w = ap length i.header.is ∙ header_length w kind
+      i.header.distance r.table.len (resolved_capacity r.table) in
+      let n = word_bytes w (by_archive_word IsWord (inr (inr (inl refl))) (inr (inr (inr refl))) w
+      kind) (cast_unsigned w i.distance) in
+      ap length i.is ∙ length-append i.table (to_le_bytes w (cast_unsigned w i.distance))
+      ∙ omega (arith, t, n)
+
+  header_clear : (r : IndexResolver) (p : ℕ) (out : List ℕ) → IsIndexHeader w r.table.len
+      (resolved_capacity r.table) r p out
+      → IndexFar w r.table.len r p → ⊥
+  header_clear r p out i (inl far) = elim i.header.told [
+    | inl h ↦ omega (arith, h.0, far.0)
+    | inr h ↦ far.1 (subst (FitsSigned w) h.1 i.header.fits)
+  ]
+  header_clear r p out i (inr far) = far (subst (FitsSigned w) i.told i.fits)
+
+  -- In every archive in which what was written of an index map sits, and, aligned behind it, its
+  -- header, the index map
+  -- holds, with its parts in their place, and stands.
+  pub row_is_format : IsFormat (index_shape w s) (RowStands w s.size stands hash factor)
+      (row_format w e s f own factor)
+  row_is_format = record {
+    whole = λ xs r p out i. header_whole r p out i;
+    clear = λ xs r p out i far. header_clear r p out i far;
+    sound = λ xs r c p0 p part out t i sp so o al.
+        let h = holds w kind e place back word s laws stands f fl own hash alike factor xs r c p0 p
+        part out t i sp so o al in (
+          h.0,
+          h.1,
+          row_stands w kind e place back word s laws stands f fl own hash alike factor xs r
+              c p0 p part out t i sp so o al,
+        );
+  }
+
+-- a key that was written of a value has the value's hash
+abbrev pub HashesAlike : {A : Type 0} → Shape → (List ℕ → ℕ → A → Type 0) → (List ℕ → ℕ → ℕ)
+    → (A → ℕ) → Type 0
+HashesAlike {A = A} k key hash own = (a : A) (b : List ℕ) (q : ℕ) → Standing k b q → key b q a
+    → own a ≡ hash b q
+
+-- the same of the pairs of an index map
+pub index_is_format : {P A B R Q : Type 0} (w : Width) (kind : IsArchiveWord w) (e : Encoding P)
+    (place : IsPlace w e) (back : CodesReadBack e) (word : IsWord e.word) (k v : Shape)
+    (kl : IsElement k) (vl : IsElement v)
+    (key : List ℕ → ℕ → A → Type 0) (value : List ℕ → ℕ → B → Type 0) (kf : Format A R)
+    (vf : Format B Q) → IsFormat k key kf → IsFormat v value vf
+    → (own : A → ℕ) (hash : List ℕ → ℕ → ℕ) → HashesAlike k key hash own → (factor : ℕ × ℕ)
+    → IsFormat (index_shape w (entry_shape k v)) (IndexStands w k v key value hash factor)
+    (index_format w e k v kf vf own factor)
+index_is_format w kind e place back word k v kl vl key value kf vf kw vw own hash alike factor =
+    row_is_format w kind e place back word (entry_shape k v) (entry_element k v kl vl)
+    (PairStands k v key value) (pair_format k v kf vf) (pair_is_format k v kl vl key value kf vf
+    kw vw)
+    (λ pair. own pair.0) hash (λ pair b q h st. alike pair.0 b q (h.1.1, h.1.2) st.0) factor
+
+module _ {State : Type 0} (initial : State) (feed : State → HasherCall → State) (finish : State → ℕ)
+    (w : Width) (kind : IsArchiveWord w) {P : Type 0} (e : Encoding P) (place : IsPlace w e)
+    (back : CodesReadBack e) (word : IsWord e.word)
+    {k v : Shape} (kl : IsElement k) (vl : IsElement v) {A B : Type 0} {key : List ℕ → ℕ → A
+    → Type 0} {value : List ℕ → ℕ → B → Type 0} {same : Comparison} {key_calls : List ℕ → ℕ
+    → List HasherCall} (factor : ℕ × ℕ) where
+  -- the same under the hashes of native keys
+  pub index_sound : {can_read : A → Type 0} {calls : A → List HasherCall} {fits : A → List ℕ → ℕ
+      → Bool} {equal : A → A → Bool} {R Q : Type 0} {kf : Format A R} {vf : Format B Q}
+      → IsQuery k same key_calls can_read calls fits → FitsItsEqual k key equal fits
+      → ((a : A) → equal a a ≡ true) → ((a : A) → can_read a)
+      → IsFormat k key kf → IsFormat v value vf
+      → IsFormat (index_shape w (entry_shape k v)) (IndexStands w k v key value
+      (hash_at initial feed finish key_calls) factor) (index_format w e k v kf vf
+      (hash_of initial feed finish calls) factor)
+  index_sound {can_read} {calls} {fits} {equal} {R} {Q} {kf} {vf} query native itself reads kw vw =
+      index_is_format w kind e place back word k v kl vl key value kf vf kw vw (hash_of initial feed
+      finish calls) (hash_at initial feed finish key_calls)
+      (λ a b q stands there. ap (hash_of_calls initial feed finish) (hashes_as_written k same
+      key_calls can_read calls fits key equal itself query native a b q (reads a) stands there))
+      factor

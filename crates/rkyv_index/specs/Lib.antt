@@ -1,0 +1,13 @@
+pub mod IndexLayout
+pub mod IndexHeader
+pub mod Row
+pub mod IndexFormat
+pub mod Index
+pub mod Walking
+pub mod Equality
+pub mod IndexSet
+pub mod SetFormat
+pub mod Complete
+pub mod Handing
+pub mod Listed
+pub mod Lemmas

@@ -1,0 +1,239 @@
+//! Lists that are archived as index maps.
+
+ghost use Rattle.std.specs.Prelude.{length};
+ghost use Rattle.std.specs.Iterator.{YieldsFirstBy, at_most};
+ghost use Rattle.std.specs.Slice.Iter.{iter_rest};
+ghost use Rattle.rkyv_base.specs.Entry.{entry_shape};
+ghost use Rattle.rkyv_base.specs.Pairs.{written_as, written_as-format};
+ghost use Rattle.rkyv_scan.specs.Hash.{fx_feed, low_halves};
+ghost use Rattle.rkyv_index.specs.IndexFormat.{hash_of};
+ghost use Rattle.rkyv_index.specs.Index.{hash_at};
+ghost use Rattle.rkyv_index.specs.IndexFormat.{IndexStands, index_format};
+ghost use Rattle.rkyv_index.specs.IndexLayout.{index_shape};
+ghost use Rattle.rkyv_index.specs.Lemmas.IndexNear.{index_stands_near};
+ghost use Rattle.rkyv_index.specs.Lemmas.IndexSound.{index_sound};
+ghost use Rattle.rkyv_index.specs.Listed.{listed, listed_format};
+ghost use Rattle.rkyv_index.specs.SetFormat.{IndexSetStands, index_set_format};
+ghost use Rattle.rkyv_index.specs.IndexSet.{index_set_shape};
+ghost use Rattle.rkyv_index.specs.Lemmas.SetSound.{index_set_near, index_set_sound};
+
+use crate::map::resolve::IndexMapResolver;
+use crate::map::{ArchivedIndexMap, IndexMapOf};
+use crate::set::writing::IndexSetResolver;
+use crate::set::{ArchivedIndexSet, IndexSetOf};
+use crate::width::PlaceWidth;
+use rkyv_base::archive::{Archive, Serialize};
+use rkyv_base::element::StandsFor;
+use rkyv_base::errors::{DistanceTooLarge, WriteError};
+use rkyv_base::width::Width;
+use rkyv_base::writer::Writer;
+use rkyv_keys::keys::{KeyElement, NativeKey};
+use rkyv_scan::hash::FxHasher64;
+use std::alloc::Global;
+
+/// A list of pairs that is archived as an index map, in its order, under the load factor 7 / 8.
+#[derive(Drop)]
+pub struct OrderedPairs<K, V>(pub Vec<(K, V)>);
+
+/// The pairs of a list, by halves.
+#[derive(Drop)]
+struct Halves<'a, A, B> {
+    pairs: std::slice::Iter<'a, (A, B)>,
+}
+
+impl<'a, A, B> Iterator for Halves<'a, A, B> {
+    type Item = (&'a A, &'a B);
+
+    ghost next_gives = { YieldsFirstBy (λ halves. (halves.0.now, halves.1.now))
+        (λ s. iter_rest s.pairs) };
+
+    ghost remaining = { λ s. at_most (length (iter_rest s.pairs)) };
+
+    #[inline]
+    fn next(&mut self) -> Option<(&'a A, &'a B)> {
+        match self.pairs.next() {
+            Some(pair) => Some((&pair.0, &pair.1)),
+            None => None,
+        }
+    }
+}
+
+impl<W: Width, A, B, K: KeyElement + StandsFor<A>, V: StandsFor<B>> StandsFor<OrderedPairs<A, B>>
+    for IndexMapOf<K, V, FxHasher64, W> {
+    ghost stands = { λ b p x.
+        IndexStands W.word K.shape V.shape K.stands V.stands
+        (hash_at 0 (fx_feed low_halves) (λ held. held) K.key_calls) (7, 8) b p x.0.items };
+
+    ghost near = { λ x.
+        index_stands_near 0 (fx_feed low_halves) (λ held. held) W.word W.layout.kind K.laws V.laws
+        (7, 8)
+        K.key K.near V.near x.0.items };
+}
+
+impl<W: PlaceWidth, A: Archive<W>, B: Archive<W>> Archive<W> for OrderedPairs<A, B>
+where
+    A::Archived: KeyElement,
+    A: NativeKey<A::Archived>,
+{
+    type Archived = IndexMapOf<A::Archived, B::Archived, FxHasher64, W>;
+
+    type Resolver = IndexMapResolver<W>;
+
+    ghost format = { written_as (λ x. x.0.items) (listed W.MAX_CAPACITY (7, 8)
+        (index_format W.word W.Place.encoding A.Archived.shape B.Archived.shape A.format B.format
+        (hash_of 0 (fx_feed low_halves) (λ held. held) A.calls) (7, 8))) };
+
+    fn resolve(
+        &self,
+        resolver: IndexMapResolver<W>,
+        pos: u64,
+        out: &mut [u8],
+    ) -> Result<(), DistanceTooLarge> {
+        let len = resolver.len();
+        let load_factor = resolver.load_factor();
+        ArchivedIndexMap::<A::Archived, B::Archived, FxHasher64, W>::resolve_from_len(
+            len,
+            load_factor,
+            resolver,
+            pos,
+            out,
+        )
+    }
+
+    ghost laws = { let stands = IndexStands W.word A.Archived.shape B.Archived.shape
+        A.Archived.stands B.Archived.stands
+        (hash_at 0 (fx_feed low_halves) (λ held. held) A.Archived.key_calls) (7, 8) in
+        let format = index_format W.word W.Place.encoding A.Archived.shape B.Archived.shape A.format
+        B.format
+        (hash_of 0 (fx_feed low_halves) (λ held. held) A.calls) (7, 8) in
+        let shape = index_shape W.word (entry_shape A.Archived.shape B.Archived.shape) in
+        written_as-format (λ x. x.0.items) shape stands (listed W.MAX_CAPACITY (7, 8) format)
+        (listed_format W.MAX_CAPACITY (7, 8) shape stands format
+        (index_sound 0 (fx_feed low_halves) (λ held. held) W.word W.layout.kind W.Place.encoding
+        W.place W.reads_back W.Place.word
+        A.Archived.laws B.Archived.laws (7, 8) A.query A.native A.Eq.laws.refl A.reads
+        A.Archive.laws B.laws)) };
+}
+
+impl<S: Writer, W: PlaceWidth, A: Serialize<S, W>, B: Serialize<S, W>> Serialize<S, W>
+    for OrderedPairs<A, B>
+where
+    A::Archived: KeyElement,
+    A: NativeKey<A::Archived>,
+{
+    fn serialize(
+        &self,
+        alloc: Global,
+        serializer: &mut S,
+    ) -> Result<IndexMapResolver<W>, WriteError<S::Fault>> {
+        let halves = Halves {
+            pairs: self.0.iter(),
+        };
+        ArchivedIndexMap::<A::Archived, B::Archived, FxHasher64, W>::serialize_from_iter::<
+            S,
+            A,
+            B,
+            &A,
+            &B,
+            Halves<'_, A, B>,
+        >(alloc, halves, self.0.len(), (7, 8), serializer)
+    }
+}
+
+/// A list of keys that is archived as an index set, in its order, under the load factor 7 / 8.
+#[derive(Drop)]
+pub struct OrderedItems<K>(pub Vec<K>);
+
+/// The keys of a list, by reference.
+#[derive(Drop)]
+struct Keys<'a, A> {
+    keys: std::slice::Iter<'a, A>,
+}
+
+impl<'a, A> Iterator for Keys<'a, A> {
+    type Item = &'a A;
+
+    ghost next_gives = { YieldsFirstBy (λ key. key.now) (λ s. iter_rest s.keys) };
+
+    ghost remaining = { λ s. at_most (length (iter_rest s.keys)) };
+
+    #[inline]
+    fn next(&mut self) -> Option<&'a A> {
+        self.keys.next()
+    }
+}
+
+impl<W: Width, A, K: KeyElement + StandsFor<A>> StandsFor<OrderedItems<A>>
+    for IndexSetOf<K, FxHasher64, W> {
+    ghost stands = { λ b p x.
+        IndexSetStands W.word K.shape K.stands (hash_at 0 (fx_feed low_halves) (λ held. held)
+        K.key_calls) (7, 8) b p x.0.items };
+
+    ghost near = { λ x.
+        index_set_near 0 (fx_feed low_halves) (λ held. held) W.word W.layout.kind K.laws (7, 8)
+        K.key K.near x.0.items };
+}
+
+impl<W: PlaceWidth, A: Archive<W>> Archive<W> for OrderedItems<A>
+where
+    A::Archived: KeyElement,
+    A: NativeKey<A::Archived>,
+{
+    type Archived = IndexSetOf<A::Archived, FxHasher64, W>;
+
+    type Resolver = IndexSetResolver<W>;
+
+    ghost format = { written_as (λ x. x.0.items) (listed W.MAX_CAPACITY (7, 8)
+        (index_set_format W.word W.Place.encoding A.Archived.shape A.format
+        (hash_of 0 (fx_feed low_halves) (λ held. held) A.calls) (7, 8))) };
+
+    fn resolve(
+        &self,
+        resolver: IndexSetResolver<W>,
+        pos: u64,
+        out: &mut [u8],
+    ) -> Result<(), DistanceTooLarge> {
+        let len = resolver.len();
+        let load_factor = resolver.load_factor();
+        ArchivedIndexSet::<A::Archived, FxHasher64, W>::resolve_from_len(
+            len,
+            load_factor,
+            resolver,
+            pos,
+            out,
+        )
+    }
+
+    ghost laws = { let stands = IndexSetStands W.word A.Archived.shape A.Archived.stands
+        (hash_at 0 (fx_feed low_halves) (λ held. held) A.Archived.key_calls) (7, 8) in
+        let format = index_set_format W.word W.Place.encoding A.Archived.shape A.format
+        (hash_of 0 (fx_feed low_halves) (λ held. held) A.calls) (7, 8) in
+        let shape = index_set_shape W.word A.Archived.shape in
+        written_as-format (λ x. x.0.items) shape stands (listed W.MAX_CAPACITY (7, 8) format)
+        (listed_format W.MAX_CAPACITY (7, 8) shape stands format
+        (index_set_sound 0 (fx_feed low_halves) (λ held. held) W.word W.layout.kind A.Archived.laws
+        (7, 8) W.Place.encoding W.place W.reads_back W.Place.word
+        A.query A.native A.Eq.laws.refl A.reads A.Archive.laws)) };
+}
+
+impl<S: Writer, W: PlaceWidth, A: Serialize<S, W>> Serialize<S, W> for OrderedItems<A>
+where
+    A::Archived: KeyElement,
+    A: NativeKey<A::Archived>,
+{
+    fn serialize(
+        &self,
+        alloc: Global,
+        serializer: &mut S,
+    ) -> Result<IndexSetResolver<W>, WriteError<S::Fault>> {
+        let keys = Keys {
+            keys: self.0.iter(),
+        };
+        ArchivedIndexSet::<A::Archived, FxHasher64, W>::serialize_from_iter::<
+            S,
+            A,
+            &A,
+            Keys<'_, A>,
+        >(alloc, keys, self.0.len(), (7, 8), serializer)
+    }
+}

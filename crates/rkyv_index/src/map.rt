@@ -1,0 +1,34 @@
+//! Index maps.
+
+mod check;
+mod debug;
+mod element;
+pub(crate) mod entries;
+mod equality;
+pub mod iter;
+mod lookup;
+mod misplaced;
+mod places;
+mod reading;
+pub mod resolve;
+mod row;
+pub mod serialize;
+mod taking;
+mod write;
+pub mod written;
+
+use rkyv_base::view::View;
+use rkyv_base::width::Narrow;
+use rkyv_scan::hash::FxHasher64;
+use std::marker::PhantomData;
+
+/// The header of an index map of K to V under the hasher H, in an archive of the width W.
+pub struct IndexMapOf<K, V, H = FxHasher64, W = Narrow> {
+    kinds: PhantomData<(K, V, H, W)>,
+}
+
+/// An index map of K to V under the hasher H that is read in place, in an archive of the width W.
+#[derive_where(Clone, Copy)]
+pub struct ArchivedIndexMap<'a, K, V, H = FxHasher64, W = Narrow> {
+    pub(crate) view: View<'a, IndexMapOf<K, V, H, W>>,
+}

@@ -1,0 +1,137 @@
+//! Checking an index map of a stranger.
+ghost use Rattle.std.specs.Prelude.{IfErr, IfOk, MatchResult, length, pos as int, ◌%◌, ◌*◌, ◌+ℤ◌};
+ghost use Rattle.std.specs.Prelude.{◌+◌, ◌<◌, ◌≡◌, ◌≤◌};
+ghost use Rattle.std.specs.Int.{byte_len};
+ghost use Rattle.rkyv_base.specs.Checking.{Fails, Passes};
+ghost use Rattle.rkyv_base.specs.Shape.{Viewed};
+ghost use Rattle.rkyv_table.specs.Table.Header.{len_at};
+ghost use Rattle.rkyv_table.specs.Table.Places.{FirstFails, SomeHold};
+ghost use Rattle.rkyv_table.specs.Table.Reading.{item_positions};
+ghost use Rattle.rkyv_table.specs.Table.Layout.{table_shape};
+ghost use Rattle.rkyv_index.specs.IndexLayout.{
+  FirstNotBelow,
+  PlacesBelow,
+  entries_told,
+  entry_at,
+  index_shape,
+  place_shape,
+  places_of,
+};
+
+use rkyv_base::element::{Element, PartRange};
+use rkyv_base::errors::VerifyError;
+use rkyv_base::part::part_in;
+use rkyv_base::view::View;
+use rkyv_base::width::Width;
+use rkyv_table::table::{ArchivedHashTable, TableOf};
+
+/// Checks that each place in the table at `pos` is below its length, by ascending bucket, and
+/// answers the length.
+fn check_places<W: Width>(bytes: &[u8], pos: u64) -> Result<usize, VerifyError>
+    requires { Viewed (table_shape W.word (place_shape W.word)) bytes.now pos }
+    ensures below { IfOk result (λ _. PlacesBelow W.word bytes.now (len_at W.word bytes.now pos)
+        (item_positions W.word (byte_len W.word) bytes.now pos)) }
+    ensures len { IfOk result (λ n. n ≡ len_at W.word bytes.now pos) }
+    ensures fails { IfErr result (FirstNotBelow W.word bytes.now (len_at W.word bytes.now pos)
+        (item_positions W.word (byte_len W.word) bytes.now pos)) }
+{
+    let table = ArchivedHashTable::<W::Place, W>::of(View::new(bytes, pos));
+    let len = table.len();
+    for at in table.raw_iter() {
+        let place = W::read_count(bytes, at as usize) as usize;
+        if place >= len {
+            return Err(VerifyError::PlaceOutOfRange { place, len });
+        }
+    }
+    Ok(len)
+}
+
+/// Checks entries that stand in the archive, in order.
+fn check_entries<T: Element>(
+    bytes: &[u8],
+    begin: u64,
+    len: usize,
+    lo: u64,
+) -> Result<(), VerifyError>
+    requires inside { begin + len * T.shape.size ≤ length bytes.now }
+    requires aligned { begin % T.shape.align ≡ 0 }
+    requires ordered { lo ≤ begin }
+    ensures hold { IfOk result (λ _. SomeHold T.shape (entry_at T.shape.size begin) bytes.now begin
+        (places_of len) lo) }
+    ensures fails { IfErr result (FirstFails T.shape (entry_at T.shape.size begin) bytes.now begin
+        (places_of len) lo) }
+{
+    let mut low = lo;
+    let mut at = begin;
+    for i in 0..len {
+        match T::check(bytes, at, PartRange { lo: low, hi: begin }) {
+            Ok(rest) => low = rest.lo,
+            Err(e) => return Err(e),
+        }
+        at += T::size() as u64;
+    }
+    Ok(())
+}
+
+/// Where a distance leads.
+#[inline]
+fn led_to(from: u64, distance: i64) -> i128
+    ensures { result ≡ int from +ℤ distance }
+{
+    i128::from(from) + i128::from(distance)
+}
+
+/// Where a header at `pos` tells that its entries begin.
+#[inline]
+pub(crate) fn begin_told<W: Width>(bytes: &[u8], pos: u64) -> i128
+    requires inside { pos + 4 * byte_len W.word ≤ length bytes.now }
+    ensures told { result ≡ entries_told W.word bytes.now pos }
+{
+    let at = pos + 3 * W::ALIGN as u64;
+    led_to(at, W::read_distance(bytes, at as usize))
+}
+
+/// The bytes of `len` entries.
+#[inline]
+fn entries_size(len: usize, size: usize) -> u128
+    requires { size ≤ 1073741824 }
+    ensures { result ≡ len * size }
+{
+    len as u128 * size as u128
+}
+
+/// Checks the index map of entries T whose header stands at `pos`.
+pub(crate) fn check_index<W: Width, T: Element>(
+    bytes: &[u8],
+    pos: u64,
+    range: PartRange,
+) -> Result<PartRange, VerifyError>
+    requires inside { pos + 4 * byte_len W.word ≤ length bytes.now }
+    requires aligned { pos % byte_len W.word ≡ 0 }
+    requires ordered { (range.lo ≤ range.hi) × (range.hi ≤ pos) }
+    ensures { MatchResult result
+        (Passes (index_shape W.word T.shape) bytes.now pos range)
+        (Fails (index_shape W.word T.shape) bytes.now pos range) }
+{
+    let rest = match ArchivedHashTable::<W::Place, W>::verify(bytes, pos, range) {
+        Ok(rest) => rest,
+        Err(e) => return Err(e),
+    };
+    let len = match check_places::<W>(bytes, pos) {
+        Ok(len) => len,
+        Err(e) => return Err(e),
+    };
+    let size = T::size();
+    let told = begin_told::<W>(bytes, pos);
+    let begin = match part_in(told, entries_size(len, size), T::align() as u64, rest) {
+        Ok(begin) => begin,
+        Err(e) => return Err(e),
+    };
+    match check_entries::<T>(bytes, begin, len, rest.lo) {
+        Ok(()) => Ok(PartRange {
+            lo: begin + (len * size) as u64,
+            hi: range.hi,
+        }),
+        Err(e) => Err(e),
+    }
+}

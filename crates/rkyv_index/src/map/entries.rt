@@ -1,0 +1,115 @@
+//! The entries of an index map whose header was read, and the places in its table.
+ghost use Rattle.std.specs.Prelude.{pos as int, unsigned_abs, ℕ, ◌*◌, ◌+ℤ◌, ◌+◌, ◌<◌, ◌^◌};
+ghost use Rattle.std.specs.Prelude.{◌≡◌};
+ghost use Rattle.rkyv_base.specs.Bytes.{number_at};
+ghost use Rattle.rkyv_base.specs.Scalar.{scalar_shape};
+ghost use Rattle.rkyv_base.specs.View.{IsAt, bytes_of, pos_of};
+ghost use Rattle.rkyv_table.specs.Table.Reading.{IsItem, IsTable};
+ghost use Rattle.rkyv_index.specs.Index.{AreEntries, IsEntryOf, IsHeld, IsIndexMap, IsKeyOf};
+ghost use Rattle.rkyv_index.specs.Index.{index_archive, index_len, index_pos};
+ghost use Rattle.rkyv_index.specs.IndexLayout.{entry_at};
+
+use crate::map::ArchivedIndexMap;
+use rkyv_base::element::Element;
+use rkyv_base::entry::Entry;
+use rkyv_base::view::View;
+use rkyv_base::width::Width;
+use rkyv_table::table::{ArchivedHashTable, TableOf};
+
+/// A map, and where its entries begin.
+#[derive_where(Clone, Copy)]
+pub(crate) struct Entries<'a, K, V, H, W> {
+    pub(crate) map: ArchivedIndexMap<'a, K, V, H, W>,
+    pub(crate) begin: u64,
+}
+
+/// The position to which a distance leads.
+#[inline]
+fn pos_led_to(from: u64, distance: i64) -> u64
+    requires { (at : ℕ) × (int at ≡ int from +ℤ distance) × (at < 2 ^ 64) }
+    ensures { result ≡ unsigned_abs (int from +ℤ distance) }
+{
+    (i128::from(from) + i128::from(distance)) as u64
+}
+
+/// Where entry `i` stands, of entries that begin at `begin`.
+#[inline]
+fn entry_pos(begin: u64, i: usize, size: usize) -> u64
+    requires { begin + i * size < 2 ^ 64 }
+    ensures { result ≡ entry_at size begin i }
+{
+    begin + (i * size) as u64
+}
+
+impl<'a, K: Element, V: Element, H, W: Width> ArchivedIndexMap<'a, K, V, H, W> {
+    /// The table of its places.
+    #[inline]
+    pub(crate) fn table(self) -> ArchivedHashTable<'a, W::Place, W>
+        requires { IsIndexMap W.word K.shape V.shape self }
+        ensures at { IsAt result.view (index_archive self.entry) (index_pos self.entry) }
+        ensures table { IsTable W.word (scalar_shape W.Place.encoding) result }
+    {
+        ArchivedHashTable::of(self.view.at::<TableOf<W::Place, W>>(self.view.pos()))
+    }
+
+    /// Its entries.
+    #[inline]
+    pub(crate) fn entries(self) -> Entries<'a, K, V, H, W>
+        requires { IsIndexMap W.word K.shape V.shape self }
+        ensures entries { AreEntries W.word K.shape V.shape result }
+        ensures map { result.map ≡ self.entry }
+    {
+        let at = self.view.pos() + 3 * W::ALIGN as u64;
+        let distance = W::read_distance(self.view.bytes(), at as usize);
+        Entries {
+            map: self,
+            begin: pos_led_to(at, distance),
+        }
+    }
+}
+
+impl<'a, K: Element, V: Element, H, W: Width> Entries<'a, K, V, H, W> {
+    /// The entry of a place.
+    #[inline]
+    pub(crate) fn entry(self, place: usize) -> View<'a, Entry<K, V>>
+        requires entries { AreEntries W.word K.shape V.shape self }
+        requires below { place < index_len W.word self.map }
+        ensures { IsEntryOf W.word K.shape V.shape self.entry.map place result }
+    {
+        let at = entry_pos(self.begin, place, Entry::<K, V>::size());
+        self.map.view.at::<Entry<K, V>>(at)
+    }
+
+    /// The place that a bucket of its table holds.
+    #[inline]
+    pub(crate) fn place_held(
+        self,
+        table: ArchivedHashTable<'_, W::Place, W>,
+        held: View<'_, W::Place>,
+    ) -> usize
+        requires entries { AreEntries W.word K.shape V.shape self }
+        requires at { IsAt table.view (index_archive self.map) (index_pos self.map) }
+        requires held { IsItem W.word (scalar_shape W.Place.encoding) table held }
+        ensures value { result ≡ number_at W.word (bytes_of held.entry) (pos_of held.entry) }
+        ensures held { IsHeld W.word self.entry.map result }
+        ensures below { result < index_len W.word self.entry.map }
+    {
+        W::read_count(held.bytes(), held.pos() as usize) as usize
+    }
+
+    /// The key of the place that a bucket of its table holds.
+    #[inline]
+    pub(crate) fn key_held(
+        self,
+        table: ArchivedHashTable<'_, W::Place, W>,
+        held: View<'_, W::Place>,
+    ) -> View<'a, K>
+        requires entries { AreEntries W.word K.shape V.shape self }
+        requires at { IsAt table.view (index_archive self.map) (index_pos self.map) }
+        requires held { IsItem W.word (scalar_shape W.Place.encoding) table held }
+        ensures { IsKeyOf W.word K.shape V.shape self.entry.map
+            (number_at W.word (bytes_of held.entry) (pos_of held.entry)) result }
+    {
+        self.entry(self.place_held(table, held)).key()
+    }
+}

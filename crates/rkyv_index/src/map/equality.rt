@@ -1,0 +1,61 @@
+//! Equality of index maps.
+ghost use Rattle.std.specs.Prelude.{◌<◌, ◌≡◌};
+ghost use Rattle.rkyv_base.specs.Entry.{entry_element, entry_shape};
+ghost use Rattle.rkyv_base.specs.View.{IsView};
+ghost use Rattle.rkyv_keys.specs.OfEntries.{entry_equivalence, entry_same};
+ghost use Rattle.rkyv_keys.specs.Places.{at_views};
+ghost use Rattle.rkyv_index.specs.Lemmas.EqualLaws.{index_equivalence};
+ghost use Rattle.rkyv_index.specs.Equality.{index_equal};
+ghost use Rattle.rkyv_index.specs.Index.{IsIndexMap, index_bytes, index_pos};
+ghost use Rattle.rkyv_index.specs.IndexLayout.{index_shape};
+
+use crate::map::{ArchivedIndexMap, IndexMapOf};
+use rkyv_base::entry::Entry;
+use rkyv_base::view::View;
+use rkyv_base::width::Width;
+use rkyv_keys::equality::{ElementEq, ElementEquiv};
+
+impl<'a, K: ElementEq, V: ElementEq, H, W: Width> ArchivedIndexMap<'a, K, V, H, W> {
+    /// Whether both maps have equally many pairs, and the same ones in order.
+    pub fn eq_index(self, other: ArchivedIndexMap<'_, K, V, H, W>) -> bool
+        requires own { IsIndexMap W.word K.shape V.shape self }
+        requires other { IsIndexMap W.word K.shape V.shape other }
+        ensures { result ≡ index_equal W.word (entry_shape K.shape V.shape)
+            (entry_same K.shape V.shape K.same V.same) (index_bytes self.entry)
+            (index_pos self.entry) (index_bytes other.entry) (index_pos other.entry) }
+    {
+        let len = self.len();
+        if len != other.len() {
+            return false;
+        }
+        let own = self.entries();
+        let others = other.entries();
+        for place in 0..len {
+            if !Entry::<K, V>::same(own.entry(place), others.entry(place)) {
+                return false;
+            }
+        }
+        true
+    }
+}
+
+impl<K: ElementEq, V: ElementEq, H, W: Width> ElementEq for IndexMapOf<K, V, H, W> {
+    ghost same = { index_equal W.word (entry_shape K.shape V.shape) (entry_same K.shape V.shape
+        K.same V.same) };
+
+    #[inline]
+    fn same(a: View<'_, IndexMapOf<K, V, H, W>>, b: View<'_, IndexMapOf<K, V, H, W>>) -> bool
+        requires a { IsView (index_shape W.word (entry_shape K.shape V.shape)) a }
+        requires b { IsView (index_shape W.word (entry_shape K.shape V.shape)) b }
+        ensures { result ≡ at_views (index_equal W.word (entry_shape K.shape V.shape)
+            (entry_same K.shape V.shape K.same V.same)) a.entry b.entry }
+    {
+        ArchivedIndexMap::of(a).eq_index(ArchivedIndexMap::of(b))
+    }
+}
+
+impl<K: ElementEquiv, V: ElementEquiv, H, W: Width> ElementEquiv for IndexMapOf<K, V, H, W> {
+    ghost equivalence = { index_equivalence W.word (entry_shape K.shape V.shape)
+        (entry_element K.shape V.shape K.laws V.laws) (entry_equivalence K.laws V.laws K.equivalence
+        V.equivalence) };
+}

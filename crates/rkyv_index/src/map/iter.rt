@@ -1,0 +1,221 @@
+//! Walking over the pairs of an index map, in order.
+ghost use Rattle.std.specs.Prelude.{IfSome, Some, length, ◌≡◌};
+ghost use Rattle.std.specs.Iterator.{UpTo, at_most};
+ghost use Rattle.std.specs.Iterator.SizeHint.{IsWithinCount};
+ghost use Rattle.rkyv_base.specs.Entry.{entry_shape};
+ghost use Rattle.rkyv_table.specs.Table.RawItems.{AllStand};
+ghost use Rattle.rkyv_index.specs.Index.{IsIndexMap, index_archive, index_len, key_positions};
+ghost use Rattle.rkyv_index.specs.Walking.{TakesKey, TakesPair, TakesValue};
+
+use crate::map::ArchivedIndexMap;
+use rkyv_base::element::Element;
+use rkyv_base::entry::Entry;
+use rkyv_base::view::View;
+use rkyv_base::width::Width;
+use std::marker::{Model, PhantomData};
+
+/// The pairs of an index map that are still to come, in order.
+#[derive(Drop)]
+pub struct Iter<'a, K, V> {
+    archive: &'a [u8],
+    // Where the next entry stands, where one is left.
+    at: usize,
+    // The bytes of an entry.
+    size: usize,
+    left: usize,
+    key: PhantomData<K>,
+    value: PhantomData<V>,
+}
+
+impl<'a, K, V> Model for Iter<'a, K, V> {
+    ghost use Rattle.rkyv_index.specs.Index.{row};
+    ghost use Rattle.rkyv_index.specs.Walking.{IsRow};
+    ghost use Rattle.rkyv_table.specs.Table.RawItems.{ItemsLeft};
+
+    ghost Value = { ItemsLeft };
+
+    ghost view = { λ i. record { archive = i.archive; places = row i.size i.at i.left } };
+
+    ghost invariant = { λ i. IsRow i.at i.size i.left };
+}
+
+impl<'a, K: Element, V: Element> Iterator for Iter<'a, K, V> {
+    type Item = (View<'a, K>, View<'a, V>);
+
+    ghost can_next = { AllStand (entry_shape K.shape V.shape) };
+
+    ghost next_gives = { TakesPair K.shape V.shape };
+
+    ghost remaining = { λ left. at_most (length left.places) };
+
+    #[inline]
+    fn next(&mut self) -> Option<(View<'a, K>, View<'a, V>)> {
+        if self.left == 0 {
+            return None;
+        }
+        let entry = View::<'a, Entry<K, V>>::new(self.archive, self.at as u64);
+        self.left -= 1;
+        self.at += self.size;
+        Some((entry.key(), entry.value()))
+    }
+
+    #[inline]
+    fn size_hint(&self) -> (usize, Option<usize>)
+        ensures lower { IsWithinCount result.0 (at_most (length self.now.places)) }
+        ensures upper { IfSome result.1 (UpTo (at_most (length self.now.places))) }
+        ensures exact { (result.0 ≡ length self.now.places)
+            × (result.1 ≡ Some (length self.now.places)) }
+    {
+        (self.left, Some(self.left))
+    }
+}
+
+impl<'a, K: Element, V: Element> ExactSizeIterator for Iter<'a, K, V> {
+    #[inline]
+    fn len(&self) -> usize {
+        self.left
+    }
+}
+
+/// The keys of an index map that are still to come, in order.
+#[derive(Drop)]
+pub struct Keys<'a, K, V> {
+    pairs: Iter<'a, K, V>,
+}
+
+impl<'a, K, V> Model for Keys<'a, K, V> {
+    ghost use Rattle.rkyv_table.specs.Table.RawItems.{ItemsLeft};
+
+    ghost Value = { ItemsLeft };
+
+    ghost view = { λ keys. keys.pairs };
+}
+
+impl<'a, K: Element, V: Element> Iterator for Keys<'a, K, V> {
+    type Item = View<'a, K>;
+
+    ghost can_next = { AllStand (entry_shape K.shape V.shape) };
+
+    ghost next_gives = { TakesKey K.shape };
+
+    ghost remaining = { λ left. at_most (length left.places) };
+
+    #[inline]
+    fn next(&mut self) -> Option<View<'a, K>> {
+        match self.pairs.next() {
+            Some((key, _)) => Some(key),
+            None => None,
+        }
+    }
+
+    #[inline]
+    fn size_hint(&self) -> (usize, Option<usize>)
+        ensures lower { IsWithinCount result.0 (at_most (length self.now.places)) }
+        ensures upper { IfSome result.1 (UpTo (at_most (length self.now.places))) }
+        ensures exact { (result.0 ≡ length self.now.places)
+            × (result.1 ≡ Some (length self.now.places)) }
+    {
+        self.pairs.size_hint()
+    }
+}
+
+impl<'a, K: Element, V: Element> ExactSizeIterator for Keys<'a, K, V> {
+    #[inline]
+    fn len(&self) -> usize {
+        self.pairs.len()
+    }
+}
+
+/// The values of an index map that are still to come, in order.
+#[derive(Drop)]
+pub struct Values<'a, K, V> {
+    rest: Iter<'a, K, V>,
+}
+
+impl<'a, K, V> Model for Values<'a, K, V> {
+    ghost use Rattle.rkyv_table.specs.Table.RawItems.{ItemsLeft};
+
+    ghost Value = { ItemsLeft };
+
+    ghost view = { λ values. values.rest };
+}
+
+impl<'a, K: Element, V: Element> Iterator for Values<'a, K, V> {
+    type Item = View<'a, V>;
+
+    ghost can_next = { AllStand (entry_shape K.shape V.shape) };
+
+    ghost next_gives = { TakesValue K.shape V.shape };
+
+    ghost remaining = { λ left. at_most (length left.places) };
+
+    #[inline]
+    fn next(&mut self) -> Option<View<'a, V>> {
+        match self.rest.next() {
+            Some((_, value)) => Some(value),
+            None => None,
+        }
+    }
+
+    #[inline]
+    fn size_hint(&self) -> (usize, Option<usize>)
+        ensures lower { IsWithinCount result.0 (at_most (length self.now.places)) }
+        ensures upper { IfSome result.1 (UpTo (at_most (length self.now.places))) }
+        ensures exact { (result.0 ≡ length self.now.places)
+            × (result.1 ≡ Some (length self.now.places)) }
+    {
+        self.rest.size_hint()
+    }
+}
+
+impl<'a, K: Element, V: Element> ExactSizeIterator for Values<'a, K, V> {
+    #[inline]
+    fn len(&self) -> usize {
+        self.rest.len()
+    }
+}
+
+impl<'a, K: Element, V: Element, H, W: Width> ArchivedIndexMap<'a, K, V, H, W> {
+    /// Its pairs, in order.
+    #[inline]
+    pub fn iter(self) -> Iter<'a, K, V>
+        requires { IsIndexMap W.word K.shape V.shape self }
+        ensures archive { result.archive ≡ index_archive self.entry }
+        ensures places { result.places ≡ key_positions W.word K.shape V.shape self.entry }
+        ensures count { length result.places ≡ index_len W.word self.entry }
+        ensures stand { AllStand (entry_shape K.shape V.shape) result }
+    {
+        Iter {
+            archive: self.view.bytes(),
+            at: self.entries().begin as usize,
+            size: Entry::<K, V>::size(),
+            left: self.len(),
+            key: PhantomData,
+            value: PhantomData,
+        }
+    }
+
+    /// Its keys, in order.
+    #[inline]
+    pub fn keys(self) -> Keys<'a, K, V>
+        requires { IsIndexMap W.word K.shape V.shape self }
+        ensures archive { result.archive ≡ index_archive self.entry }
+        ensures places { result.places ≡ key_positions W.word K.shape V.shape self.entry }
+        ensures count { length result.places ≡ index_len W.word self.entry }
+        ensures stand { AllStand (entry_shape K.shape V.shape) result }
+    {
+        Keys { pairs: self.iter() }
+    }
+
+    /// Its values, in order.
+    #[inline]
+    pub fn values(self) -> Values<'a, K, V>
+        requires { IsIndexMap W.word K.shape V.shape self }
+        ensures archive { result.archive ≡ index_archive self.entry }
+        ensures places { result.places ≡ key_positions W.word K.shape V.shape self.entry }
+        ensures count { length result.places ≡ index_len W.word self.entry }
+        ensures stand { AllStand (entry_shape K.shape V.shape) result }
+    {
+        Values { rest: self.iter() }
+    }
+}

@@ -1,0 +1,333 @@
+//! Finding a pair by its key.
+ghost use Rattle.std.specs.Prelude.{IfSome, ◌<◌, ◌^◌, ◌≡◌, ◌≤◌};
+ghost use Rattle.rkyv_base.specs.Bytes.{number_at};
+ghost use Rattle.rkyv_base.specs.Scalar.{scalar_shape};
+ghost use Rattle.rkyv_scan.specs.Hash.{hash_of_calls};
+ghost use Rattle.rkyv_base.specs.View.{IsAt, IsView, bytes_of, pos_of};
+ghost use Rattle.rkyv_base.specs.declared.view.View.{View};
+ghost use Rattle.rkyv_table.specs.Table.Reading.{IsItem};
+ghost use Rattle.rkyv_index.specs.Complete.{FindsTheOne};
+ghost use Rattle.rkyv_index.specs.Equality.{index_misplaced};
+ghost use Rattle.rkyv_index.specs.Index.{AreEntries, FindsBy, FindsFirstBy, FindsFirstPlace};
+ghost use Rattle.rkyv_index.specs.Index.{FindsPlace, IsFoundAt, IsFullAt, IsFullIn, IsHeld};
+ghost use Rattle.rkyv_index.specs.Index.{IsIndexMap, IsKeyOf, IsPairAt, IsPairIn, IsPlace};
+ghost use Rattle.rkyv_index.specs.Index.{IsValueAt, IsValueIn, MayAskKeys, ReadsFew, fits_at};
+ghost use Rattle.rkyv_index.specs.Index.{full_place, hash_at, index_archive, index_bytes};
+ghost use Rattle.rkyv_index.specs.Index.{index_len, index_pos};
+
+use crate::map::ArchivedIndexMap;
+use rkyv_base::element::Element;
+use rkyv_base::view::View;
+use rkyv_base::width::Width;
+use rkyv_keys::hash::{KeyHash, hash_value};
+use rkyv_keys::keys::{KeyElement, Query};
+use rkyv_scan::hash::KeyHasher;
+use rkyv_table::Strides;
+
+// Every lookup is one call of `find`.
+impl<'a, K: KeyElement, V: Element, H: KeyHasher, W: Width> ArchivedIndexMap<'a, K, V, H, W> {
+    /// Finds the place of a key under the hash of `key` that the comparison accepts, and counts the
+    /// strides of controls that are read.
+    #[inline]
+    pub(crate) fn find<Q: KeyHash, F: Fn(&Q, View<'a, K>) -> bool>(
+        self,
+        key: &Q,
+        cmp: F,
+        strides: &mut Strides,
+    ) -> Option<usize>
+        requires map { IsIndexMap W.word K.shape V.shape self }
+        requires query { Q.can_read key.now }
+        requires room { strides.old ≤ 2 ^ 63 }
+        requires callable { MayAskKeys W.word K.shape V.shape self (F.pre cmp key) }
+        ensures walked { IfSome result (IsHeld W.word self.entry) }
+        ensures below { IfSome result (λ i. i < index_len W.word self.entry) }
+        ensures answer { let hash = hash_of_calls H.initial H.feed H.finish (Q.calls key.now) in
+            FindsBy W.word K.shape V.shape self.entry (F.post cmp key.entry) hash (IsPlace result) }
+        ensures first { let hash = hash_of_calls H.initial H.feed H.finish (Q.calls key.now) in
+            let key_hash = hash_at H.initial H.feed H.finish K.key_calls in
+            FindsFirstBy W.word K.shape V.shape self.entry (F.post cmp key.entry) hash key_hash
+            (IsPlace result) }
+        ensures hash { hash_of_calls H.initial H.feed H.finish (Q.calls key.now) < 2 ^ 64 }
+        ensures bounded { ReadsFew W.word self.entry strides.old strides.new }
+    {
+        let hash = hash_value::<Q, H>(key);
+        let entries = self.entries();
+        let table = self.table();
+        let held = table.get_counted(
+            hash,
+            |held|
+                requires entries { AreEntries W.word K.shape V.shape entries }
+                requires at { IsAt table.view (index_archive entries.map) (index_pos entries.map) }
+                requires held { IsItem W.word (scalar_shape W.Place.encoding) table held }
+                requires callable { MayAskKeys W.word K.shape V.shape entries.map (F.pre cmp key) }
+                ensures { (k : View K) × IsKeyOf W.word K.shape V.shape entries.entry.map
+                    (number_at W.word (bytes_of held.entry) (pos_of held.entry)) k × F.post cmp
+                    key.entry k result }
+            { cmp(key, entries.key_held(table, held)) },
+            strides,
+        );
+        match held {
+            Some(held) => Some(entries.place_held(table, held)),
+            None => None,
+        }
+    }
+
+    /// The pair of the first place under the hash of `key` whose key the comparison accepts, with
+    /// its place, where the map was written and no key under another hash is accepted.
+    ///
+    /// On any accepted map the answer is `None` or one of its pairs, whatever the comparison
+    /// answers; which one, the table decides. The comparison is asked for keys of the map alone,
+    /// and may be asked twice of one.
+    #[inline]
+    pub fn get_full_with<Q: KeyHash, F: Fn(&Q, View<'a, K>) -> bool>(
+        self,
+        key: &Q,
+        cmp: F,
+    ) -> Option<(usize, View<'a, K>, View<'a, V>)>
+        requires map { IsIndexMap W.word K.shape V.shape self }
+        requires query { Q.can_read key.now }
+        requires callable { MayAskKeys W.word K.shape V.shape self (F.pre cmp key) }
+        ensures walked { IfSome result (IsFullIn W.word K.shape V.shape self.entry) }
+        ensures answer { let hash = hash_of_calls H.initial H.feed H.finish (Q.calls key.now) in
+            FindsBy W.word K.shape V.shape self.entry (F.post cmp key.entry) hash (IsFullAt result) }
+        ensures first { let hash = hash_of_calls H.initial H.feed H.finish (Q.calls key.now) in
+            let key_hash = hash_at H.initial H.feed H.finish K.key_calls in
+            FindsFirstBy W.word K.shape V.shape self.entry (F.post cmp key.entry) hash key_hash
+            (IsFullAt result) }
+    {
+        match self.find(key, cmp, &mut Strides::new()) {
+            Some(place) => {
+                let entry = self.entries().entry(place);
+                Some((place, entry.key(), entry.value()))
+            }
+            None => None,
+        }
+    }
+
+    /// Finds the place of the key that is asked for.
+    #[inline]
+    pub(crate) fn find_key<Q: Query<K>>(self, key: &Q) -> Option<usize>
+        requires map { IsIndexMap W.word K.shape V.shape self }
+        requires query { Q.can_read key.now }
+        ensures walked { IfSome result (IsHeld W.word self.entry) }
+        ensures below { IfSome result (λ i. i < index_len W.word self.entry) }
+        ensures answer { let hash = hash_of_calls H.initial H.feed H.finish (Q.calls key.now) in
+            FindsPlace W.word K.shape V.shape self.entry hash (fits_at W.word K.shape V.shape
+            self.entry (Q.fits key.now)) (IsPlace result) }
+        ensures first { let key_hash = hash_at H.initial H.feed H.finish K.key_calls in
+            FindsFirstPlace W.word K.shape V.shape self.entry key_hash (fits_at W.word K.shape
+            V.shape self.entry (Q.fits key.now)) (IsPlace result) }
+        ensures complete { let key_hash = hash_at H.initial H.feed H.finish K.key_calls in
+            index_misplaced W.word K.shape V.shape key_hash K.same (index_bytes self.entry)
+            (index_pos self.entry) ≡ 0
+            → FindsTheOne (index_len W.word self.entry) (fits_at W.word K.shape V.shape self.entry
+            (Q.fits key.now)) result }
+    {
+        self.find(
+            key,
+            |key, stored|
+                requires query { Q.can_read key.now }
+                requires key { IsView K.shape stored }
+                ensures { result ≡ Q.fits key.entry.now stored.entry.archive.now stored.entry.pos }
+            { key.same(stored) },
+            &mut Strides::new(),
+        )
+    }
+
+    /// The pair whose key is the one that is asked for, with its place: in a map that was written
+    /// the first such one.
+    ///
+    /// In a map of strangers a place may stand where its key's hash doesn't lead; then it isn't
+    /// found. Where `misplaced` is 0 none does: the one key that fits is found, and none exactly
+    /// where none fits.
+    #[inline]
+    pub fn get_full<Q: Query<K>>(self, key: &Q) -> Option<(usize, View<'a, K>, View<'a, V>)>
+        requires map { IsIndexMap W.word K.shape V.shape self }
+        requires query { Q.can_read key.now }
+        ensures walked { IfSome result (IsFullIn W.word K.shape V.shape self.entry) }
+        ensures answer { let hash = hash_of_calls H.initial H.feed H.finish (Q.calls key.now) in
+            FindsPlace W.word K.shape V.shape self.entry hash (fits_at W.word K.shape V.shape
+            self.entry (Q.fits key.now)) (IsFullAt result) }
+        ensures first { let key_hash = hash_at H.initial H.feed H.finish K.key_calls in
+            FindsFirstPlace W.word K.shape V.shape self.entry key_hash (fits_at W.word K.shape
+            V.shape self.entry (Q.fits key.now)) (IsFullAt result) }
+        ensures complete { let key_hash = hash_at H.initial H.feed H.finish K.key_calls in
+            index_misplaced W.word K.shape V.shape key_hash K.same (index_bytes self.entry)
+            (index_pos self.entry) ≡ 0
+            → FindsTheOne (index_len W.word self.entry) (fits_at W.word K.shape V.shape self.entry
+            (Q.fits key.now)) (full_place result) }
+    {
+        match self.find_key(key) {
+            Some(place) => {
+                let entry = self.entries().entry(place);
+                Some((place, entry.key(), entry.value()))
+            }
+            None => None,
+        }
+    }
+
+    /// The pair of a place that was found.
+    #[inline]
+    fn pair_of(self, place: Option<usize>) -> Option<(View<'a, K>, View<'a, V>)>
+        requires map { IsIndexMap W.word K.shape V.shape self }
+        requires held { IfSome place (IsHeld W.word self) }
+        requires below { IfSome place (λ i. i < index_len W.word self) }
+        ensures walked { IfSome result (IsPairIn W.word K.shape V.shape self.entry) }
+        ensures at { IsPairAt W.word K.shape V.shape self.entry result place }
+    {
+        match place {
+            Some(place) => {
+                let entry = self.entries().entry(place);
+                Some((entry.key(), entry.value()))
+            }
+            None => None,
+        }
+    }
+
+    /// The value of a place that was found.
+    #[inline]
+    fn value_of(self, place: Option<usize>) -> Option<View<'a, V>>
+        requires map { IsIndexMap W.word K.shape V.shape self }
+        requires held { IfSome place (IsHeld W.word self) }
+        requires below { IfSome place (λ i. i < index_len W.word self) }
+        ensures walked { IfSome result (IsValueIn W.word K.shape V.shape self.entry) }
+        ensures at { IsValueAt W.word K.shape V.shape self.entry result place }
+    {
+        match place {
+            Some(place) => Some(self.entries().entry(place).value()),
+            None => None,
+        }
+    }
+
+    /// The key and the value of the pair that `get_full_with` answers.
+    #[inline]
+    pub fn get_key_value_with<Q: KeyHash, F: Fn(&Q, View<'a, K>) -> bool>(
+        self,
+        key: &Q,
+        cmp: F,
+    ) -> Option<(View<'a, K>, View<'a, V>)>
+        requires map { IsIndexMap W.word K.shape V.shape self }
+        requires query { Q.can_read key.now }
+        requires callable { MayAskKeys W.word K.shape V.shape self (F.pre cmp key) }
+        ensures walked { IfSome result (IsPairIn W.word K.shape V.shape self.entry) }
+        ensures answer { let hash = hash_of_calls H.initial H.feed H.finish (Q.calls key.now) in
+            FindsBy W.word K.shape V.shape self.entry (F.post cmp key.entry) hash
+            (IsPairAt W.word K.shape V.shape self.entry result) }
+        ensures first { let hash = hash_of_calls H.initial H.feed H.finish (Q.calls key.now) in
+            let key_hash = hash_at H.initial H.feed H.finish K.key_calls in
+            FindsFirstBy W.word K.shape V.shape self.entry (F.post cmp key.entry) hash key_hash
+            (IsPairAt W.word K.shape V.shape self.entry result) }
+    {
+        self.pair_of(self.find(key, cmp, &mut Strides::new()))
+    }
+
+    /// The key and the value of the pair that `get_full` answers.
+    #[inline]
+    pub fn get_key_value<Q: Query<K>>(self, key: &Q) -> Option<(View<'a, K>, View<'a, V>)>
+        requires map { IsIndexMap W.word K.shape V.shape self }
+        requires query { Q.can_read key.now }
+        ensures walked { IfSome result (IsPairIn W.word K.shape V.shape self.entry) }
+        ensures answer { let hash = hash_of_calls H.initial H.feed H.finish (Q.calls key.now) in
+            FindsPlace W.word K.shape V.shape self.entry hash (fits_at W.word K.shape V.shape
+            self.entry (Q.fits key.now)) (IsPairAt W.word K.shape V.shape self.entry result) }
+        ensures first { let key_hash = hash_at H.initial H.feed H.finish K.key_calls in
+            FindsFirstPlace W.word K.shape V.shape self.entry key_hash (fits_at W.word K.shape
+            V.shape self.entry (Q.fits key.now)) (IsPairAt W.word K.shape V.shape self.entry
+            result) }
+    {
+        self.pair_of(self.find_key(key))
+    }
+
+    /// The value of the pair that `get_full_with` answers.
+    #[inline]
+    pub fn get_with<Q: KeyHash, F: Fn(&Q, View<'a, K>) -> bool>(
+        self,
+        key: &Q,
+        cmp: F,
+    ) -> Option<View<'a, V>>
+        requires map { IsIndexMap W.word K.shape V.shape self }
+        requires query { Q.can_read key.now }
+        requires callable { MayAskKeys W.word K.shape V.shape self (F.pre cmp key) }
+        ensures walked { IfSome result (IsValueIn W.word K.shape V.shape self.entry) }
+        ensures answer { let hash = hash_of_calls H.initial H.feed H.finish (Q.calls key.now) in
+            FindsBy W.word K.shape V.shape self.entry (F.post cmp key.entry) hash
+            (IsValueAt W.word K.shape V.shape self.entry result) }
+        ensures first { let hash = hash_of_calls H.initial H.feed H.finish (Q.calls key.now) in
+            let key_hash = hash_at H.initial H.feed H.finish K.key_calls in
+            FindsFirstBy W.word K.shape V.shape self.entry (F.post cmp key.entry) hash key_hash
+            (IsValueAt W.word K.shape V.shape self.entry result) }
+    {
+        self.value_of(self.find(key, cmp, &mut Strides::new()))
+    }
+
+    /// The value of the pair that `get_full` answers.
+    #[inline]
+    pub fn get<Q: Query<K>>(self, key: &Q) -> Option<View<'a, V>>
+        requires map { IsIndexMap W.word K.shape V.shape self }
+        requires query { Q.can_read key.now }
+        ensures walked { IfSome result (IsValueIn W.word K.shape V.shape self.entry) }
+        ensures answer { let hash = hash_of_calls H.initial H.feed H.finish (Q.calls key.now) in
+            FindsPlace W.word K.shape V.shape self.entry hash (fits_at W.word K.shape V.shape
+            self.entry (Q.fits key.now)) (IsValueAt W.word K.shape V.shape self.entry result) }
+        ensures first { let key_hash = hash_at H.initial H.feed H.finish K.key_calls in
+            FindsFirstPlace W.word K.shape V.shape self.entry key_hash (fits_at W.word K.shape
+            V.shape self.entry (Q.fits key.now)) (IsValueAt W.word K.shape V.shape self.entry
+            result) }
+    {
+        self.value_of(self.find_key(key))
+    }
+
+    /// The place of the pair that `get_full_with` answers.
+    #[inline]
+    pub fn get_index_of_with<Q: KeyHash, F: Fn(&Q, View<'a, K>) -> bool>(
+        self,
+        key: &Q,
+        cmp: F,
+    ) -> Option<usize>
+        requires map { IsIndexMap W.word K.shape V.shape self }
+        requires query { Q.can_read key.now }
+        requires callable { MayAskKeys W.word K.shape V.shape self (F.pre cmp key) }
+        ensures walked { IfSome result (IsHeld W.word self.entry) }
+        ensures below { IfSome result (λ i. i < index_len W.word self.entry) }
+        ensures answer { let hash = hash_of_calls H.initial H.feed H.finish (Q.calls key.now) in
+            FindsBy W.word K.shape V.shape self.entry (F.post cmp key.entry) hash (IsPlace result) }
+        ensures first { let hash = hash_of_calls H.initial H.feed H.finish (Q.calls key.now) in
+            let key_hash = hash_at H.initial H.feed H.finish K.key_calls in
+            FindsFirstBy W.word K.shape V.shape self.entry (F.post cmp key.entry) hash key_hash
+            (IsPlace result) }
+    {
+        self.find(key, cmp, &mut Strides::new())
+    }
+
+    /// The place of the pair that `get_full` answers.
+    #[inline]
+    pub fn get_index_of<Q: Query<K>>(self, key: &Q) -> Option<usize>
+        requires map { IsIndexMap W.word K.shape V.shape self }
+        requires query { Q.can_read key.now }
+        ensures walked { IfSome result (IsHeld W.word self.entry) }
+        ensures below { IfSome result (λ i. i < index_len W.word self.entry) }
+        ensures answer { let hash = hash_of_calls H.initial H.feed H.finish (Q.calls key.now) in
+            FindsPlace W.word K.shape V.shape self.entry hash (fits_at W.word K.shape V.shape
+            self.entry (Q.fits key.now)) (IsPlace result) }
+        ensures first { let key_hash = hash_at H.initial H.feed H.finish K.key_calls in
+            FindsFirstPlace W.word K.shape V.shape self.entry key_hash (fits_at W.word K.shape
+            V.shape self.entry (Q.fits key.now)) (IsPlace result) }
+    {
+        self.find_key(key)
+    }
+
+    /// Whether the key that is asked for is found.
+    #[inline]
+    pub fn contains_key<Q: Query<K>>(self, key: &Q) -> bool
+        requires map { IsIndexMap W.word K.shape V.shape self }
+        requires query { Q.can_read key.now }
+        ensures answer { let hash = hash_of_calls H.initial H.feed H.finish (Q.calls key.now) in
+            FindsPlace W.word K.shape V.shape self.entry hash (fits_at W.word K.shape V.shape
+            self.entry (Q.fits key.now)) (IsFoundAt result) }
+        ensures first { let key_hash = hash_at H.initial H.feed H.finish K.key_calls in
+            FindsFirstPlace W.word K.shape V.shape self.entry key_hash (fits_at W.word K.shape
+            V.shape self.entry (Q.fits key.now)) (IsFoundAt result) }
+    {
+        self.find_key(key).is_some()
+    }
+}

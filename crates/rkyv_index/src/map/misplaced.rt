@@ -1,0 +1,75 @@
+//! Counting the places that a lookup of their own key doesn't answer.
+ghost use Rattle.std.specs.Prelude.{List, not, ℕ, ◌<◌, ◌≡◌};
+ghost use Rattle.rkyv_table.specs.Table.Misplaced.{is_answer};
+ghost use Rattle.rkyv_base.specs.Entry.{entry_shape};
+ghost use Rattle.rkyv_index.specs.Equality.{index_misplaced, index_repeated, is_repeated};
+ghost use Rattle.rkyv_index.specs.Equality.{own_found};
+ghost use Rattle.rkyv_index.specs.IndexFormat.{IndexWrittenAt};
+ghost use Rattle.rkyv_index.specs.Index.{AreEntries, IsIndexMap, hash_at, index_bytes, index_len};
+ghost use Rattle.rkyv_index.specs.Index.{index_pos};
+
+use crate::map::ArchivedIndexMap;
+use crate::map::entries::Entries;
+use rkyv_base::element::Element;
+use rkyv_base::width::Width;
+use rkyv_keys::keys::KeyElement;
+use rkyv_scan::hash::KeyHasher;
+
+// Whether a lookup didn't answer the place.
+#[inline]
+fn is_elsewhere(place: usize, found: Option<usize>) -> bool
+    ensures { result ≡ not (is_answer place found) }
+{
+    match found {
+        Some(found) => place != found,
+        None => true,
+    }
+}
+
+impl<'a, K: KeyElement, V: Element, H: KeyHasher, W: Width> Entries<'a, K, V, H, W> {
+    // Whether a lookup of the place's own key doesn't answer the place.
+    #[inline]
+    fn is_misplaced(self, place: usize) -> bool
+        requires entries { AreEntries W.word K.shape V.shape self }
+        requires below { place < index_len W.word self.map }
+        ensures told { let key_hash = hash_at H.initial H.feed H.finish K.key_calls in
+            let own = own_found W.word K.shape V.shape key_hash K.same
+            (index_bytes self.entry.map) (index_pos self.entry.map) place in
+            result ≡ not (is_answer place own) }
+        ensures repeated { let key_hash = hash_at H.initial H.feed H.finish K.key_calls in
+            let b = index_bytes self.entry.map in let p = index_pos self.entry.map in
+            (homes : List ℕ) → IndexWrittenAt W.word (entry_shape K.shape V.shape).size key_hash b p
+            homes
+            → result ≡ is_repeated W.word K.shape V.shape key_hash K.same b p place }
+    {
+        let key = self.entry(place).key();
+        is_elsewhere(place, self.map.find_key(&key))
+    }
+}
+
+impl<'a, K: KeyElement, V: Element, H: KeyHasher, W: Width> ArchivedIndexMap<'a, K, V, H, W> {
+    /// How many of its places a lookup of their own key doesn't answer: another such key is found
+    /// first, or a stranger put the place where its key's hash doesn't lead.
+    ///
+    /// In a map that was written these are the keys that are the same as one handed in earlier.
+    pub fn misplaced(self) -> usize
+        requires { IsIndexMap W.word K.shape V.shape self }
+        ensures told { let key_hash = hash_at H.initial H.feed H.finish K.key_calls in
+            result ≡ index_misplaced W.word K.shape V.shape key_hash K.same
+            (index_bytes self.entry) (index_pos self.entry) }
+        ensures repeated { let key_hash = hash_at H.initial H.feed H.finish K.key_calls in
+            let b = index_bytes self.entry in let p = index_pos self.entry in
+            (homes : List ℕ) → IndexWrittenAt W.word (entry_shape K.shape V.shape).size key_hash b p
+            homes
+            → result ≡ index_repeated W.word K.shape V.shape key_hash K.same b p }
+    {
+        let entries = self.entries();
+        let mut count = 0;
+        for place in 0..self.len() {
+            if entries.is_misplaced(place) {
+                count += 1;
+            }
+        }
+        count
+    }
+}

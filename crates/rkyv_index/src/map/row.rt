@@ -1,0 +1,68 @@
+//! Writing values in a row: first their parts, and then their own bytes.
+
+ghost use Rattle.std.specs.Prelude.{◌≡◌, ◌<◌, ◌≤◌, [], MatchResult, vec_capacity, length, List, ℕ};
+ghost use Rattle.rkyv_base.specs.Writing.{Appends, Told, Within, end_of};
+ghost use Rattle.rkyv_index.specs.Row.{RowNext, RowParts, RowPartsNext, WroteRow};
+
+use rkyv_base::archive::{Archive, Serialize};
+use rkyv_base::errors::WriteError;
+use rkyv_base::width::Width;
+use rkyv_base::writer::{Writer, append_in};
+use std::alloc::Global;
+
+// Serializes the values in order, and keeps what resolves each.
+pub(crate) fn serialize_row<W: Width, S: Writer, U: Serialize<S, W>>(
+    alloc: Global,
+    values: &[U],
+    resolvers: &mut Vec<U::Resolver>,
+    serializer: &mut S,
+) -> Result<(), WriteError<S::Fault>>
+    requires empty { resolvers.old.items ≡ [] }
+    requires room { length values.now ≤ vec_capacity resolvers.old }
+    ensures { let o = S.output serializer.old in let o' = S.output serializer.new in MatchResult
+        result
+        (λ _. (part : List ℕ) × Appends o o' part × RowParts U.format values.now (end_of o) part
+        resolvers.new.items × Within W.LIMIT o' part)
+        (Told W.LIMIT (RowPartsNext U.format values.now (end_of o)) o o') }
+{
+    for value in values {
+        match value.serialize(alloc, serializer) {
+            Ok(resolver) => resolvers.push_reserved(resolver),
+            Err(e) => return Err(e),
+        }
+    }
+    Ok(())
+}
+
+// Writes the values' own bytes in order, each in one piece.
+pub(crate) fn write_row<W: Width, S: Writer, U: Archive<W>>(
+    values: &[U],
+    resolvers: Vec<U::Resolver>,
+    scratch: &mut [u8],
+    serializer: &mut S,
+) -> Result<(), WriteError<S::Fault>>
+    requires count { length resolvers.items ≡ length values.now }
+    requires room { 0 < length values.now → length scratch.old ≡ U.Archived.shape.size }
+    requires within { end_of (S.output serializer.old) ≤ W.LIMIT }
+    ensures { let o = S.output serializer.old in let o' = S.output serializer.new in MatchResult
+        result
+        (λ _. WroteRow U.format W.LIMIT values.now resolvers.items o o')
+        (Told W.LIMIT (RowNext U.format values.now resolvers.items (end_of o)) o o') }
+{
+    let mut rest = resolvers.into_iter();
+    for value in values {
+        let resolver = match rest.next() {
+            Some(resolver) => resolver,
+            None => unreachable!(),
+        };
+        match value.resolve(resolver, serializer.pos(), scratch) {
+            Ok(()) => {}
+            Err(_) => return Err(WriteError::DistanceTooLarge),
+        }
+        match append_in::<W, S>(serializer, scratch) {
+            Ok(()) => {}
+            Err(e) => return Err(e),
+        }
+    }
+    Ok(())
+}

@@ -1,0 +1,115 @@
+//! Writing index maps from iterators of pairs.
+
+ghost use Rattle.std.specs.Prelude.{MatchResult};
+ghost use Rattle.std.specs.Iterator.{Drains};
+ghost use Rattle.rkyv_base.specs.Pairs.{written_as};
+ghost use Rattle.rkyv_table.specs.Table.Counting.{GaveOther};
+ghost use Rattle.rkyv_index.specs.Handing.{NoItems, WroteItems, lent_pairs};
+ghost use Rattle.rkyv_index.specs.IndexFormat.{hash_of};
+ghost use Rattle.rkyv_index.specs.IndexFormat.{index_format};
+
+use crate::map::ArchivedIndexMap;
+use crate::map::resolve::IndexMapResolver;
+use crate::map::taking::{Room, take_entries};
+use crate::map::write::write_index;
+use crate::width::PlaceWidth;
+use rkyv_base::archive::Serialize;
+use rkyv_base::element::{Element, StandsFor};
+use rkyv_base::entry::Entry;
+use rkyv_base::errors::{IteratorLengthMismatch, WriteError};
+use rkyv_base::lend::Lend;
+use rkyv_base::writer::Writer;
+use rkyv_keys::keys::{KeyElement, NativeKey};
+use rkyv_scan::hash::KeyHasher;
+use rkyv_table::controls::numbers::{CapacityError, capacity};
+use std::alloc::Global;
+
+impl<'a, K: KeyElement, V, H: KeyHasher, W: PlaceWidth> ArchivedIndexMap<'a, K, V, H, W> {
+    /// Writes an index map of `len` pairs, each a key and a value as themselves or by reference,
+    /// and
+    /// answers what resolves it.
+    ///
+    /// Each pair is taken once, and kept until it is written. First comes a table of the pairs'
+    /// places, each under the hash of its key, of which the table's own `serialize_by` tells where
+    /// its bytes stand; of no pairs it has none. Then the entries' own parts, in order; then zeros
+    /// up to an entry's alignment; then the entries, in order. Equal keys are kept; a lookup then
+    /// finds the first. The iterator is asked at most `len + 1` times, and never after it gave
+    /// `None`.
+    ///
+    /// # Errors
+    /// The first that stands of: `InvalidLoadFactor`; `CapacityTooLarge`, where more buckets are
+    /// needed than the width can count; `Memory`, before any pair is taken;
+    /// `IteratorLengthMismatch`, with the number of pairs, counted up to `len + 1`; and `Memory` of
+    /// the table's own growths. Nothing is written then. Else the cause is that of the first key,
+    /// value or piece that fails. What the writer held before is kept. Of no pairs no memory is
+    /// taken.
+    pub fn serialize_from_iter<
+        S: Writer,
+        A: NativeKey<K> + Serialize<S, W, Archived = K>,
+        B: Serialize<S, W, Archived = V>,
+        BK: Lend<A> + Drop,
+        BV: Lend<B> + Drop,
+        I: Iterator<Item = (BK, BV)>,
+    >(
+        alloc: Global,
+        iter: I,
+        len: usize,
+        load_factor: (usize, usize),
+        serializer: &mut S,
+    ) -> Result<IndexMapResolver<W>, WriteError<S::Fault>>
+    where
+        K: StandsFor<A>,
+        V: StandsFor<B>,
+        requires can { I.can_next iter }
+        ensures { let hash = hash_of H.initial H.feed H.finish A.calls in
+            let f = written_as (lent_pairs BK.lent BV.lent) (index_format W.word W.Place.encoding
+            K.shape V.shape A.format B.format hash load_factor) in
+            let gave = Drains I.next_gives iter in
+            let o = S.output serializer.old in
+            let o' = S.output serializer.new in
+            MatchResult result
+            (WroteItems gave len load_factor W.MAX_CAPACITY f o o' W.LIMIT)
+            (NoItems gave len load_factor W.MAX_CAPACITY f o o' W.LIMIT (GaveOther I.next_gives len
+            iter)) }
+    {
+        match capacity(len, load_factor, W::MAX_CAPACITY) {
+            Ok(_) => {}
+            Err(CapacityError::InvalidLoadFactor) => {
+                return Err(WriteError::InvalidLoadFactor {
+                    numerator: load_factor.0,
+                    denominator: load_factor.1,
+                });
+            }
+            Err(CapacityError::CapacityTooLarge) => {
+                return Err(WriteError::CapacityTooLarge { len });
+            }
+        }
+        let room = match Room::new(alloc, len, Entry::<K, V>::size()) {
+            Ok(room) => room,
+            Err(_) => return Err(WriteError::Memory),
+        };
+        let mut entries = room.entries;
+        let mut scratch = room.scratch;
+        let resolvers = room.resolvers;
+        match take_entries::<A, B, BK, BV, I>(iter, len, &mut entries) {
+            Ok(()) => {}
+            Err(actual) => {
+                return Err(WriteError::IteratorLengthMismatch(IteratorLengthMismatch {
+                    expected: len,
+                    actual,
+                }));
+            }
+        }
+        match write_index::<W, H, S, A, B, BK, BV>(
+            alloc,
+            entries.as_slice(),
+            resolvers,
+            scratch.as_mut_slice(),
+            load_factor,
+            serializer,
+        ) {
+            Ok(resolver) => Ok(resolver),
+            Err(e) => Err(e),
+        }
+    }
+}

@@ -1,0 +1,23 @@
+//! Index sets: index maps of their keys to the unit value.
+
+mod debug;
+mod element;
+mod equality;
+mod reading;
+pub mod writing;
+
+use crate::map::ArchivedIndexMap;
+use rkyv_base::width::Narrow;
+use rkyv_scan::hash::FxHasher64;
+use std::marker::PhantomData;
+
+/// The header of an index set of K under the hasher H, in an archive of the width W.
+pub struct IndexSetOf<K, H = FxHasher64, W = Narrow> {
+    kinds: PhantomData<(K, H, W)>,
+}
+
+/// An index set of K under the hasher H that is read in place, in an archive of the width W.
+#[derive_where(Clone, Copy)]
+pub struct ArchivedIndexSet<'a, K, H = FxHasher64, W = Narrow> {
+    pub(crate) map: ArchivedIndexMap<'a, K, (), H, W>,
+}

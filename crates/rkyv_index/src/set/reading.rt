@@ -1,0 +1,184 @@
+//! An index set, how many keys it has, and finding one of them.
+ghost use Rattle.std.specs.Prelude.{IfSome, IsTrue, MatchOption, length, ◌<◌, ◌↔◌, ◌≡◌, ◌≤◌};
+ghost use Rattle.rkyv_base.specs.Empty.{unit_shape};
+ghost use Rattle.rkyv_base.specs.Entry.{entry_shape};
+ghost use Rattle.rkyv_scan.specs.Hash.{hash_of_calls};
+ghost use Rattle.rkyv_base.specs.View.{IsAt, IsView, archive_of, pos_of};
+ghost use Rattle.rkyv_table.specs.Table.RawItems.{AllStand};
+ghost use Rattle.rkyv_index.specs.Complete.{FindsTheOne};
+ghost use Rattle.rkyv_index.specs.Equality.{index_misplaced};
+ghost use Rattle.rkyv_index.specs.Index.{FindsFirstPlace, FindsPlace, IsFoundAt, IsHeld, IsKeyOf};
+ghost use Rattle.rkyv_index.specs.Index.{IsPlace, fits_at, hash_at, index_archive, index_bytes};
+ghost use Rattle.rkyv_index.specs.Index.{index_len, index_pos, key_positions};
+ghost use Rattle.rkyv_index.specs.IndexSet.{
+  IsFullMemberAt,
+  IsFullMemberIn,
+  IsIndexSet,
+  IsMemberAt,
+  IsMemberIn,
+  full_member_place,
+  index_set_shape,
+  keys_of,
+};
+
+use crate::map::iter::Keys;
+use crate::map::{ArchivedIndexMap, IndexMapOf};
+use crate::set::{ArchivedIndexSet, IndexSetOf};
+use rkyv_base::element::Element;
+use rkyv_base::view::View;
+use rkyv_base::width::Width;
+use rkyv_keys::keys::{KeyElement, Query};
+use rkyv_scan::hash::KeyHasher;
+
+impl<'a, K: Element, H, W: Width> ArchivedIndexSet<'a, K, H, W> {
+    /// The set whose header is viewed.
+    #[inline]
+    pub fn of(view: View<'a, IndexSetOf<K, H, W>>) -> ArchivedIndexSet<'a, K, H, W>
+        requires { IsView (index_set_shape W.word K.shape) view }
+        ensures at { IsAt (keys_of result).view (archive_of view.entry) (pos_of view.entry) }
+        ensures set { IsIndexSet W.word K.shape result }
+    {
+        ArchivedIndexSet {
+            map: ArchivedIndexMap::of(view.at::<IndexMapOf<K, (), H, W>>(view.pos())),
+        }
+    }
+
+    /// Whether it has no keys.
+    #[inline]
+    pub fn is_empty(self) -> bool
+        requires { IsIndexSet W.word K.shape self }
+        ensures { IsTrue result ↔ (index_len W.word (keys_of self.entry) ≡ 0) }
+    {
+        self.map.is_empty()
+    }
+
+    /// How many keys it has.
+    #[inline]
+    pub fn len(self) -> usize
+        requires { IsIndexSet W.word K.shape self }
+        ensures { result ≡ index_len W.word (keys_of self.entry) }
+    {
+        self.map.len()
+    }
+
+    /// Its keys, in order.
+    #[inline]
+    pub fn iter(self) -> Keys<'a, K, ()>
+        requires { IsIndexSet W.word K.shape self }
+        ensures archive { result.archive ≡ index_archive (keys_of self.entry) }
+        ensures places { result.places ≡ key_positions W.word K.shape unit_shape
+            (keys_of self.entry) }
+        ensures count { length result.places ≡ index_len W.word (keys_of self.entry) }
+        ensures stand { AllStand (entry_shape K.shape unit_shape) result }
+    {
+        self.map.keys()
+    }
+
+    /// The key of a place: `None` exactly where the place isn't below the length.
+    #[inline]
+    pub fn get_index(self, place: usize) -> Option<View<'a, K>>
+        requires { IsIndexSet W.word K.shape self }
+        ensures { MatchOption result
+            (index_len W.word (keys_of self.entry) ≤ place)
+            (λ key. IsKeyOf W.word K.shape unit_shape (keys_of self.entry) place key) }
+    {
+        match self.map.get_index(place) {
+            Some((key, _)) => Some(key),
+            None => None,
+        }
+    }
+}
+
+impl<'a, K: KeyElement, H: KeyHasher, W: Width> ArchivedIndexSet<'a, K, H, W> {
+    /// The key that is asked for, with its place: in a set that was written the first such one.
+    #[inline]
+    pub fn get_full<Q: Query<K>>(self, key: &Q) -> Option<(usize, View<'a, K>)>
+        requires set { IsIndexSet W.word K.shape self }
+        requires query { Q.can_read key.now }
+        ensures walked { IfSome result (IsFullMemberIn W.word K.shape self.entry) }
+        ensures answer { let hash = hash_of_calls H.initial H.feed H.finish (Q.calls key.now) in
+            FindsPlace W.word K.shape unit_shape (keys_of self.entry) hash (fits_at W.word K.shape
+            unit_shape (keys_of self.entry) (Q.fits key.now)) (IsFullMemberAt result) }
+        ensures first { let key_hash = hash_at H.initial H.feed H.finish K.key_calls in
+            FindsFirstPlace W.word K.shape unit_shape (keys_of self.entry) key_hash
+            (fits_at W.word K.shape unit_shape (keys_of self.entry) (Q.fits key.now))
+            (IsFullMemberAt result) }
+        ensures complete { let key_hash = hash_at H.initial H.feed H.finish K.key_calls in
+            index_misplaced W.word K.shape unit_shape key_hash K.same
+            (index_bytes (keys_of self.entry)) (index_pos (keys_of self.entry)) ≡ 0
+            → FindsTheOne (index_len W.word (keys_of self.entry)) (fits_at W.word K.shape unit_shape
+            (keys_of self.entry) (Q.fits key.now)) (full_member_place result) }
+    {
+        match self.map.get_full(key) {
+            Some((place, stored, _)) => Some((place, stored)),
+            None => None,
+        }
+    }
+
+    /// The key that is asked for.
+    #[inline]
+    pub fn get<Q: Query<K>>(self, key: &Q) -> Option<View<'a, K>>
+        requires set { IsIndexSet W.word K.shape self }
+        requires query { Q.can_read key.now }
+        ensures walked { IfSome result (IsMemberIn W.word K.shape self.entry) }
+        ensures answer { let hash = hash_of_calls H.initial H.feed H.finish (Q.calls key.now) in
+            FindsPlace W.word K.shape unit_shape (keys_of self.entry) hash (fits_at W.word K.shape
+            unit_shape (keys_of self.entry) (Q.fits key.now)) (IsMemberAt W.word K.shape
+            self.entry result) }
+        ensures first { let key_hash = hash_at H.initial H.feed H.finish K.key_calls in
+            FindsFirstPlace W.word K.shape unit_shape (keys_of self.entry) key_hash
+            (fits_at W.word K.shape unit_shape (keys_of self.entry) (Q.fits key.now))
+            (IsMemberAt W.word K.shape self.entry result) }
+    {
+        self.key_of(self.map.find_key(key))
+    }
+
+    /// The key of a place that was found.
+    #[inline]
+    fn key_of(self, place: Option<usize>) -> Option<View<'a, K>>
+        requires set { IsIndexSet W.word K.shape self }
+        requires held { IfSome place (IsHeld W.word (keys_of self)) }
+        requires below { IfSome place (λ i. i < index_len W.word (keys_of self)) }
+        ensures walked { IfSome result (IsMemberIn W.word K.shape self.entry) }
+        ensures at { IsMemberAt W.word K.shape self.entry result place }
+    {
+        match place {
+            Some(place) => Some(self.map.entries().entry(place).key()),
+            None => None,
+        }
+    }
+
+    /// The place of the key that is asked for.
+    #[inline]
+    pub fn get_index_of<Q: Query<K>>(self, key: &Q) -> Option<usize>
+        requires set { IsIndexSet W.word K.shape self }
+        requires query { Q.can_read key.now }
+        ensures walked { IfSome result (IsHeld W.word (keys_of self.entry)) }
+        ensures below { IfSome result (λ i. i < index_len W.word (keys_of self.entry)) }
+        ensures answer { let hash = hash_of_calls H.initial H.feed H.finish (Q.calls key.now) in
+            FindsPlace W.word K.shape unit_shape (keys_of self.entry) hash (fits_at W.word K.shape
+            unit_shape (keys_of self.entry) (Q.fits key.now)) (IsPlace result) }
+        ensures first { let key_hash = hash_at H.initial H.feed H.finish K.key_calls in
+            FindsFirstPlace W.word K.shape unit_shape (keys_of self.entry) key_hash
+            (fits_at W.word K.shape unit_shape (keys_of self.entry) (Q.fits key.now))
+            (IsPlace result) }
+    {
+        self.map.get_index_of(key)
+    }
+
+    /// Whether the key that is asked for is found.
+    #[inline]
+    pub fn contains<Q: Query<K>>(self, key: &Q) -> bool
+        requires set { IsIndexSet W.word K.shape self }
+        requires query { Q.can_read key.now }
+        ensures answer { let hash = hash_of_calls H.initial H.feed H.finish (Q.calls key.now) in
+            FindsPlace W.word K.shape unit_shape (keys_of self.entry) hash (fits_at W.word K.shape
+            unit_shape (keys_of self.entry) (Q.fits key.now)) (IsFoundAt result) }
+        ensures first { let key_hash = hash_at H.initial H.feed H.finish K.key_calls in
+            FindsFirstPlace W.word K.shape unit_shape (keys_of self.entry) key_hash
+            (fits_at W.word K.shape unit_shape (keys_of self.entry) (Q.fits key.now))
+            (IsFoundAt result) }
+    {
+        self.map.contains_key(key)
+    }
+}

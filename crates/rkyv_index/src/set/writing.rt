@@ -1,0 +1,122 @@
+//! Writing index sets.
+
+ghost use Rattle.std.specs.Prelude.{◌≡◌, ◌+◌, ◌<◌, ◌^◌, MatchResult, length};
+ghost use Rattle.std.specs.Iterator.{Drains};
+ghost use Rattle.rkyv_base.specs.Pairs.{written_as};
+ghost use Rattle.rkyv_table.specs.Controls.Numbers.{capacity};
+ghost use Rattle.rkyv_table.specs.Table.Counting.{GaveOther};
+ghost use Rattle.rkyv_index.specs.Handing.{NoItems, WroteItems};
+ghost use Rattle.rkyv_index.specs.IndexFormat.{hash_of};
+ghost use Rattle.rkyv_index.specs.IndexHeader.{IndexFar, IsIndexHeader};
+ghost use Rattle.rkyv_index.specs.SetFormat.{UnitStep, index_set_format, lent_keys};
+
+use crate::map::ArchivedIndexMap;
+use crate::map::resolve::IndexMapResolver;
+use crate::set::ArchivedIndexSet;
+use crate::width::PlaceWidth;
+use rkyv_base::archive::Serialize;
+use rkyv_base::element::StandsFor;
+use rkyv_base::errors::{DistanceTooLarge, WriteError};
+use rkyv_base::lend::Lend;
+use rkyv_base::width::Narrow;
+use rkyv_base::writer::Writer;
+use rkyv_keys::keys::{KeyElement, NativeKey};
+use rkyv_scan::hash::KeyHasher;
+use std::alloc::Global;
+
+/// What resolves a written index set: what resolves the map of its keys.
+pub type IndexSetResolver<W = Narrow> = IndexMapResolver<W>;
+
+/// The keys of an iterator, each with the unit value.
+#[derive(Drop)]
+struct WithUnits<I> {
+    keys: I,
+}
+
+impl<BK, I: Iterator<Item = BK>> Iterator for WithUnits<I> {
+    type Item = (BK, ());
+
+    ghost can_next = { λ s. I.can_next s.keys };
+
+    ghost next_gives = { λ s r t. UnitStep I.next_gives s.keys r t.keys };
+
+    ghost remaining = { λ s. I.remaining s.keys };
+
+    #[inline]
+    fn next(&mut self) -> Option<(BK, ())> {
+        match self.keys.next() {
+            Some(key) => Some((key, ())),
+            None => None,
+        }
+    }
+}
+
+impl<'a, K: KeyElement, H: KeyHasher, W: PlaceWidth> ArchivedIndexSet<'a, K, H, W> {
+    /// Writes an index set of `len` keys, as themselves or by reference, and answers what resolves
+    /// it.
+    ///
+    /// It is the index map of the keys to the unit value: equal keys are kept, and a lookup then
+    /// finds
+    /// the first. The iterator is asked at most `len + 1` times, and never after it gave `None`.
+    ///
+    /// # Errors
+    /// Those of an index map's `serialize_from_iter`; the actual number is that of keys.
+    pub fn serialize_from_iter<
+        S: Writer,
+        A: NativeKey<K> + Serialize<S, W, Archived = K>,
+        BK: Lend<A> + Drop,
+        I: Iterator<Item = BK>,
+    >(
+        alloc: Global,
+        iter: I,
+        len: usize,
+        load_factor: (usize, usize),
+        serializer: &mut S,
+    ) -> Result<IndexSetResolver<W>, WriteError<S::Fault>>
+    where
+        K: StandsFor<A>,
+        requires can { I.can_next iter }
+        ensures { let hash = hash_of H.initial H.feed H.finish A.calls in
+            let f = written_as (lent_keys BK.lent) (index_set_format W.word W.Place.encoding K.shape
+            A.format hash load_factor) in
+            let gave = Drains I.next_gives iter in
+            let o = S.output serializer.old in
+            let o' = S.output serializer.new in
+            MatchResult result
+            (WroteItems gave len load_factor W.MAX_CAPACITY f o o' W.LIMIT)
+            (NoItems gave len load_factor W.MAX_CAPACITY f o o' W.LIMIT (GaveOther I.next_gives len
+            iter)) }
+    {
+        ArchivedIndexMap::<K, (), H, W>::serialize_from_iter::<S, A, (), BK, (), WithUnits<I>>(
+            alloc,
+            WithUnits { keys: iter },
+            len,
+            load_factor,
+            serializer,
+        )
+    }
+
+    /// Writes the header of a written index set, which is to stand at `pos`, over the whole of
+    /// `out`.
+    ///
+    /// The length and the load factor are those of the resolver.
+    ///
+    /// # Errors
+    /// Those of an index map's `resolve_from_len`; `out` is unchanged.
+    pub fn resolve_from_len(
+        len: usize,
+        load_factor: (usize, usize),
+        resolver: IndexSetResolver<W>,
+        pos: u64,
+        out: &mut [u8],
+    ) -> Result<(), DistanceTooLarge>
+        requires same { (len ≡ resolver.table.len) × (load_factor ≡ resolver.table.load_factor) }
+        requires room { length out.old ≡ W.INDEX_SIZE }
+        requires fits { pos + W.INDEX_SIZE < 2 ^ 64 }
+        ensures { MatchResult result
+            (λ _. IsIndexHeader W.word len (capacity len load_factor) resolver pos out.new)
+            (λ _. IndexFar W.word len resolver pos × (out.new ≡ out.old)) }
+    {
+        ArchivedIndexMap::<K, (), H, W>::resolve_from_len(len, load_factor, resolver, pos, out)
+    }
+}

@@ -1,0 +1,36 @@
+//! Places of an index map's entries as numbers of a width.
+
+ghost use Rattle.std.specs.Prelude.{◌≡◌, ◌<◌, ◌^◌};
+ghost use Rattle.std.proofs.Common.{refl};
+ghost use mir.Val.{bits};
+ghost use Rattle.rkyv_index.specs.IndexFormat.{CodesReadBack};
+
+use rkyv_base::width::{Narrow, Wide, Width};
+
+/// A width whose places are made of numbers, and are other ones for other numbers.
+pub trait PlaceWidth: Width {
+    /// The place of a number.
+    fn to_place(number: u64) -> Self::Place
+        requires { number < 2 ^ bits Self.word }
+        ensures { result ≡ Self.Place.encoding.value number };
+
+    ghost reads_back: { CodesReadBack Self.Place.encoding };
+}
+
+impl PlaceWidth for Narrow {
+    #[inline]
+    fn to_place(number: u64) -> u32 {
+        number as u32
+    }
+
+    ghost reads_back = { λ n. refl };
+}
+
+impl PlaceWidth for Wide {
+    #[inline]
+    fn to_place(number: u64) -> u64 {
+        number
+    }
+
+    ghost reads_back = { λ n. refl };
+}

@@ -1,0 +1,68 @@
+-- A lookup in a written table answers the first accepted item of the list.
+use Rattle.std.proofs.Common.{◌≡◌, ℕ, suc, ◌^◌, ◌<◌, ◌∙◌, inl, inr, refl, sym, ap, subst, arith, Bool, true, false, List, [], ◌∷◌, length, map, slice_get, slice_index, Some}
+use Rattle.std.specs.Int.{Width}
+use Rattle.std.specs.List.{find}
+use Rattle.std.specs.Option.{option_map}
+use Rattle.std.proofs.lemmas.Bool.{cases_Bool}
+use Rattle.std.proofs.lemmas.List.{get_or-map, length-map}
+use Rattle.std.proofs.lemmas.Option.{slice_get-map, slice_get_cases}
+use Rattle.rkyv_base.specs.Shape.{Shape}
+use Rattle.rkyv_scan.specs.Groups.{IsKind, Kind}
+use Rattle.rkyv_table.specs.Controls.Laws.{IsUnderHash}
+use Rattle.rkyv_table.specs.Table.FirstItem.{AnswersFirst, AreUnder, IsFirstOf, TellsOf, first_of}
+use Rattle.rkyv_table.specs.Table.Reading.{home_positions, pos_found}
+use Rattle.rkyv_table.specs.Table.TableFormat.{TableStands}
+use Rattle.rkyv_table.specs.Table.Taking.{hashes_of, items_of}
+use Rattle.rkyv_table.specs.Table.WrittenTables.{IsWrittenOf}
+use Rattle.rkyv_table.proofs.FirstFound.{first_found}
+use Rattle.rkyv_table.proofs.WrittenTables.{home_count, table_written}
+
+-- the first position that is told is that of the first item that is accepted
+first_along : {X : Type 0} (stands : List ℕ → ℕ → X → Type 0) (c : List ℕ) (accept : X → Bool) (told : ℕ → Bool) (items : List X) (qs : List ℕ)
+    → length items ≡ length qs → ((i : ℕ) (x : X) → slice_get items i ≡ Some x → stands c (slice_index qs i) x)
+    → TellsOf stands c accept items told → IsFirstOf stands c accept items (find told qs)
+first_along stands c accept told [] [] n there tells = refl
+first_along stands c accept told [] (q ∷ qs) n there tells = absurd (omega arith)
+first_along stands c accept told (x ∷ xs) [] n there tells = absurd (omega arith)
+first_along stands c accept told (x ∷ xs) (q ∷ qs) k there tells =
+    let here = there 0 x refl in
+    let same : told q ≡ accept x = tells 0 q x refl here in
+    elim (cases_Bool (told q)) [
+      | inl y ↦ rw (y, sym same ∙ y) (x, refl, here)
+      | inr n ↦ rw (n, sym same ∙ n) (first_along stands c accept told xs qs (omega (arith, k)) (λ i y e. there (suc i) y e) (λ i p y e st. tells (suc i) p y e st))
+    ]
+
+module _ {X : Type 0} (w : Width) (size : ℕ) (stands : List ℕ → ℕ → X → Type 0) (c : List ℕ) (p hash : ℕ) (pairs : List (ℕ × X)) (written : IsWrittenOf w size stands c p pairs)
+    (accept : X → Bool) (told : ℕ → Bool) (under : AreUnder hash accept pairs) (tells : TellsOf stands c accept (items_of pairs) told) where
+  abbrev places : List ℕ
+  places = home_positions w size c p written.homes
+
+  hashes_count : length (hashes_of pairs) ≡ length pairs
+  hashes_count = length-map pairs (λ (y : ℕ × X). y.0)
+
+  places_count : length (items_of pairs) ≡ length places
+  places_count = length-map pairs (λ (y : ℕ × X). y.1) ∙ sym hashes_count ∙ sym (home_count w c p (hashes_of pairs) written.homes written.written) ∙ sym (length-map written.homes _)
+
+  -- only positions of items under the hash are told
+  pub told_under : IsUnderHash hash (hashes_of pairs) places told
+  told_under i below t = elim (slice_get_cases pairs i).1 [
+    | inl e ↦
+        let pair = e.0 in
+        let item : slice_get (items_of pairs) i ≡ Some pair.1 = slice_get-map (λ (y : ℕ × X). y.1) pairs i ∙ ap (option_map (λ (y : ℕ × X). y.1)) e.2 in
+        let same = tells i (slice_index places i) pair.1 item (written.at i pair.1 item) in
+        let own : pair.0 ≡ hash = subst (λ (y : ℕ × X). accept y.1 ≡ true → y.0 ≡ hash) e.3 (under i pair e.1) (sym same ∙ t) in
+        get_or-map (λ (y : ℕ × X). y.0) pairs i pair 0 e.1 ∙ ap (λ (y : ℕ × X). y.0) e.3 ∙ own
+    | inr past ↦ absurd (omega (arith, past.0, below, hashes_count))
+  ]
+
+  -- what is found first among the positions
+  pub first_at_home : IsFirstOf stands c accept (items_of pairs) (find told places)
+  first_at_home = first_along stands c accept told (items_of pairs) places places_count written.at tells
+
+-- on a written table a lookup answers the first accepted item of the list
+pub answers_first : {X : Type 0} (w : Width) (s : Shape) (stands : List ℕ → ℕ → X → Type 0) (factor : ℕ × ℕ) → AnswersFirst w s stands factor
+answers_first w s stands factor kind c p hash pairs accept told law fits t under tells =
+    let written = table_written w s stands factor c p pairs t in
+    subst (IsFirstOf stands c accept (items_of pairs))
+    (sym (first_found kind law w s.size c p hash fits (hashes_of pairs) written.homes told written.written (told_under w s.size stands c p hash pairs written accept told under tells)))
+    (first_at_home w s.size stands c p hash pairs written accept told under tells)

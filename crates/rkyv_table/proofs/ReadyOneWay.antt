@@ -1,0 +1,90 @@
+-- The ready elements are written in one way alone.
+use Rattle.std.proofs.Common.{◌≡◌, ℕ, ◌+◌, ◌-◌, ◌<◌, ◌≤◌, ◌∙◌, inl, inr, refl, sym, ap, subst, arith, List, ◌++◌, length, pos}
+use Rattle.std.specs.Int.{Width}
+use Rattle.std.specs.Prelude.{◌-ℤ◌}
+use Rattle.rkyv_base.specs.declared.pairs.EntryResolver.{EntryResolver}
+use Rattle.rkyv_base.specs.declared.strings.TextResolver.{TextResolver}
+use Rattle.rkyv_base.specs.Empty.{unit_format}
+use Rattle.rkyv_base.specs.Entry.{IsSmall, value_offset, whole_size}
+use Rattle.rkyv_base.specs.Format.{Format}
+use Rattle.rkyv_base.specs.Pairs.{PairImage, PairParts, pair_bytes, pair_format, written_as}
+use Rattle.rkyv_base.specs.Scalar.{Encoding, scalar_format}
+use Rattle.rkyv_base.specs.Shape.{Shape}
+use Rattle.rkyv_base.specs.Text.{IsArchiveWord, by_archive_word, text_size}
+use Rattle.rkyv_base.specs.TextWriting.{IsShort, TextImage, TextParts, far_bytes, text_format, text_limit}
+use Rattle.rkyv_table.specs.Table.OneWay.{WritesOneWay}
+
+pub scalars_one_way : {V : Type 0} (e : Encoding V) → WritesOneWay (scalar_format e)
+scalars_one_way e = record {
+  parts = λ v p part part' r r' h h'. (h ∙ sym h', refl);
+  image = λ v begin p part out out' r t h h'. h.bytes ∙ sym h'.bytes;
+}
+
+pub units_one_way : WritesOneWay unit_format
+units_one_way = record {
+  parts = λ v p part part' r r' h h'. (h ∙ sym h', refl);
+  image = λ v begin p part out out' r t h h'. h ∙ sym h';
+}
+
+pub seen_one_way : {X V R : Type 0} (seen : X → V) (f : Format V R) → WritesOneWay f → WritesOneWay (written_as seen f)
+seen_one_way seen f one = record { parts = λ x. one.parts (seen x); image = λ x. one.image (seen x) }
+
+module _ (w : Width) (kind : IsArchiveWord w) (t : List ℕ) where
+  limit_above : text_size w < text_limit w
+  limit_above = by_archive_word (λ v. text_size v < text_limit v) (omega arith) (omega arith) w kind
+
+  text_parts : (p : ℕ) (part part' : List ℕ) (r r' : TextResolver) → TextParts w t p part r → TextParts w t p part' r' → (part ≡ part') × (r.pos ≡ r'.pos)
+  text_parts p part part' r r' (u, inl h) (u', inl h') = (h.1 ∙ sym h'.1, h.2 ∙ sym h'.2)
+  text_parts p part part' r r' (u, inl h) (u', inr h') = absurd (omega (arith, h.0, h'.0.0))
+  text_parts p part part' r r' (u, inr h) (u', inl h') = absurd (omega (arith, h'.0, h.0.0))
+  text_parts p part part' r r' (u, inr h) (u', inr h') = (h.1 ∙ sym h'.1, h.2 ∙ sym h'.2)
+
+  -- what was serialized isn't too long
+  below_limit : (begin : ℕ) (part : List ℕ) (r : TextResolver) → TextParts w t begin part r → length t < text_limit w
+  below_limit begin part r (u, inl h) = omega (arith, h.0, limit_above)
+  below_limit begin part r (u, inr h) = h.0.1
+
+  text_image : (p : ℕ) (out out' : List ℕ) (r : TextResolver) → length t < text_limit w → TextImage w t r p out → TextImage w t r p out' → out ≡ out'
+  text_image p out out' r below (inl h) (inl h') = h.1 ∙ sym h'.1
+  text_image p out out' r below (inl h) (inr (inl h')) = absurd (omega (arith, h.0, h'.0.0))
+  text_image p out out' r below (inl h) (inr (inr h')) = absurd (omega (arith, below, h'.0))
+  text_image p out out' r below (inr (inl h)) (inl h') = absurd (omega (arith, h'.0, h.0.0))
+  text_image p out out' r below (inr (inl h)) (inr (inl h')) = h.2 ∙ sym h'.2
+  text_image p out out' r below (inr (inl h)) (inr (inr h')) = absurd (omega (arith, below, h'.0))
+  text_image p out out' r below (inr (inr h)) h' = absurd (omega (arith, below, h.0))
+
+pub texts_one_way : (w : Width) → IsArchiveWord w → WritesOneWay (text_format w)
+texts_one_way w kind = record {
+  parts = λ t p part part' r r' h h'.
+      let same = text_parts w kind t p part part' r r' h h' in
+      let e : r ≡ r' = ap (λ n. let k : TextResolver = record { pos = n } in k) same.1 in
+      (same.0, e);
+  image = λ t begin p part out out' r made h h'. text_image w kind t p out out' r (below_limit w kind t begin part r made) h h';
+}
+
+module _ {V W R Q : Type 0} (k v : Shape) (kf : Format V R) (vf : Format W Q) (ko : WritesOneWay kf) (vo : WritesOneWay vf) where
+  pair_parts : (pair : V × W) (p : ℕ) (part part' : List ℕ) (r r' : EntryResolver R Q) → PairParts k v kf vf pair p part r → PairParts k v kf vf pair p part' r'
+      → (part ≡ part') × (r ≡ r')
+  pair_parts pair p part part' r r' h h' =
+      let key = ko.parts pair.0 p h.1 h'.1 r.key r'.key h.3 h'.3 in
+      let there = subst (λ (a : List ℕ). vf.parts pair.1 (p + length a) h'.2 r'.value) (sym key.0) h'.4 in
+      let value = vo.parts pair.1 (p + length h.1) h.2 h'.2 r.value r'.value h.4 there in
+      let one : r ≡ record r { key = r'.key } = ap (λ n. record r { key = n }) key.1 in
+      let two : record r { key = r'.key } ≡ r' = ap (λ n. record r { key = r'.key; value = n }) value.1 in (
+        h.5 ∙ ap (λ (a : List ℕ). a ++ h.2) key.0 ∙ ap (λ (b : List ℕ). h'.1 ++ b) value.0 ∙ sym h'.5,
+        one ∙ two,
+      )
+
+  pair_image : (pair : V × W) (begin p : ℕ) (part out out' : List ℕ) (r : EntryResolver R Q) → PairParts k v kf vf pair begin part r
+      → PairImage k v kf vf pair r p out → PairImage k v kf vf pair r p out' → out ≡ out'
+  pair_image pair begin p part out out' r t (inl h) h' = absurd (omega (arith, h.0, t.0))
+  pair_image pair begin p part out out' r t (inr h) (inl h') = absurd (omega (arith, h'.0, t.0))
+  pair_image pair begin p part out out' r t (inr h) (inr h') =
+      let off = value_offset k v in
+      let whole = whole_size k v in
+      let key = ko.image pair.0 begin p t.1 h.1 h'.1 r.key t.3 h.3 h'.3 in
+      let value = vo.image pair.1 (begin + length t.1) (p + off) t.2 h.2 h'.2 r.value t.4 h.4 h'.4 in
+      h.5 ∙ ap (λ (a : List ℕ). pair_bytes off whole a h.2) key ∙ ap (λ (b : List ℕ). pair_bytes off whole h'.1 b) value ∙ sym h'.5
+
+  pub pairs_one_way : WritesOneWay (pair_format k v kf vf)
+  pairs_one_way = record { parts = pair_parts; image = pair_image }

@@ -1,0 +1,61 @@
+-- A table in bare bytes: what is asked of it, and what a lookup in it answers.
+use Rattle.std.specs.Prelude.{◌≡◌, ℕ, Bool, true, List, Option, None, Some, IfSome, MatchOption}
+use Rattle.std.specs.Int.{Width}
+use Rattle.std.specs.List.{find}
+use Rattle.rkyv_base.specs.Shape.{Shape, Viewed}
+use Rattle.rkyv_base.specs.declared.view.View.{View}
+use Rattle.rkyv_scan.specs.Groups.{Kind}
+use Rattle.rkyv_table.specs.Controls.Laws.{IsUnderHash}
+use Rattle.rkyv_table.specs.Table.Reading.{IsWalked, WrittenAt, home_positions, item_at, lookup_end}
+use Rattle.rkyv_table.specs.Table.Reading.{pos_found}
+
+-- the view is that of an item of the table whose header stands at p in b
+pub record IsItemOf {T : Type 0} (w : Width) (s : Shape) (b : List ℕ) (p : ℕ)
+    (v : View T) : Type 0 where
+  pub archive : v.archive.now ≡ b
+  pub bucket : ℕ
+  pub walked : IsWalked w b p bucket
+  pub place : v.pos ≡ item_at w s.size b p bucket
+  pub viewed : Viewed s b v.pos
+
+-- the comparison may be asked of each item
+abbrev pub MayAskOf : {T : Type 0} → (View T → Type 0) → Width → Shape → List ℕ → ℕ → Type 0
+MayAskOf {T} pre w s b p = (v : View T) → IsItemOf w s b p v → pre v
+
+-- of each item the comparison answers what accept tells of its position
+abbrev pub AnswersOf : {T : Type 0} → (View T → Bool → Type 0) → Width → Shape → List ℕ → ℕ
+    → (ℕ → Bool) → Type 0
+AnswersOf {T} post w s b p accept =
+    (v : View T) (r : Bool) → IsItemOf w s b p v → post v r → r ≡ accept v.pos
+
+-- at position q an item stands of which the comparison answered true
+abbrev pub AcceptedOf : {T : Type 0} → (View T → Bool → Type 0) → Width → Shape → List ℕ → ℕ
+    → ℕ → Type 0
+AcceptedOf {T} post w s b p q = (v : View T) × IsItemOf w s b p v × (v.pos ≡ q) × post v true
+
+-- What a lookup under the hash answers: none, or an item of which the comparison answered true;
+-- where a function of positions tells what it answers, what is found; and on a table that was
+-- written, where only items under the hash are accepted, the first of them.
+pub record LooksUp {T : Type 0} (post : View T → Bool → Type 0) (kind : Kind) (w : Width)
+    (s : Shape) (b : List ℕ) (p hash : ℕ) (found : Option ℕ) : Type 0 where
+  pub accepted : IfSome found (AcceptedOf post w s b p)
+  pub answer : (accept : ℕ → Bool) → AnswersOf post w s b p accept
+      → found ≡ pos_found kind w s.size b p hash accept
+  pub first : (hashes homes : List ℕ) (accept : ℕ → Bool) → WrittenAt w b p hashes homes
+      → AnswersOf post w s b p accept
+      → IsUnderHash hash hashes (home_positions w s.size b p homes) accept
+      → found ≡ find accept (home_positions w s.size b p homes)
+
+-- where a function of positions tells what the comparison answers, so many strides are read
+abbrev pub ReadsExactly : {T : Type 0} → (View T → Bool → Type 0) → Kind → Width → Shape → List ℕ
+    → ℕ → ℕ → ℕ → Type 0
+ReadsExactly post kind w s b p hash count =
+    (accept : ℕ → Bool) → AnswersOf post w s b p accept
+    → count ≡ lookup_end kind w s.size b p hash accept
+
+-- what was found was lent to a writer, which made c of b; where none was found, c is b
+abbrev pub WritesFound : {R : Type 0} → (R → List ℕ → ℕ → List ℕ → Type 0) → List ℕ → Option ℕ
+    → Option R → List ℕ → Type 0
+WritesFound {R} Writes b found result c =
+    MatchOption found ((result ≡ None) × (c ≡ b))
+    (λ q. (r : R) × (result ≡ Some r) × Writes r b q c)

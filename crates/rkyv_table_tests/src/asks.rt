@@ -1,0 +1,242 @@
+//! How often the iterators of items, of hashes and of pairs are asked.
+
+use rkyv_base::errors::{IteratorLengthMismatch, WriteError};
+use rkyv_base::width::{Narrow, Wide};
+use rkyv_base::writer::{NoMemory, VecWriter};
+use rkyv_scan::simd::generic;
+use rkyv_table::table::ArchivedHashTable;
+use rkyv_table::table::resolve::HashTableResolver;
+use std::alloc::Global;
+use std::cell::Cell;
+use std::iter;
+
+// Counts an ask of an iterator that gives so many items: whether it gives one more.
+fn gives(asks: &Cell<usize>, items: usize) -> bool {
+    let ask = asks.get();
+    asks.set(ask.wrapping_add(1));
+    ask < items
+}
+
+// What came of a call: written, refused for another number than was claimed, refused for want of
+// memory before a byte was written, or anything else.
+#[derive(Clone, Copy, Debug, PartialEq, Eq)]
+enum Answer {
+    Written,
+    Mismatch(usize, usize),
+    Memory,
+    Other,
+}
+
+fn answer_of(
+    answer: Result<HashTableResolver, WriteError<NoMemory>>,
+    writer: &VecWriter,
+) -> Answer {
+    let clean = writer.bytes().is_empty();
+    match answer {
+        Ok(_) => Answer::Written,
+        Err(WriteError::IteratorLengthMismatch(IteratorLengthMismatch { expected, actual }))
+            if clean => { Answer::Mismatch(expected, actual) }
+        Err(WriteError::Memory) if clean => Answer::Memory,
+        Err(_) => Answer::Other,
+    }
+}
+
+// Writes a table of so many items and so many hashes under a claimed length: the answer, and how
+// often each iterator was asked.
+fn asks_of_both(alloc: Global, items: usize, hashes: usize, len: usize) -> (Answer, usize, usize) {
+    let (of_items, of_hashes) = (Cell::new(0usize), Cell::new(0usize));
+    let mut writer = VecWriter::new(alloc);
+    let answer = ArchivedHashTable::<u8, Narrow>::serialize_from_iter::<VecWriter, u8, u8, _, _>(
+        alloc,
+        iter::from_fn(|| if gives(&of_items, items) {
+            Some(7u8)
+        } else {
+            None
+        }),
+        iter::from_fn(|| if gives(&of_hashes, hashes) {
+            Some(0u64)
+        } else {
+            None
+        }),
+        len,
+        (7, 8),
+        &mut writer,
+    );
+    (answer_of(answer, &writer), of_items.get(), of_hashes.get())
+}
+
+// The same of pairs of hash and item.
+fn asks_of_pairs(alloc: Global, pairs: usize, len: usize) -> (Answer, usize) {
+    let asks = Cell::new(0usize);
+    let mut writer = VecWriter::new(alloc);
+    let answer = ArchivedHashTable::<u8, Narrow>::serialize_by::<
+        generic::Group,
+        VecWriter,
+        u8,
+        u8,
+        _,
+    >(
+        alloc,
+        iter::from_fn(|| if gives(&asks, pairs) {
+            Some((0u64, 7u8))
+        } else {
+            None
+        }),
+        len,
+        (7, 8),
+        &mut writer,
+    );
+    (answer_of(answer, &writer), asks.get())
+}
+
+// How many came, counted up to one more than was claimed.
+fn counted(items: usize, len: usize) -> usize {
+    if items <= len {
+        items
+    } else {
+        len.saturating_add(1)
+    }
+}
+
+// How often an iterator may be asked at most: once more than was claimed, and never after its end.
+fn most_asks(items: usize, len: usize) -> usize {
+    if items < len {
+        items.saturating_add(1)
+    } else {
+        len.saturating_add(1)
+    }
+}
+
+// Whether a table of these numbers is answered as it should be, and no iterator is asked too often.
+fn is_right_of_both(alloc: Global, items: usize, hashes: usize, len: usize) -> bool {
+    let (answer, of_items, of_hashes) = asks_of_both(alloc, items, hashes, len);
+    let (came, marked) = (counted(items, len), counted(hashes, len));
+    let wanted = if came != len {
+        Answer::Mismatch(len, came)
+    } else if marked != len {
+        Answer::Mismatch(len, marked)
+    } else {
+        Answer::Written
+    };
+    answer == wanted && of_items <= most_asks(items, len) && of_hashes <= most_asks(hashes, len)
+}
+
+fn is_right_of_pairs(alloc: Global, pairs: usize, len: usize) -> bool {
+    let (answer, asks) = asks_of_pairs(alloc, pairs, len);
+    let came = counted(pairs, len);
+    let wanted = if came != len {
+        Answer::Mismatch(len, came)
+    } else {
+        Answer::Written
+    };
+    answer == wanted && asks <= most_asks(pairs, len)
+}
+
+// How many of the tables of up to five items and five hashes, claimed to be up to three, are right.
+fn right_of_both(alloc: Global) -> usize {
+    let mut right = 0usize;
+    for len in 0..4 {
+        for items in 0..6 {
+            for hashes in 0..6 {
+                if is_right_of_both(alloc, items, hashes, len) {
+                    right = right.wrapping_add(1);
+                }
+            }
+        }
+    }
+    right
+}
+
+fn right_of_pairs(alloc: Global) -> usize {
+    let mut right = 0usize;
+    for len in 0..4 {
+        for pairs in 0..6 {
+            if is_right_of_pairs(alloc, pairs, len) {
+                right = right.wrapping_add(1);
+            }
+        }
+    }
+    right
+}
+
+#[test]
+fn iterators_are_asked_once_more_than_is_claimed_at_most(rt: HostRuntime) {
+    let right = (right_of_both(rt.alloc()), right_of_pairs(rt.alloc()));
+    assert_eq!(rt; right, (4 * 6 * 6, 4 * 6));
+}
+
+#[test]
+fn an_end_or_a_surplus_is_the_last_answer(rt: HostRuntime) {
+    let (all, alloc) = (usize::MAX, rt.alloc());
+    let both = [
+        asks_of_both(alloc, all, all, 2),
+        asks_of_both(alloc, 2, all, 5),
+        asks_of_both(alloc, all, all, 0),
+        asks_of_both(alloc, 0, 0, 0),
+    ];
+    let pairs = [
+        asks_of_pairs(alloc, all, 2),
+        asks_of_pairs(alloc, 2, 5),
+        asks_of_pairs(alloc, all, 0),
+        asks_of_pairs(alloc, 0, 0),
+    ];
+    let answers = [
+        Answer::Mismatch(2, 3),
+        Answer::Mismatch(5, 2),
+        Answer::Mismatch(0, 1),
+        Answer::Written,
+    ];
+    let of_both = [both[0].0, both[1].0, both[2].0, both[3].0];
+    let of_pairs = [pairs[0].0, pairs[1].0, pairs[2].0, pairs[3].0];
+    let items_asked = [both[0].1, both[1].1, both[2].1, both[3].1];
+    let pairs_asked = [pairs[0].1, pairs[1].1, pairs[2].1, pairs[3].1];
+    assert_eq!(rt;
+        (of_both, of_pairs, items_asked, pairs_asked),
+        (answers, answers, [3, 3, 1, 1], [3, 3, 1, 1])
+    );
+}
+
+// Where a growth is refused, no item was taken and nothing was written. A run in which the N-th
+// growth is refused shows it for each of them.
+#[test]
+fn no_item_is_taken_before_the_growths(rt: HostRuntime) {
+    let (both, of_items, of_hashes) = asks_of_both(rt.alloc(), 2, 2, 2);
+    let right = match both {
+        Answer::Written => of_items == 3 && of_hashes == 3,
+        Answer::Memory => of_items == 0 && of_hashes == 0,
+        Answer::Mismatch(_, _) => false,
+        // the writer's own growth
+        Answer::Other => of_items == 3 && of_hashes == 3,
+    };
+    let (answer, asks) = asks_of_pairs(rt.alloc(), 2, 2);
+    let right_of_pairs = match answer {
+        Answer::Written => asks == 3,
+        Answer::Memory => asks == 0,
+        Answer::Mismatch(_, _) => false,
+        Answer::Other => asks == 3,
+    };
+    assert_eq!(rt; (right, right_of_pairs), (true, true));
+}
+
+// So many slots are more bytes than an address can tell.
+#[test]
+fn room_that_no_memory_has_is_refused(rt: HostRuntime) {
+    let mut writer = VecWriter::new(rt.alloc());
+    let calls = Cell::new(0usize);
+    let items = iter::repeat_with(|| {
+        calls.set(calls.get().wrapping_add(1));
+        7u64
+    });
+    let refused = matches!(
+        ArchivedHashTable::<u64, Wide>::serialize_from_iter::<VecWriter, u64, u64, _, _>(
+            rt.alloc(),
+            items,
+            iter::repeat(0u64),
+            4_000_000_000_000_000_000,
+            (1, 1),
+            &mut writer,
+        ),
+        Err(WriteError::Memory)
+    );
+    assert_eq!(rt; (refused, calls.get(), writer.bytes().len()), (true, 0, 0));
+}
