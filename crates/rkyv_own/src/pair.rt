@@ -1,0 +1,111 @@
+//! Types that are archived as the pair of their parts, which they lend.
+
+ghost use Rattle.std.specs.Prelude.{◌≡◌};
+ghost use Rattle.rkyv_base.specs.Entry.{entry_shape};
+ghost use Rattle.rkyv_base.specs.Pairs.{
+  PairStands,
+  pair_format,
+  pair_is_format,
+  pair_near,
+  written_as,
+  written_as-format,
+};
+
+use rkyv_base::adapter::EntryAdapter;
+use rkyv_base::archive::{Archive, Serialize};
+use rkyv_base::element::StandsFor;
+use rkyv_base::entry::Entry;
+use rkyv_base::errors::{DistanceTooLarge, WriteError};
+use rkyv_base::pairs::EntryResolver;
+use rkyv_base::width::Width;
+use rkyv_base::writer::Writer;
+use std::alloc::Global;
+
+/// A type that is seen as a pair of parts, which it lends.
+pub trait AsPair {
+    type First;
+
+    type Second;
+
+    // Its parts.
+    ghost pair: { Self → Self.First × Self.Second };
+
+    /// The first part.
+    fn first(&self) -> &Self::First
+        ensures { result.now ≡ (pair self.now).0 };
+
+    /// The second part.
+    fn second(&self) -> &Self::Second
+        ensures { result.now ≡ (pair self.now).1 };
+}
+
+/// A type that is made again of its parts, to be read back.
+pub trait FromPair: AsPair {
+    /// The value of these parts.
+    fn from_pair(first: Self::First, second: Self::Second) -> Self
+        ensures { Self.pair result ≡ (first, second) };
+}
+
+/// A value that is archived, hashed and compared as the pair of its parts.
+#[derive(Clone, Copy, Debug, Drop)]
+pub struct Seen<T>(pub T);
+
+impl<T: AsPair, K: StandsFor<T::First>, V: StandsFor<T::Second>> StandsFor<Seen<T>>
+    for Entry<K, V> {
+    ghost stands = { λ b p x. PairStands K.shape V.shape K.stands V.stands b p (T.pair x.0) };
+
+    ghost near = { λ x.
+        pair_near K.shape V.shape K.laws V.laws K.stands V.stands K.near V.near (T.pair x.0) };
+}
+
+impl<W: Width, A: Archive<W>, B: Archive<W>, T: AsPair<First = A, Second = B>> Archive<W>
+    for Seen<T> {
+    type Archived = Entry<A::Archived, B::Archived>;
+
+    type Resolver = EntryResolver<A::Resolver, B::Resolver>;
+
+    ghost format = { written_as (λ x. T.pair x.0)
+        (pair_format A.Archived.shape B.Archived.shape A.format B.format) };
+
+    #[inline]
+    fn resolve(
+        &self,
+        resolver: EntryResolver<A::Resolver, B::Resolver>,
+        pos: u64,
+        out: &mut [u8],
+    ) -> Result<(), DistanceTooLarge> {
+        let adapter: EntryAdapter<&A, &B, A, B> = EntryAdapter::new(
+            self.0.first(),
+            self.0.second(),
+        );
+        <EntryAdapter<&A, &B, A, B> as Archive<W>>::resolve(&adapter, resolver, pos, out)
+    }
+
+    ghost laws = { written_as-format (λ x. T.pair x.0)
+        (entry_shape A.Archived.shape B.Archived.shape)
+        (PairStands A.Archived.shape B.Archived.shape A.Archived.stands B.Archived.stands)
+        (pair_format A.Archived.shape B.Archived.shape A.format B.format)
+        (pair_is_format A.Archived.shape B.Archived.shape A.Archived.laws B.Archived.laws
+        A.Archived.stands B.Archived.stands A.format B.format A.laws B.laws) };
+}
+
+impl<
+    S: Writer,
+    W: Width,
+    A: Serialize<S, W>,
+    B: Serialize<S, W>,
+    T: AsPair<First = A, Second = B>,
+> Serialize<S, W> for Seen<T> {
+    #[inline]
+    fn serialize(
+        &self,
+        alloc: Global,
+        serializer: &mut S,
+    ) -> Result<EntryResolver<A::Resolver, B::Resolver>, WriteError<S::Fault>> {
+        let adapter: EntryAdapter<&A, &B, A, B> = EntryAdapter::new(
+            self.0.first(),
+            self.0.second(),
+        );
+        <EntryAdapter<&A, &B, A, B> as Serialize<S, W>>::serialize(&adapter, alloc, serializer)
+    }
+}

@@ -1,0 +1,104 @@
+//! Types that are archived as a tuple of copies of their parts.
+
+ghost use Rattle.std.specs.Prelude.{◌≡◌};
+ghost use Rattle.rkyv_base.specs.Entry.{entry_shape};
+ghost use Rattle.rkyv_base.specs.Pairs.{
+  PairStands,
+  pair_format,
+  pair_is_format,
+  pair_near,
+  written_as,
+  written_as-format,
+};
+
+use rkyv_base::archive::{Archive, Serialize};
+use rkyv_base::element::StandsFor;
+use rkyv_base::entry::Entry;
+use rkyv_base::errors::{DistanceTooLarge, WriteError};
+use rkyv_base::pairs::EntryResolver;
+use rkyv_base::width::Width;
+use rkyv_base::writer::Writer;
+use std::alloc::Global;
+
+/// A type that is seen as a tuple of copies of its parts: of three as `(A, (B, C))`.
+pub trait AsTuple {
+    type First;
+
+    type Second;
+
+    // Its parts.
+    ghost tuple: { Self → Self.First × Self.Second };
+
+    /// The parts.
+    fn tuple(&self) -> (Self::First, Self::Second)
+        ensures { result ≡ tuple self.now };
+}
+
+/// A type that is made again of its tuple, to be read back.
+pub trait FromTuple: AsTuple {
+    /// The value of these parts.
+    fn from_tuple(first: Self::First, second: Self::Second) -> Self
+        ensures { Self.tuple result ≡ (first, second) };
+}
+
+/// A value that is archived, hashed and compared as the tuple of its parts.
+#[derive(Clone, Copy, Debug, Drop)]
+pub struct Tupled<T>(pub T);
+
+impl<T: AsTuple, K: StandsFor<T::First>, V: StandsFor<T::Second>> StandsFor<Tupled<T>>
+    for Entry<K, V> {
+    ghost stands = { λ b p x. PairStands K.shape V.shape K.stands V.stands b p (T.tuple x.0) };
+
+    ghost near = { λ x.
+        pair_near K.shape V.shape K.laws V.laws K.stands V.stands K.near V.near (T.tuple x.0) };
+}
+
+impl<
+    W: Width,
+    A: Archive<W> + Drop,
+    B: Archive<W> + Drop,
+    T: AsTuple<First = A, Second = B>,
+> Archive<W> for Tupled<T> {
+    type Archived = Entry<A::Archived, B::Archived>;
+
+    type Resolver = EntryResolver<A::Resolver, B::Resolver>;
+
+    ghost format = { written_as (λ x. T.tuple x.0)
+        (pair_format A.Archived.shape B.Archived.shape A.format B.format) };
+
+    #[inline]
+    fn resolve(
+        &self,
+        resolver: EntryResolver<A::Resolver, B::Resolver>,
+        pos: u64,
+        out: &mut [u8],
+    ) -> Result<(), DistanceTooLarge> {
+        let tuple = self.0.tuple();
+        <(A, B) as Archive<W>>::resolve(&tuple, resolver, pos, out)
+    }
+
+    ghost laws = { written_as-format (λ x. T.tuple x.0)
+        (entry_shape A.Archived.shape B.Archived.shape)
+        (PairStands A.Archived.shape B.Archived.shape A.Archived.stands B.Archived.stands)
+        (pair_format A.Archived.shape B.Archived.shape A.format B.format)
+        (pair_is_format A.Archived.shape B.Archived.shape A.Archived.laws B.Archived.laws
+        A.Archived.stands B.Archived.stands A.format B.format A.laws B.laws) };
+}
+
+impl<
+    S: Writer,
+    W: Width,
+    A: Serialize<S, W> + Drop,
+    B: Serialize<S, W> + Drop,
+    T: AsTuple<First = A, Second = B>,
+> Serialize<S, W> for Tupled<T> {
+    #[inline]
+    fn serialize(
+        &self,
+        alloc: Global,
+        serializer: &mut S,
+    ) -> Result<EntryResolver<A::Resolver, B::Resolver>, WriteError<S::Fault>> {
+        let tuple = self.0.tuple();
+        <(A, B) as Serialize<S, W>>::serialize(&tuple, alloc, serializer)
+    }
+}

@@ -1,0 +1,139 @@
+//! Types that are seen as tuples, as keys.
+
+ghost use Rattle.std.specs.Prelude.{◌&&◌, ◌↔◌, ◌≡◌, IsTrue, MatchResult};
+ghost use Rattle.std.specs.Cmp.{and_equiv, and_per, on_equiv, on_per};
+ghost use Rattle.rkyv_base.specs.Entry.{entry_shape};
+ghost use Rattle.rkyv_base.specs.Pairs.{PairStands};
+ghost use Rattle.rkyv_base.specs.View.{IsView, StandsAt};
+ghost use Rattle.rkyv_keys.specs.Places.{at_view};
+ghost use Rattle.rkyv_keys.specs.OfEntries.{
+  BothRead,
+  entry_equals,
+  entry_fits,
+  entry_fits_its_equal,
+  entry_query,
+  entry_refuses,
+  pair_calls,
+};
+ghost use Rattle.rkyv_own.specs.Seeing.{query_seen};
+
+use crate::tuple::{AsTuple, FromTuple, Tupled};
+use rkyv_base::element::StandsFor;
+use rkyv_base::entry::Entry;
+use rkyv_base::errors::ReadError;
+use rkyv_base::view::View;
+use rkyv_keys::equality::MatchesNative;
+use rkyv_keys::hash::KeyHash;
+use rkyv_keys::keys::{KeyElement, NativeKey, Query};
+use rkyv_keys::reading::Deserialize;
+use rkyv_scan::hash::KeyHasher;
+use std::alloc::Global;
+
+impl<A: PartialEq + Drop, B: PartialEq + Drop, T: AsTuple<First = A, Second = B>> PartialEq
+    for Tupled<T> {
+    ghost eq = { λ x y.
+        A.eq (T.tuple x.0).0 (T.tuple y.0).0 && B.eq (T.tuple x.0).1 (T.tuple y.0).1 };
+
+    ghost laws = { and_per (on_per (λ x. (T.tuple x.0).0) A.laws)
+        (on_per (λ x. (T.tuple x.0).1) B.laws) };
+
+    #[inline]
+    fn eq(&self, other: &Tupled<T>) -> bool {
+        self.0.tuple() == other.0.tuple()
+    }
+}
+
+impl<A: Eq + Drop, B: Eq + Drop, T: AsTuple<First = A, Second = B>> Eq for Tupled<T> {
+    ghost laws = { and_equiv (on_equiv (λ x. (T.tuple x.0).0) A.Eq.laws)
+        (on_equiv (λ x. (T.tuple x.0).1) B.Eq.laws) };
+}
+
+impl<A: KeyHash + Drop, B: KeyHash + Drop, T: AsTuple<First = A, Second = B>> KeyHash
+    for Tupled<T> {
+    ghost calls = { λ x. pair_calls A.calls B.calls (T.tuple x.0) };
+
+    ghost can_read = { λ x. BothRead A.can_read B.can_read (T.tuple x.0) };
+
+    #[inline]
+    fn hash<H: KeyHasher>(&self, state: &mut H) {
+        self.0.tuple().hash(state);
+    }
+}
+
+impl<
+    K: KeyElement,
+    V: KeyElement,
+    A: Query<K> + Drop,
+    B: Query<V> + Drop,
+    T: AsTuple<First = A, Second = B>,
+> Query<Entry<K, V>> for Tupled<T> {
+    ghost fits = { λ x. entry_fits K.shape V.shape A.fits B.fits (T.tuple x.0) };
+
+    #[inline]
+    fn same(&self, key: View<'_, Entry<K, V>>) -> bool
+        requires query { BothRead A.can_read B.can_read (T.tuple self.now.0) }
+        requires key { IsView (entry_shape K.shape V.shape) key }
+        ensures { result
+            ≡ at_view (entry_fits K.shape V.shape A.fits B.fits (T.tuple self.now.0)) key.entry }
+    {
+        self.0.tuple().same(key)
+    }
+
+    ghost query = { query_seen (λ x. T.tuple x.0) (entry_query K.laws V.laws A.query B.query) };
+}
+
+impl<
+    K: KeyElement + StandsFor<A>,
+    V: KeyElement + StandsFor<B>,
+    A: NativeKey<K> + Drop,
+    B: NativeKey<V> + Drop,
+    T: AsTuple<First = A, Second = B>,
+> NativeKey<Entry<K, V>> for Tupled<T> {
+    ghost native = { λ x y. entry_fits_its_equal K.laws V.laws K.stands V.stands A.eq B.eq
+        A.fits B.fits A.native B.native (T.tuple x.0) (T.tuple y.0) };
+
+    ghost reads = { λ x. (A.reads (T.tuple x.0).0, B.reads (T.tuple x.0).1) };
+}
+
+impl<
+    A: Drop,
+    B: Drop,
+    T: AsTuple<First = A, Second = B>,
+    K: MatchesNative<A>,
+    V: MatchesNative<B>,
+> MatchesNative<Tupled<T>> for Entry<K, V> {
+    ghost equals = { λ b p x. entry_equals K.shape V.shape K.equals V.equals b p (T.tuple x.0) };
+
+    #[inline]
+    fn eq_native(view: View<'_, Entry<K, V>>, value: &Tupled<T>) -> bool
+        requires { IsView (entry_shape K.shape V.shape) view }
+        ensures { IsTrue result ↔ StandsAt
+            (λ b p x. entry_equals K.shape V.shape K.equals V.equals b p (T.tuple x.0))
+            view.entry value.now }
+    {
+        Entry::<K, V>::eq_native(view, &value.0.tuple())
+    }
+}
+
+impl<
+    A: Drop,
+    B,
+    T: FromTuple<First = A, Second = B>,
+    K: Deserialize<A>,
+    V: Deserialize<B>,
+> Deserialize<Tupled<T>> for Entry<K, V> {
+    ghost refuses = { entry_refuses K.shape V.shape K.refuses V.refuses };
+
+    #[inline]
+    fn deserialize(alloc: Global, view: View<'_, Entry<K, V>>) -> Result<Tupled<T>, ReadError>
+        requires { IsView (entry_shape K.shape V.shape) view }
+        ensures { MatchResult result
+            (StandsAt (λ b p x. PairStands K.shape V.shape K.stands V.stands b p (T.tuple x.0))
+            view.entry)
+            (StandsAt (entry_refuses K.shape V.shape K.refuses V.refuses) view.entry) }
+    {
+        let first = K::deserialize(alloc, view.key())?;
+        let second = V::deserialize(alloc, view.value())?;
+        Ok(Tupled(T::from_tuple(first, second)))
+    }
+}

@@ -1,0 +1,3 @@
+pub mod Color
+pub mod Spot
+pub mod SpotKeys

@@ -1,0 +1,61 @@
+-- Spots as keys.
+use Rattle.std.specs.Prelude.{ℕ, Bool, ◌&&◌, List}
+use Rattle.std.specs.Cmp.{signed_Decides}
+use Rattle.std.specs.Int.{w32}
+use Rattle.std.specs.Ordering.{int_eq}
+use Rattle.rkyv_scan.specs.Hash.{HasherCall, I32}
+use Rattle.rkyv_base.specs.Numbers.{signed}
+use Rattle.rkyv_base.specs.Scalar.{ScalarStands}
+use Rattle.rkyv_keys.specs.Equality.{Comparison, IsEquivalence}
+use Rattle.rkyv_keys.specs.Keys.{FitsItsEqual, IsKey, IsQuery, ReadsAnywhere}
+use Rattle.rkyv_keys.specs.OfEntries.{entry_calls, entry_equivalence, entry_fits}
+use Rattle.rkyv_keys.specs.OfEntries.{entry_fits_its_equal, entry_key, entry_query, entry_same}
+use Rattle.rkyv_keys.specs.OfEntries.{pair_calls}
+use Rattle.rkyv_keys.specs.OfScalars.{one_call, scalar_calls, scalar_equivalence, scalar_fits}
+use Rattle.rkyv_keys.specs.OfScalars.{scalar_fits_its_equal, scalar_key, scalar_query, scalar_same}
+use Rattle.rkyv_own_tests.specs.declared.spot.Spot.{Spot}
+use Rattle.rkyv_own_tests.specs.Spot.{SpotStands, as_pair, int_element, int_shape, int_word}
+use Rattle.rkyv_own_tests.specs.Spot.{spot_shape}
+
+abbrev pub spot_same : Comparison
+spot_same = entry_same int_shape int_shape (scalar_same (signed w32) int_eq) (scalar_same (signed
+    w32) int_eq)
+
+pub spot_equivalence : IsEquivalence spot_shape spot_same
+spot_equivalence = entry_equivalence int_element int_element (scalar_equivalence (signed w32)
+    int_eq signed_Decides) (scalar_equivalence (signed w32) int_eq signed_Decides)
+
+-- the calls of the spot at a place, and of a spot
+abbrev pub spot_key_calls : List ℕ → ℕ → List HasherCall
+spot_key_calls = entry_calls int_shape int_shape (scalar_calls (signed w32) I32) (scalar_calls
+    (signed w32) I32)
+
+abbrev pub spot_calls : Spot → List HasherCall
+spot_calls spot = pair_calls (one_call I32) (one_call I32) (as_pair spot)
+
+pub spot_key : IsKey spot_shape spot_same spot_key_calls
+spot_key = entry_key int_element int_element (scalar_key (signed w32) int_eq signed_Decides I32
+    int_word) (scalar_key (signed w32) int_eq signed_Decides I32 int_word)
+
+abbrev pub spot_fits : Spot → List ℕ → ℕ → Bool
+spot_fits spot = entry_fits int_shape int_shape (scalar_fits (signed w32) int_eq) (scalar_fits
+    (signed w32) int_eq) (as_pair spot)
+
+pub spot_query : IsQuery spot_shape spot_same spot_key_calls ReadsAnywhere spot_calls spot_fits
+spot_query =
+    let q = entry_query int_element int_element (scalar_query (signed w32) int_eq signed_Decides
+    I32) (scalar_query (signed w32) int_eq signed_Decides I32) in
+    record {
+      alike = λ spot b p r h f. q.alike (as_pair spot) b p (tt, tt) h f;
+      class = λ spot b c p r can h g f. q.class (as_pair spot) b c p r (tt, tt) h g f;
+    }
+
+abbrev pub spot_eq : Spot → Spot → Bool
+spot_eq a b = int_eq a.x b.x && int_eq a.y b.y
+
+pub spot_fits_its_equal : FitsItsEqual spot_shape SpotStands spot_eq spot_fits
+spot_fits_its_equal a b bytes p h st =
+    entry_fits_its_equal int_element int_element (ScalarStands (signed w32)) (ScalarStands (signed
+    w32)) int_eq int_eq (scalar_fits (signed w32) int_eq) (scalar_fits (signed w32) int_eq)
+    (scalar_fits_its_equal (signed w32) int_eq) (scalar_fits_its_equal (signed w32) int_eq)
+    (as_pair a) (as_pair b) bytes p h st

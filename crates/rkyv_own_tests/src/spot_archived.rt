@@ -1,0 +1,100 @@
+//! How spots are archived.
+ghost use Rattle.std.specs.Prelude.{◌≡◌};
+ghost use Rattle.rkyv_base.specs.View.{IsView, StandsAt};
+ghost use Rattle.rkyv_own_tests.specs.Spot.{
+  SpotStands,
+  int_shape,
+  spot_element,
+  spot_format,
+  spot_is_format,
+  spot_near,
+  spot_shape,
+};
+
+use crate::spot::Spot;
+use rkyv_base::archive::{Archive, Serialize};
+use rkyv_base::element::{Element, PartRange, StandsFor};
+use rkyv_base::entry::Entry;
+use rkyv_base::errors::{DistanceTooLarge, VerifyError, WriteError};
+use rkyv_base::pairs::EntryResolver;
+use rkyv_base::view::View;
+use rkyv_base::width::Width;
+use rkyv_base::writer::Writer;
+use std::alloc::Global;
+
+/// A spot in an archive.
+pub struct ArchivedSpot;
+
+impl Element for ArchivedSpot {
+    ghost shape = { spot_shape };
+
+    fn size() -> usize {
+        Entry::<i32, i32>::size()
+    }
+
+    fn align() -> usize {
+        Entry::<i32, i32>::align()
+    }
+
+    fn check(bytes: &[u8], pos: u64, range: PartRange) -> Result<PartRange, VerifyError> {
+        Entry::<i32, i32>::check(bytes, pos, range)
+    }
+
+    ghost laws = { spot_element };
+}
+
+impl StandsFor<Spot> for ArchivedSpot {
+    ghost stands = { SpotStands };
+
+    ghost near = { spot_near };
+}
+
+impl<W: Width> Archive<W> for Spot {
+    type Archived = ArchivedSpot;
+
+    type Resolver = EntryResolver<(), ()>;
+
+    ghost format = { spot_format };
+
+    fn resolve(
+        &self,
+        resolver: EntryResolver<(), ()>,
+        pos: u64,
+        out: &mut [u8],
+    ) -> Result<(), DistanceTooLarge> {
+        let pair = (self.x, self.y);
+        <(i32, i32) as Archive<W>>::resolve(&pair, resolver, pos, out)
+    }
+
+    ghost laws = { spot_is_format };
+}
+
+impl<S: Writer, W: Width> Serialize<S, W> for Spot {
+    fn serialize(
+        &self,
+        alloc: Global,
+        serializer: &mut S,
+    ) -> Result<EntryResolver<(), ()>, WriteError<S::Fault>> {
+        let pair = (self.x, self.y);
+        <(i32, i32) as Serialize<S, W>>::serialize(&pair, alloc, serializer)
+    }
+}
+
+/// Its coordinates.
+pub fn x(spot: View<'_, ArchivedSpot>) -> i32
+    requires { IsView spot_shape spot }
+{
+    spot.at::<Entry<i32, i32>>(spot.pos()).key().to_native()
+}
+
+/// The spot itself.
+pub fn spot_of(spot: View<'_, ArchivedSpot>) -> Spot
+    requires { IsView spot_shape spot }
+    ensures { StandsAt SpotStands spot.entry result }
+{
+    let pair = spot.at::<Entry<i32, i32>>(spot.pos());
+    Spot {
+        x: pair.key().to_native(),
+        y: pair.value().to_native(),
+    }
+}

@@ -1,0 +1,23 @@
+//! Symbols in a wide archive, whose text is `Text<Wide>`.
+
+use crate::symbol::Symbol;
+use rkyv_base::access::access_in;
+use rkyv_base::entry::Entry;
+use rkyv_base::errors::{VerifyError, WriteError};
+use rkyv_base::root::to_bytes_in;
+use rkyv_base::text::Text;
+use rkyv_base::width::Wide;
+use rkyv_base::writer::NoMemory;
+use rkyv_own::pair::Seen;
+use std::alloc::Global;
+
+/// The wide archive of a symbol.
+pub fn archive_wide(alloc: Global, symbol: &Seen<Symbol>) -> Result<Vec<u8>, WriteError<NoMemory>> {
+    to_bytes_in::<Wide, Seen<Symbol>>(alloc, symbol)
+}
+
+/// The name in a wide archive, which is lent and not copied.
+pub fn wide_name(bytes: &[u8]) -> Result<&str, VerifyError> {
+    let root = access_in::<Wide, Entry<Text<Wide>, u64>>(bytes)?;
+    Ok(root.key().as_str())
+}
