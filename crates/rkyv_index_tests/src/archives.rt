@@ -25,6 +25,14 @@ pub(crate) fn no_pairs() -> [u8; 16] {
     [1, 0, 0, 0, 0, 0, 0, 0, 0, 0, 0, 0, 0xf4, 0xff, 0xff, 0xff]
 }
 
+// What is written of the set of 1 before its header.
+pub(crate) fn one_key_parts() -> [u8; 40] {
+    let mut bytes = [0xff; 40];
+    bytes[..12].copy_from_slice(&[0, 0, 0, 0, 0, 0, 0, 0, 0xff, 0x28, 0xff, 0x28]);
+    bytes[39] = 1;
+    bytes
+}
+
 // The set of 1: the place from 4 on, controls from 8 on, the key at 39, header at 40.
 pub(crate) fn one_key() -> [u8; 56] {
     let mut bytes = [0xff; 56];
