@@ -15,7 +15,7 @@ use Rattle.rkyv_base.specs.declared.view.View.{View}
 use Rattle.rkyv_keys.specs.OfEntries.{standing_key}
 use Rattle.rkyv_table.specs.Table.Reading.{home_positions, item_at, pos_of_found}
 use Rattle.rkyv_collections.specs.ListedLookups.{AsksFor, IsFoundPair, IsFoundValue, IsPairOf, first_pair, first_value}
-use Rattle.rkyv_collections.specs.Map.{IsFoundAt, IsPairAt, IsValueAt, map_shape}
+use Rattle.rkyv_collections.specs.Map.{IsEntryAt, IsFoundAt, IsPairAt, IsValueAt, map_shape}
 use Rattle.rkyv_collections.specs.MapFormat.{MapStands}
 use Rattle.rkyv_collections.proofs.WrittenPairs.{pair_stands, place_of_pair}
 
@@ -45,6 +45,15 @@ module _ {A B : Type 0} (k v : Shape) (key : List ℕ → ℕ → A → Type 0) 
       subst (λ c. value c x.pos pair.1) (sym same) (subst (λ n. value b n pair.1) (sym (same_Some x.pos (q + value_offset k v) e)) t.1)
   value_listed None (Some pair) result same t e = absurd t
   value_listed (Some q) None result same t e = absurd t
+
+  pub key_listed : {K : Type 0} (place : Option ℕ) (o : Option (A × B)) (result : Option (View K)) → IfSome result (λ x. x.archive.now ≡ b)
+      → IsPairOf k v key value b place o → IsEntryAt result place → IsFoundValue key result (option_map (λ pair. pair.0) o)
+  key_listed None None None same t e = tt
+  key_listed None None (Some x) same t e = absurd cc
+  key_listed (Some q) (Some pair) None same t e = absurd cc
+  key_listed (Some q) (Some pair) (Some x) same t e = subst (λ c. key c x.pos pair.0) (sym same) (subst (λ n. key b n pair.0) (sym (same_Some x.pos q e)) t.0)
+  key_listed None (Some pair) result same t e = absurd t
+  key_listed (Some q) None result same t e = absurd t
 
   pub pair_listed : {K V : Type 0} (place : Option ℕ) (o : Option (A × B)) (result : Option (View K × View V))
       → IfSome result (λ x. (x.0.archive.now ≡ b) × (x.1.archive.now ≡ b) × (x.1.pos ≡ x.0.pos + value_offset k v))

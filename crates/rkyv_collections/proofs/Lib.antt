@@ -17,3 +17,4 @@ pub mod StdComparing
 pub mod Headline
 pub mod FoundPairs
 pub mod Alike
+pub mod FirstWrites

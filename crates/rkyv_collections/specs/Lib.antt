@@ -16,3 +16,4 @@ pub mod StdEquality
 pub mod StdSet
 pub mod ListedLookups
 pub mod BothHashers
+pub mod InPlace

@@ -7,7 +7,7 @@ use Rattle.rkyv_base.specs.Pairs.{PairStands}
 use Rattle.rkyv_base.specs.Shape.{Shape, Standing}
 use Rattle.rkyv_base.specs.View.{StandsAt}
 use Rattle.rkyv_base.specs.declared.view.View.{View}
-use Rattle.rkyv_collections.specs.Map.{FindsFirstKey, IsFoundAt, IsMap}
+use Rattle.rkyv_collections.specs.Map.{FindsFirstKey, IsEntryAt, IsFoundAt, IsKeyIn, IsMap}
 use Rattle.rkyv_collections.specs.Map.{IsPairAt, IsPairIn, IsValueAt, IsValueIn, map_bytes, map_pos}
 use Rattle.rkyv_collections.specs.MapFormat.{MapStands}
 use Rattle.rkyv_collections.specs.declared.map.ArchivedHashMap.{ArchivedHashMap}
@@ -50,14 +50,18 @@ module _ {A B : Type 0} (k v : Shape) (key : List ℕ → ℕ → A → Type 0)
   IsPairOf b None (Some pair) = ⊥
   IsPairOf b (Some q) None = ⊥
 
-  -- What `get_key_value`, `get` and `contains_key` answer, by their clauses on the first accepted
-  -- key: the first pair of the list whose key is asked for, its value, and whether there is one.
+  -- What `get_key_value`, a set's `get`, `get` and `contains_key` answer, by their clauses on the
+  -- first accepted key: the first pair of the list whose key is asked for, its key, its value, and
+  -- whether there is one.
   pub record FindsListed {K V H W : Type 0} (w : Width) (key_hash : List ℕ → ℕ → ℕ)
       (m : ArchivedHashMap K V H W) (accept : ℕ → Bool) (asks : A → Bool) (pairs : List (A × B))
       : Type 0 where
     pub gives_pair : (result : Option (View K × View V)) → IfSome result (IsPairIn w k v m)
         → FindsFirstKey w k v m key_hash accept (IsPairAt result)
         → IsFoundPair key value result (first_pair asks pairs)
+    pub gives_key : (result : Option (View K)) → IfSome result (IsKeyIn w k v m)
+        → FindsFirstKey w k v m key_hash accept (IsEntryAt result)
+        → IsFoundValue key result (option_map (λ pair. pair.0) (first_pair asks pairs))
     pub gives_value : (result : Option (View V)) → IfSome result (IsValueIn w k v m)
         → FindsFirstKey w k v m key_hash accept (IsValueAt k v result)
         → IsFoundValue value result (first_value asks pairs)

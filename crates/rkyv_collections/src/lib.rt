@@ -1,10 +1,12 @@
 //! Archived hash maps and hash sets.
 #![tactic(auto)]
 
+pub mod lists;
 pub mod map;
 pub mod set;
 pub mod std_maps;
 
+pub use lists::{MapPairs, SetItems};
 pub use map::iter::{Iter, Keys, Values};
 pub use map::iter_seal::{IterMut, ValuesMut};
 pub use map::writing::HashMapResolver;

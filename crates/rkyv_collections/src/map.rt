@@ -4,6 +4,7 @@ mod debug;
 mod element;
 mod equality;
 mod hashing;
+pub mod in_place;
 pub mod iter;
 pub mod iter_seal;
 pub mod laws;

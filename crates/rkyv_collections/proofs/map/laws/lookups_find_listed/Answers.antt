@@ -1,7 +1,7 @@
 use Rattle.std.proofs.Common.{ap, ◌∙◌}
 use Rattle.std.proofs.lemmas.Option.{IfSome_then}
 use Rattle.rkyv_collections.specs.Map.{hash_at, map_bytes, map_pos}
-use Rattle.rkyv_collections.proofs.FoundPairs.{contains_listed, first_listed, pair_listed, value_listed}
+use Rattle.rkyv_collections.proofs.FoundPairs.{contains_listed, first_listed, key_listed, pair_listed, value_listed}
 use Rattle.rkyv_collections.proofs.map.laws.lookups_find_listed.Goals as goal
 
 pub returns : goal.returns
@@ -15,6 +15,7 @@ returns g c = λ m accept asks factor pairs is alike h.
     let first = first_listed g.W.Width.word k v g.met.K.Element.laws g.met.V.Element.laws key value hash factor b (map_pos m) pairs is accept asks alike h in
     record {
       gives_pair = λ result walked told. pair_listed k v key value b _ _ result (IfSome_then result walked (λ x i. (ap (λ a. a.now) i.key.archive, ap (λ a. a.now) i.at.0, i.at.1))) first (told h.homes h.written);
+      gives_key = λ result walked told. key_listed k v key value b _ _ result (IfSome_then result walked (λ x i. ap (λ a. a.now) i.archive)) first (told h.homes h.written);
       gives_value = λ result walked told. value_listed k v key value b _ _ result (IfSome_then result walked (λ x i. ap (λ a. a.now) i.at.0)) first (told h.homes h.written);
       contains = λ result told. contains_listed k v key value b _ _ result first (told h.homes h.written);
     }

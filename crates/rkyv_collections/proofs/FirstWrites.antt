@@ -1,0 +1,142 @@
+-- A write of the first pair of a list whose key is asked for.
+use Rattle.std.proofs.Common.{◌≡◌, ℕ, suc, ◌<◌, ◌∙◌, ap, arith, inl, inr, ◌⊎◌, Bool, true, false, List, [], ◌∷◌, length, slice_get, slice_index, Option, None, Some, refl, subst, sym}
+use Rattle.std.specs.Borrow.{MutBor}
+use Rattle.std.specs.Int.{Width}
+use Rattle.std.specs.List.{find}
+use Rattle.std.specs.Option.{is_some, option_map}
+use Rattle.std.specs.Prelude.{slice_set}
+use Rattle.std.proofs.lemmas.Bool.{cases_Bool}
+use Rattle.std.proofs.lemmas.List.{length-map}
+use Rattle.std.proofs.lemmas.Option.{same_Some, slice_get_within}
+use Rattle.rkyv_base.specs.Entry.{entry_shape}
+use Rattle.rkyv_base.specs.Format.{StandsNear}
+use Rattle.rkyv_base.specs.Sealing.{Keeps, Sealed, value_pos}
+use Rattle.rkyv_base.specs.Shape.{IsElement, Shape, Standing, Viewed}
+use Rattle.rkyv_keys.specs.OfEntries.{standing_key}
+use Rattle.rkyv_table.specs.Table.Reading.{home_positions, item_at}
+use Rattle.rkyv_collections.specs.InPlace.{WritesFound, with_first}
+use Rattle.rkyv_collections.specs.Lemmas.MapLaws.{HashNear}
+use Rattle.rkyv_collections.specs.ListedLookups.{AsksFor, first_pair}
+use Rattle.rkyv_collections.specs.Map.{MapWrittenAt, map_shape}
+use Rattle.rkyv_collections.specs.MapFormat.{MapStands}
+use Rattle.rkyv_collections.specs.ValueWrites.{WritesValue}
+use Rattle.rkyv_collections.proofs.ValueWrites.{written_value_stands}
+use Rattle.rkyv_collections.proofs.WrittenPairs.{pair_stands, place_of_pair}
+
+module _ {A B : Type 0} (asks : A → Bool) (value : B) where
+  -- none is asked for and none was accepted; or the place of the n-th, which is the first of both
+  pub record IsNth (xs : List ℕ) (ys : List (A × B)) (found : Option ℕ) : Type 0 where
+    pub n : ℕ
+    pub pair : A × B
+    pub below : n < length xs
+    pub place : found ≡ Some (slice_index xs n)
+    pub at : slice_get ys n ≡ Some pair
+    pub first : first_pair asks ys ≡ Some pair
+    pub written : with_first asks value ys ≡ slice_set ys n (pair.0, value)
+
+  abbrev pub IsNone : List (A × B) → Option ℕ → Type 0
+  IsNone ys found = (found ≡ None) × (first_pair asks ys ≡ None) × (with_first asks value ys ≡ ys)
+
+  pub nth_found : (accept : ℕ → Bool) (xs : List ℕ) (ys : List (A × B)) → length xs ≡ length ys
+      → ((i : ℕ) (y : A × B) → slice_get ys i ≡ Some y → accept (slice_index xs i) ≡ asks y.0)
+      → IsNone ys (find accept xs) ⊎ IsNth xs ys (find accept xs)
+  nth_found accept [] [] n h = inl (refl, refl, refl)
+  nth_found accept [] (y ∷ ys) n h = absurd (omega (arith, n))
+  nth_found accept (x ∷ xs) [] n h = absurd (omega (arith, n))
+  nth_found accept (x ∷ xs) (y ∷ ys) n h =
+      let here : accept x ≡ asks y.0 = h 0 y refl in
+      elim (cases_Bool (asks y.0)) [
+        | inl t ↦ inr (record {
+          n = 0;
+          pair = y;
+          below = omega arith;
+          place = rw (here, t) refl;
+          at = refl;
+          first = rw t refl;
+          written = rw t refl;
+        })
+        | inr f ↦ elim (nth_found accept xs ys (omega (arith, n)) (λ i z e. h (suc i) z e)) [
+          | inl none ↦ inl (rw (here, f) none.0, rw f none.1, rw f (ap (λ (l : List (A × B)). y ∷ l) none.2))
+          | inr r ↦
+              let less = r.below in
+              inr (record {
+                n = suc r.n;
+                pair = r.pair;
+                below = omega (arith, less);
+                place = rw (here, f) r.place;
+                at = r.at;
+                first = rw f r.first;
+                written = rw f (ap (λ (l : List (A × B)). y ∷ l) r.written);
+              })
+        ]
+      ]
+
+some_place : (f : ℕ → ℕ) (o : Option ℕ) (pos : ℕ) → Some pos ≡ option_map f o → (q : ℕ) × (Some q ≡ o) × (pos ≡ f q)
+some_place f None pos e = absurd cc
+some_place f (Some q) pos e = (q, refl, same_Some pos (f q) e)
+
+no_place : (f : ℕ → ℕ) (o : Option ℕ) → None ≡ option_map f o → None ≡ o
+no_place f None e = refl
+no_place f (Some q) e = absurd cc
+
+module _ (w : Width) (k v : Shape) (kl : IsElement k) (vl : IsElement v) {A B : Type 0} (key : List ℕ → ℕ → A → Type 0) (value : List ℕ → ℕ → B → Type 0)
+    (key_hash : List ℕ → ℕ → ℕ) (factor : ℕ × ℕ) (b : List ℕ) (p : ℕ) (pairs : List (A × B)) (new : B) (accept : ℕ → Bool) (asks : A → Bool)
+    (view : Viewed (map_shape w k v) b p) (alike : AsksFor k key b accept asks) (st : MapStands w k v key value key_hash factor b p pairs) where
+  abbrev places : List ℕ
+  places = home_positions w (entry_shape k v).size b p st.homes
+
+  homes_total : length places ≡ length st.homes
+  homes_total = length-map st.homes (item_at w (entry_shape k v).size b p)
+
+  count : length places ≡ length pairs
+  count = sym (length-map places (key_hash b)) ∙ sym st.written.count ∙ st.len
+
+  each_alike : (i : ℕ) (y : A × B) → slice_get pairs i ≡ Some y → accept (slice_index places i) ≡ asks y.0
+  each_alike i y get =
+      let inside = slice_get_within pairs i y get in
+      let below : i < length st.homes = omega (arith, inside, count, homes_total) in
+      let at = sym (place_of_pair w k v kl vl key_hash b p st.homes view st.written i below) in
+      let entry = subst (λ z. Standing (entry_shape k v) b z) at (pair_stands w k v kl vl key_hash b p st.homes view st.written i below) in
+      alike y.0 (slice_index places i) (standing_key kl vl b (slice_index places i) entry) (st.at i y get).0
+
+  -- where no key is accepted, none is asked for
+  pub none_written : None ≡ find accept places → (false ≡ is_some (first_pair asks pairs)) × MapStands w k v key value key_hash factor b p (with_first asks new pairs)
+  none_written found = elim (nth_found asks new accept places pairs count each_alike) [
+    | inl none ↦ (ap is_some (sym none.1), subst (λ (l : List (A × B)). MapStands w k v key value key_hash factor b p l) (sym none.2) st)
+    | inr r ↦ absurd (let e = found ∙ r.place in cc)
+  ]
+
+  -- a map whose first asked value was written stands for the list with that value
+  pub first_written : (kn : StandsNear k key) (vn : StandsNear v value) → HashNear k key_hash → (c : List ℕ) (q : ℕ) → Some q ≡ find accept places
+      → WritesValue w k v b c q → value c (value_pos k v q) new
+      → (true ≡ is_some (first_pair asks pairs)) × MapStands w k v key value key_hash factor c p (with_first asks new pairs)
+  first_written kn vn near c q found writes stands = elim (nth_found asks new accept places pairs count each_alike) [
+    | inl none ↦ absurd (let e = found ∙ none.0 in cc)
+    | inr r ↦
+        let at : q ≡ slice_index places r.n = same_Some q (slice_index places r.n) (found ∙ r.place) in
+        let there = written_value_stands k v kl vl w key_hash near key value kn vn b c p r.n factor pairs r.pair new view st r.at
+        (subst (WritesValue w k v b c) at writes) (subst (λ z. value c (value_pos k v z) new) at stands) in
+        (ap is_some (sym r.first), subst (λ (l : List (A × B)). MapStands w k v key value key_hash factor c p l) (sym r.written) there)
+  ]
+
+  -- by the place of the value
+  pub none_behind : None ≡ option_map (value_pos k v) (find accept places)
+      → (false ≡ is_some (first_pair asks pairs)) × MapStands w k v key value key_hash factor b p (with_first asks new pairs)
+  none_behind found = none_written (no_place (value_pos k v) (find accept places) found)
+
+  pub first_behind : (kn : StandsNear k key) (vn : StandsNear v value) → HashNear k key_hash → (c : List ℕ) (pos : ℕ)
+      → Some pos ≡ option_map (value_pos k v) (find accept places) → Sealed b pos v.size c → Keeps v b c pos → value c pos new
+      → (true ≡ is_some (first_pair asks pairs)) × MapStands w k v key value key_hash factor c p (with_first asks new pairs)
+  first_behind kn vn near c pos found sealed keeps stands =
+      let t = some_place (value_pos k v) (find accept places) pos found in
+      first_written kn vn near c t.0 t.1 (record { sealed = subst (λ n. Sealed b n v.size c) t.2 sealed; keeps = subst (λ n. Keeps v b c n) t.2 keeps })
+      (subst (λ n. value c n new) t.2 stands)
+
+-- what a writer made of an archive, by the place of the value that was found
+pub found_written : {F R : Type 0} (post : F → MutBor (List ℕ) → ℕ → R → MutBor (List ℕ) → Type 0) (write : F) (x y : MutBor (List ℕ)) (r : R) (pos : ℕ) (place : Option ℕ)
+    → Some pos ≡ place → post write x pos r y → WritesFound post write x.now (Some r) y.now place
+found_written post write x y r pos place e h = subst (WritesFound post write x.now (Some r) y.now) e (r, refl, (x, y, refl, refl, h))
+
+pub nothing_written : {F R : Type 0} (post : F → MutBor (List ℕ) → ℕ → R → MutBor (List ℕ) → Type 0) (write : F) (b : List ℕ) (place : Option ℕ)
+    → None ≡ place → WritesFound post write b None b place
+nothing_written {R = R} post write b place e = subst (WritesFound {R = R} post write b None b) e (refl, refl)

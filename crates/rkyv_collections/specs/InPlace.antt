@@ -1,0 +1,50 @@
+-- What a call does that writes the value of a key over the bare bytes of an archive.
+use Rattle.std.specs.Prelude.{◌≡◌, ℕ, ◌+◌, ◌≤◌, Bool, List, [], ◌∷◌, MatchOption, None, Option}
+use Rattle.std.specs.Prelude.{Some, cond, false, length, true}
+use Rattle.std.specs.Borrow.{MutBor}
+use Rattle.std.specs.Int.{Width}
+use Rattle.std.specs.Option.{is_some}
+use Rattle.rkyv_base.specs.Scalar.{Encoding, ScalarStands, scalar_shape}
+use Rattle.rkyv_base.specs.Sealing.{with_value}
+use Rattle.rkyv_base.specs.Shape.{Shape}
+use Rattle.rkyv_table.specs.Table.SealedItems.{WrittenBy}
+use Rattle.rkyv_collections.specs.ListedLookups.{first_pair}
+use Rattle.rkyv_collections.specs.MapFormat.{MapStands}
+use Rattle.rkyv_collections.specs.ValueWrites.{KeepsMap}
+
+-- a writer may be given the archive, at each place at which a value fits
+abbrev pub MayWriteFound : {F : Type 0} → Shape → (F → MutBor (List ℕ) → ℕ → Type 0) → List ℕ → F
+    → Type 0
+MayWriteFound v pre archive write =
+    (b : MutBor (List ℕ)) (q : ℕ) → b.now ≡ archive → q + v.size ≤ length b.now → pre write b q
+
+-- no value was found, and the archive is as before; or the writer was given the archive and the
+-- value's place
+abbrev pub WritesFound : {F R : Type 0} → (F → MutBor (List ℕ) → ℕ → R → MutBor (List ℕ) → Type 0)
+    → F → List ℕ → Option R → List ℕ → Option ℕ → Type 0
+WritesFound {F} {R} post write b result c place = MatchOption place ((result ≡ None) × (c ≡ b))
+    (λ q. (r : R) × (result ≡ Some r) × WrittenBy post write r b q c)
+
+-- the list, with this value in the first pair whose key is asked for
+abbrev pub with_first : {A B : Type 0} → (A → Bool) → B → List (A × B) → List (A × B)
+with_first asks value [] = []
+with_first asks value (pair ∷ rest) =
+    cond (asks pair.0) ((pair.0, value) ∷ rest) (pair ∷ with_first asks value rest)
+
+module _ {N : Type 0} (w : Width) (k : Shape) (e : Encoding N) where
+  -- No value was found, and the archive is as before; or the value at the place is the new one, all
+  -- other bytes are as before, and the map is kept.
+  abbrev pub SetsFound : (List ℕ → ℕ → ℕ) → List ℕ → ℕ → N → Bool → List ℕ → Option ℕ → Type 0
+  SetsFound key_hash b p value result c place = MatchOption place ((result ≡ false) × (c ≡ b))
+      (λ q. (result ≡ true) × (c ≡ with_value e b q value)
+      × ((i : ℕ) × KeepsMap w k (scalar_shape e) key_hash b c p i))
+
+  -- a map that stands for a list of pairs stands for the list with the new value in the first pair
+  -- whose key is asked for
+  abbrev pub SetsFirst : {A : Type 0} → (List ℕ → ℕ → A → Type 0) → (List ℕ → ℕ → ℕ) → (A → Bool)
+      → List ℕ → ℕ → N → Bool → List ℕ → Type 0
+  SetsFirst {A} key key_hash asks b p value result c = (factor : ℕ × ℕ) (pairs : List (A × N))
+      → MapStands w k (scalar_shape e) key (ScalarStands e) key_hash factor b p pairs
+      → (result ≡ is_some (first_pair asks pairs))
+      × MapStands w k (scalar_shape e) key (ScalarStands e) key_hash factor c p
+      (with_first asks value pairs)

@@ -1,0 +1,142 @@
+//! Lists of items that are archived as sets.
+
+ghost use Rattle.std.specs.Iterator.{YieldsFirstBy, at_most};
+ghost use Rattle.std.specs.Prelude.{length, ◌≡◌};
+ghost use Rattle.std.specs.Slice.Iter.{iter_rest};
+ghost use Rattle.rkyv_collections.specs.Listed.{listed, written_under, written_under-format};
+ghost use Rattle.rkyv_collections.specs.Map.{hash_at};
+ghost use Rattle.rkyv_collections.specs.MapFormat.{hash_of};
+ghost use Rattle.rkyv_collections.specs.Set.{set_shape};
+ghost use Rattle.rkyv_collections.specs.SetFormat.{SetStands, set_format};
+ghost use Rattle.rkyv_collections.specs.Lemmas.SetSound.{listed_set_sound, set_near};
+
+use crate::set::writing::HashSetResolver;
+use crate::set::{ArchivedHashSet, HashSetOf};
+use rkyv_base::archive::{Archive, Serialize};
+use rkyv_base::element::StandsFor;
+use rkyv_base::errors::{DistanceTooLarge, WriteError};
+use rkyv_base::width::Width;
+use rkyv_base::writer::Writer;
+use rkyv_keys::keys::{KeyElement, NativeKey};
+use rkyv_scan::hash::{FxHasher64, KeyHasher};
+use std::alloc::Global;
+use std::marker::PhantomData;
+
+/// A list of items that is archived as a set under the hasher H and a load factor: its items in
+/// order, equal ones too. A lookup finds the first of these.
+#[derive_where(Clone, Copy)]
+pub struct SetItems<'a, A, H = FxHasher64> {
+    items: &'a [A],
+    load_factor: (usize, usize),
+    hasher: PhantomData<H>,
+}
+
+impl<'a, A, H> SetItems<'a, A, H> {
+    /// The list under the load factor 7 / 8.
+    #[inline]
+    pub fn new(items: &'a [A]) -> SetItems<'a, A, H>
+        ensures items { result.items.now ≡ items.now }
+        ensures load_factor { result.load_factor ≡ (7, 8) }
+    {
+        SetItems::with_load_factor(items, (7, 8))
+    }
+
+    /// The list under a load factor, of which archiving refuses one that is not above 0 and at most
+    /// 1.
+    #[inline]
+    pub fn with_load_factor(items: &'a [A], load_factor: (usize, usize)) -> SetItems<'a, A, H>
+        ensures items { result.items.now ≡ items.now }
+        ensures load_factor { result.load_factor ≡ load_factor }
+    {
+        SetItems {
+            items,
+            load_factor,
+            hasher: PhantomData,
+        }
+    }
+}
+
+/// The items of a list.
+#[derive(Drop)]
+struct Rest<'a, A> {
+    items: std::slice::Iter<'a, A>,
+}
+
+impl<'a, A> Iterator for Rest<'a, A> {
+    type Item = &'a A;
+
+    ghost next_gives = { YieldsFirstBy (λ item. item.now) (λ s. iter_rest s.items) };
+
+    ghost remaining = { λ s. at_most (length (iter_rest s.items)) };
+
+    #[inline]
+    fn next(&mut self) -> Option<&'a A> {
+        match self.items.next() {
+            Some(item) => Some(item),
+            None => None,
+        }
+    }
+}
+
+impl<'a, W: Width, H: KeyHasher, A, K: KeyElement + StandsFor<A>> StandsFor<SetItems<'a, A, H>>
+    for HashSetOf<K, H, W> {
+    ghost stands = { λ b p x. SetStands W.word K.shape K.stands (hash_at H.initial H.feed H.finish K.key_calls) x.load_factor b p x.items.now };
+
+    ghost near = { λ x. set_near H.initial H.feed H.finish W.word K.laws x.load_factor K.key K.near x.items.now };
+}
+
+impl<'a, W: Width, H: KeyHasher, A: Archive<W>> Archive<W> for SetItems<'a, A, H>
+where
+    A::Archived: KeyElement,
+    A: NativeKey<A::Archived>,
+{
+    type Archived = HashSetOf<A::Archived, H, W>;
+
+    type Resolver = HashSetResolver<W>;
+
+    ghost format = { written_under (λ x. x.items.now) (λ x. listed W.MAX_CAPACITY x.load_factor
+        (set_format W.word A.Archived.shape A.format (hash_of H.initial H.feed H.finish A.calls) x.load_factor)) };
+
+    fn resolve(
+        &self,
+        resolver: HashSetResolver<W>,
+        pos: u64,
+        out: &mut [u8],
+    ) -> Result<(), DistanceTooLarge> {
+        let len = resolver.len();
+        let load_factor = resolver.load_factor();
+        ArchivedHashSet::<A::Archived, H, W>::resolve_from_len(len, load_factor, resolver, pos, out)
+    }
+
+    ghost laws = { let hash = hash_at H.initial H.feed H.finish A.Archived.key_calls in
+        let own = hash_of H.initial H.feed H.finish A.calls in
+        written_under-format (λ x. x.items.now) (set_shape W.word A.Archived.shape)
+        (λ x. SetStands W.word A.Archived.shape A.Archived.stands hash x.load_factor)
+        (λ x. listed W.MAX_CAPACITY x.load_factor (set_format W.word A.Archived.shape A.format own x.load_factor))
+        (λ x. listed_set_sound H.initial H.feed H.finish W.word A.Archived.laws x.load_factor W.MAX_CAPACITY W.layout.kind
+        A.query A.native A.Eq.laws.refl A.reads A.Archive.laws) };
+}
+
+impl<'a, S: Writer, W: Width, H: KeyHasher, A: Serialize<S, W>> Serialize<S, W>
+    for SetItems<'a, A, H>
+where
+    A::Archived: KeyElement,
+    A: NativeKey<A::Archived>,
+{
+    fn serialize(
+        &self,
+        alloc: Global,
+        serializer: &mut S,
+    ) -> Result<HashSetResolver<W>, WriteError<S::Fault>> {
+        let rest = Rest {
+            items: self.items.iter(),
+        };
+        ArchivedHashSet::<A::Archived, H, W>::serialize_from_iter::<S, A, &A, Rest<'_, A>>(
+            alloc,
+            rest,
+            self.items.len(),
+            self.load_factor,
+            serializer,
+        )
+    }
+}

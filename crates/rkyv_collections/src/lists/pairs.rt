@@ -1,0 +1,158 @@
+//! Lists of pairs that are archived as maps.
+
+ghost use Rattle.std.specs.Iterator.{YieldsFirstBy, at_most};
+ghost use Rattle.std.specs.Prelude.{length, ◌≡◌};
+ghost use Rattle.std.specs.Slice.Iter.{iter_rest};
+ghost use Rattle.rkyv_collections.specs.Listed.{listed, written_under, written_under-format};
+ghost use Rattle.rkyv_collections.specs.Map.{hash_at, map_shape};
+ghost use Rattle.rkyv_collections.specs.MapFormat.{MapStands, hash_of, map_format};
+ghost use Rattle.rkyv_collections.specs.Lemmas.MapSound.{listed_map_sound, map_near};
+
+use crate::map::writing::HashMapResolver;
+use crate::map::{ArchivedHashMap, HashMapOf};
+use rkyv_base::archive::{Archive, Serialize};
+use rkyv_base::element::StandsFor;
+use rkyv_base::errors::{DistanceTooLarge, WriteError};
+use rkyv_base::width::Width;
+use rkyv_base::writer::Writer;
+use rkyv_keys::keys::{KeyElement, NativeKey};
+use rkyv_scan::hash::{FxHasher64, KeyHasher};
+use std::alloc::Global;
+use std::marker::PhantomData;
+
+/// A list of pairs that is archived as a map under the hasher H and a load factor: its pairs in
+/// order, equal keys too. A lookup finds the first of these.
+#[derive_where(Clone, Copy)]
+pub struct MapPairs<'a, A, B, H = FxHasher64> {
+    pairs: &'a [(A, B)],
+    load_factor: (usize, usize),
+    hasher: PhantomData<H>,
+}
+
+impl<'a, A, B, H> MapPairs<'a, A, B, H> {
+    /// The list under the load factor 7 / 8.
+    #[inline]
+    pub fn new(pairs: &'a [(A, B)]) -> MapPairs<'a, A, B, H>
+        ensures pairs { result.pairs.now ≡ pairs.now }
+        ensures load_factor { result.load_factor ≡ (7, 8) }
+    {
+        MapPairs::with_load_factor(pairs, (7, 8))
+    }
+
+    /// The list under a load factor, of which archiving refuses one that is not above 0 and at most
+    /// 1.
+    #[inline]
+    pub fn with_load_factor(
+        pairs: &'a [(A, B)],
+        load_factor: (usize, usize),
+    ) -> MapPairs<'a, A, B, H>
+        ensures pairs { result.pairs.now ≡ pairs.now }
+        ensures load_factor { result.load_factor ≡ load_factor }
+    {
+        MapPairs {
+            pairs,
+            load_factor,
+            hasher: PhantomData,
+        }
+    }
+}
+
+/// The pairs of a list, by halves.
+#[derive(Drop)]
+struct Halves<'a, A, B> {
+    pairs: std::slice::Iter<'a, (A, B)>,
+}
+
+impl<'a, A, B> Iterator for Halves<'a, A, B> {
+    type Item = (&'a A, &'a B);
+
+    ghost next_gives = { YieldsFirstBy (λ halves. (halves.0.now, halves.1.now))
+        (λ s. iter_rest s.pairs) };
+
+    ghost remaining = { λ s. at_most (length (iter_rest s.pairs)) };
+
+    #[inline]
+    fn next(&mut self) -> Option<(&'a A, &'a B)> {
+        match self.pairs.next() {
+            Some(pair) => Some((&pair.0, &pair.1)),
+            None => None,
+        }
+    }
+}
+
+impl<'a, W: Width, H: KeyHasher, A, B, K: KeyElement + StandsFor<A>, V: StandsFor<B>> StandsFor<
+    MapPairs<'a, A, B, H>,
+> for HashMapOf<K, V, H, W> {
+    ghost stands = { λ b p x. MapStands W.word K.shape V.shape K.stands V.stands (hash_at H.initial H.feed H.finish K.key_calls) x.load_factor b p x.pairs.now };
+
+    ghost near = { λ x. map_near H.initial H.feed H.finish W.word K.laws V.laws x.load_factor K.key K.near V.near x.pairs.now };
+}
+
+impl<'a, W: Width, H: KeyHasher, A: Archive<W>, B: Archive<W>> Archive<W> for MapPairs<'a, A, B, H>
+where
+    A::Archived: KeyElement,
+    A: NativeKey<A::Archived>,
+{
+    type Archived = HashMapOf<A::Archived, B::Archived, H, W>;
+
+    type Resolver = HashMapResolver<W>;
+
+    ghost format = { written_under (λ x. x.pairs.now) (λ x. listed W.MAX_CAPACITY x.load_factor
+        (map_format W.word A.Archived.shape B.Archived.shape A.format B.format (hash_of H.initial H.feed H.finish A.calls) x.load_factor)) };
+
+    fn resolve(
+        &self,
+        resolver: HashMapResolver<W>,
+        pos: u64,
+        out: &mut [u8],
+    ) -> Result<(), DistanceTooLarge> {
+        let len = resolver.len();
+        let load_factor = resolver.load_factor();
+        ArchivedHashMap::<A::Archived, B::Archived, H, W>::resolve_from_len(
+            len,
+            load_factor,
+            resolver,
+            pos,
+            out,
+        )
+    }
+
+    ghost laws = { let hash = hash_at H.initial H.feed H.finish A.Archived.key_calls in
+        let own = hash_of H.initial H.feed H.finish A.calls in
+        written_under-format (λ x. x.pairs.now) (map_shape W.word A.Archived.shape B.Archived.shape)
+        (λ x. MapStands W.word A.Archived.shape B.Archived.shape A.Archived.stands B.Archived.stands hash x.load_factor)
+        (λ x. listed W.MAX_CAPACITY x.load_factor (map_format W.word A.Archived.shape B.Archived.shape A.format B.format own x.load_factor))
+        (λ x. listed_map_sound H.initial H.feed H.finish W.word A.Archived.laws B.Archived.laws x.load_factor W.MAX_CAPACITY W.layout.kind
+        A.query A.native A.Eq.laws.refl A.reads A.Archive.laws B.laws) };
+}
+
+impl<'a, S: Writer, W: Width, H: KeyHasher, A: Serialize<S, W>, B: Serialize<S, W>> Serialize<S, W>
+    for MapPairs<'a, A, B, H>
+where
+    A::Archived: KeyElement,
+    A: NativeKey<A::Archived>,
+{
+    fn serialize(
+        &self,
+        alloc: Global,
+        serializer: &mut S,
+    ) -> Result<HashMapResolver<W>, WriteError<S::Fault>> {
+        let halves = Halves {
+            pairs: self.pairs.iter(),
+        };
+        ArchivedHashMap::<A::Archived, B::Archived, H, W>::serialize_from_iter::<
+            S,
+            A,
+            B,
+            &A,
+            &B,
+            Halves<'_, A, B>,
+        >(
+            alloc,
+            halves,
+            self.pairs.len(),
+            self.load_factor,
+            serializer,
+        )
+    }
+}

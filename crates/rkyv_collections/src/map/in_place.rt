@@ -1,0 +1,110 @@
+//! Writing the value of a key over the bare bytes of an archive.
+ghost use Rattle.std.specs.Option.{option_map};
+ghost use Rattle.std.specs.Prelude.{IfSome, length, ℕ, ◌+◌, ◌≡◌, ◌≤◌};
+ghost use Rattle.rkyv_base.specs.Scalar.{scalar_shape};
+ghost use Rattle.rkyv_base.specs.Sealing.{value_pos};
+ghost use Rattle.rkyv_base.specs.Shape.{Viewed};
+ghost use Rattle.rkyv_collections.specs.InPlace.{MayWriteFound, SetsFirst, SetsFound, WritesFound};
+ghost use Rattle.rkyv_collections.specs.Map.{
+  FindsFirstKeyAt,
+  FindsKeyAt,
+  IsKeyPosAt,
+  hash_at,
+  map_shape,
+};
+ghost use Rattle.rkyv_collections.specs.MapFormat.{hash_of};
+
+use crate::map::ArchivedHashMap;
+use rkyv_base::element::{Element, StandsFor};
+use rkyv_base::scalars::Scalar;
+use rkyv_base::seal::set_at;
+use rkyv_base::view::View;
+use rkyv_base::width::Width;
+use rkyv_keys::keys::{KeyElement, NativeKey, Query};
+use rkyv_scan::hash::KeyHasher;
+
+impl<'a, K: KeyElement, V: Element, H: KeyHasher, W: Width> ArchivedHashMap<'a, K, V, H, W> {
+    /// Where the value of the key stands that is asked for, in the map whose header stands at
+    /// `root`.
+    #[inline]
+    fn value_pos_in<Q: Query<K>>(archive: &[u8], root: u64, key: &Q) -> Option<u64>
+        requires map { Viewed (map_shape W.word K.shape V.shape) archive.now root }
+        requires query { Q.can_read key.now }
+        ensures walked { IfSome result (λ pos. (place : ℕ)
+            × IsKeyPosAt W.word K.shape V.shape archive.now root place
+            × (pos ≡ value_pos K.shape V.shape place)) }
+        ensures inside { IfSome result (λ pos. pos + V.shape.size ≤ length archive.now) }
+        ensures answer { FindsKeyAt W.word K.shape V.shape archive.now root
+            (hash_of H.initial H.feed H.finish Q.calls key.now) (Q.fits key.now archive.now)
+            (λ place. result ≡ option_map (value_pos K.shape V.shape) place) }
+        ensures first { FindsFirstKeyAt W.word K.shape V.shape archive.now root
+            (hash_at H.initial H.feed H.finish K.key_calls) (Q.fits key.now archive.now)
+            (λ place. result ≡ option_map (value_pos K.shape V.shape) place) }
+    {
+        let map = ArchivedHashMap::<K, V, H, W>::of(View::new(archive, root));
+        match map.get(key) {
+            Some(value) => Some(value.pos()),
+            None => None,
+        }
+    }
+
+    /// What `write` answers of the archive and the place of the value of the key that is asked for,
+    /// in the map whose header stands at `root`.
+    ///
+    /// Where the key isn't found, nothing is written.
+    #[inline]
+    pub fn found_with<Q: Query<K>, R, F: FnOnce(&mut [u8], u64) -> R>(
+        archive: &mut [u8],
+        root: u64,
+        key: &Q,
+        write: F,
+    ) -> Option<R>
+        requires map { Viewed (map_shape W.word K.shape V.shape) archive.old root }
+        requires query { Q.can_read key.now }
+        requires callable { MayWriteFound V.shape F.pre archive.old write }
+        ensures answer { FindsKeyAt W.word K.shape V.shape archive.old root
+            (hash_of H.initial H.feed H.finish Q.calls key.now) (Q.fits key.now archive.old)
+            (λ place. WritesFound F.post write archive.old result archive.new
+            (option_map (value_pos K.shape V.shape) place)) }
+        ensures first { FindsFirstKeyAt W.word K.shape V.shape archive.old root
+            (hash_at H.initial H.feed H.finish K.key_calls) (Q.fits key.now archive.old)
+            (λ place. WritesFound F.post write archive.old result archive.new
+            (option_map (value_pos K.shape V.shape) place)) }
+    {
+        match Self::value_pos_in(&*archive, root, key) {
+            Some(pos) => Some(write(archive, pos)),
+            None => None,
+        }
+    }
+}
+
+/// Writes the value of a key, in the map whose header stands at `root`, and tells whether the key
+/// is found: in a map that stands for a list of pairs, the value of the first pair of that key.
+///
+/// Where the key isn't found, nothing is written.
+pub fn set_value_of<
+    A: NativeKey<K>,
+    K: KeyElement + StandsFor<A>,
+    N: Scalar,
+    H: KeyHasher,
+    W: Width,
+>(archive: &mut [u8], root: u64, key: &A, value: N) -> bool
+    requires map { Viewed (map_shape W.word K.shape (scalar_shape N.encoding)) archive.old root }
+    requires query { A.can_read key.now }
+    ensures answer { FindsKeyAt W.word K.shape (scalar_shape N.encoding) archive.old root
+        (hash_of H.initial H.feed H.finish A.calls key.now) (A.fits key.now archive.old)
+        (λ place. SetsFound W.word K.shape N.encoding
+        (hash_at H.initial H.feed H.finish K.key_calls) archive.old root value result archive.new
+        (option_map (value_pos K.shape (scalar_shape N.encoding)) place)) }
+    ensures listed { SetsFirst W.word K.shape N.encoding K.stands
+        (hash_at H.initial H.feed H.finish K.key_calls) (A.eq key.now)
+        archive.old root value result archive.new }
+{
+    match ArchivedHashMap::<K, N, H, W>::value_pos_in(&*archive, root, key) {
+        Some(pos) => {
+            set_at(archive, pos as usize, value);
+            true
+        }
+        None => false,
+    }
+}
