@@ -1,6 +1,8 @@
 //! Lists of items that are archived as sets.
 
-ghost use Rattle.std.specs.Prelude.{◌≡◌};
+ghost use Rattle.std.specs.Iterator.{YieldsFirstBy, at_most};
+ghost use Rattle.std.specs.Prelude.{length, ◌≡◌};
+ghost use Rattle.std.specs.Slice.Iter.{iter_rest};
 ghost use Rattle.rkyv_collections.specs.Listed.{listed, written_under, written_under-format};
 ghost use Rattle.rkyv_collections.specs.Map.{hash_at};
 ghost use Rattle.rkyv_collections.specs.MapFormat.{hash_of};
@@ -50,6 +52,28 @@ impl<'a, A, H> SetItems<'a, A, H> {
             items,
             load_factor,
             hasher: PhantomData,
+        }
+    }
+}
+
+/// The items of a list.
+#[derive(Drop)]
+struct Rest<'a, A> {
+    items: std::slice::Iter<'a, A>,
+}
+
+impl<'a, A> Iterator for Rest<'a, A> {
+    type Item = &'a A;
+
+    ghost next_gives = { YieldsFirstBy (λ item. item.now) (λ s. iter_rest s.items) };
+
+    ghost remaining = { λ s. at_most (length (iter_rest s.items)) };
+
+    #[inline]
+    fn next(&mut self) -> Option<&'a A> {
+        match self.items.next() {
+            Some(item) => Some(item),
+            None => None,
         }
     }
 }
@@ -104,14 +128,12 @@ where
         alloc: Global,
         serializer: &mut S,
     ) -> Result<HashSetResolver<W>, WriteError<S::Fault>> {
-        ArchivedHashSet::<A::Archived, H, W>::serialize_from_iter::<
-            S,
-            A,
-            &A,
-            std::slice::Iter<'_, A>,
-        >(
+        let rest = Rest {
+            items: self.items.iter(),
+        };
+        ArchivedHashSet::<A::Archived, H, W>::serialize_from_iter::<S, A, &A, Rest<'_, A>>(
             alloc,
-            self.items.iter(),
+            rest,
             self.items.len(),
             self.load_factor,
             serializer,
