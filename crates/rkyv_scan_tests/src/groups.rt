@@ -3,6 +3,11 @@
 use rkyv_scan::laws;
 use rkyv_scan::simd::{GroupKind, MAX_GROUP_WIDTH, Marks, bytewise, generic, lanes};
 
+// Whether the iterator has ended, and ends again when it is asked again.
+fn is_over<M: Marks>(mut items: M) -> bool {
+    items.next().is_none() && items.next().is_none()
+}
+
 // Whether the mask's places are these: by its iterator, and by its calls.
 fn marks<M: Marks>(mask: M, places: &[usize]) -> bool {
     let mut items = mask;
@@ -16,7 +21,7 @@ fn marks<M: Marks>(mask: M, places: &[usize]) -> bool {
         }
         left = left.remove_lowest_bit();
     }
-    !left.any_bit_set() && left.lowest_set_bit().is_none() && items.next().is_none()
+    !left.any_bit_set() && left.lowest_set_bit().is_none() && is_over(items)
 }
 
 // The places that a group marks: of a byte, of the empty controls, of the full ones.
@@ -66,9 +71,12 @@ fn marks_a_byte(rt: HostRuntime) {
         empty: &empty,
         full: &[0, 1],
     };
-    assert!(rt; matches::<generic::Group>(&controls, 0x28, &word));
-    assert!(rt; matches::<bytewise::Group>(&controls, 0x28, &exact));
-    assert!(rt; matches::<lanes::Group>(&controls, 0x28, &wide));
+    let right = [
+        matches::<generic::Group>(&controls, 0x28, &word),
+        matches::<bytewise::Group>(&controls, 0x28, &exact),
+        matches::<lanes::Group>(&controls, 0x28, &wide),
+    ];
+    assert_eq!(rt; right, [true; 3]);
 }
 
 #[test]
@@ -90,9 +98,12 @@ fn marks_above_a_mark(rt: HostRuntime) {
         empty: &empty,
         full: &[0, 1, 2, 3, 4, 7],
     };
-    assert!(rt; matches::<generic::Group>(&controls, 0x28, &word));
-    assert!(rt; matches::<bytewise::Group>(&controls, 0x28, &exact));
-    assert!(rt; matches::<lanes::Group>(&controls, 0x28, &wide));
+    let right = [
+        matches::<generic::Group>(&controls, 0x28, &word),
+        matches::<bytewise::Group>(&controls, 0x28, &exact),
+        matches::<lanes::Group>(&controls, 0x28, &wide),
+    ];
+    assert_eq!(rt; right, [true; 3]);
 }
 
 #[test]
@@ -114,9 +125,12 @@ fn marks_zero(rt: HostRuntime) {
         empty: &empty,
         full: &[0, 1, 2],
     };
-    assert!(rt; matches::<generic::Group>(&controls, 0x00, &word));
-    assert!(rt; matches::<bytewise::Group>(&controls, 0x00, &exact));
-    assert!(rt; matches::<lanes::Group>(&controls, 0x00, &wide));
+    let right = [
+        matches::<generic::Group>(&controls, 0x00, &word),
+        matches::<bytewise::Group>(&controls, 0x00, &exact),
+        matches::<lanes::Group>(&controls, 0x00, &wide),
+    ];
+    assert_eq!(rt; right, [true; 3]);
 }
 
 #[test]
@@ -135,34 +149,40 @@ fn marks_any_high_bit_as_empty(rt: HostRuntime) {
         empty: &[0, 1, 5, 7],
         full: &[2, 3, 4, 6],
     };
-    assert!(rt; matches::<lanes::Group>(&controls, 0x28, &wide));
-    assert!(rt; matches::<generic::Group>(&controls, 0x28, &eight));
-    assert!(rt; matches::<bytewise::Group>(&controls, 0x28, &eight));
-
     // The second half, read from its own place on.
     let rest = [0, 1, 2, 3, 4, 5, 6];
-    assert!(rt; marks(generic::Group::read(&controls, 8).match_empty(), &rest));
-    assert!(rt; marks(bytewise::Group::read(&controls, 8).match_empty(), &rest));
-    assert!(rt; marks(lanes::Group::read(&controls, 0).match_byte(0), &[3, 15]));
+    let right = [
+        matches::<lanes::Group>(&controls, 0x28, &wide),
+        matches::<generic::Group>(&controls, 0x28, &eight),
+        matches::<bytewise::Group>(&controls, 0x28, &eight),
+        marks(generic::Group::read(&controls, 8).match_empty(), &rest),
+        marks(bytewise::Group::read(&controls, 8).match_empty(), &rest),
+        marks(lanes::Group::read(&controls, 0).match_byte(0), &[3, 15]),
+    ];
+    assert_eq!(rt; right, [true; 6]);
 }
 
 #[test]
 fn empty_masks_have_no_place(rt: HostRuntime) {
     let (bytes, word, lane_bits) = laws::empty_masks();
-    assert!(rt; marks(bytes, &[]));
-    assert!(rt; marks(word, &[]));
-    assert!(rt; marks(lane_bits, &[]));
+    let right = [marks(bytes, &[]), marks(word, &[]), marks(lane_bits, &[])];
+    assert_eq!(rt; right, [true; 3]);
 }
 
 #[test]
 fn root_names_are_the_word_kind(rt: HostRuntime) {
     let group: rkyv_scan::Group = generic::Group::read(&[0xff; 8], 0);
     let mask: rkyv_scan::Bitmask = group.match_full();
-    assert!(rt; marks(mask, &[]));
-    assert!(rt; marks(rkyv_scan::Bitmask::EMPTY, &[]));
-    assert_eq!(rt; rkyv_scan::Group::WIDTH, 8);
-    assert_eq!(rt; bytewise::Group::WIDTH, 8);
-    assert_eq!(rt; lanes::Group::WIDTH, MAX_GROUP_WIDTH);
+    let empty = [marks(mask, &[]), marks(rkyv_scan::Bitmask::EMPTY, &[])];
+    let widths = [
+        rkyv_scan::Group::WIDTH,
+        bytewise::Group::WIDTH,
+        lanes::Group::WIDTH,
+        MAX_GROUP_WIDTH,
+    ];
     let word: generic::Word = 5;
-    assert!(rt; generic::NonZeroWord::new(word).is_some());
+    assert_eq!(rt;
+        (empty, widths, generic::NonZeroWord::new(word).is_some()),
+        ([true; 2], [8, 8, 16, 16], true)
+    );
 }

@@ -3,9 +3,11 @@ ghost use Rattle.std.specs.Prelude.{◌≡◌, [], ◌∷◌};
 ghost use Rattle.rkyv_scan.specs.Hash.{Usize, Isize, hash_of_calls};
 
 use rkyv_scan::hash::{FxHasher64, FxHasher64Wide, KeyHasher};
-use std::process::Abort;
+use rkyv_scan::laws;
 
 const SEED: u64 = 0x517c_c1b7_2722_0a95;
+
+const OF_MINUS_ONE: u64 = 0xae83_3e48_d8dd_f56b;
 
 fn of_usize<H: KeyHasher>(number: usize) -> u64
     ensures { result ≡ hash_of_calls H.initial H.feed H.finish (Usize number ∷ []) }
@@ -23,8 +25,9 @@ fn of_isize<H: KeyHasher>(number: isize) -> u64
     state.finish()
 }
 
-// What every call but `write_usize` and `write_isize` feeds, which is the same for both hashers.
-fn feeds_words<H: KeyHasher>(rt: &impl Abort) {
+// The numbers after every call but `write_usize` and `write_isize`, which are the same for both
+// hashers.
+fn fed_words<H: KeyHasher>() -> [u64; 11] {
     let new = H::default();
 
     let mut one = H::default();
@@ -50,7 +53,7 @@ fn feeds_words<H: KeyHasher>(rt: &impl Abort) {
     let half = halves.finish();
     halves.write_u64(2);
 
-    let fed = [
+    [
         new.finish(),
         one.finish(),
         one.finish() >> 57,
@@ -58,19 +61,29 @@ fn feeds_words<H: KeyHasher>(rt: &impl Abort) {
         text.finish(),
         text.finish() >> 57,
         bytes.finish(),
+        words.finish(),
         half,
         wide.finish(),
-    ];
-    let text_fed = 0x2b44_f56f_fae8_8a6b;
-    let (words, halves) = (words.finish(), halves.finish());
-    assert_eq!(rt;
-        fed,
-        [0, SEED, 0x28, 0, text_fed, 0x15, words, SEED, halves]
-    );
+        halves.finish(),
+    ]
 }
 
-// A signed number of each width is fed as the unsigned one with its bits.
-fn feeds_signed_numbers<H: KeyHasher>(rt: &impl Abort) {
+const FED_WORDS: [u64; 11] = [
+    0,
+    SEED,
+    0x28,
+    0,
+    0x2b44_f56f_fae8_8a6b,
+    0x15,
+    0x6e8b_5d1d_34f0_8a49,
+    0x6e8b_5d1d_34f0_8a49,
+    SEED,
+    0x6a4b_e67f_f98f_abc8,
+    0x6a4b_e67f_f98f_abc8,
+];
+
+// The numbers after signed numbers of each width, one behind the other, and after minus one.
+fn fed_signed<H: KeyHasher>() -> ([u64; 5], u64) {
     let mut signed = H::default();
     signed.write_i8(-2);
     let after_8 = signed.finish();
@@ -81,8 +94,16 @@ fn feeds_signed_numbers<H: KeyHasher>(rt: &impl Abort) {
     signed.write_i64(-2);
     let after_64 = signed.finish();
     signed.write_i128(-2);
-    let fed = [after_8, after_16, after_32, after_64, signed.finish()];
+    let mut minus_one = H::default();
+    minus_one.write_i64(-1);
+    (
+        [after_8, after_16, after_32, after_64, signed.finish()],
+        minus_one.finish(),
+    )
+}
 
+// The same after the unsigned numbers with their bits.
+fn fed_bits<H: KeyHasher>() -> ([u64; 5], u64) {
     let mut unsigned = H::default();
     unsigned.write_u8(0xfe);
     let after_8 = unsigned.finish();
@@ -94,39 +115,80 @@ fn feeds_signed_numbers<H: KeyHasher>(rt: &impl Abort) {
     let after_64 = unsigned.finish();
     unsigned.write_u64(0xffff_ffff_ffff_fffe);
     unsigned.write_u64(0xffff_ffff_ffff_ffff);
-    let bits = [after_8, after_16, after_32, after_64, unsigned.finish()];
-
-    let mut minus_one = H::default();
-    minus_one.write_i64(-1);
-    assert_eq!(rt; (fed, minus_one.finish()), (bits, 0xae83_3e48_d8dd_f56b));
+    (
+        [after_8, after_16, after_32, after_64, unsigned.finish()],
+        OF_MINUS_ONE,
+    )
 }
 
 #[test]
-fn feeds_low_halves(rt: HostRuntime) {
-    feeds_words::<FxHasher64>(&rt);
-    feeds_signed_numbers::<FxHasher64>(&rt);
-    assert_eq!(rt; of_usize::<FxHasher64>(1), SEED);
-    assert_eq!(rt; of_usize::<FxHasher64>(4_294_967_297), SEED);
-    assert_eq!(rt; of_isize::<FxHasher64>(-1), 0xae83_3e48_d8dd_f56b);
+fn words_are_fed(rt: HostRuntime) {
+    laws::calls_hash_their_words();
+    laws::fixed_calls_agree();
+    laws::fixed_calls_hash_alike();
     assert_eq!(rt;
+        (fed_words::<FxHasher64>(), fed_words::<FxHasher64Wide>()),
+        (FED_WORDS, FED_WORDS)
+    );
+}
+
+#[test]
+fn signed_numbers_are_fed_as_their_bits(rt: HostRuntime) {
+    assert_eq!(rt;
+        (fed_signed::<FxHasher64>(), fed_signed::<FxHasher64Wide>()),
+        (fed_bits::<FxHasher64>(), fed_bits::<FxHasher64Wide>())
+    );
+}
+
+// The number after these bytes, written in two pieces.
+fn in_two_pieces<H: KeyHasher>(first: &[u8], others: &[u8]) -> u64 {
+    let mut state = H::default();
+    state.write(first);
+    state.write(others);
+    state.finish()
+}
+
+#[test]
+fn writes_join_at_whole_words(rt: HostRuntime) {
+    laws::writes_join();
+    laws::eight_bytes_are_one_word();
+    let (first, others) = ([1, 2, 3, 4, 5, 6, 7, 8], [9, 10, 11, 12, 13, 14, 15]);
+    let joined = [
+        in_two_pieces::<FxHasher64>(&first, &others),
+        in_two_pieces::<FxHasher64Wide>(&first, &others),
+    ];
+    assert_eq!(rt; joined, [0x6e8b_5d1d_34f0_8a49; 2]);
+}
+
+#[test]
+fn low_halves_are_fed(rt: HostRuntime) {
+    let fed = [
+        of_usize::<FxHasher64>(1),
+        of_usize::<FxHasher64>(4_294_967_297),
+        of_isize::<FxHasher64>(-1),
         of_isize::<FxHasher64>(4_294_967_295),
-        0xae83_3e48_d8dd_f56b
-    );
+    ];
+    assert_eq!(rt; fed, [SEED, SEED, OF_MINUS_ONE, OF_MINUS_ONE]);
 }
 
 #[test]
-fn feeds_all_bits(rt: HostRuntime) {
-    feeds_words::<FxHasher64Wide>(&rt);
-    feeds_signed_numbers::<FxHasher64Wide>(&rt);
-    assert_eq!(rt; of_usize::<FxHasher64Wide>(1), SEED);
-    assert_eq!(rt;
-        of_usize::<FxHasher64Wide>(4_294_967_297),
-        0x789e_cc4c_2722_0a95
-    );
-    assert_eq!(rt; of_usize::<FxHasher64Wide>(4_294_967_297) >> 57, 0x3c);
-    assert_eq!(rt; of_isize::<FxHasher64Wide>(-1), 0xae83_3e48_d8dd_f56b);
-    assert_eq!(rt;
+fn all_bits_are_fed(rt: HostRuntime) {
+    let large = of_usize::<FxHasher64Wide>(4_294_967_297);
+    let fed = [
+        of_usize::<FxHasher64Wide>(1),
+        large,
+        large >> 57,
+        of_isize::<FxHasher64Wide>(-1),
         of_isize::<FxHasher64Wide>(4_294_967_295),
-        0xd5a5_48dd_d8dd_f56b
+    ];
+    assert_eq!(rt;
+        fed,
+        [
+            SEED,
+            0x789e_cc4c_2722_0a95,
+            0x3c,
+            OF_MINUS_ONE,
+            0xd5a5_48dd_d8dd_f56b
+        ]
     );
 }
