@@ -1,13 +1,15 @@
 //! The controls of tables, with each kind of group.
-ghost use Rattle.std.specs.Prelude.{IfSome, length, ◌<◌, ◌^◌};
+ghost use Rattle.std.specs.Prelude.{IfSome, length, ◌<◌, ◌≤◌, ◌^◌};
+ghost use Rattle.rkyv_table.specs.Controls.Numbers.{control_count};
 ghost use Rattle.rkyv_table.specs.Controls.Shown.{IsFullBucket};
 ghost use Rattle.rkyv_table.specs.Controls.Placing.{Accepted};
 
 use rkyv_scan::hash::{FxHasher64, KeyHasher};
 use rkyv_scan::simd::{GroupKind, bytewise, generic, lanes};
 use rkyv_table::controls::find::{Strides, find};
+use rkyv_table::controls::laws;
 use rkyv_table::controls::numbers::{
-    CapacityError, capacity, control_count, modulus, probe_capacity, tag,
+    CapacityError, bucket_of, capacity, control_count, modulus, probe_capacity, tag,
 };
 use rkyv_table::controls::place::{place, place_one};
 use rkyv_table::controls::probe::Probe;
@@ -77,70 +79,120 @@ fn hash_of(key: i8) -> u64 {
     hasher.finish()
 }
 
+// The capacities in narrow archives, of these lengths under the load factor 7 / 8.
+fn usual(len: usize) -> Result<usize, CapacityError> {
+    capacity(len, (7, 8), NARROW)
+}
+
 #[test]
 fn capacities(rt: HostRuntime) {
-    let usual = (7, 8);
-    assert!(rt; capacity(0, usual, NARROW) == Ok(0));
-    assert!(rt; capacity(1, usual, NARROW) == Ok(2));
-    assert!(rt; capacity(3, usual, NARROW) == Ok(4));
-    assert!(rt; capacity(5, usual, NARROW) == Ok(6));
-    assert!(rt; capacity(7, usual, NARROW) == Ok(8));
-    assert!(rt; capacity(100, usual, NARROW) == Ok(114));
-    assert!(rt; capacity(15, (1, 1), NARROW) == Ok(16));
-    assert!(rt; capacity(16, (1, 1), NARROW) == Ok(17));
-    for len in [0, 1] {
-        for factor in [(8, 7), (0, 1), (1, 0)] {
-            assert!(rt; capacity(len, factor, NARROW) == Err(CapacityError::InvalidLoadFactor));
-        }
-    }
-    let large = Err(CapacityError::CapacityTooLarge);
-    assert!(rt; capacity(1, (1, 4_294_967_296), NARROW) == large);
-    assert!(rt; capacity(1, (1, 4_294_967_295), NARROW) == Ok(4_294_967_295));
-    assert!(rt; capacity(4_294_967_295, (1, 1), NARROW) == large);
-    assert!(rt; capacity(4_294_967_294, (1, 1), NARROW) == Ok(4_294_967_295));
-    assert!(rt; capacity(usize::MAX, (1, usize::MAX), NARROW) == large);
-    assert!(rt; capacity(usize::MAX, (1, 1), u64::MAX) == large);
-    assert!(rt; capacity(4_611_686_018_427_387_903, (1, 1), WIDE) == Ok(4_611_686_018_427_387_904));
-    assert!(rt; capacity(4_611_686_018_427_387_904, (1, 1), WIDE) == large);
+    let usual = [usual(0), usual(1), usual(3), usual(5), usual(7), usual(100)];
+    let full = [
+        capacity(15, (1, 1), NARROW),
+        capacity(16, (1, 1), NARROW),
+        capacity(1, (1, 4_294_967_295), NARROW),
+        capacity(4_294_967_294, (1, 1), NARROW),
+        capacity(4_611_686_018_427_387_903, (1, 1), WIDE),
+    ];
+    assert_eq!(rt;
+        (usual, full),
+        (
+            [Ok(0), Ok(2), Ok(4), Ok(6), Ok(8), Ok(114)],
+            [
+                Ok(16),
+                Ok(17),
+                Ok(4_294_967_295),
+                Ok(4_294_967_295),
+                Ok(4_611_686_018_427_387_904)
+            ]
+        )
+    );
+}
+
+#[test]
+fn refused_capacities(rt: HostRuntime) {
+    let factors = [
+        capacity(0, (8, 7), NARROW),
+        capacity(0, (0, 1), NARROW),
+        capacity(0, (1, 0), NARROW),
+        capacity(1, (8, 7), NARROW),
+        capacity(1, (0, 1), NARROW),
+        capacity(1, (1, 0), NARROW),
+    ];
+    let large = [
+        capacity(1, (1, 4_294_967_296), NARROW),
+        capacity(4_294_967_295, (1, 1), NARROW),
+        capacity(usize::MAX, (1, usize::MAX), NARROW),
+        capacity(usize::MAX, (1, 1), u64::MAX),
+        capacity(4_611_686_018_427_387_904, (1, 1), WIDE),
+    ];
+    assert_eq!(rt;
+        (factors, large),
+        (
+            [Err(CapacityError::InvalidLoadFactor); 6],
+            [Err(CapacityError::CapacityTooLarge); 5]
+        )
+    );
 }
 
 #[test]
 fn numbers(rt: HostRuntime) {
-    assert_eq!(rt; probe_capacity(114), 128);
-    assert_eq!(rt; control_count(114), 143);
-    assert_eq!(rt; modulus(114), 256);
-    assert_eq!(rt; control_count(16), 31);
-    assert_eq!(rt; control_count(17), 47);
-    assert_eq!(rt; probe_capacity(1 << 62), 1 << 62);
-    assert_eq!(rt; control_count(1 << 62), (1 << 62) + 15);
-    assert_eq!(rt; modulus(1 << 62), 1 << 63);
-    assert_eq!(rt; tag(hash_of(1)), 0x28);
-    assert_eq!(rt; tag(u64::MAX), 0x7f);
+    let numbers = [
+        probe_capacity(114),
+        control_count(114),
+        modulus(114),
+        control_count(16),
+        control_count(17),
+        probe_capacity(1 << 62),
+        control_count(1 << 62),
+        modulus(1 << 62),
+    ];
+    let buckets = [bucket_of(2, 3), bucket_of(3, 3), bucket_of(5, 3)];
+    assert_eq!(rt;
+        (numbers, [tag(hash_of(1)), tag(u64::MAX)], buckets),
+        (
+            [128, 143, 256, 31, 47, 1 << 62, (1 << 62) + 15, 1 << 63],
+            [0x28, 0x7f],
+            [2, 0, 2]
+        )
+    );
+}
+
+// The first four places of a probe sequence.
+fn four_places(start: u64, cap: usize) -> [Option<usize>; 4]
+    requires some { 0 < cap }
+    requires fits { control_count cap ≤ 2 ^ 63 }
+{
+    let mut probe = Probe::new(start, cap);
+    [probe.next(), probe.next(), probe.next(), probe.next()]
 }
 
 #[test]
 fn probe_places(rt: HostRuntime) {
-    let mut probe = Probe::new(1, 33);
-    assert!(rt; probe.next() == Some(1));
-    assert!(rt; probe.next() == Some(17));
-    assert!(rt; probe.next() == Some(33));
-    assert!(rt; probe.next() == None);
-    assert!(rt; probe.next() == None);
-    let mut probe = Probe::new(32, 33);
-    assert!(rt; probe.next() == Some(32));
-    assert!(rt; probe.next() == Some(16));
-    assert!(rt; probe.next() == Some(0));
-    assert!(rt; probe.next() == None);
-    for hash in 0..16 {
-        let mut probe = Probe::new(hash, 16);
-        assert!(rt; probe.next() == Some(hash as usize));
-        assert!(rt; probe.next() == None);
+    laws::strides_cover();
+    laws::buckets_are_shown();
+    let places = [
+        four_places(1, 33),
+        four_places(32, 33),
+        four_places(5, 1 << 62),
+    ];
+    assert_eq!(rt;
+        places,
+        [
+            [Some(1), Some(17), Some(33), None],
+            [Some(32), Some(16), Some(0), None],
+            [Some(5), Some(21), Some(53), Some(101)]
+        ]
+    );
+}
+
+#[test]
+fn sixteen_buckets_are_one_place(rt: HostRuntime) {
+    let mut right = true;
+    for start in 0..16 {
+        right = right && four_places(start, 16) == [Some(start as usize), None, None, None];
     }
-    let mut probe = Probe::new(5, 1 << 62);
-    assert!(rt; probe.next() == Some(5));
-    assert!(rt; probe.next() == Some(21));
-    assert!(rt; probe.next() == Some(53));
-    assert!(rt; probe.next() == Some(101));
+    assert!(rt; right);
 }
 
 // Whether the items stand at these buckets, and the controls begin with these bytes and are ff
@@ -151,91 +203,71 @@ fn is_written<G: GroupKind>(
     hashes: &[u64],
     homes: &[usize],
     front: &[u8],
-) -> Result<bool, AllocError>
+) -> bool
     requires room { length hashes.now < cap }
     requires small { cap < 2 ^ 16 }
 {
-    let table = Table::written::<G>(alloc, cap, hashes)?;
+    let table = match Table::written::<G>(alloc, cap, hashes) {
+        Ok(table) => table,
+        Err(_) => return false,
+    };
     let controls = table.controls.as_slice();
     if controls.len() < front.len() {
-        return Ok(false);
+        return false;
     }
     let (first, others) = controls.split_at(front.len());
-    Ok(table.homes.as_slice() == homes && first == front && others.iter().all(|c| *c == 0xff))
+    table.homes.as_slice() == homes && first == front && others.iter().all(|c| *c == 0xff)
 }
 
 // By each kind of group.
-fn all_write(
-    alloc: Global,
-    cap: usize,
-    hashes: &[u64],
-    homes: &[usize],
-    front: &[u8],
-) -> Result<bool, AllocError>
+fn all_write(alloc: Global, cap: usize, hashes: &[u64], homes: &[usize], front: &[u8]) -> bool
     requires room { length hashes.now < cap }
     requires small { cap < 2 ^ 16 }
 {
-    let by_bytes = is_written::<bytewise::Group>(alloc, cap, hashes, homes, front)?;
-    let by_words = is_written::<generic::Group>(alloc, cap, hashes, homes, front)?;
-    let by_lanes = is_written::<lanes::Group>(alloc, cap, hashes, homes, front)?;
-    Ok(by_bytes && by_words && by_lanes)
+    let by_bytes = is_written::<bytewise::Group>(alloc, cap, hashes, homes, front);
+    let by_words = is_written::<generic::Group>(alloc, cap, hashes, homes, front);
+    let by_lanes = is_written::<lanes::Group>(alloc, cap, hashes, homes, front);
+    by_bytes && by_words && by_lanes
 }
 
 #[test]
-fn places(rt: HostRuntime) -> Result<(), AllocError> {
+fn places(rt: HostRuntime) {
+    laws::homes_exist();
+    laws::homes_are_one_list();
+    laws::written_are_one_list();
+    laws::written_are_accepted();
     let alloc = rt.alloc();
     let keys = [hash_of(1), hash_of(3), hash_of(5), hash_of(7)];
-    assert!(rt; all_write(alloc, 2, &keys[..1], &[1], &[0xff, 0x28, 0xff, 0x28])?);
-    assert!(rt; all_write(alloc, 2, &[0], &[0], &[0, 0xff, 0])?);
-    let small = [hash_of(1), hash_of(2), hash_of(3)];
-    assert!(rt;
-        all_write(
-            alloc,
-            4,
-            &small,
-            &[1, 2, 3],
-            &[0xff, 0x28, 0x51, 0x7a, 0xff, 0x28, 0x51, 0x7a]
-        )?
-    );
-    assert!(rt; all_write(alloc, 3, &[2, 2], &[2, 0], &[0, 0xff, 0, 0, 0xff, 0])?);
-    let front = [0x4b, 0x1d, 0xff, 0x28, 0x7a, 0x4b, 0x1d, 0xff, 0x28, 0x7a];
-    assert!(rt; all_write(alloc, 5, &keys, &[3, 4, 0, 1], &front)?);
+    let three = [hash_of(1), hash_of(2), hash_of(3)];
+    let of_three = [0xff, 0x28, 0x51, 0x7a, 0xff, 0x28, 0x51, 0x7a];
+    let of_four = [0x4b, 0x1d, 0xff, 0x28, 0x7a, 0x4b, 0x1d, 0xff, 0x28, 0x7a];
     let twice = [hash_of(1), hash_of(1)];
-    assert!(rt;
-        all_write(
-            alloc,
-            3,
-            &twice,
-            &[0, 1],
-            &[0x28, 0x28, 0xff, 0x28, 0x28, 0xff]
-        )?
-    );
+    let of_twice = [0x28, 0x28, 0xff, 0x28, 0x28, 0xff];
     let apart = [0x5000_0000_0000_0001, 0x5200_0000_0000_0000];
-    assert!(rt;
-        all_write(
-            alloc,
-            3,
-            &apart,
-            &[0, 1],
-            &[0x28, 0x29, 0xff, 0x28, 0x29, 0xff]
-        )?
-    );
+    let of_apart = [0x28, 0x29, 0xff, 0x28, 0x29, 0xff];
     let wrapped = [16, 0, 1, 2, 3, 4, 5, 6, 7, 8, 9, 10, 11, 12, 13, 14];
-    let mut controls = [0u8; 34];
-    controls[15] = 0xff;
-    controls[32] = 0xff;
-    assert!(rt; all_write(alloc, 17, &[16; 16], &wrapped, &controls)?);
-    Ok(())
+    let mut of_wrapped = [0u8; 34];
+    of_wrapped[15] = 0xff;
+    of_wrapped[32] = 0xff;
+    let right = [
+        all_write(alloc, 2, &keys[..1], &[1], &[0xff, 0x28, 0xff, 0x28]),
+        all_write(alloc, 2, &[0], &[0], &[0, 0xff, 0]),
+        all_write(alloc, 4, &three, &[1, 2, 3], &of_three),
+        all_write(alloc, 3, &[2, 2], &[2, 0], &[0, 0xff, 0, 0, 0xff, 0]),
+        all_write(alloc, 5, &keys, &[3, 4, 0, 1], &of_four),
+        all_write(alloc, 3, &twice, &[0, 1], &of_twice),
+        all_write(alloc, 3, &apart, &[0, 1], &of_apart),
+        all_write(alloc, 17, &[16; 16], &wrapped, &of_wrapped),
+    ];
+    assert_eq!(rt; right, [true; 8]);
 }
 
 #[test]
 fn places_one(rt: HostRuntime) {
     let mut controls = [0xffu8; 31];
-    assert_eq!(rt;
-        place_one::<generic::Group>(&mut controls, 2, hash_of(1)),
-        1
-    );
-    assert!(rt; controls[..5] == [0xff, 0x28, 0xff, 0x28, 0xff]);
+    let bucket = place_one::<generic::Group>(&mut controls, 2, hash_of(1));
+    let written = controls[..5] == [0xff, 0x28, 0xff, 0x28, 0xff];
+    assert_eq!(rt; (bucket, written), (1, true));
 }
 
 // What a table of three items answers: that the asked bucket is found in the strides counted.
@@ -260,17 +292,25 @@ fn finds<G: GroupKind>(alloc: Global) -> Result<bool, AllocError> {
 fn finds_a_candidate(rt: HostRuntime) -> Result<(), AllocError> {
     let table = Table::written::<lanes::Group>(rt.alloc(), 3, &[2, 2])?;
     let controls = table.controls.as_slice();
-    assert!(rt; candidate(controls, table.cap, table.len, 2) == Some(2));
-    assert!(rt; candidate(controls, table.cap, table.len, 1 << 63) == None);
+    laws::search_is_bounded();
+    laws::marked_are_walked();
+    let found = [
+        candidate(controls, table.cap, table.len, 2),
+        candidate(controls, table.cap, table.len, 1 << 63),
+    ];
+    assert_eq!(rt; found, [Some(2), None]);
     Ok(())
 }
 
 #[test]
-fn finds_by_each_kind(rt: HostRuntime) -> Result<(), AllocError> {
-    assert!(rt; finds::<bytewise::Group>(rt.alloc())?);
-    assert!(rt; finds::<generic::Group>(rt.alloc())?);
-    assert!(rt; finds::<lanes::Group>(rt.alloc())?);
-    Ok(())
+fn finds_by_each_kind(rt: HostRuntime) {
+    laws::found_on_written();
+    let right = [
+        finds::<bytewise::Group>(rt.alloc()).ok(),
+        finds::<generic::Group>(rt.alloc()).ok(),
+        finds::<lanes::Group>(rt.alloc()).ok(),
+    ];
+    assert_eq!(rt; right, [Some(true); 3]);
 }
 
 // The eight wide word marks a tag that differs in the lowest bit behind one that is equal.
@@ -278,9 +318,12 @@ fn finds_by_each_kind(rt: HostRuntime) -> Result<(), AllocError> {
 fn finds_by_false_marks(rt: HostRuntime) -> Result<(), AllocError> {
     let hash = 0x5000_0000_0000_0001;
     let table = Table::written::<generic::Group>(rt.alloc(), 3, &[hash, 0x5200_0000_0000_0000])?;
-    assert!(rt; table.asked::<generic::Group, _>(hash, |b| b == 1) == (Some(1), 1));
-    assert!(rt; table.asked::<bytewise::Group, _>(hash, |b| b == 1) == (None, 1));
-    assert!(rt; table.asked::<lanes::Group, _>(hash, |b| b == 1) == (None, 1));
+    let asked = [
+        table.asked::<generic::Group, _>(hash, |b| b == 1),
+        table.asked::<bytewise::Group, _>(hash, |b| b == 1),
+        table.asked::<lanes::Group, _>(hash, |b| b == 1),
+    ];
+    assert_eq!(rt; asked, [(Some(1), 1), (None, 1), (None, 1)]);
     Ok(())
 }
 
@@ -304,11 +347,13 @@ fn asks_in_order<G: GroupKind>(alloc: Global) -> Result<bool, AllocError> {
 }
 
 #[test]
-fn asks_each_stride(rt: HostRuntime) -> Result<(), AllocError> {
-    assert!(rt; asks_in_order::<bytewise::Group>(rt.alloc())?);
-    assert!(rt; asks_in_order::<generic::Group>(rt.alloc())?);
-    assert!(rt; asks_in_order::<lanes::Group>(rt.alloc())?);
-    Ok(())
+fn asks_each_stride(rt: HostRuntime) {
+    let right = [
+        asks_in_order::<bytewise::Group>(rt.alloc()).ok(),
+        asks_in_order::<generic::Group>(rt.alloc()).ok(),
+        asks_in_order::<lanes::Group>(rt.alloc()).ok(),
+    ];
+    assert_eq!(rt; right, [Some(true); 3]);
 }
 
 // A comparison that answers no at its first call and yes from then on.
@@ -337,11 +382,14 @@ fn walks<G: GroupKind>(alloc: Global) -> Result<bool, AllocError> {
 }
 
 #[test]
-fn walks_by_each_kind(rt: HostRuntime) -> Result<(), AllocError> {
-    assert!(rt; walks::<bytewise::Group>(rt.alloc())?);
-    assert!(rt; walks::<generic::Group>(rt.alloc())?);
-    assert!(rt; walks::<lanes::Group>(rt.alloc())?);
-    Ok(())
+fn walks_by_each_kind(rt: HostRuntime) {
+    laws::walked_are_full();
+    let right = [
+        walks::<bytewise::Group>(rt.alloc()).ok(),
+        walks::<generic::Group>(rt.alloc()).ok(),
+        walks::<lanes::Group>(rt.alloc()).ok(),
+    ];
+    assert_eq!(rt; right, [Some(true); 3]);
 }
 
 #[test]
@@ -349,17 +397,25 @@ fn repeats(rt: HostRuntime) {
     let mut small = [0xffu8; 31];
     small[1] = 0x28;
     small[3] = 0x28;
-    assert!(rt; check_repeats(&small, 2) == Ok(()));
+    let written = check_repeats(&small, 2);
     small[4] = 0;
-    assert!(rt; check_repeats(&small, 2) == Err(4));
+    let third = check_repeats(&small, 2);
     small[4] = 0xff;
     small[0] = 0x80;
-    assert!(rt; check_repeats(&small, 2) == Err(2));
+    let other_empty = check_repeats(&small, 2);
     small[2] = 0x80;
-    assert!(rt; check_repeats(&small, 2) == Ok(()));
+    let both_empty = check_repeats(&small, 2);
     small[30] = 0x7f;
-    assert!(rt; check_repeats(&small, 2) == Err(30));
+    let last = check_repeats(&small, 2);
     let mut even = [0xffu8; 31];
     even[0] = 1;
-    assert!(rt; check_repeats(&even, 16) == Err(16));
+    let answers = [
+        written,
+        third,
+        other_empty,
+        both_empty,
+        last,
+        check_repeats(&even, 16),
+    ];
+    assert_eq!(rt; answers, [Ok(()), Err(4), Err(2), Ok(()), Err(30), Err(16)]);
 }
