@@ -1,11 +1,10 @@
 -- A map whose keys feed no `usize` and no `isize`, under hashers that differ in these alone.
-use Rattle.std.proofs.Common.{◌≡◌, ℕ, zero, ◌^◌, ◌<◌, ◌∙◌, arith, sym, ap, subst, Bool, true, List, [], ◌∷◌, fold, length, map, slice_index}
+use Rattle.std.proofs.Common.{◌≡◌, ℕ, ◌^◌, ◌<◌, ◌∙◌, arith, sym, ap, subst, Bool, List, [], ◌∷◌, fold, length, map, slice_index}
 use Rattle.std.specs.Int.{Width}
 use Rattle.std.specs.List.{find}
 use Rattle.std.proofs.lemmas.List.{ext_get_or, get_or-map, length-map}
 use Rattle.rkyv_scan.specs.Groups.{generic_kind}
 use Rattle.rkyv_scan.specs.Hash.{HasherCall, SizeWords, call_words, fx_feed, fx_hash, hash_word, hash_words}
-use Rattle.rkyv_scan.specs.Laws.{IsFixed}
 use Rattle.rkyv_scan.proofs.HashLaws.{fixed_alike}
 use Rattle.rkyv_base.specs.Entry.{entry_shape}
 use Rattle.rkyv_base.specs.Shape.{IsElement, Shape, Standing, Viewed}
@@ -14,10 +13,10 @@ use Rattle.rkyv_keys.specs.Fixed.{MakesFixedCalls}
 use Rattle.rkyv_keys.specs.Keys.{IsQuery}
 use Rattle.rkyv_keys.specs.OfEntries.{standing_key}
 use Rattle.rkyv_table.specs.Table.Reading.{WrittenAt, home_positions, item_at, pos_found}
-use Rattle.rkyv_collections.specs.BothHashers.{QueriedAlike, WrittenAlike, fx_hash_at}
+use Rattle.rkyv_collections.specs.BothHashers.{QueriedAlike, fx_hash_at}
 use Rattle.rkyv_collections.specs.Equality.{pair_at}
 use Rattle.rkyv_collections.specs.Map.{MapWrittenAt, map_shape}
-use Rattle.rkyv_collections.proofs.WrittenPairs.{first_accepted, hash_of_pair, pair_stands, place_of_pair}
+use Rattle.rkyv_collections.proofs.WrittenPairs.{first_accepted, pair_stands, place_of_pair}
 
 -- the number of a hasher fits 64 bits
 word_small : (held word : ℕ) → hash_word held word < 2 ^ 64

@@ -17,7 +17,7 @@ use Rattle.rkyv_table.specs.Table.Reading.{home_positions, item_at}
 use Rattle.rkyv_collections.specs.InPlace.{WritesFound, with_first}
 use Rattle.rkyv_collections.specs.Lemmas.MapLaws.{HashNear}
 use Rattle.rkyv_collections.specs.ListedLookups.{AsksFor, first_pair}
-use Rattle.rkyv_collections.specs.Map.{MapWrittenAt, map_shape}
+use Rattle.rkyv_collections.specs.Map.{map_shape}
 use Rattle.rkyv_collections.specs.MapFormat.{MapStands}
 use Rattle.rkyv_collections.specs.ValueWrites.{WritesValue}
 use Rattle.rkyv_collections.proofs.ValueWrites.{written_value_stands}

@@ -1,20 +1,19 @@
 -- What a lookup finds in a map that stands for a list, in terms of the list.
-use Rattle.std.proofs.Common.{◌≡◌, ℕ, suc, ◌+◌, ◌<◌, ap, sym, ◌∙◌, arith, inl, inr, Bool, true, false, List, [], ◌∷◌, length, map, slice_get, slice_index, Option, None, Some, subst, refl}
+use Rattle.std.proofs.Common.{◌≡◌, ℕ, suc, ◌+◌, ◌<◌, ap, sym, ◌∙◌, arith, inl, inr, Bool, true, false, List, [], ◌∷◌, length, slice_get, slice_index, Option, None, Some, subst, refl}
 use Rattle.std.specs.Int.{Width}
 use Rattle.std.specs.List.{find}
 use Rattle.std.specs.Option.{is_some, option_map}
-use Rattle.std.specs.Prelude.{IfSome, IsSome, IsTrue, ◌↔◌}
+use Rattle.std.specs.Prelude.{IfSome}
 use Rattle.std.proofs.lemmas.Bool.{cases_Bool, true≢false}
 use Rattle.std.proofs.lemmas.List.{length-map}
 use Rattle.std.proofs.lemmas.Option.{same_Some, slice_get_within}
 use Rattle.rkyv_base.specs.Entry.{entry_shape, value_offset}
 use Rattle.rkyv_base.specs.Pairs.{PairStands}
 use Rattle.rkyv_base.specs.Shape.{IsElement, Shape, Standing, Viewed}
-use Rattle.rkyv_base.specs.View.{StandsAt}
 use Rattle.rkyv_base.specs.declared.view.View.{View}
 use Rattle.rkyv_keys.specs.OfEntries.{standing_key}
-use Rattle.rkyv_table.specs.Table.Reading.{home_positions, item_at, pos_of_found}
-use Rattle.rkyv_collections.specs.ListedLookups.{AsksFor, IsFoundPair, IsFoundValue, IsPairOf, first_pair, first_value}
+use Rattle.rkyv_table.specs.Table.Reading.{home_positions, item_at}
+use Rattle.rkyv_collections.specs.ListedLookups.{AsksFor, IsFoundPair, IsFoundValue, IsPairOf, first_pair}
 use Rattle.rkyv_collections.specs.Map.{IsEntryAt, IsFoundAt, IsPairAt, IsValueAt, map_shape}
 use Rattle.rkyv_collections.specs.MapFormat.{MapStands}
 use Rattle.rkyv_collections.proofs.WrittenPairs.{pair_stands, place_of_pair}

@@ -1,4 +1,4 @@
-use Rattle.std.proofs.Common.{ap, ◌∙◌}
+use Rattle.std.proofs.Common.{ap}
 use Rattle.std.proofs.lemmas.Option.{IfSome_then}
 use Rattle.rkyv_collections.specs.Map.{hash_at, map_bytes, map_pos}
 use Rattle.rkyv_collections.proofs.FoundPairs.{contains_listed, first_listed, key_listed, pair_listed, value_listed}
