@@ -14,3 +14,4 @@ pub mod Seen
 pub mod Counts
 pub mod Shown
 pub mod Run
+pub mod Once

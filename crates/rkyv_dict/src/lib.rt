@@ -6,6 +6,7 @@ pub mod dict;
 pub mod errors;
 pub mod form;
 pub mod hex;
+pub mod laws;
 mod listed;
 pub mod pairs;
 pub mod parts;

@@ -3,7 +3,7 @@ ghost use Rattle.rkyv_dict.specs.Run.{AppendsAnswers, AppendsBeginning, AppendsF
 ghost use Rattle.rkyv_dict.specs.Errors.{message_of};
 ghost use Rattle.rkyv_dict.specs.declared.run.RunError.TheVariants.{Memory};
 ghost use Rattle.std.specs.Io.KnownBytes.{Appends, IsAtEnd};
-ghost use Rattle.std.specs.Prelude.{◌≡◌, ◌≢◌, ◌<◌, IfErr, IfOk, IfSome, IsErrOf, IsTrue, OnErr, OnOk, Some, length, string_bytes, vec_len};
+ghost use Rattle.std.specs.Prelude.{◌≡◌, ◌≢◌, ◌<◌, IfErr, IfOk, IfSome, IsErrOf, IsTrue, OnErr, OnOk, Some, false, length, string_bytes, vec_len};
 
 use crate::dict::Dict;
 use crate::words::cut;
@@ -76,6 +76,8 @@ fn read_piece<R: Read>(
     ensures gathers { OnOk result (Gathers (R.remaining reader.old) (R.remaining reader.new)
         input.old.items input.new.items) }
     ensures end { IfOk result (λ ended. IsTrue ended → IsAtEnd (R.remaining reader.new)) }
+    // Only a read that gives bytes leads to another.
+    ensures more { IfOk result (λ ended. ended ≡ false → vec_len input.old < vec_len input.new) }
     ensures causes { IfErr result (λ e. e ≢ RunError.Write) }
 {
     match reader.read(piece) {

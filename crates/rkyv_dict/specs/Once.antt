@@ -1,0 +1,38 @@
+-- What the definitions leave no choice in.
+use Rattle.std.specs.Prelude.{◌≡◌, ℕ, List, false}
+use Rattle.rkyv_base.specs.declared.errors.VerifyError.{VerifyError}
+use Rattle.rkyv_base.specs.declared.errors.WriteError.{WriteError}
+use Rattle.rkyv_base.specs.declared.writer.NoMemory.{NoMemory}
+use Rattle.rkyv_dict.specs.declared.form.Form.{Form}
+use Rattle.rkyv_dict.specs.Answers.{Runs}
+use Rattle.rkyv_dict.specs.Archives.{IsArchive, IsRefused}
+use Rattle.rkyv_dict.specs.Built.{BuildRefused, IsBuilt}
+use Rattle.rkyv_dict.specs.Errors.{cause_told, wants_memory}
+use Rattle.rkyv_dict.specs.Forms.{Pairs}
+use Rattle.rkyv_dict.specs.State.{State}
+
+-- pairs have one archive of a form under a load factor
+abbrev pub BuildsAreOne : Type 0
+BuildsAreOne = (form : Form) (factor : ℕ × ℕ) (pairs : Pairs) (a b : List ℕ)
+    → IsBuilt form factor pairs a → IsBuilt form factor pairs b → a ≡ b
+
+-- bytes that are refused are no archive, and are refused for one error
+abbrev pub ChecksAreOne : Type 0
+ChecksAreOne = (form : Form) (b : List ℕ) (e : VerifyError) → IsRefused form b e
+    → (IsArchive form b → ⊥) × ((d : VerifyError) → IsRefused form b d → e ≡ d)
+
+-- A build is refused for one cause, and of pairs that have an archive for none, want of memory aside.
+pub record RefusedBuildsAreOne : Type 0 where
+  pub causes : (form : Form) (factor : ℕ × ℕ) (pairs : Pairs) (c d : WriteError NoMemory)
+      → BuildRefused form factor pairs c → BuildRefused form factor pairs d
+      → wants_memory c ≡ false → wants_memory d ≡ false → cause_told c ≡ cause_told d
+  pub built : (form : Form) (factor : ℕ × ℕ) (pairs : Pairs) (b : List ℕ) (c : WriteError NoMemory)
+      → IsBuilt form factor pairs b → BuildRefused form factor pairs c
+      → wants_memory c ≡ false → ⊥
+
+-- where that holds the lines of a script have one output from a state, and lead to one state
+abbrev pub ScriptsAreOne : Type 0
+ScriptsAreOne = RefusedBuildsAreOne
+    → (lines : List (List ℕ)) (s : State) (output output' : List ℕ) (last last' : State)
+    → Runs s lines output last → Runs s lines output' last'
+    → (output ≡ output') × (last ≡ last')
