@@ -1,4 +1,4 @@
--- A script has one output, where a refused build tells one cause.
+-- A script has one output.
 use Rattle.std.proofs.Common.{◌≡◌, ℕ, sym, ap, ◌∙◌, subst, inl, inr, List, [], ◌∷◌, ◌++◌, Option, None, Some}
 use Rattle.std.specs.Prelude.{codes}
 use Rattle.rkyv_dict.specs.Answers.{Does, DoesIf, DoesLine, Runs}
@@ -10,6 +10,7 @@ use Rattle.rkyv_dict.specs.Output.{built_line, refused_line}
 use Rattle.rkyv_dict.specs.Script.{Request, set_kind, set_width, set_load_factor, put_numbers, put_texts, build_archive, check_archive, show_hex, get_value, list_pairs, count_misplaced, request_of}
 use Rattle.rkyv_dict.specs.State.{Archived, State, form_of}
 use Rattle.rkyv_dict.proofs.Once.{builds_are_one, checks_are_one}
+use Rattle.rkyv_dict.proofs.Refused.{refused_builds_are_one}
 
 -- the state with this archive, which was built of its list
 built_state : State → List ℕ → State
@@ -49,11 +50,14 @@ line_one : RefusedBuildsAreOne → (s : State) (l a b : List ℕ) (t u : State) 
 line_one h s [] a b t u x y = (x.0 ∙ sym y.0, x.1 ∙ sym y.1)
 line_one h s (c ∷ cs) a b t u x y = does_if_one h s (request_of (kind_of_pairs s.pairs) (c ∷ cs)) a b t u x y
 
-pub scripts_are_one : ScriptsAreOne
+runs_one : RefusedBuildsAreOne → ScriptsAreOne
 unfolding Runs
-scripts_are_one h [] s o p t u x y = (x.0 ∙ sym y.0, x.1 ∙ sym y.1)
-scripts_are_one h (l ∷ ls) s o p t u x y =
+runs_one h [] s o p t u x y = (x.0 ∙ sym y.0, x.1 ∙ sym y.1)
+runs_one h (l ∷ ls) s o p t u x y =
     let one = line_one h s l x.0 y.0 x.1 y.1 x.3 y.3 in
     let there = subst (λ (n : State). Runs n ls y.2 u) (sym one.1) y.4 in
-    let two = scripts_are_one h ls x.1 x.2 y.2 t u x.4 there in
+    let two = runs_one h ls x.1 x.2 y.2 t u x.4 there in
     (x.5 ∙ ap (λ l. l ++ x.2) one.0 ∙ ap (λ l. y.0 ++ l) two.0 ∙ sym y.5, two.1)
+
+pub scripts_are_one : ScriptsAreOne
+scripts_are_one = runs_one refused_builds_are_one

@@ -30,9 +30,8 @@ pub record RefusedBuildsAreOne : Type 0 where
       → IsBuilt form factor pairs b → BuildRefused form factor pairs c
       → wants_memory c ≡ false → ⊥
 
--- where that holds the lines of a script have one output from a state, and lead to one state
+-- the lines of a script have one output from a state, and lead to one state
 abbrev pub ScriptsAreOne : Type 0
-ScriptsAreOne = RefusedBuildsAreOne
-    → (lines : List (List ℕ)) (s : State) (output output' : List ℕ) (last last' : State)
+ScriptsAreOne = (lines : List (List ℕ)) (s : State) (output output' : List ℕ) (last last' : State)
     → Runs s lines output last → Runs s lines output' last'
     → (output ≡ output') × (last ≡ last')

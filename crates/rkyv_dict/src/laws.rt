@@ -11,8 +11,7 @@ pub fn checks_are_one()
     ensures { ChecksAreOne }
 {}
 
-/// The same lines, from the same state, have one output and lead to one state, if a refused build
-/// has one cause, want of memory aside, and no archive.
+/// The same lines, from the same state, have one output and lead to one state.
 pub fn scripts_are_one()
     ensures { ScriptsAreOne }
 {}

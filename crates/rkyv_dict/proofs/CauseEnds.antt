@@ -1,0 +1,60 @@
+-- What a refused root tells.
+use Rattle.std.proofs.Common.{◌≡◌, ℕ, ◌+◌, ◌-◌, ◌*◌, ◌<◌, ◌≤◌, ◌∙◌, refl, sym, ap, subst, arith, inl, inr, List, [], ◌∷◌, ◌++◌, length, true, false}
+use Rattle.std.specs.Prelude.{◌⊎◌, codes}
+use Rattle.rkyv_base.specs.Root.{fresh}
+use Rattle.rkyv_base.specs.Writing.{CauseStands, Grows, Output, Reached, Refusal, Step, Told, Within, capacity, distance, end_of, load_factor, long_text, mismatch, no_memory, piece, refusal, refused}
+use Rattle.rkyv_base.specs.declared.errors.WriteError.{WriteError}
+use Rattle.rkyv_base.specs.declared.errors.WriteError.TheVariants.{InvalidLoadFactor, IteratorLengthMismatch, CapacityTooLarge, PositionTooLarge, DistanceTooLarge, TextTooLong, Writer, Memory, Refused as RefusedWrite}
+use Rattle.rkyv_dict.specs.Errors.{cause_told, wants_memory}
+use Rattle.rkyv_dict.proofs.Ends.{Ends, IsKnown}
+
+-- how a refusal is told
+abbrev told_of : Refusal → List ℕ
+told_of (load_factor n d) = codes "1 InvalidLoadFactor"
+told_of (mismatch n m) = codes "2 IteratorLengthMismatch"
+told_of (capacity n) = codes "3 CapacityTooLarge"
+told_of distance = codes "5 DistanceTooLarge"
+told_of long_text = codes "6 TextTooLong"
+told_of no_memory = codes "8 Memory"
+told_of (refused n) = codes "9 Refused"
+
+module _ (limit : ℕ) (next : List ℕ → Step → Type 0) where
+  -- a refusal came within the limit, or a piece that passes it
+  abbrev pub Why : List ℕ → Type 0
+  Why told =
+      ((c : Refusal) × IsKnown c × (front : List ℕ) × (length front ≤ limit) × next front (refusal c) × (told ≡ told_of c))
+      ⊎ ((front : List ℕ) × (bytes : List ℕ) × next front (piece bytes) × (limit < length front + length bytes) × (told ≡ codes "4 PositionTooLarge"))
+
+  module _ (o : Output) (front : List ℕ) (kept : Grows fresh o front) where
+    ends_at : end_of o ≡ length front
+    ends_at = omega (arith, kept.start, ap length kept.bytes)
+
+    within : Within limit o front → length front ≤ limit
+    within (inl e) = omega (arith, ap length e)
+    within (inr h) = omega (arith, h, ends_at)
+
+    came : (c : Refusal) (told : List ℕ) → IsKnown c → Reached limit next fresh o front (refusal c) → told ≡ told_of c → Why told
+    came c told known h e = inl (c, known, front, within h.0, h.2, e)
+
+    pub why_cause : {F : Type 0} (e : WriteError F) → wants_memory e ≡ false → CauseStands limit next fresh o front e → Why (cause_told e)
+    unfolding wants_memory cause_told
+    why_cause (InvalidLoadFactor n d) m h = came (load_factor n d) _ (λ e. cc) h refl
+    why_cause (IteratorLengthMismatch x) m h = came (mismatch x.expected x.actual) _ (λ e. cc) h refl
+    why_cause (CapacityTooLarge n) m h = came (capacity n) _ (λ e. cc) h refl
+    why_cause PositionTooLarge m h = inr (front, h.0, h.1.2, omega (arith, h.2, ends_at), refl)
+    why_cause DistanceTooLarge m h = came distance _ (λ e. cc) h refl
+    why_cause TextTooLong m h = came long_text _ (λ e. cc) h refl
+    why_cause (Writer x) m h = absurd cc
+    why_cause Memory m h = absurd cc
+    why_cause (RefusedWrite n) m h = came (refused n) _ (λ e. cc) h refl
+
+  module _ {made : List ℕ → Type 0} (ends : Ends next made) where
+    pub why_one : (told told' : List ℕ) → Why told → Why told' → told ≡ told'
+    why_one told told' (inl x) (inl y) = x.5 ∙ ap told_of (ends.refusals x.2 y.2 x.0 y.0 x.1 y.1 x.4 y.4) ∙ sym y.5
+    why_one told told' (inl x) (inr y) = absurd (omega (arith, x.3, y.3, ends.before y.0 x.2 y.1 x.0 x.1 y.2 x.4))
+    why_one told told' (inr x) (inl y) = absurd (omega (arith, y.3, x.3, ends.before x.0 y.2 x.1 y.0 y.1 x.2 y.4))
+    why_one told told' (inr x) (inr y) = x.4 ∙ sym y.4
+
+    pub why_clear : (told b : List ℕ) → Why told → made b → length b ≤ limit → ⊥
+    why_clear told b (inl x) m h = ends.clear x.2 b x.0 x.1 x.4 m
+    why_clear told b (inr x) m h = omega (arith, x.3, h, ends.inside x.0 x.1 b x.2 m)

@@ -1,0 +1,109 @@
+-- Writing a table of some pairs ends in one way.
+use Rattle.std.proofs.Common.{◌≡◌, ℕ, zero, suc, ◌+◌, ◌-◌, ◌*◌, ◌<◌, ◌≤◌, ◌∙◌, refl, sym, ap, subst, arith, inl, inr, List, [], ◌∷◌, ◌++◌, length, Option, None, Some, Bool, true, false, eqb, get_or}
+use Rattle.std.specs.Prelude.{◌⊎◌, slice_get, slice_index}
+use Rattle.std.specs.Int.{Width, w32}
+use Rattle.std.specs.List.{list_any, position_or_len}
+use Rattle.std.proofs.lemmas.Bool.{cases_Bool, eqb-true}
+use Rattle.std.proofs.lemmas.List.{ext_get_or, length-map}
+use Rattle.std.proofs.lemmas.List.Sums.{passes_at_first}
+use Rattle.std.proofs.lemmas.Option.{slice_get_within, unwrap_or-slice_get}
+use Rattle.std.specs.Option.{unwrap_or}
+use Rattle.rkyv_base.specs.Format.{Format, IsFormat}
+use Rattle.rkyv_base.specs.Shape.{IsElement, Shape}
+use Rattle.rkyv_base.specs.Writing.{Refusal, Step, no_memory, piece, refusal}
+use Rattle.rkyv_table.proofs.HomeList.{homes_one_list, written_one_list}
+use Rattle.rkyv_table.proofs.Written.{first_within}
+use Rattle.rkyv_table.specs.Controls.Numbers.{capacity}
+use Rattle.rkyv_table.specs.Controls.Placing.{homes, is_free}
+use Rattle.rkyv_table.specs.Table.OneWay.{WritesOneWay}
+use Rattle.rkyv_table.specs.Table.Slots.{TableBytes, TableNext}
+use Rattle.rkyv_table.specs.Table.TableFormat.{InBuckets, PairsNext, TableParts, TableResolver, table_format}
+use Rattle.rkyv_table.specs.Table.Taking.{Placed, Slotted, hashes_of, items_of}
+use Rattle.rkyv_dict.proofs.Ends.{Ends, IsKnown}
+use Rattle.rkyv_dict.proofs.FormatEnds.{EndsOneWay}
+use Rattle.rkyv_dict.proofs.TableEnds.{table_ends}
+
+within : {X : Type 0} (xs : List X) (i : ℕ) → i < length xs → (x : X) × (slice_get xs i ≡ Some x)
+within [] i h = absurd (omega (arith, h))
+within (x ∷ xs) zero h = (x, refl)
+within (x ∷ xs) (suc i) h = within xs i (omega (arith, h))
+
+-- slots that have the same items in the same homes
+module _ {X : Type 0} (cap : ℕ) (xs : List ℕ) (items : List X) (ss ts : List (Option X)) (s : Slotted cap xs items ss) (t : Slotted cap xs items ts) where
+  slot_one : (b : ℕ) → b < cap → slice_get ss b ≡ slice_get ts b
+  slot_one b h =
+      let n = s.items_count in
+      let i = position_or_len (eqb b) xs in
+      elim (cases_Bool (list_any (eqb b) xs)) [
+        | inr none ↦ let f : is_free xs b ≡ true = rw none refl in s.others b h f ∙ sym (t.others b h f)
+        | inl some ↦
+            let l : i < length xs = first_within (eqb b) xs some in
+            let e = eqb-true b (get_or xs i 0) (passes_at_first (eqb b) xs 0 l) in
+            let x = within items i (omega arith) in
+            ap (slice_get ss) e ∙ s.at i x.0 x.1 ∙ sym (t.at i x.0 x.1) ∙ ap (slice_get ts) (sym e)
+      ]
+
+  slots_one : ss ≡ ts
+  slots_one =
+      let n = s.count in
+      let m = t.count in
+      ext_get_or None ss ts (omega arith) (λ b h.
+      sym (unwrap_or-slice_get ss b None) ∙ ap (λ (o : Option (Option X)). unwrap_or o None) (slot_one b (omega arith)) ∙ unwrap_or-slice_get ts b None)
+
+-- where the pairs are placed is told by the pairs
+module _ {X : Type 0} (cap : ℕ) (pairs : List (ℕ × X)) (ss ts : List (Option X)) (c d : List ℕ) (full : 0 < length pairs) (x : Placed cap pairs ss c) (y : Placed cap pairs ts d) where
+  some_bucket : 0 < cap
+  some_bucket =
+      let n : length (items_of pairs) ≡ length pairs = length-map pairs (λ pair. pair.1) in
+      let one = within (items_of pairs) 0 (omega arith) in
+      let at = slice_get_within ss (slice_index x.homes 0) (Some one.0) (x.slotted.at 0 one.0 one.1) in
+      let count = x.slotted.count in
+      omega arith
+
+  placed_one : (ss ≡ ts) × (c ≡ d)
+  placed_one =
+      let hashes = hashes_of pairs in
+      let same : x.homes ≡ y.homes = homes_one_list cap hashes x.homes x.written.placed ∙ sym (homes_one_list cap hashes y.homes y.written.placed) in
+      let there = subst (λ (l : List ℕ). Slotted cap l (items_of pairs) ts) (sym same) y.slotted in (
+        slots_one cap x.homes (items_of pairs) ss ts x.slotted there,
+        written_one_list cap hashes x.homes c some_bucket x.written ∙ sym (written_one_list cap hashes y.homes d some_bucket y.written),
+      )
+
+module _ {X R : Type 0} (w : Width) (s : Shape) (f : Format X R) (one : WritesOneWay f) (ends : EndsOneWay f)
+    (whole : (x : X) (r : R) (p : ℕ) (out : List ℕ) → f.image x r p out → length out ≡ s.size)
+    (clear : (x : X) (r : R) (p : ℕ) (out : List ℕ) → f.image x r p out → f.far x r p → ⊥) (factor : ℕ × ℕ) (pairs : List (ℕ × X)) (p : ℕ) where
+  placed_ends : (slots : List (Option X)) (controls : List ℕ) → Ends (TableNext s f slots controls p) (λ part. (z : ℕ) × TableBytes s f slots controls p z part)
+  placed_ends slots controls = table_ends s f one ends whole clear slots controls p
+
+  module _ (ss ts : List (Option X)) (c d : List ℕ) (x : InBuckets factor pairs ss c) (y : InBuckets factor pairs ts d) where
+    same : (ss ≡ ts) × (c ≡ d)
+    same = placed_one (capacity (length pairs) factor) pairs ss ts c d x.0 x.1 y.1
+
+    next_here : (front : List ℕ) (step : Step) → TableNext s f ts d p front step → TableNext s f ss c p front step
+    next_here front step h =
+        subst (λ (l : List (Option X)). TableNext s f l c p front step) (sym same.0) (subst (λ (l : List ℕ). TableNext s f ts l p front step) (sym same.1) h)
+
+    made_here : (z : ℕ) (part : List ℕ) → TableBytes s f ts d p z part → TableBytes s f ss c p z part
+    made_here z part h =
+        subst (λ (l : List (Option X)). TableBytes s f l c p z part) (sym same.0) (subst (λ (l : List ℕ). TableBytes s f ts l p z part) (sym same.1) h)
+
+  made_so : (slots : List (Option X)) (controls part : List ℕ) (r : TableResolver) → InBuckets factor pairs slots controls → TableParts w s f factor pairs p part r
+      → (z : ℕ) × TableBytes s f slots controls p z part
+  made_so slots controls part r x t = elim t.written [
+    | inl none ↦ absurd (omega (arith, ap length none.0, x.0))
+    | inr some ↦ (r.pos, made_here slots some.0 controls some.1 x some.2 r.pos part some.3)
+  ]
+
+  pub pairs_ends : Ends (PairsNext w s f factor pairs p) (λ part. (r : TableResolver) × TableParts w s f factor pairs p part r)
+  pairs_ends = record {
+    refusals = λ front front' c c' k k' x y.
+        (placed_ends x.0 x.1).refusals front front' c c' k k' x.3 (next_here x.0 y.0 x.1 y.1 x.2 y.2 front' (refusal c') y.3);
+    before = λ front front' bytes c k x y. (placed_ends x.0 x.1).before front front' bytes c k x.3 (next_here x.0 y.0 x.1 y.1 x.2 y.2 front' (refusal c) y.3);
+    inside = λ front bytes part x y. (placed_ends x.0 x.1).inside front bytes part x.3 (made_so x.0 x.1 part y.0 x.2 y.1);
+    clear = λ front part c k x y. (placed_ends x.0 x.1).clear front part c k x.3 (made_so x.0 x.1 part y.0 x.2 y.1);
+  }
+
+pub tables_end : {X R : Type 0} (w : Width) (s : Shape) (f : Format X R) → WritesOneWay f → EndsOneWay f
+    → ((x : X) (r : R) (p : ℕ) (out : List ℕ) → f.image x r p out → length out ≡ s.size)
+    → ((x : X) (r : R) (p : ℕ) (out : List ℕ) → f.image x r p out → f.far x r p → ⊥) → (factor : ℕ × ℕ) → EndsOneWay (table_format w s f factor)
+tables_end w s f one ends whole clear factor = record { ends = pairs_ends w s f one ends whole clear factor }
