@@ -2,6 +2,12 @@
 #![tactic(auto)]
 
 #[cfg(test)]
+mod answers;
+#[cfg(test)]
+mod asks;
+#[cfg(test)]
+mod bytes;
+#[cfg(test)]
 mod lists;
 #[cfg(test)]
 mod nested;
@@ -13,5 +19,7 @@ mod sealed;
 mod sets;
 #[cfg(test)]
 mod std_maps;
+#[cfg(test)]
+mod walks;
 #[cfg(test)]
 mod writing;

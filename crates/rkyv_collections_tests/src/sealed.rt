@@ -13,8 +13,9 @@ ghost use Rattle.rkyv_scan.specs.Hash.{hash_of_calls};
 ghost use Rattle.rkyv_collections.specs.Map.{FindsKeyAt, IsKeyPosAt, hash_at, map_shape};
 ghost use Rattle.rkyv_collections.specs.ValueWrites.{KeepsMap};
 
+use crate::answers::{is_archive_of, number_of};
+use crate::bytes::{FOUR_PAIRS, ONE_NUMBER};
 use crate::lists::Pairs;
-use crate::reading::four_pairs;
 use rkyv_base::access::{access, access_in, access_mut};
 use rkyv_base::element::Element;
 use rkyv_base::entry::Entry;
@@ -25,10 +26,11 @@ use rkyv_base::seal::set_at;
 use rkyv_base::text::Text;
 use rkyv_base::view::View;
 use rkyv_base::width::{Narrow, Width};
+use rkyv_collections::map::sealed::{value_writes_keep_maps, values_written_stand};
 use rkyv_collections::map::{ArchivedHashMap, HashMapOf};
 use rkyv_keys::keys::{KeyElement, Query};
 use rkyv_scan::hash::{FxHasher64, KeyHasher};
-use std::alloc::Global;
+use std::alloc::{AllocError, Global};
 use std::marker::PhantomData;
 use std::test::Fail;
 
@@ -37,27 +39,6 @@ type Numbers = HashMapOf<u32, u32>;
 type Small = HashMapOf<i8, i8>;
 
 type Texts = HashMapOf<Text, Text>;
-
-// The map of 1 to 2: buckets from 0 on, controls from 16 on, header at 48.
-fn one_number() -> [u8; 60] {
-    let mut bytes = [0xff; 60];
-    bytes[..16].copy_from_slice(&[1, 0, 0, 0, 2, 0, 0, 0, 0, 0, 0, 0, 0, 0, 0, 0]);
-    bytes[17] = 0x28;
-    bytes[19] = 0x28;
-    bytes[47..].copy_from_slice(&[0, 0xe0, 0xff, 0xff, 0xff, 1, 0, 0, 0, 2, 0, 0, 0]);
-    bytes
-}
-
-// The archive of a map of texts, under these values.
-fn texts(alloc: Global, values: [&str; 3]) -> Result<Vec<u8>, Fail> {
-    let pairs = vec![in alloc;
-        ("hello", values[0]),
-        ("foo", values[1]),
-        ("baz", values[2]),
-    ]?;
-    let list: Pairs<&str, &str, FxHasher64> = Pairs(pairs, PhantomData);
-    Ok(to_bytes(alloc, &list)?)
-}
 
 // Where the value of a key stands, by a plain lookup in the map at `root`.
 fn value_found<K: KeyElement, V: Element, H: KeyHasher, W: Width, Q: Query<K>>(
@@ -142,237 +123,365 @@ fn number_stored(bytes: &mut [u8], key: u32, value: u32) -> Result<Option<u32>, 
 }
 
 #[test]
-fn a_stored_value_is_looked_up(rt: HostRuntime) -> Result<(), Fail> {
-    let mut bytes = one_number();
-    assert_eq!(rt; number_stored(&mut bytes, 1, 7)?, Some(7));
-    assert_eq!(rt; number_stored(&mut bytes, 2, 7)?, None);
-    assert_eq!(rt; bytes[4], 7);
-    Ok(())
+fn a_stored_value_is_looked_up(rt: HostRuntime) {
+    let mut bytes = ONE_NUMBER;
+    let stored = [
+        number_stored(&mut bytes, 1, 7).ok(),
+        number_stored(&mut bytes, 2, 7).ok(),
+    ];
+    assert_eq!(rt; (stored, bytes[4]), ([Some(Some(7)), Some(None)], 7));
 }
 
-#[test]
-fn a_found_value_is_written_in_place(rt: HostRuntime) -> Result<(), Fail> {
-    let mut bytes = one_number();
-    let whole = access_mut::<Numbers>(&mut bytes)?;
-    match ArchivedHashMap::get_seal(whole, &1u32) {
+// Writes a number over the value of a key: what stood there, and what stands there.
+fn replace(bytes: &mut [u8], key: u32, value: u32) -> Result<Option<(u32, u32)>, VerifyError> {
+    let whole = access_mut::<Numbers>(bytes)?;
+    match ArchivedHashMap::get_seal(whole, &key) {
         Some(mut seal) => {
-            assert_eq!(rt; seal.to_native(), 2);
-            seal.set(16_909_060);
+            let before = seal.to_native();
+            seal.set(value);
+            Ok(Some((before, seal.to_native())))
         }
-        None => assert!(rt; false, "the key is there"),
+        None => Ok(None),
     }
-    let mut want = one_number();
-    want[4..8].copy_from_slice(&[4, 3, 2, 1]);
-    assert_eq!(rt; bytes, want);
-    let map = ArchivedHashMap::of(access::<Numbers>(&bytes)?);
-    match map.get(&1u32) {
-        Some(value) => assert_eq!(rt; value.to_native(), 16_909_060),
-        None => assert!(rt; false, "the key is there"),
-    }
-    Ok(())
 }
 
-#[test]
-fn where_no_key_fits_nothing_is_lent(rt: HostRuntime) -> Result<(), Fail> {
-    let mut bytes = one_number();
-    let whole = access_mut::<Numbers>(&mut bytes)?;
-    assert!(rt; ArchivedHashMap::get_seal(whole, &2u32).is_none());
-    let whole = access_mut::<Numbers>(&mut bytes)?;
-    assert!(rt; ArchivedHashMap::get_key_value_seal(whole, &2u32).is_none());
-    assert_eq!(rt; bytes, one_number());
-    Ok(())
-}
-
-#[test]
-fn a_pair_is_lent_with_its_key(rt: HostRuntime) -> Result<(), Fail> {
-    let mut bytes = one_number();
-    let whole = access_mut::<Numbers>(&mut bytes)?;
-    match ArchivedHashMap::get_key_value_seal(whole, &1u32) {
-        Some((key, mut value)) => {
-            assert_eq!(rt; key.to_native(), 1);
-            assert_eq!(rt; value.to_native(), 2);
-            value.set(7);
+// The same with the key that is lent beside it: the key, and what stood there.
+fn replace_beside_key(
+    bytes: &mut [u8],
+    key: u32,
+    value: u32,
+) -> Result<Option<(u32, u32)>, VerifyError> {
+    let whole = access_mut::<Numbers>(bytes)?;
+    match ArchivedHashMap::get_key_value_seal(whole, &key) {
+        Some((found, mut seal)) => {
+            let before = (found.to_native(), seal.to_native());
+            seal.set(value);
+            Ok(Some(before))
         }
-        None => assert!(rt; false, "the key is there"),
+        None => Ok(None),
     }
-    assert_eq!(rt; bytes[4], 7);
-    Ok(())
 }
 
 #[test]
-fn a_comparison_may_be_handed_in(rt: HostRuntime) -> Result<(), Fail> {
-    let mut bytes = one_number();
-    let whole = access_mut::<Numbers>(&mut bytes)?;
-    match ArchivedHashMap::get_key_value_seal_with(whole, &1u32, |_: &u32, _: View<'_, u32>| true) {
-        Some((key, _)) => assert_eq!(rt; key.to_native(), 1),
-        None => assert!(rt; false, "the key is there"),
-    }
-    let whole = access_mut::<Numbers>(&mut bytes)?;
-    match ArchivedHashMap::get_seal_with(whole, &1u32, |_: &u32, _: View<'_, u32>| true) {
-        Some(mut seal) => seal.set(7),
-        None => assert!(rt; false, "the key is there"),
-    }
-    assert_eq!(rt; bytes[4], 7);
-    let whole = access_mut::<Numbers>(&mut bytes)?;
-    assert!(rt;
-        ArchivedHashMap::get_seal_with(whole, &1u32, |_: &u32, _: View<'_, u32>| false).is_none()
+fn a_found_value_is_written_in_place(rt: HostRuntime) {
+    value_writes_keep_maps::<u32, u32, FxHasher64, Narrow>();
+    values_written_stand::<u32, u32, u32, u32, FxHasher64, Narrow>();
+    let mut bytes = ONE_NUMBER;
+    let replaced = replace(&mut bytes, 1, 16_909_060).ok();
+    let found = number_of::<u32, u32, FxHasher64, Narrow, u32>(&bytes, &1).ok();
+    let mut wanted = ONE_NUMBER;
+    wanted[4..8].copy_from_slice(&[4, 3, 2, 1]);
+    assert_eq!(rt;
+        (replaced, found, bytes == wanted),
+        (Some(Some((2, 16_909_060))), Some(Some(16_909_060)), true)
     );
-    Ok(())
 }
 
 #[test]
-fn each_value_is_written(rt: HostRuntime) -> Result<(), Fail> {
-    let mut bytes = four_pairs();
-    let whole = access_mut::<Small>(&mut bytes)?;
+fn where_no_key_fits_nothing_is_lent(rt: HostRuntime) {
+    let mut bytes = ONE_NUMBER;
+    let replaced = replace(&mut bytes, 2, 7).ok();
+    let beside_key = replace_beside_key(&mut bytes, 2, 7).ok();
+    let by_comparison = replace_by(&mut bytes, 1, 7, false).ok();
+    let key_by_comparison = key_by(&mut bytes, 2, true).ok();
+    assert_eq!(rt;
+        (replaced, beside_key, by_comparison, key_by_comparison),
+        (Some(None), Some(None), Some(None), Some(None))
+    );
+    assert_eq!(rt; bytes, ONE_NUMBER);
+}
+
+#[test]
+fn a_pair_is_lent_with_its_key(rt: HostRuntime) {
+    let mut bytes = ONE_NUMBER;
+    let before = replace_beside_key(&mut bytes, 1, 7).ok();
+    assert_eq!(rt; (before, bytes[4]), (Some(Some((1, 2))), 7));
+}
+
+// Writes a number over the value that a comparison finds which always answers this: what stood there.
+fn replace_by(
+    bytes: &mut [u8],
+    key: u32,
+    value: u32,
+    accepts: bool,
+) -> Result<Option<u32>, VerifyError> {
+    let whole = access_mut::<Numbers>(bytes)?;
+    match ArchivedHashMap::get_seal_with(whole, &key, |_: &u32, _: View<'_, u32>| accepts) {
+        Some(mut seal) => {
+            let before = seal.to_native();
+            seal.set(value);
+            Ok(Some(before))
+        }
+        None => Ok(None),
+    }
+}
+
+// The key that such a comparison finds.
+fn key_by(bytes: &mut [u8], key: u32, accepts: bool) -> Result<Option<u32>, VerifyError> {
+    let whole = access_mut::<Numbers>(bytes)?;
+    match ArchivedHashMap::get_key_value_seal_with(
+        whole,
+        &key,
+        |_: &u32, _: View<'_, u32>| accepts,
+    ) {
+        Some((found, _)) => Ok(Some(found.to_native())),
+        None => Ok(None),
+    }
+}
+
+#[test]
+fn a_comparison_may_be_handed_in(rt: HostRuntime) {
+    let mut bytes = ONE_NUMBER;
+    let key = key_by(&mut bytes, 1, true).ok();
+    let before = replace_by(&mut bytes, 1, 7, true).ok();
+    assert_eq!(rt; (key, before, bytes[4]), (Some(Some(1)), Some(Some(2)), 7));
+}
+
+// Writes these numbers over the values that a cursor lends, one after the other. Whether there are as
+// many values, the cursor tells each time how many are left, and lends nothing after the last.
+fn write_values(bytes: &mut [u8], values: &[i8]) -> Result<bool, VerifyError> {
+    let whole = access_mut::<Small>(bytes)?;
     let mut rest = ArchivedHashMap::values_seal(whole);
-    for left in 0..4 {
-        assert_eq!(rt; rest.len(), 4 - left);
+    let mut right = true;
+    let mut left = values.len();
+    for value in values {
+        right = right && rest.len() == left;
+        left = left.saturating_sub(1);
         match rest.next_seal() {
-            Some(mut seal) => seal.set(0),
-            None => assert!(rt; false, "there are four values"),
+            Some(mut seal) => seal.set(*value),
+            None => return Ok(false),
         }
     }
-    assert_eq!(rt; rest.len(), 0);
-    assert!(rt; rest.next_seal().is_none());
-    drop(rest);
-    let mut want = four_pairs();
-    want[..10].copy_from_slice(&[3, 0, 1, 0, 0, 0, 7, 0, 5, 0]);
-    assert_eq!(rt; bytes, want);
-    let map = ArchivedHashMap::of(access::<Small>(&bytes)?);
-    for key in [1i8, 3, 5, 7] {
-        match map.get(&key) {
-            Some(value) => assert_eq!(rt; value.to_native(), 0),
-            None => assert!(rt; false, "each key is there"),
-        }
-    }
-    Ok(())
+    let ended = rest.len() == 0 && rest.next_seal().is_none();
+    Ok(right && ended && rest.next_seal().is_none() && rest.len() == 0)
 }
 
-#[test]
-fn values_are_written_by_position(rt: HostRuntime) -> Result<(), Fail> {
-    let mut bytes = four_pairs();
-    let whole = access_mut::<Small>(&mut bytes)?;
+// The same by the positions of the values.
+fn write_values_by_pos(bytes: &mut [u8], values: &[i8]) -> Result<bool, VerifyError> {
+    let whole = access_mut::<Small>(bytes)?;
     let mut rest = ArchivedHashMap::values_seal(whole);
-    for value in [10i8, 11, 12, 13] {
+    for value in values {
         match rest.next_pos() {
-            Some(pos) => rest.set_at(pos, value),
-            None => assert!(rt; false, "there are four values"),
+            Some(pos) => rest.set_at(pos, *value),
+            None => return Ok(false),
         }
     }
-    assert_eq!(rt; rest.next_pos(), None);
-    assert_eq!(rt; rest.len(), 0);
-    drop(rest);
-    let mut want = four_pairs();
-    want[..10].copy_from_slice(&[3, 13, 1, 12, 0, 0, 7, 11, 5, 10]);
-    assert_eq!(rt; bytes, want);
-    Ok(())
+    let ended = rest.len() == 0 && rest.next_pos().is_none();
+    Ok(ended && rest.next_pos().is_none() && rest.len() == 0)
 }
 
-#[test]
-fn pairs_are_lent_by_ascending_bucket(rt: HostRuntime) -> Result<(), Fail> {
-    let mut bytes = four_pairs();
-    let whole = access_mut::<Small>(&mut bytes)?;
+// The same of pairs: whether their keys are these.
+fn write_pairs(bytes: &mut [u8], pairs: &[(i8, i8)]) -> Result<bool, VerifyError> {
+    let whole = access_mut::<Small>(bytes)?;
     let mut rest = ArchivedHashMap::iter_seal(whole);
-    for expected in [5i8, 7, 1, 3] {
+    let mut right = true;
+    for pair in pairs {
         match rest.next_seal() {
             Some((key, mut value)) => {
-                assert_eq!(rt; key.to_native(), expected);
-                value.set(-expected);
+                right = right && key.to_native() == pair.0;
+                value.set(pair.1);
             }
-            None => assert!(rt; false, "there are four pairs"),
+            None => return Ok(false),
         }
     }
-    assert!(rt; rest.next_seal().is_none());
-    assert_eq!(rt; rest.len(), 0);
-    drop(rest);
-    let mut want = four_pairs();
-    want[..10].copy_from_slice(&[3, 0xfd, 1, 0xff, 0, 0, 7, 0xf9, 5, 0xfb]);
-    assert_eq!(rt; bytes, want);
-    Ok(())
+    let ended = rest.len() == 0 && rest.next_seal().is_none();
+    Ok(right && ended && rest.next_seal().is_none() && rest.len() == 0)
+}
+
+// The archive of the four pairs with other buckets.
+fn four_with(buckets: [u8; 10]) -> [u8; 56] {
+    let mut bytes = FOUR_PAIRS;
+    bytes[..10].copy_from_slice(&buckets);
+    bytes
 }
 
 #[test]
-fn pairs_are_written_by_position(rt: HostRuntime) -> Result<(), Fail> {
-    let mut bytes = four_pairs();
-    let whole = access_mut::<Small>(&mut bytes)?;
+fn each_value_is_written(rt: HostRuntime) {
+    let mut bytes = FOUR_PAIRS;
+    let written = write_values(&mut bytes, &[0; 4]).ok();
+    let found = [
+        number_of::<i8, i8, FxHasher64, Narrow, i8>(&bytes, &1).ok(),
+        number_of::<i8, i8, FxHasher64, Narrow, i8>(&bytes, &3).ok(),
+        number_of::<i8, i8, FxHasher64, Narrow, i8>(&bytes, &5).ok(),
+        number_of::<i8, i8, FxHasher64, Narrow, i8>(&bytes, &7).ok(),
+    ];
+    let same = bytes == four_with([3, 0, 1, 0, 0, 0, 7, 0, 5, 0]);
+    assert_eq!(rt;
+        (written, found, same),
+        (Some(true), [Some(Some(0)); 4], true)
+    );
+}
+
+#[test]
+fn values_are_written_by_position(rt: HostRuntime) {
+    let mut bytes = FOUR_PAIRS;
+    let written = write_values_by_pos(&mut bytes, &[10, 11, 12, 13]).ok();
+    let same = bytes == four_with([3, 13, 1, 12, 0, 0, 7, 11, 5, 10]);
+    assert_eq!(rt; (written, same), (Some(true), true));
+}
+
+// Writes this byte over a byte of an archive.
+fn change(archive: &mut [u8], pos: u64, byte: u8) {
+    match archive.get_mut(pos as usize) {
+        Some(old) => *old = byte,
+        None => {}
+    }
+}
+
+// Writes 20 and 21 over the first two values while the cursor steps: where they stand.
+fn write_stepping(bytes: &mut [u8]) -> Result<[Option<u64>; 2], VerifyError> {
+    let whole = access_mut::<Small>(bytes)?;
+    let mut rest = ArchivedHashMap::values_seal(whole);
+    let first = rest.next_with(|archive: &mut [u8], pos: u64| change(archive, pos, 20));
+    let second = rest.next_with(|archive: &mut [u8], pos: u64| change(archive, pos, 21));
+    Ok([first, second])
+}
+
+#[test]
+fn values_are_written_while_the_cursor_steps(rt: HostRuntime) {
+    let mut bytes = FOUR_PAIRS;
+    let places = write_stepping(&mut bytes).ok();
+    let same = bytes == four_with([3, 4, 1, 2, 0, 0, 7, 21, 5, 20]);
+    assert_eq!(rt; (places, same), (Some([Some(9), Some(7)]), true));
+}
+
+#[test]
+fn pairs_are_lent_by_ascending_bucket(rt: HostRuntime) {
+    let mut bytes = FOUR_PAIRS;
+    let written = write_pairs(&mut bytes, &[(5, -5), (7, -7), (1, -1), (3, -3)]).ok();
+    let same = bytes == four_with([3, 0xfd, 1, 0xff, 0, 0, 7, 0xf9, 5, 0xfb]);
+    assert_eq!(rt; (written, same), (Some(true), true));
+}
+
+// Writes a number behind the first key: how many pairs were there, where the key stands, which it
+// is, and how many pairs are left.
+fn write_first(
+    bytes: &mut [u8],
+    value: i8,
+) -> Result<Option<(usize, u64, i8, usize)>, VerifyError> {
+    let whole = access_mut::<Small>(bytes)?;
     let mut rest = ArchivedHashMap::iter_seal(whole);
-    assert_eq!(rt; rest.len(), 4);
+    let before = rest.len();
     match rest.next_pos() {
         Some(pos) => {
-            assert_eq!(rt; pos, 8);
-            assert_eq!(rt; rest.key_at(pos).to_native(), 5);
-            rest.set_at(pos, 9);
+            let key = rest.key_at(pos).to_native();
+            rest.set_at(pos, value);
+            Ok(Some((before, pos, key, rest.len())))
         }
-        None => assert!(rt; false, "there are four pairs"),
+        None => Ok(None),
     }
-    assert_eq!(rt; rest.len(), 3);
-    drop(rest);
-    let mut want = four_pairs();
-    want[9] = 9;
-    assert_eq!(rt; bytes, want);
-    Ok(())
 }
 
 #[test]
-fn a_text_is_read_in_place(rt: HostRuntime) -> Result<(), Fail> {
-    let alloc = rt.alloc();
-    let mut bytes = texts(alloc, ["world", "bar", "bat"])?;
-    let whole = access_mut::<Texts>(bytes.as_mut_slice())?;
-    match ArchivedHashMap::get_seal(whole, &"hello") {
-        Some(seal) => assert!(rt; seal.as_str() == Some("world")),
-        None => assert!(rt; false, "the key is there"),
+fn pairs_are_written_by_position(rt: HostRuntime) {
+    let mut bytes = FOUR_PAIRS;
+    let first = write_first(&mut bytes, 9).ok();
+    let same = bytes == four_with([3, 4, 1, 2, 0, 0, 7, 8, 5, 9]);
+    assert_eq!(rt; (first, same), (Some(Some((4, 8, 5, 3))), true));
+}
+
+// The map of three texts, to these values.
+fn texts<'a>(
+    alloc: Global,
+    values: [&'a str; 3],
+) -> Result<Pairs<&'a str, &'a str, FxHasher64>, AllocError> {
+    let pairs = vec![in alloc;
+        ("hello", values[0]),
+        ("foo", values[1]),
+        ("baz", values[2]),
+    ]?;
+    Ok(Pairs(pairs, PhantomData))
+}
+
+// Whether these are the bytes of that map.
+fn is_archive_of_texts(alloc: Global, values: [&str; 3], bytes: &[u8]) -> bool {
+    match texts(alloc, values) {
+        Ok(list) => is_archive_of(alloc, &list, bytes),
+        Err(_) => false,
     }
-    Ok(())
+}
+
+// Whether the value of a key is this text, read by a seal.
+#[tactic(auto, using(rkyv_base::proofs::SealedText::viewed_sealed))]
+fn is_text_in_place(bytes: &mut [u8], key: &str, text: &str) -> Result<Option<bool>, VerifyError> {
+    let whole = access_mut::<Texts>(bytes)?;
+    match ArchivedHashMap::get_seal(whole, &key) {
+        Some(seal) => Ok(Some(seal.as_str() == Some(text))),
+        None => Ok(None),
+    }
+}
+
+// Whether the value of a key is this text.
+fn is_text(bytes: &[u8], key: &str, text: &str) -> Result<Option<bool>, VerifyError> {
+    let map = ArchivedHashMap::of(access::<Texts>(bytes)?);
+    match map.get(&key) {
+        Some(value) => Ok(Some(value.as_str() == text)),
+        None => Ok(None),
+    }
+}
+
+// Raises the value of a key to upper case: what the seal answers.
+fn raise(bytes: &mut [u8], key: &str) -> Result<Option<bool>, VerifyError> {
+    let whole = access_mut::<Texts>(bytes)?;
+    match ArchivedHashMap::get_seal(whole, &key) {
+        Some(mut seal) => Ok(Some(seal.make_ascii_uppercase())),
+        None => Ok(None),
+    }
+}
+
+// Raises three values: how many of the seals answer that they did.
+fn raise_three(bytes: &mut [u8]) -> Result<Option<usize>, VerifyError> {
+    let whole = access_mut::<Texts>(bytes)?;
+    let mut rest = ArchivedHashMap::values_seal(whole);
+    let mut raised = 0usize;
+    for _ in 0..3 {
+        match rest.next_seal() {
+            Some(mut seal) => {
+                if seal.make_ascii_uppercase() {
+                    raised = raised.wrapping_add(1);
+                }
+            }
+            None => return Ok(None),
+        }
+    }
+    Ok(Some(raised))
 }
 
 #[test]
 fn a_text_is_raised_in_place(rt: HostRuntime) -> Result<(), Fail> {
     let alloc = rt.alloc();
-    let mut bytes = texts(alloc, ["world", "bar", "bat"])?;
-    let whole = access_mut::<Texts>(bytes.as_mut_slice())?;
-    match ArchivedHashMap::get_seal(whole, &"hello") {
-        Some(mut seal) => assert!(rt; seal.make_ascii_uppercase()),
-        None => assert!(rt; false, "the key is there"),
-    }
-    let want = texts(alloc, ["WORLD", "bar", "bat"])?;
-    assert_eq!(rt; bytes.as_slice(), want.as_slice());
-    let map = ArchivedHashMap::of(access::<Texts>(bytes.as_slice())?);
-    match map.get(&"hello") {
-        Some(value) => assert!(rt; value.as_str() == "WORLD"),
-        None => assert!(rt; false, "the key is there"),
-    }
+    let list = texts(alloc, ["world", "bar", "bat"])?;
+    let mut bytes = to_bytes(alloc, &list)?;
+    let read = is_text_in_place(bytes.as_mut_slice(), "hello", "world").ok();
+    let raised = raise(bytes.as_mut_slice(), "hello").ok();
+    let same = is_archive_of_texts(alloc, ["WORLD", "bar", "bat"], bytes.as_slice());
+    let found = is_text(bytes.as_slice(), "hello", "WORLD").ok();
+    assert_eq!(rt;
+        (read, raised, same, found),
+        (Some(Some(true)), Some(Some(true)), true, Some(Some(true)))
+    );
     Ok(())
 }
 
 #[test]
 fn each_text_is_raised_in_place(rt: HostRuntime) -> Result<(), Fail> {
     let alloc = rt.alloc();
-    let mut bytes = texts(alloc, ["world", "bar", "bat"])?;
-    let whole = access_mut::<Texts>(bytes.as_mut_slice())?;
-    let mut rest = ArchivedHashMap::values_seal(whole);
-    for _ in 0..3 {
-        match rest.next_seal() {
-            Some(mut seal) => assert!(rt; seal.make_ascii_uppercase()),
-            None => assert!(rt; false, "there are three values"),
-        }
-    }
-    drop(rest);
-    let want = texts(alloc, ["WORLD", "BAR", "BAT"])?;
-    assert_eq!(rt; bytes.as_slice(), want.as_slice());
+    let list = texts(alloc, ["world", "bar", "bat"])?;
+    let mut bytes = to_bytes(alloc, &list)?;
+    let raised = raise_three(bytes.as_mut_slice()).ok();
+    let same = is_archive_of_texts(alloc, ["WORLD", "BAR", "BAT"], bytes.as_slice());
+    assert_eq!(rt; (raised, same), (Some(Some(3)), true));
     Ok(())
 }
 
 #[test]
 fn a_text_out_of_line_stays(rt: HostRuntime) -> Result<(), Fail> {
     let alloc = rt.alloc();
-    let mut bytes = texts(alloc, ["wonderful", "bar", "bat"])?;
-    let whole = access_mut::<Texts>(bytes.as_mut_slice())?;
-    match ArchivedHashMap::get_seal(whole, &"hello") {
-        Some(mut seal) => assert!(rt; !seal.make_ascii_uppercase()),
-        None => assert!(rt; false, "the key is there"),
-    }
-    let same = texts(alloc, ["wonderful", "bar", "bat"])?;
-    assert_eq!(rt; bytes.as_slice(), same.as_slice());
+    let list = texts(alloc, ["wonderful", "bar", "bat"])?;
+    let mut bytes = to_bytes(alloc, &list)?;
+    let raised = raise(bytes.as_mut_slice(), "hello").ok();
+    let same = is_archive_of_texts(alloc, ["wonderful", "bar", "bat"], bytes.as_slice());
+    assert_eq!(rt; (raised, same), (Some(Some(false)), true));
     Ok(())
 }
 
@@ -383,22 +492,32 @@ fn has_names(asked: &(&str, &str), key: View<'_, Entry<Text, Text>>) -> bool
     key.key().as_str() == asked.0 && key.value().as_str() == asked.1
 }
 
+// Whether the value of a key of two texts is this one.
+fn is_text_of_two(
+    bytes: &[u8],
+    key: (&str, &str),
+    text: &str,
+) -> Result<Option<bool>, VerifyError> {
+    let map = ArchivedHashMap::of(access::<HashMapOf<Entry<Text, Text>, Text>>(bytes)?);
+    let found = map.get_with(
+        &key,
+        |asked: &(&str, &str), key: View<'_, Entry<Text, Text>>|
+            requires { IsView (entry_shape (text_shape w32) (text_shape w32)) key }
+        { has_names(asked, key) },
+    );
+    match found {
+        Some(value) => Ok(Some(value.as_str() == text)),
+        None => Ok(None),
+    }
+}
+
 #[test]
 fn a_key_of_two_texts_is_compared(rt: HostRuntime) -> Result<(), Fail> {
     let alloc = rt.alloc();
     let pairs = vec![in alloc; (("my", "key"), "value"), (("wrong", "key"), "wrong value")]?;
     let list: Pairs<(&str, &str), &str, FxHasher64> = Pairs(pairs, PhantomData);
     let bytes = to_bytes(alloc, &list)?;
-    let map = ArchivedHashMap::of(access::<HashMapOf<Entry<Text, Text>, Text>>(bytes.as_slice())?);
-    let found = map.get_with(
-        &("my", "key"),
-        |asked: &(&str, &str), key: View<'_, Entry<Text, Text>>|
-            requires { IsView (entry_shape (text_shape w32) (text_shape w32)) key }
-        { has_names(asked, key) },
-    );
-    match found {
-        Some(value) => assert!(rt; value.as_str() == "value"),
-        None => assert!(rt; false, "the key is there"),
-    }
+    let found = is_text_of_two(bytes.as_slice(), ("my", "key"), "value").ok();
+    assert_eq!(rt; found, Some(Some(true)));
     Ok(())
 }

@@ -1,110 +1,108 @@
 //! Sets of given bytes, read in place.
 
-use rkyv_base::access::{access, access_in};
-use rkyv_base::width::Wide;
+use crate::answers::{equal_maps, equal_sets, map_prints, member_of, set_counts, set_prints};
+use crate::bytes::{EMPTY, ONE_UNIT, SET_IN_A_MAP, THREE, TWO_UNITS};
+use rkyv_base::access::access_in;
+use rkyv_base::errors::VerifyError;
+use rkyv_base::width::{Narrow, Wide};
 use rkyv_collections::map::{ArchivedHashMap, HashMapOf};
 use rkyv_collections::set::{ArchivedHashSet, HashSetOf};
-use rkyv_keys::equality::ElementEq;
-use rkyv_scan::hash::FxHasher64Wide;
-use std::test::Fail;
-
-// The set of 1, 2 and 3: buckets from 0 on, controls from 4 on, header at 36.
-fn three() -> [u8; 48] {
-    let mut bytes = [0xff; 48];
-    bytes[..4].copy_from_slice(&[3, 2, 1, 0]);
-    bytes[4..12].copy_from_slice(&[0xff, 0x28, 0x51, 0x7a, 0xff, 0x28, 0x51, 0x7a]);
-    bytes[35..].copy_from_slice(&[0, 0xe0, 0xff, 0xff, 0xff, 3, 0, 0, 0, 4, 0, 0, 0]);
-    bytes
-}
-
-// The set of the unit value, handed in twice: no bytes of buckets, controls from 0 on, header at 32.
-fn two_units() -> [u8; 44] {
-    let mut bytes = [0xff; 44];
-    bytes[..6].copy_from_slice(&[0, 0, 0xff, 0, 0, 0xff]);
-    bytes[31..].copy_from_slice(&[0, 0xe0, 0xff, 0xff, 0xff, 2, 0, 0, 0, 3, 0, 0, 0]);
-    bytes
-}
+use rkyv_scan::hash::{FxHasher64, FxHasher64Wide};
 
 #[test]
-fn keys_are_walked_by_ascending_bucket(rt: HostRuntime) -> Result<(), Fail> {
-    let bytes = three();
-    let set = ArchivedHashSet::of(access::<HashSetOf<u8>>(&bytes)?);
-    let mut keys = set.iter();
-    assert_eq!(rt; keys.len(), 3);
-    for wanted in [1, 2, 3] {
-        match keys.next() {
-            Some(key) => assert_eq!(rt; key.to_native(), wanted),
-            None => assert!(rt; false),
-        }
-    }
-    assert_eq!(rt; keys.size_hint(), (0, Some(0)));
-    assert!(rt; keys.next().is_none());
-    assert_eq!(rt; format!(in rt.alloc(); "{set:?}")?.as_str(), "{1, 2, 3}");
-    Ok(())
-}
-
-#[test]
-fn sets_are_compared(rt: HostRuntime) -> Result<(), Fail> {
-    let bytes = three();
-    let mut other = three();
-    let root = access::<HashSetOf<u8>>(&bytes)?;
-    let set = ArchivedHashSet::of(root);
-    assert!(rt; set.eq_set(set));
-    assert!(rt; HashSetOf::<u8>::same(root, root));
-    other[2] = 9;
-    let other = ArchivedHashSet::of(access::<HashSetOf<u8>>(&other)?);
-    assert!(rt; !set.eq_set(other));
-    Ok(())
-}
-
-#[test]
-fn a_key_that_was_handed_in_twice_is_misplaced_once(rt: HostRuntime) -> Result<(), Fail> {
-    let bytes = three();
+fn a_set_is_read(rt: HostRuntime) {
+    let counts = [
+        set_counts::<u8, FxHasher64, Narrow>(&THREE).ok(),
+        set_counts::<u8, FxHasher64, Narrow>(&EMPTY).ok(),
+    ];
+    let members = [
+        member_of::<u8, FxHasher64, Narrow, u8>(&THREE, &3).ok(),
+        member_of::<u8, FxHasher64, Narrow, u8>(&THREE, &4).ok(),
+        member_of::<u8, FxHasher64, Narrow, u8>(&EMPTY, &4).ok(),
+    ];
+    let printed = [
+        set_prints::<u8, FxHasher64, Narrow>(rt.alloc(), &THREE, "{1, 2, 3}"),
+        set_prints::<u8, FxHasher64, Narrow>(rt.alloc(), &EMPTY, "{}"),
+    ];
     assert_eq!(rt;
-        ArchivedHashSet::of(access::<HashSetOf<u8>>(&bytes)?).misplaced(),
-        0
+        (counts, members, printed),
+        (
+            [Some((false, 3, 0)), Some((true, 0, 0))],
+            [
+                Some((true, Some(0))),
+                Some((false, None)),
+                Some((false, None))
+            ],
+            [true; 2]
+        )
     );
-    let twice = two_units();
-    let set = ArchivedHashSet::of(access::<HashSetOf<()>>(&twice)?);
-    assert_eq!(rt; set.len(), 2);
-    assert!(rt; set.contains(&()));
-    assert_eq!(rt; set.misplaced(), 1);
-    Ok(())
-}
-
-// The wide map of 1 to the set of 1, under the hasher that feeds all bits: the set's bucket from 0 on
-// and its controls from 2 on, the map's buckets from 40 on, its controls from 104 on, header at 136.
-fn a_set_in_a_map() -> [u8; 160] {
-    let mut bytes = [0xff; 160];
-    bytes[..6].copy_from_slice(&[1, 0, 0xff, 0x28, 0xff, 0x28]);
-    bytes[33..48].copy_from_slice(&[0, 0, 0, 0, 0, 0, 0, 1, 0, 0, 0, 0, 0, 0, 0]);
-    bytes[48] = 0xd2;
-    bytes[56..72].copy_from_slice(&[1, 0, 0, 0, 0, 0, 0, 0, 2, 0, 0, 0, 0, 0, 0, 0]);
-    bytes[72..104].copy_from_slice(&[0; 32]);
-    bytes[105] = 0x28;
-    bytes[107] = 0x28;
-    bytes[135] = 0;
-    bytes[136] = 0xe0;
-    bytes[144..].copy_from_slice(&[1, 0, 0, 0, 0, 0, 0, 0, 2, 0, 0, 0, 0, 0, 0, 0]);
-    bytes
 }
 
 #[test]
-fn a_set_is_the_value_of_a_map(rt: HostRuntime) -> Result<(), Fail> {
-    type Inner = HashSetOf<i8, FxHasher64Wide, Wide>;
-    let bytes = a_set_in_a_map();
-    let root = access_in::<Wide, HashMapOf<i8, Inner, FxHasher64Wide, Wide>>(&bytes)?;
+fn sets_are_compared(rt: HostRuntime) {
+    let mut other = THREE;
+    other[2] = 9;
+    let equal = [
+        equal_sets::<u8, FxHasher64, Narrow>(&THREE, &THREE).ok(),
+        equal_sets::<u8, FxHasher64, Narrow>(&THREE, &other).ok(),
+    ];
+    assert_eq!(rt; equal, [Some((true, true)), Some((false, false))]);
+}
+
+#[test]
+fn sets_of_units_are_read(rt: HostRuntime) {
+    let counts = [
+        set_counts::<(), FxHasher64, Narrow>(&ONE_UNIT).ok(),
+        set_counts::<(), FxHasher64, Narrow>(&TWO_UNITS).ok(),
+    ];
+    let members = [
+        member_of::<(), FxHasher64, Narrow, ()>(&ONE_UNIT, &()).ok(),
+        member_of::<(), FxHasher64, Narrow, ()>(&TWO_UNITS, &()).ok(),
+        member_of::<(), FxHasher64, Narrow, ()>(&EMPTY, &()).ok(),
+    ];
+    let printed = [
+        set_prints::<(), FxHasher64, Narrow>(rt.alloc(), &ONE_UNIT, "{()}"),
+        set_prints::<(), FxHasher64, Narrow>(rt.alloc(), &TWO_UNITS, "{(), ()}"),
+    ];
+    assert_eq!(rt;
+        (counts, members, printed),
+        (
+            [Some((false, 1, 0)), Some((false, 2, 1))],
+            [
+                Some((true, Some(0))),
+                Some((true, Some(0))),
+                Some((false, None))
+            ],
+            [true; 2]
+        )
+    );
+}
+
+type Inner = HashSetOf<i8, FxHasher64Wide, Wide>;
+
+// Of the set that the key 1 leads to: its length, whether it has 1, and whether it has 2.
+fn inner_set(bytes: &[u8]) -> Result<Option<(usize, bool, bool)>, VerifyError> {
+    let root = access_in::<Wide, HashMapOf<i8, Inner, FxHasher64Wide, Wide>>(bytes)?;
     let map = ArchivedHashMap::of(root);
     match map.get(&1i8) {
         Some(value) => {
             let set = ArchivedHashSet::of(value);
-            assert_eq!(rt; set.len(), 1);
-            assert!(rt; set.contains(&1i8));
-            assert!(rt; !set.contains(&2i8));
+            Ok(Some((set.len(), set.contains(&1i8), set.contains(&2i8))))
         }
-        None => assert!(rt; false),
+        None => Ok(None),
     }
-    assert!(rt; map.eq_map(map));
-    assert_eq!(rt; format!(in rt.alloc(); "{map:?}")?.as_str(), "{1: {1}}");
-    Ok(())
+}
+
+#[test]
+fn a_set_is_the_value_of_a_map(rt: HostRuntime) {
+    let equal = equal_maps::<i8, Inner, FxHasher64Wide, Wide>(&SET_IN_A_MAP, &SET_IN_A_MAP).ok();
+    let printed = map_prints::<i8, Inner, FxHasher64Wide, Wide>(
+        rt.alloc(),
+        &SET_IN_A_MAP,
+        "{1: {1}}",
+    );
+    assert_eq!(rt;
+        (inner_set(&SET_IN_A_MAP).ok(), equal, printed),
+        (Some(Some((1, true, false))), Some((true, true)), true)
+    );
 }

@@ -1,26 +1,41 @@
 //! What is written of maps and sets, byte for byte.
 
+use crate::answers::{counts, is_archive_of, number_of};
+use crate::bytes::{EMPTY, NESTED, THREE};
 use crate::lists::Pairs;
-use rkyv_base::access::access;
-use rkyv_base::errors::{IteratorLengthMismatch, WriteError};
+use rkyv_base::archive::Serialize;
+use rkyv_base::element::StandsFor;
+use rkyv_base::errors::WriteError;
 use rkyv_base::root::to_bytes;
 use rkyv_base::width::Narrow;
 use rkyv_base::writer::{NoMemory, VecWriter};
-use rkyv_collections::map::{ArchivedHashMap, HashMapOf};
-use rkyv_collections::set::{ArchivedHashSet, HashSetOf};
+use rkyv_collections::map::ArchivedHashMap;
+use rkyv_collections::map::written::written_maps_stand;
+use rkyv_collections::set::ArchivedHashSet;
+use rkyv_collections::set::written::written_sets_stand;
+use rkyv_keys::keys::{KeyElement, NativeKey};
 use rkyv_scan::hash::FxHasher64;
 use std::alloc::{AllocError, Global};
 use std::marker::PhantomData;
 use std::test::Fail;
 
-// The pairs with a claimed length, as a map at position 0: the position that resolves it, and its
-// bytes.
-fn map_of(
+// Whether the bytes are these, and then so many bytes ff.
+fn is_then_empty(bytes: &[u8], front: &[u8], empty: usize) -> bool {
+    if bytes.len() < front.len() {
+        return false;
+    }
+    let (first, others) = bytes.split_at(front.len());
+    first == front && others.len() == empty && others.iter().all(|control| *control == 0xff)
+}
+
+// The position that resolves the map of these pairs, written at position 0, where its bytes are
+// these and then so many empty controls.
+fn map_pos(
     alloc: Global,
-    pairs: Vec<(i8, i8)>,
-    len: usize,
-    load_factor: (usize, usize),
-) -> Result<(u64, Vec<u8>), WriteError<NoMemory>> {
+    pairs: &[(i8, i8)],
+    front: &[u8],
+    empty: usize,
+) -> Result<Option<u64>, WriteError<NoMemory>> {
     let mut writer = VecWriter::new(alloc);
     let resolver = ArchivedHashMap::<i8, i8, FxHasher64, Narrow>::serialize_from_iter::<
         VecWriter,
@@ -29,20 +44,101 @@ fn map_of(
         i8,
         i8,
         _,
-    >(alloc, pairs.into_iter(), len, load_factor, &mut writer)?;
-    Ok((resolver.pos(), writer.into_vec()))
+    >(
+        alloc,
+        pairs.iter().copied(),
+        pairs.len(),
+        (7, 8),
+        &mut writer,
+    )?;
+    if is_then_empty(writer.bytes(), front, empty) {
+        return Ok(Some(resolver.pos()));
+    }
+    Ok(None)
 }
 
-// The bytes in front, and as many bytes ff behind them.
-fn with_empty(alloc: Global, front: &[u8], empty: usize) -> Result<Vec<u8>, AllocError> {
-    let mut bytes = Vec::new(alloc);
-    for byte in front {
-        bytes.push(*byte)?;
+// The same of the set of these keys.
+fn set_pos<
+    K: KeyElement + NativeKey<K> + Serialize<VecWriter, Narrow, Archived = K> + Copy + StandsFor<K>,
+>(
+    alloc: Global,
+    keys: &[K],
+    front: &[u8],
+    empty: usize,
+) -> Result<Option<u64>, WriteError<NoMemory>> {
+    let mut writer = VecWriter::new(alloc);
+    let resolver = ArchivedHashSet::<K, FxHasher64, Narrow>::serialize_from_iter::<
+        VecWriter,
+        K,
+        &K,
+        _,
+    >(alloc, keys.iter(), keys.len(), (7, 8), &mut writer)?;
+    if is_then_empty(writer.bytes(), front, empty) {
+        return Ok(Some(resolver.pos()));
     }
-    for _ in 0..empty {
-        bytes.push(0xff)?;
-    }
-    Ok(bytes)
+    Ok(None)
+}
+
+#[test]
+fn maps_are_written(rt: HostRuntime) {
+    written_maps_stand::<Narrow, FxHasher64, i8, i8, i8, i8>();
+    let alloc = rt.alloc();
+    let one = [1, 2, 0, 0, 0xff, 0x28, 0xff, 0x28];
+    let twice = [0, 0, 1, 9, 1, 2, 0x28, 0x28, 0xff, 0x28, 0x28, 0xff];
+    let four = [
+        3, 4, 1, 2, 0, 0, 7, 8, 5, 6, 0x4b, 0x1d, 0xff, 0x28, 0x7a, 0x4b, 0x1d, 0xff, 0x28, 0x7a,
+    ];
+    let written = [
+        map_pos(alloc, &[(1, 2)], &one, 27).ok(),
+        map_pos(alloc, &[(1, 2), (1, 9)], &twice, 25).ok(),
+        map_pos(alloc, &[(1, 2), (3, 4), (5, 6), (7, 8)], &four, 21).ok(),
+        map_pos(alloc, &[], &[], 0).ok(),
+    ];
+    assert_eq!(rt;
+        written,
+        [Some(Some(4)), Some(Some(6)), Some(Some(10)), Some(Some(0))]
+    );
+}
+
+#[test]
+fn sets_are_written(rt: HostRuntime) {
+    written_sets_stand::<Narrow, FxHasher64, u8, u8>();
+    let alloc = rt.alloc();
+    let three = [3, 2, 1, 0, 0xff, 0x28, 0x51, 0x7a, 0xff, 0x28, 0x51, 0x7a];
+    let written = [
+        set_pos::<()>(alloc, &[()], &[0, 0xff, 0], 28).ok(),
+        set_pos::<u8>(alloc, &[1, 2, 3], &three, 23).ok(),
+        set_pos::<u8>(alloc, &[], &[], 0).ok(),
+    ];
+    assert_eq!(rt; written, [Some(Some(0)), Some(Some(4)), Some(Some(0))]);
+}
+
+// The header of the set of 1, 2 and 3 at position 36, and whether it fits.
+fn set_header(alloc: Global) -> Result<([u8; 12], bool), WriteError<NoMemory>> {
+    let mut writer = VecWriter::new(alloc);
+    let resolver = ArchivedHashSet::<u8, FxHasher64, Narrow>::serialize_from_iter::<
+        VecWriter,
+        u8,
+        u8,
+        _,
+    >(alloc, [1u8, 2, 3].into_iter(), 3, (7, 8), &mut writer)?;
+    let (len, load_factor) = (resolver.len(), resolver.load_factor());
+    let mut header = [0u8; 12];
+    let fits = ArchivedHashSet::<u8, FxHasher64, Narrow>::resolve_from_len(
+        len,
+        load_factor,
+        resolver,
+        36,
+        &mut header,
+    ).is_ok();
+    Ok((header, fits))
+}
+
+#[test]
+fn the_header_of_a_set(rt: HostRuntime) {
+    let mut header = [0; 12];
+    header.copy_from_slice(&THREE[36..]);
+    assert_eq!(rt; set_header(rt.alloc()).ok(), Some((header, true)));
 }
 
 fn list_of(alloc: Global, pairs: &[(i8, i8)]) -> Result<Pairs<i8, i8, FxHasher64>, AllocError> {
@@ -54,194 +150,44 @@ fn list_of(alloc: Global, pairs: &[(i8, i8)]) -> Result<Pairs<i8, i8, FxHasher64
 }
 
 #[test]
-fn a_map_of_one_pair(rt: HostRuntime) -> Result<(), Fail> {
-    let alloc = rt.alloc();
-    let (pos, bytes) = map_of(alloc, vec![in alloc; (1, 2)]?, 1, (7, 8))?;
-    assert_eq!(rt; pos, 4);
-    let expected = with_empty(alloc, &[1, 2, 0, 0, 0xff, 0x28, 0xff, 0x28], 27)?;
-    assert_eq!(rt; bytes.as_slice(), expected.as_slice());
-    Ok(())
-}
-
-#[test]
-fn equal_keys_are_kept(rt: HostRuntime) -> Result<(), Fail> {
-    let alloc = rt.alloc();
-    let (pos, bytes) = map_of(alloc, vec![in alloc; (1, 2), (1, 9)]?, 2, (7, 8))?;
-    assert_eq!(rt; pos, 6);
-    let front = [0, 0, 1, 9, 1, 2, 0x28, 0x28, 0xff, 0x28, 0x28, 0xff];
-    let expected = with_empty(alloc, &front, 25)?;
-    assert_eq!(rt; bytes.as_slice(), expected.as_slice());
-    Ok(())
-}
-
-#[test]
-fn another_number_of_pairs(rt: HostRuntime) -> Result<(), Fail> {
-    let alloc = rt.alloc();
-    assert!(rt;
-        matches!(
-            map_of(alloc, vec![in alloc; (1, 2), (3, 4)]?, 3, (7, 8)),
-            Err(WriteError::IteratorLengthMismatch(IteratorLengthMismatch {
-                expected: 3,
-                actual: 2,
-            }))
-        )
-    );
-    assert!(rt;
-        matches!(
-            map_of(alloc, vec![in alloc; (1, 2)]?, 0, (7, 8)),
-            Err(WriteError::IteratorLengthMismatch(IteratorLengthMismatch {
-                expected: 0,
-                actual: 1,
-            }))
-        )
-    );
-    assert!(rt;
-        matches!(
-            map_of(alloc, vec![in alloc; (1, 2)]?, 1, (8, 7)),
-            Err(WriteError::InvalidLoadFactor {
-                numerator: 8,
-                denominator: 7,
-            })
-        )
-    );
-    Ok(())
-}
-
-#[test]
 fn the_empty_map(rt: HostRuntime) -> Result<(), Fail> {
-    let alloc = rt.alloc();
-    let bytes = to_bytes(alloc, &list_of(alloc, &[])?)?;
-    assert_eq!(rt;
-        bytes.as_slice(),
-        [1, 0, 0, 0, 0, 0, 0, 0, 0, 0, 0, 0].as_slice()
-    );
-    let root = access::<HashMapOf<i8, i8, FxHasher64, Narrow>>(bytes.as_slice())?;
-    let map = ArchivedHashMap::of(root);
-    assert!(rt; map.is_empty());
-    assert!(rt; map.get(&1i8).is_none());
+    let list = list_of(rt.alloc(), &[])?;
+    assert!(rt; is_archive_of(rt.alloc(), &list, &EMPTY));
     Ok(())
 }
 
 #[test]
 fn a_list_is_looked_up(rt: HostRuntime) -> Result<(), Fail> {
-    let alloc = rt.alloc();
-    let list = list_of(alloc, &[(1, 2), (3, 4), (5, 6), (7, 8), (3, 9)])?;
-    let bytes = to_bytes(alloc, &list)?;
-    let root = access::<HashMapOf<i8, i8, FxHasher64, Narrow>>(bytes.as_slice())?;
-    let map = ArchivedHashMap::of(root);
-    assert_eq!(rt; map.len(), 5);
-    assert!(rt; matches!(map.get(&3i8), Some(value) if value.to_native() == 4));
-    assert!(rt; matches!(map.get(&7i8), Some(value) if value.to_native() == 8));
-    assert!(rt; map.get(&2i8).is_none());
+    let list = list_of(rt.alloc(), &[(1, 2), (3, 4), (5, 6), (7, 8), (3, 9)])?;
+    let bytes = to_bytes(rt.alloc(), &list)?;
+    let found = [
+        number_of::<i8, i8, FxHasher64, Narrow, i8>(bytes.as_slice(), &3).ok(),
+        number_of::<i8, i8, FxHasher64, Narrow, i8>(bytes.as_slice(), &7).ok(),
+        number_of::<i8, i8, FxHasher64, Narrow, i8>(bytes.as_slice(), &2).ok(),
+    ];
+    let counts = counts::<i8, i8, FxHasher64, Narrow>(bytes.as_slice()).ok();
+    assert_eq!(rt;
+        (found, counts),
+        (
+            [Some(Some(4)), Some(Some(8)), Some(None)],
+            Some((false, 5, 6))
+        )
+    );
     Ok(())
+}
+
+// The list of one pair, of 1 and these pairs.
+fn outer_of(
+    alloc: Global,
+    pairs: &[(i8, i8)],
+) -> Result<Pairs<i8, Pairs<i8, i8, FxHasher64>, FxHasher64>, AllocError> {
+    let inner = list_of(alloc, pairs)?;
+    Ok(Pairs(vec![in alloc; (1, inner)]?, PhantomData))
 }
 
 #[test]
 fn a_map_of_maps(rt: HostRuntime) -> Result<(), Fail> {
-    let alloc = rt.alloc();
-    let inner = list_of(alloc, &[(1, 2)])?;
-    let list: Pairs<i8, Pairs<i8, i8, FxHasher64>, FxHasher64> = Pairs(
-        vec![in alloc; (1, inner)]?,
-        PhantomData,
-    );
-    let bytes = to_bytes(alloc, &list)?;
-    let b = bytes.as_slice();
-    assert_eq!(rt; b.len(), 112);
-    assert_eq!(rt; &b[..8], [1, 2, 0, 0, 0xff, 0x28, 0xff, 0x28].as_slice());
-    assert_eq!(rt;
-        &b[35..52],
-        [
-            0, 1, 0, 0, 0, 0xdc, 0xff, 0xff, 0xff, 1, 0, 0, 0, 2, 0, 0, 0
-        ]
-        .as_slice()
-    );
-    assert_eq!(rt;
-        &b[52..72],
-        [
-            0, 0, 0, 0, 0, 0, 0, 0, 0, 0, 0, 0, 0, 0, 0, 0, 0xff, 0x28, 0xff, 0x28
-        ]
-        .as_slice()
-    );
-    assert_eq!(rt;
-        &b[99..],
-        [0, 0xe0, 0xff, 0xff, 0xff, 1, 0, 0, 0, 2, 0, 0, 0].as_slice()
-    );
-    assert!(rt; b[8..35].iter().all(|byte| *byte == 0xff));
-    assert!(rt; b[72..99].iter().all(|byte| *byte == 0xff));
-    type Inner = HashMapOf<i8, i8, FxHasher64, Narrow>;
-    let root = access::<HashMapOf<i8, Inner, FxHasher64, Narrow>>(b)?;
-    match ArchivedHashMap::of(root).get(&1i8) {
-        Some(value) => {
-            assert!(rt;
-                matches!(ArchivedHashMap::of(value).get(&1i8), Some(v) if v.to_native() == 2)
-            );
-        }
-        None => assert!(rt; false),
-    }
-    Ok(())
-}
-
-#[test]
-fn a_set_of_one_unit(rt: HostRuntime) -> Result<(), Fail> {
-    let alloc = rt.alloc();
-    let mut writer = VecWriter::new(alloc);
-    let resolver = ArchivedHashSet::<(), FxHasher64, Narrow>::serialize_from_iter::<
-        VecWriter,
-        (),
-        (),
-        _,
-    >(
-        alloc,
-        vec![in alloc; ()]?.into_iter(),
-        1,
-        (7, 8),
-        &mut writer,
-    )?;
-    assert_eq!(rt; resolver.pos(), 0);
-    let expected = with_empty(alloc, &[0, 0xff, 0], 28)?;
-    assert_eq!(rt; writer.bytes(), expected.as_slice());
-    Ok(())
-}
-
-#[test]
-fn a_set_of_three(rt: HostRuntime) -> Result<(), Fail> {
-    let alloc = rt.alloc();
-    let mut writer = VecWriter::new(alloc);
-    let items = vec![in alloc; 1u8, 2, 3]?;
-    let resolver = ArchivedHashSet::<u8, FxHasher64, Narrow>::serialize_from_iter::<
-        VecWriter,
-        u8,
-        u8,
-        _,
-    >(alloc, items.into_iter(), 3, (7, 8), &mut writer)?;
-    assert_eq!(rt; resolver.pos(), 4);
-    let front = [3, 2, 1, 0, 0xff, 0x28, 0x51, 0x7a, 0xff, 0x28, 0x51, 0x7a];
-    let expected = with_empty(alloc, &front, 23)?;
-    assert_eq!(rt; writer.bytes(), expected.as_slice());
-    let mut header = [0u8; 12];
-    let (len, load_factor) = (resolver.len(), resolver.load_factor());
-    match ArchivedHashSet::<u8, FxHasher64, Narrow>::resolve_from_len(
-        len,
-        load_factor,
-        resolver,
-        36,
-        &mut header,
-    ) {
-        Ok(()) => {}
-        Err(_) => assert!(rt; false),
-    }
-    assert_eq!(rt; header, [0xe0, 0xff, 0xff, 0xff, 3, 0, 0, 0, 4, 0, 0, 0]);
-    let mut bytes = writer.into_vec();
-    bytes.push(0)?;
-    for byte in header {
-        bytes.push(byte)?;
-    }
-    let root = access::<HashSetOf<u8, FxHasher64, Narrow>>(bytes.as_slice())?;
-    let set = ArchivedHashSet::of(root);
-    assert_eq!(rt; set.len(), 3);
-    assert!(rt; !set.is_empty());
-    assert!(rt; set.contains(&2u8));
-    assert!(rt; !set.contains(&4u8));
-    assert!(rt; matches!(set.get(&3u8), Some(key) if key.to_native() == 3));
+    let list = outer_of(rt.alloc(), &[(1, 2)])?;
+    assert!(rt; is_archive_of(rt.alloc(), &list, &NESTED));
     Ok(())
 }

@@ -1,0 +1,195 @@
+//! How often the iterators of pairs and of keys are asked.
+
+use rkyv_base::errors::{IteratorLengthMismatch, WriteError};
+use rkyv_base::width::Narrow;
+use rkyv_base::writer::{NoMemory, VecWriter};
+use rkyv_collections::map::ArchivedHashMap;
+use rkyv_collections::map::writing::HashMapResolver;
+use rkyv_collections::set::ArchivedHashSet;
+use rkyv_scan::hash::FxHasher64;
+use std::alloc::Global;
+use std::cell::Cell;
+use std::iter;
+
+// Counts an ask of an iterator that gives so many items: whether it gives one more.
+fn gives(asks: &Cell<usize>, items: usize) -> bool {
+    let ask = asks.get();
+    asks.set(ask.wrapping_add(1));
+    ask < items
+}
+
+// What came of a call: written, refused for another number than was claimed, refused for its load
+// factor, refused for want of memory before a byte was written, or anything else.
+#[derive(Clone, Copy, Debug, PartialEq, Eq)]
+enum Answer {
+    Written,
+    Mismatch(usize, usize),
+    LoadFactor(usize, usize),
+    Memory,
+    Other,
+}
+
+fn answer_of(answer: Result<HashMapResolver, WriteError<NoMemory>>, writer: &VecWriter) -> Answer {
+    let clean = writer.bytes().is_empty();
+    match answer {
+        Ok(_) => Answer::Written,
+        Err(WriteError::IteratorLengthMismatch(IteratorLengthMismatch { expected, actual }))
+            if clean => { Answer::Mismatch(expected, actual) }
+        Err(
+            WriteError::InvalidLoadFactor {
+                numerator,
+                denominator,
+            },
+        ) if clean => Answer::LoadFactor(numerator, denominator),
+        Err(WriteError::Memory) if clean => Answer::Memory,
+        Err(_) => Answer::Other,
+    }
+}
+
+// Writes a map of so many pairs under a claimed length: the answer, and how often the iterator was
+// asked.
+fn asks_of_map(
+    alloc: Global,
+    pairs: usize,
+    len: usize,
+    load_factor: (usize, usize),
+) -> (Answer, usize) {
+    let asks = Cell::new(0usize);
+    let mut writer = VecWriter::new(alloc);
+    let answer = ArchivedHashMap::<i8, i8, FxHasher64, Narrow>::serialize_from_iter::<
+        VecWriter,
+        i8,
+        i8,
+        i8,
+        i8,
+        _,
+    >(
+        alloc,
+        iter::from_fn(|| if gives(&asks, pairs) {
+            Some((1i8, 2i8))
+        } else {
+            None
+        }),
+        len,
+        load_factor,
+        &mut writer,
+    );
+    (answer_of(answer, &writer), asks.get())
+}
+
+// The same of a set of so many keys.
+fn asks_of_set(
+    alloc: Global,
+    keys: usize,
+    len: usize,
+    load_factor: (usize, usize),
+) -> (Answer, usize) {
+    let asks = Cell::new(0usize);
+    let mut writer = VecWriter::new(alloc);
+    let answer = ArchivedHashSet::<i8, FxHasher64, Narrow>::serialize_from_iter::<
+        VecWriter,
+        i8,
+        i8,
+        _,
+    >(
+        alloc,
+        iter::from_fn(|| if gives(&asks, keys) { Some(1i8) } else { None }),
+        len,
+        load_factor,
+        &mut writer,
+    );
+    (answer_of(answer, &writer), asks.get())
+}
+
+// What so many items should be answered under a claimed length.
+fn wanted(items: usize, len: usize) -> Answer {
+    if items < len {
+        Answer::Mismatch(len, items)
+    } else if items == len {
+        Answer::Written
+    } else {
+        Answer::Mismatch(len, len.saturating_add(1))
+    }
+}
+
+// How often an iterator may be asked at most: once more than was claimed, and never after its end.
+fn most_asks(items: usize, len: usize) -> usize {
+    if items < len {
+        items.saturating_add(1)
+    } else {
+        len.saturating_add(1)
+    }
+}
+
+// How many maps and how many sets of up to five items, claimed to be up to three, are answered as
+// they should be, without an ask too many.
+fn right_of_both(alloc: Global) -> (usize, usize) {
+    let (mut maps, mut sets) = (0usize, 0usize);
+    for len in 0..4 {
+        for items in 0..6 {
+            let (wanted, most) = (wanted(items, len), most_asks(items, len));
+            let (map, map_asks) = asks_of_map(alloc, items, len, (7, 8));
+            if map == wanted && map_asks <= most {
+                maps = maps.wrapping_add(1);
+            }
+            let (set, set_asks) = asks_of_set(alloc, items, len, (7, 8));
+            if set == wanted && set_asks <= most {
+                sets = sets.wrapping_add(1);
+            }
+        }
+    }
+    (maps, sets)
+}
+
+#[test]
+fn iterators_are_asked_once_more_than_is_claimed_at_most(rt: HostRuntime) {
+    assert_eq!(rt; right_of_both(rt.alloc()), (4 * 6, 4 * 6));
+}
+
+#[test]
+fn an_end_or_a_surplus_is_the_last_answer(rt: HostRuntime) {
+    let (all, alloc, usual) = (usize::MAX, rt.alloc(), (7, 8));
+    let maps = [
+        asks_of_map(alloc, 2, 3, usual),
+        asks_of_map(alloc, 1, 0, usual),
+        asks_of_map(alloc, all, 2, usual),
+        asks_of_map(alloc, 0, 0, usual),
+        asks_of_map(alloc, 1, 1, (8, 7)),
+    ];
+    let sets = [
+        asks_of_set(alloc, 2, 3, usual),
+        asks_of_set(alloc, 1, 0, usual),
+        asks_of_set(alloc, all, 2, usual),
+        asks_of_set(alloc, 0, 0, usual),
+        asks_of_set(alloc, 1, 1, (8, 7)),
+    ];
+    let wanted = [
+        (Answer::Mismatch(3, 2), 3),
+        (Answer::Mismatch(0, 1), 1),
+        (Answer::Mismatch(2, 3), 3),
+        (Answer::Written, 1),
+        (Answer::LoadFactor(8, 7), 0),
+    ];
+    assert_eq!(rt; (maps, sets), (wanted, wanted));
+}
+
+// Where a growth is refused, no item was taken and nothing was written. A run in which the N-th
+// growth is refused shows it for each of them.
+fn is_right(answer: Answer, asks: usize) -> bool {
+    match answer {
+        Answer::Memory => asks == 0,
+        // at `Other` it is the writer's own growth
+        Answer::Written | Answer::Other => asks == 3,
+        _ => false,
+    }
+}
+
+#[test]
+fn no_item_is_taken_before_the_growths(rt: HostRuntime) {
+    let (map, map_asks) = asks_of_map(rt.alloc(), 2, 2, (7, 8));
+    let (set, set_asks) = asks_of_set(rt.alloc(), 2, 2, (7, 8));
+    assert_eq!(rt;
+        (is_right(map, map_asks), is_right(set, set_asks)),
+        (true, true)
+    );
+}
