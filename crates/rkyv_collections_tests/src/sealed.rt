@@ -402,7 +402,6 @@ fn is_archive_of_texts(alloc: Global, values: [&str; 3], bytes: &[u8]) -> bool {
 }
 
 // Whether the value of a key is this text, read by a seal.
-#[tactic(auto, using(rkyv_base::proofs::SealedText::viewed_sealed))]
 fn is_text_in_place(bytes: &mut [u8], key: &str, text: &str) -> Result<Option<bool>, VerifyError> {
     let whole = access_mut::<Texts>(bytes)?;
     match ArchivedHashMap::get_seal(whole, &key) {
