@@ -88,7 +88,9 @@ pub(crate) fn found_with<K: KeyElement, V: Element, H: KeyHasher, W: Width, Q: K
     bytes: &[u8],
     key: &Q,
     accepts: bool,
-) -> Result<([Option<u64>; 2], [usize; 2]), VerifyError> {
+) -> Result<([Option<u64>; 2], [usize; 2]), VerifyError>
+    requires { Q.can_read key.now }
+{
     let root = access_in::<W, HashMapOf<K, V, H, W>>(bytes)?;
     let map = ArchivedHashMap::<K, V, H, W>::of(root);
     let (asks, asks_of_both) = (Cell::new(0usize), Cell::new(0usize));
