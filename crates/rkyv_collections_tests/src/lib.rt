@@ -8,6 +8,8 @@ mod asks;
 #[cfg(test)]
 mod bytes;
 #[cfg(test)]
+mod first;
+#[cfg(test)]
 mod lists;
 #[cfg(test)]
 mod nested;

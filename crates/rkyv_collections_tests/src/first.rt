@@ -1,0 +1,30 @@
+//! A first example: a map of std's, archived, opened and looked up in place.
+
+use rkyv_base::access::access;
+use rkyv_base::root::to_bytes;
+use rkyv_collections::map::{ArchivedHashMap, HashMapOf};
+use rkyv_collections::std_maps::hashed::Hashed;
+use std::alloc::Global;
+use std::collections::HashMap;
+use std::test::Fail;
+
+// The map of 1 to 2 is archived, and its bytes are opened; whether the key is found there with its
+// value, and the archived map equals std's.
+fn comes_through(alloc: Global) -> Result<bool, Fail> {
+    let mut map = HashMap::new(alloc);
+    map.insert(1, 2)?;
+    let map: Hashed<HashMap<i8, i8>> = Hashed::new(map);
+    let bytes = to_bytes(alloc, &map)?;
+    let root = ArchivedHashMap::of(access::<HashMapOf<i8, i8>>(bytes.as_slice())?);
+    match root.get(&1i8) {
+        Some(value) => Ok(value.to_native() == 2 && root.eq_std(map.get())),
+        None => Ok(false),
+    }
+}
+
+#[test]
+fn a_map_is_written_and_read(rt: HostRuntime) -> Result<(), Fail> {
+    let whole = comes_through(rt.alloc())?;
+    assert!(rt; whole);
+    Ok(())
+}
