@@ -1,4 +1,7 @@
 //! Tables of what has parts of its own: texts, and tables.
+ghost use Rattle.rkyv_base.specs.Entry.{entry_shape};
+ghost use Rattle.rkyv_base.specs.View.{IsView};
+ghost use Rattle.rkyv_table.specs.Table.Layout.{table_shape};
 
 use crate::archives::{archived, hash_of_i8, is_then_empty, written};
 use rkyv_base::access::access;
@@ -6,6 +9,8 @@ use rkyv_base::element::Element;
 use rkyv_base::entry::Entry;
 use rkyv_base::errors::VerifyError;
 use rkyv_base::text::Text;
+use rkyv_base::view::View;
+use rkyv_base::width::Width;
 use rkyv_table::table::{ArchivedHashTable, TableOf};
 use std::test::Fail;
 
@@ -74,11 +79,18 @@ fn two_texts_may_not_have_one_part(rt: HostRuntime) -> Result<(), Fail> {
     Ok(())
 }
 
+// How many items the table has that is an entry's value.
+fn value_len<K: Element, T: Element, W: Width>(entry: View<'_, Entry<K, TableOf<T, W>>>) -> usize
+    requires { IsView (entry_shape K.shape (table_shape W.word T.shape)) entry }
+{
+    ArchivedHashTable::of(entry.value()).len()
+}
+
 // How many pairs the table has that a key leads to.
 fn inner_len(bytes: &[u8], hash: u64, key: i8) -> Result<Option<usize>, VerifyError> {
     let outer = ArchivedHashTable::of(access::<Outer>(bytes)?);
     match outer.get_with(hash, |entry| entry.key().to_native() == key) {
-        Some(entry) => Ok(Some(ArchivedHashTable::of(entry.value()).len())),
+        Some(entry) => Ok(Some(value_len(entry))),
         None => Ok(None),
     }
 }
