@@ -3,7 +3,7 @@ use Rattle.std.proofs.Common.{◌≡◌, ℕ, ◌<◌, ◌∙◌, None, Some, ap
 use Rattle.std.specs.Int.{Width}
 use Rattle.std.specs.Option.{is_some}
 use Rattle.std.proofs.lemmas.List.{get_or-map, length-map}
-use Rattle.rkyv_scan.specs.Hash.{HasherCall, hash_of_calls}
+use Rattle.rkyv_scan.specs.Hash.{Hasher, HasherCall, hash_of_calls}
 use Rattle.rkyv_base.specs.Entry.{entry_element, entry_shape}
 use Rattle.rkyv_base.specs.Shape.{Shape, IsElement, Standing}
 use Rattle.rkyv_base.specs.View.{IsAt, IsView, archive_of, pos_of}
@@ -56,15 +56,15 @@ module _ {K V H W : Type 0} (w : Width) (k v : Shape) (m : ArchivedHashMap K V H
       get_or-map (key_hash b) places i 0 0 (omega arith) ∙ here
 
   -- a query accepts keys under its own hash alone
-  pub query_under_hash : {Q State : Type 0} (kl : IsElement k) (vl : IsElement v) (initial : State) (feed : State → HasherCall → State) (finish : State → ℕ)
+  pub query_under_hash : {Q State : Type 0} (kl : IsElement k) (vl : IsElement v) (hasher : Hasher State)
       (same : Comparison) (key_calls : List ℕ → ℕ → List HasherCall) (can_read : Q → Type 0) (calls : Q → List HasherCall) (fits : Q → List ℕ → ℕ → Bool)
       → IsQuery k same key_calls can_read calls fits → IsMap w k v m → (q : Q) → can_read q
-      → AreUnderHash w k v m (hash_of_calls initial feed finish (calls q)) (hash_at initial feed finish key_calls) (fits q (map_bytes m))
-  query_under_hash kl vl initial feed finish same key_calls can_read calls fits query is q can place key accepted =
+      → AreUnderHash w k v m (hash_of_calls hasher (calls q)) (hash_at hasher key_calls) (fits q (map_bytes m))
+  query_under_hash kl vl hasher same key_calls can_read calls fits query is q can place key accepted =
       let b = map_bytes m in
       let item = item_viewed w (entry_shape k v) (entry_element k v kl vl) b (map_pos m) is key.0 key.1 in
       let stands : Standing k b place = standing_key kl vl b place (subst (Standing (entry_shape k v) b) (sym key.2) item.stands) in
-      ap (hash_of_calls initial feed finish) (sym (query.alike q b place can stands accepted))
+      ap (hash_of_calls hasher) (sym (query.alike q b place can stands accepted))
 
 -- whether an entry was found is whether it was found somewhere
 pub some_at : {E : Type 0} (found : Option (View E)) (place : Option ℕ) (answer : Bool) → answer ≡ is_some found → IsEntryAt found place → IsFoundAt answer place

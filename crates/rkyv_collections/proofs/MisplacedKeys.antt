@@ -7,7 +7,7 @@ use Rattle.std.specs.List.{Contains, list_any, range_with_len}
 use Rattle.std.proofs.lemmas.Bool.{cases_eq}
 use Rattle.std.proofs.lemmas.List.{get_or_default, get_or-map, length-map, nil_from_length, take-map}
 use Rattle.rkyv_scan.specs.Groups.{generic_kind}
-use Rattle.rkyv_scan.specs.Hash.{HasherCall, hash_of_calls}
+use Rattle.rkyv_scan.specs.Hash.{Hasher, HasherCall, hash_of_calls}
 use Rattle.rkyv_scan.specs.Lemmas.KindLaws.{word_lawful}
 use Rattle.rkyv_base.specs.Entry.{entry_element, entry_shape}
 use Rattle.rkyv_base.specs.Shape.{IsElement, Shape, Standing, Viewed}
@@ -87,10 +87,10 @@ module _ (w : Width) (k v : Shape) (kl : IsElement k) (vl : IsElement v) (key_ha
   repeated_keys_misplaced b p homes view written = repeated_keys b p homes view written
 
 -- where no key is misplaced, a lookup finds the one key that fits
-module _ {Q State : Type 0} (w : Width) (k v : Shape) (kl : IsElement k) (vl : IsElement v) (initial : State) (feed : State → HasherCall → State) (finish : State → ℕ)
+module _ {Q State : Type 0} (w : Width) (k v : Shape) (kl : IsElement k) (vl : IsElement v) (hasher : Hasher State)
     (same : Comparison) (key_calls : List ℕ → ℕ → List HasherCall) (can_read : Q → Type 0) (calls : Q → List HasherCall) (fits : Q → List ℕ → ℕ → Bool)
     (query : IsQuery k same key_calls can_read calls fits) (b : List ℕ) (p : ℕ) (view : Viewed (map_shape w k v) b p) (q : Q) (can : can_read q)
-    (small : hash_of_calls initial feed finish (calls q) < 2 ^ 64) (none : map_misplaced w k v (hash_at initial feed finish key_calls) same b p ≡ 0) where
+    (small : hash_of_calls hasher (calls q) < 2 ^ 64) (none : map_misplaced w k v (hash_at hasher key_calls) same b p ≡ 0) where
   abbrev size : ℕ
   size = (entry_shape k v).size
 
@@ -104,7 +104,7 @@ module _ {Q State : Type 0} (w : Width) (k v : Shape) (kl : IsElement k) (vl : I
   controls = table_controls w b p
 
   abbrev hash : ℕ
-  hash = hash_of_calls initial feed finish (calls q)
+  hash = hash_of_calls hasher (calls q)
 
   abbrev accept : ℕ → Bool
   accept i = fits q b (seal_pos i)
@@ -113,9 +113,9 @@ module _ {Q State : Type 0} (w : Width) (k v : Shape) (kl : IsElement k) (vl : I
   key_walked i c =
       standing_key kl vl b (seal_pos i) (item_viewed w (entry_shape k v) (entry_element k v kl vl) b p view i (walked_full cap controls i c)).stands
 
-  asks : AsksForOne controls cap hash accept (λ i. hash_at initial feed finish key_calls b (seal_pos i)) (λ i j. same b (seal_pos i) b (seal_pos j))
+  asks : AsksForOne controls cap hash accept (λ i. hash_at hasher key_calls b (seal_pos i)) (λ i j. same b (seal_pos i) b (seal_pos j))
   asks = record {
-    hashed = λ i c f. ap (hash_of_calls initial feed finish) (sym (query.alike q b (seal_pos i) can (key_walked i c) f));
+    hashed = λ i c f. ap (hash_of_calls hasher) (sym (query.alike q b (seal_pos i) can (key_walked i c) f));
     same = λ i j c d f. query.class q b b (seal_pos i) (seal_pos j) can (key_walked i c) (key_walked j d) f;
   }
 
@@ -137,6 +137,6 @@ module _ {Q State : Type 0} (w : Width) (k v : Shape) (kl : IsElement k) (vl : I
         (by_place None (λ i c. absurd (omega (arith, (walked_full cap controls i c).0, z))))
     | inr some ↦
         by_place (found generic_kind controls cap (len_at w b p) hash accept)
-        (complete generic_kind cap (len_at w b p) hash controls accept (λ i. hash_at initial feed finish key_calls b (seal_pos i)) (λ i j. same b (seal_pos i) b (seal_pos j)) word_lawful
+        (complete generic_kind cap (len_at w b p) hash controls accept (λ i. hash_at hasher key_calls b (seal_pos i)) (λ i j. same b (seal_pos i) b (seal_pos j)) word_lawful
         (controls_accepted w (entry_shape k v) (entry_element k v kl vl) b p view (omega arith)) small none asks)
   ]

@@ -5,7 +5,7 @@ use Rattle.std.specs.Int.{Width}
 use Rattle.std.specs.List.{find}
 use Rattle.std.specs.Option.{option_map}
 use Rattle.rkyv_scan.specs.Groups.{generic_kind}
-use Rattle.rkyv_scan.specs.Hash.{HasherCall, hash_of_calls}
+use Rattle.rkyv_scan.specs.Hash.{Hasher, HasherCall, hash_of_calls}
 use Rattle.rkyv_base.specs.Entry.{entry_shape, value_offset}
 use Rattle.rkyv_base.specs.Shape.{Shape}
 use Rattle.rkyv_base.specs.View.{IsAt, IsView, archive_of, bytes_of, pos_of}
@@ -77,8 +77,8 @@ module _ {K V H W : Type 0} where
     pub at : IsAt pair.1 (map_archive m) (pos_of pair.0 + value_offset k v)
 
 -- the hash of the key that stands at q
-abbrev pub hash_at : {State : Type 0} → State → (State → HasherCall → State) → (State → ℕ) → (List ℕ → ℕ → List HasherCall) → List ℕ → ℕ → ℕ
-hash_at initial feed finish calls b q = hash_of_calls initial feed finish (calls b q)
+abbrev pub hash_at : {State : Type 0} → Hasher State → (List ℕ → ℕ → List HasherCall) → List ℕ → ℕ → ℕ
+hash_at hasher calls b q = hash_of_calls hasher (calls b q)
 
 -- the table at p was written of entries under the hashes of their keys, handed in in this order, with their homes
 abbrev pub MapWrittenAt : Width → Shape → (List ℕ → ℕ → ℕ) → List ℕ → ℕ → List ℕ → Type 0

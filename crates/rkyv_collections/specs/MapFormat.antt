@@ -5,7 +5,7 @@ use Rattle.rkyv_base.specs.Entry.{entry_shape}
 use Rattle.rkyv_base.specs.Format.{Format}
 use Rattle.rkyv_base.specs.Pairs.{PairStands, pair_format, written_as}
 use Rattle.rkyv_base.specs.Shape.{Shape}
-use Rattle.rkyv_scan.specs.Hash.{HasherCall, hash_of_calls}
+use Rattle.rkyv_scan.specs.Hash.{Hasher, HasherCall, hash_of_calls}
 use Rattle.rkyv_table.specs.Table.Header.{cap_at, len_at}
 use Rattle.rkyv_table.specs.Controls.Numbers.{capacity}
 use Rattle.rkyv_table.specs.Table.Reading.{home_positions}
@@ -13,8 +13,8 @@ use Rattle.rkyv_table.specs.Table.TableFormat.{TableResolver, table_format}
 use Rattle.rkyv_collections.specs.Map.{MapWrittenAt}
 
 -- the hash of a value that makes these calls
-abbrev pub hash_of : {State A : Type 0} → State → (State → HasherCall → State) → (State → ℕ) → (A → List HasherCall) → A → ℕ
-hash_of initial feed finish calls value = hash_of_calls initial feed finish (calls value)
+abbrev pub hash_of : {State A : Type 0} → Hasher State → (A → List HasherCall) → A → ℕ
+hash_of hasher calls value = hash_of_calls hasher (calls value)
 
 -- the pairs, each with the hash of its key
 abbrev pub keyed : {A B : Type 0} → (A → ℕ) → List (A × B) → List (ℕ × (A × B))

@@ -49,7 +49,7 @@ fn value_found<K: KeyElement, V: Element, H: KeyHasher, W: Width, Q: Query<K>>(
     requires map { Viewed (map_shape W.word K.shape V.shape) bytes.now root }
     requires query { Q.can_read key.now }
     ensures walked { IfSome result (λ pos. (place : ℕ) × IsKeyPosAt W.word K.shape V.shape bytes.now root place × (pos ≡ value_pos K.shape V.shape place)) }
-    ensures answer { let hash = hash_of_calls H.initial H.feed H.finish (Q.calls key.now) in
+    ensures answer { let hash = hash_of_calls H.hasher (Q.calls key.now) in
         FindsKeyAt W.word K.shape V.shape bytes.now root hash (Q.fits key.now bytes.now) (λ place. result ≡ option_map (value_pos K.shape V.shape) place) }
 {
     let map = ArchivedHashMap::<K, V, H, W>::of(View::new(bytes, root));
@@ -68,7 +68,7 @@ fn write_value<K: KeyElement, N: Scalar, H: KeyHasher, W: Width>(
 )
     requires map { Viewed (map_shape W.word K.shape (scalar_shape N.encoding)) bytes.old root }
     requires place { (place : ℕ) × IsKeyPosAt W.word K.shape (scalar_shape N.encoding) bytes.old root place × (pos ≡ value_pos K.shape (scalar_shape N.encoding) place) }
-    ensures kept { let key_hash = hash_at H.initial H.feed H.finish K.key_calls in
+    ensures kept { let key_hash = hash_at H.hasher K.key_calls in
         (i : ℕ) × KeepsMap W.word K.shape (scalar_shape N.encoding) key_hash bytes.old bytes.new root i }
     ensures reads { value_at N.encoding bytes.new pos ≡ value }
 {
@@ -85,7 +85,7 @@ fn stored<K: KeyElement, N: Scalar, H: KeyHasher, W: Width, Q: Query<K>>(
 ) -> Option<N>
     requires map { Viewed (map_shape W.word K.shape (scalar_shape N.encoding)) bytes.old root }
     requires query { Q.can_read key.now }
-    ensures { let hash = hash_of_calls H.initial H.feed H.finish (Q.calls key.now) in
+    ensures { let hash = hash_of_calls H.hasher (Q.calls key.now) in
         FindsKeyAt W.word K.shape (scalar_shape N.encoding) bytes.old root hash (Q.fits key.now bytes.old) (λ place. result ≡ option_map (λ _. value) place) }
 {
     let pos = match value_found::<K, N, H, W, Q>(&*bytes, root, key) {

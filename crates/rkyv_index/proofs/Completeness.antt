@@ -6,7 +6,7 @@ use Rattle.std.specs.List.{range_with_len}
 use Rattle.std.proofs.lemmas.Bool.{cases_Bool, cases_eq, eqb-true, not-false, true≢false}
 use Rattle.std.proofs.lemmas.Option.{none-some, same_Some}
 use Rattle.rkyv_scan.specs.Groups.{generic_kind}
-use Rattle.rkyv_scan.specs.Hash.{HasherCall, hash_of_calls}
+use Rattle.rkyv_scan.specs.Hash.{Hasher, HasherCall, hash_of_calls}
 use Rattle.rkyv_scan.specs.Lemmas.KindLaws.{word_lawful}
 use Rattle.rkyv_base.specs.Bytes.{number_at}
 use Rattle.rkyv_base.specs.Entry.{entry_element, entry_shape}
@@ -53,9 +53,9 @@ found_somewhere f None y e = absurd (none-some y e)
 found_somewhere f (Some x) y e = (x, refl, same_Some (f x) y e)
 
 module _ {Q : Type 0} (w : Width) (kind : IsArchiveWord w) (k v : Shape) (kl : IsElement k) (vl : IsElement v)
-    {State : Type 0} (initial : State) (feed : State → HasherCall → State) (finish : State → ℕ) (same : Comparison) (key_calls : List ℕ → ℕ → List HasherCall) (can_read : Q → Type 0) (calls : Q → List HasherCall) (fits : Q → List ℕ → ℕ → Bool)
+    {State : Type 0} (hasher : Hasher State) (same : Comparison) (key_calls : List ℕ → ℕ → List HasherCall) (can_read : Q → Type 0) (calls : Q → List HasherCall) (fits : Q → List ℕ → ℕ → Bool)
     (query : IsQuery k same key_calls can_read calls fits) (b : List ℕ) (p : ℕ) (view : Viewed (index_shape w (entry_shape k v)) b p) (q : Q) (can : can_read q)
-    (small : hash_of_calls initial feed finish (calls q) < 2 ^ 64) (none : index_misplaced w k v (hash_at initial feed finish key_calls) same b p ≡ 0) where
+    (small : hash_of_calls hasher (calls q) < 2 ^ 64) (none : index_misplaced w k v (hash_at hasher key_calls) same b p ≡ 0) where
   abbrev s : Shape
   s = entry_shape k v
 
@@ -84,46 +84,46 @@ module _ {Q : Type 0} (w : Width) (kind : IsArchiveWord w) (k v : Shape) (kl : I
   key_standing i below = standing_key kl vl b (at i) (entry_viewed w kind s law b p view i below).stands
 
   -- what is found is a place whose key fits
-  found_fits : (i : ℕ) → index_found w b p (hash_of_calls initial feed finish (calls q)) accept ≡ Some i → (i < len) × (accept i ≡ true)
+  found_fits : (i : ℕ) → index_found w b p (hash_of_calls hasher (calls q)) accept ≡ Some i → (i < len) × (accept i ≡ true)
   found_fits i e = elim (cases_eq cap 0) [
     | inl z ↦
         let n = no_items w (place_shape w) (place_element w kind) b p (table_there w kind s law b p view) z in
         let f = found_somewhere (number_at w b) _ i e in
-        let g = found_somewhere (item_at w (byte_len w) b p) (found generic_kind controls cap (len_at w b p) (hash_of_calls initial feed finish (calls q)) (λ j. accept (read j))) f.0 f.1 in
-        absurd (none-some g.0 (subst (λ m. found generic_kind controls cap m (hash_of_calls initial feed finish (calls q)) (λ j. accept (read j)) ≡ Some g.0) n g.1))
+        let g = found_somewhere (item_at w (byte_len w) b p) (found generic_kind controls cap (len_at w b p) (hash_of_calls hasher (calls q)) (λ j. accept (read j))) f.0 f.1 in
+        absurd (none-some g.0 (subst (λ m. found generic_kind controls cap m (hash_of_calls hasher (calls q)) (λ j. accept (read j)) ≡ Some g.0) n g.1))
     | inr some ↦
         let f = found_somewhere (number_at w b) _ i e in
-        let g = found_somewhere (item_at w (byte_len w) b p) (found generic_kind controls cap (len_at w b p) (hash_of_calls initial feed finish (calls q)) (λ j. accept (read j))) f.0 f.1 in
+        let g = found_somewhere (item_at w (byte_len w) b p) (found generic_kind controls cap (len_at w b p) (hash_of_calls hasher (calls q)) (λ j. accept (read j))) f.0 f.1 in
         let ok = controls_accepted w (place_shape w) (place_element w kind) b p (table_there w kind s law b p view) (omega arith) in
-        let there = found_walked generic_kind cap (len_at w b p) (hash_of_calls initial feed finish (calls q)) controls word_lawful ok small (λ j. accept (read j)) g.0 g.1 in
+        let there = found_walked generic_kind cap (len_at w b p) (hash_of_calls hasher (calls q)) controls word_lawful ok small (λ j. accept (read j)) g.0 g.1 in
         let is : read g.0 ≡ i = ap (number_at w b) g.2 ∙ f.2 in
         let below = place_below w kind s law b p view g.0 (walked_full cap controls g.0 there.1) in
         (subst (λ n. n < len) is below, subst (λ n. accept n ≡ true) is there.0)
   ]
 
   -- a place whose key fits is found
-  found_itself : (i : ℕ) → i < len → accept i ≡ true → index_found w b p (hash_of_calls initial feed finish (calls q)) accept ≡ Some i
+  found_itself : (i : ℕ) → i < len → accept i ≡ true → index_found w b p (hash_of_calls hasher (calls q)) accept ≡ Some i
   found_itself i below ok =
-      let own = own_found w k v (hash_at initial feed finish key_calls) same b p in
+      let own = own_found w k v (hash_at hasher key_calls) same b p in
       let P : ℕ → Bool = λ j. not (is_answer j (own j)) in
       let answered = answer_is i (own i) (not-false (is_answer i (own i)) (none_kept P 0 len none i (omega arith) (omega (arith, below)))) in
-      let alike : hash_of_calls initial feed finish (calls q) ≡ hash_at initial feed finish key_calls b (at i) = ap (hash_of_calls initial feed finish) (query.alike q b (at i) can (key_standing i below) ok) in
+      let alike : hash_of_calls hasher (calls q) ≡ hash_at hasher key_calls b (at i) = ap (hash_of_calls hasher) (query.alike q b (at i) can (key_standing i below) ok) in
       let agree : (j : ℕ) → j < len → accept j ≡ same b (at i) b (at j) = λ j less. query.class q b b (at i) (at j) can (key_standing i below) (key_standing j less) ok in
       let of : Option ℕ → Option ℕ = λ o. option_map (number_at w b) (option_map (item_at w (byte_len w) b p) o) in
-      let lookup : found generic_kind controls cap (len_at w b p) (hash_of_calls initial feed finish (calls q)) (λ j. accept (read j))
-      ≡ found generic_kind controls cap (len_at w b p) (hash_of_calls initial feed finish (calls q)) (λ j. same b (at i) b (at (read j))) = elim (cases_eq cap 0) [
+      let lookup : found generic_kind controls cap (len_at w b p) (hash_of_calls hasher (calls q)) (λ j. accept (read j))
+      ≡ found generic_kind controls cap (len_at w b p) (hash_of_calls hasher (calls q)) (λ j. same b (at i) b (at (read j))) = elim (cases_eq cap 0) [
         | inl z ↦
             let n = no_items w (place_shape w) (place_element w kind) b p (table_there w kind s law b p view) z in
-            ap (λ m. found generic_kind controls cap m (hash_of_calls initial feed finish (calls q)) (λ j. accept (read j))) n
-            ∙ sym (ap (λ m. found generic_kind controls cap m (hash_of_calls initial feed finish (calls q)) (λ j. same b (at i) b (at (read j)))) n)
+            ap (λ m. found generic_kind controls cap m (hash_of_calls hasher (calls q)) (λ j. accept (read j))) n
+            ∙ sym (ap (λ m. found generic_kind controls cap m (hash_of_calls hasher (calls q)) (λ j. same b (at i) b (at (read j)))) n)
         | inr some ↦
             let full = controls_accepted w (place_shape w) (place_element w kind) b p (table_there w kind s law b p view) (omega arith) in
-            found_agree generic_kind cap (len_at w b p) (hash_of_calls initial feed finish (calls q)) controls word_lawful full small (λ j. accept (read j)) (λ j. same b (at i) b (at (read j)))
+            found_agree generic_kind cap (len_at w b p) (hash_of_calls hasher (calls q)) controls word_lawful full small (λ j. accept (read j)) (λ j. same b (at i) b (at (read j)))
             (λ j there. agree (read j) (place_below w kind s law b p view j (walked_full cap controls j there)))
       ] in
       ap of lookup ∙ ap (λ h. index_found w b p h (λ j. same b (at i) b (at j))) alike ∙ answered
 
-  by_found : (o : Option ℕ) → index_found w b p (hash_of_calls initial feed finish (calls q)) accept ≡ o → FindsTheOne len accept o
+  by_found : (o : Option ℕ) → index_found w b p (hash_of_calls hasher (calls q)) accept ≡ o → FindsTheOne len accept o
   by_found None e = λ i below. elim (cases_Bool (accept i)) [
     | inr f ↦ f
     | inl t ↦ absurd (none-some i (sym e ∙ found_itself i below t))
@@ -132,5 +132,5 @@ module _ {Q : Type 0} (w : Width) (kind : IsArchiveWord w) (k v : Shape) (kl : I
       let f = found_fits i e in
       record { below = f.0; fitting = f.1; alone = λ j below t. same_Some j i (sym (found_itself j below t) ∙ e) }
 
-  pub finds_the_one : FindsTheOne len accept (index_found w b p (hash_of_calls initial feed finish (calls q)) accept)
-  finds_the_one = by_found (index_found w b p (hash_of_calls initial feed finish (calls q)) accept) refl
+  pub finds_the_one : FindsTheOne len accept (index_found w b p (hash_of_calls hasher (calls q)) accept)
+  finds_the_one = by_found (index_found w b p (hash_of_calls hasher (calls q)) accept) refl

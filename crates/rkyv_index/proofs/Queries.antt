@@ -1,7 +1,7 @@
 -- What a query answers of the keys of an index map.
 use Rattle.std.proofs.Common.{ℕ, ap, sym, Bool, List}
 use Rattle.std.specs.Int.{Width}
-use Rattle.rkyv_scan.specs.Hash.{HasherCall, hash_of_calls}
+use Rattle.rkyv_scan.specs.Hash.{Hasher, HasherCall, hash_of_calls}
 use Rattle.rkyv_base.specs.Entry.{entry_element, entry_shape}
 use Rattle.rkyv_base.specs.Shape.{IsElement, Shape, Standing}
 use Rattle.rkyv_base.specs.Text.{IsArchiveWord}
@@ -14,12 +14,12 @@ use Rattle.rkyv_index.proofs.Held.{entry_viewed}
 
 module _ {K V H W : Type 0} (w : Width) (kind : IsArchiveWord w) (k v : Shape) (kl : IsElement k) (vl : IsElement v) (m : ArchivedIndexMap K V H W) where
   -- a query accepts keys under its own hash alone
-  pub query_under_hash : {Q : Type 0} {State : Type 0} (initial : State) (feed : State → HasherCall → State) (finish : State → ℕ) (same : Comparison) (key_calls : List ℕ → ℕ → List HasherCall) (can_read : Q → Type 0) (calls : Q → List HasherCall) (fits : Q → List ℕ → ℕ → Bool)
+  pub query_under_hash : {Q : Type 0} {State : Type 0} (hasher : Hasher State) (same : Comparison) (key_calls : List ℕ → ℕ → List HasherCall) (can_read : Q → Type 0) (calls : Q → List HasherCall) (fits : Q → List ℕ → ℕ → Bool)
       → IsQuery k same key_calls can_read calls fits → IsIndexMap w k v m → (q : Q) → can_read q
-      → AreUnderHash w k v m (hash_of_calls initial feed finish (calls q)) (hash_at initial feed finish key_calls) (fits_at w k v m (fits q))
-  query_under_hash initial feed finish same key_calls can_read calls fits query is q can i below accepted =
+      → AreUnderHash w k v m (hash_of_calls hasher (calls q)) (hash_at hasher key_calls) (fits_at w k v m (fits q))
+  query_under_hash hasher same key_calls can_read calls fits query is q can i below accepted =
       let b = index_bytes m in
       let p = key_pos w k v m i in
       let there = entry_viewed w kind (entry_shape k v) (entry_element k v kl vl) b (index_pos m) is i below in
       let stands : Standing k b p = standing_key kl vl b p there.stands in
-      ap (hash_of_calls initial feed finish) (sym (query.alike q b p can stands accepted))
+      ap (hash_of_calls hasher) (sym (query.alike q b p can stands accepted))

@@ -6,7 +6,7 @@ use Rattle.std.specs.Int.{Width, byte_len}
 use Rattle.std.specs.List.{find}
 use Rattle.std.specs.Option.{option_map}
 use Rattle.rkyv_scan.specs.Groups.{generic_kind}
-use Rattle.rkyv_scan.specs.Hash.{HasherCall, hash_of_calls}
+use Rattle.rkyv_scan.specs.Hash.{Hasher, HasherCall, hash_of_calls}
 use Rattle.rkyv_base.specs.Bytes.{number_at}
 use Rattle.rkyv_base.specs.Entry.{entry_shape, value_offset}
 use Rattle.rkyv_base.specs.Shape.{Shape}
@@ -23,9 +23,9 @@ use Rattle.rkyv_index.specs.declared.map.ArchivedIndexMap.{ArchivedIndexMap}
 use Rattle.rkyv_index.specs.declared.map.entries.Entries.{Entries}
 
 -- the hash of the key that stands at q
-abbrev pub hash_at : {State : Type 0} → State → (State → HasherCall → State) → (State → ℕ)
+abbrev pub hash_at : {State : Type 0} → Hasher State
     → (List ℕ → ℕ → List HasherCall) → List ℕ → ℕ → ℕ
-hash_at initial feed finish calls b q = hash_of_calls initial feed finish (calls b q)
+hash_at hasher calls b q = hash_of_calls hasher (calls b q)
 
 -- n values of this size, one behind the other, from q on
 abbrev pub row : ℕ → ℕ → ℕ → List ℕ

@@ -8,7 +8,7 @@ use Rattle.rkyv_base.specs.Pairs.{PairStands, pair_format}
 use Rattle.rkyv_base.specs.Scalar.{Encoding, scalar_format, scalar_shape}
 use Rattle.rkyv_base.specs.Shape.{Shape}
 use Rattle.rkyv_base.specs.Writing.{Step, padding, piece, zeros}
-use Rattle.rkyv_scan.specs.Hash.{HasherCall, hash_of_calls}
+use Rattle.rkyv_scan.specs.Hash.{Hasher, HasherCall, hash_of_calls}
 use Rattle.rkyv_table.specs.Table.Header.{cap_at, len_at}
 use Rattle.rkyv_table.specs.Controls.Numbers.{capacity}
 use Rattle.rkyv_table.specs.Table.Reading.{WrittenAt, home_positions}
@@ -85,9 +85,9 @@ row_format w e s f hash load_factor = record {
 }
 
 -- the hash of a value that makes these calls
-abbrev pub hash_of : {State A : Type 0} → State → (State → HasherCall → State) → (State → ℕ)
+abbrev pub hash_of : {State A : Type 0} → Hasher State
     → (A → List HasherCall) → A → ℕ
-hash_of initial feed finish calls value = hash_of_calls initial feed finish (calls value)
+hash_of hasher calls value = hash_of_calls hasher (calls value)
 
 -- How a list of pairs, in the order handed in, is written as an index map under a load factor: its
 -- table of places, each

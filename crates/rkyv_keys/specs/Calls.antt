@@ -1,11 +1,10 @@
 -- The calls that a key makes of a hasher.
 use Rattle.std.specs.Prelude.{ℕ, Bool, if◌then◌else◌, List, [], ◌∷◌, fold}
-use Rattle.rkyv_scan.specs.Hash.{HasherCall, Bytes, U8}
+use Rattle.rkyv_scan.specs.Hash.{Hasher, HasherCall, Bytes, U8}
 
 -- the state after a list of calls, in order
-abbrev pub after_calls : {State : Type 0} → (State → HasherCall → State) → State → List HasherCall
-    → State
-after_calls feed state calls = fold feed state calls
+abbrev pub after_calls : {State : Type 0} → Hasher State → State → List HasherCall → State
+after_calls hasher state calls = fold hasher.feed state calls
 
 -- a text's bytes, and then 255, which no text has
 abbrev pub text_calls : List ℕ → List HasherCall

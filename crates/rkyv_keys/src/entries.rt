@@ -73,7 +73,7 @@ impl<K: KeyElement, V: KeyElement> KeyElement for Entry<K, V> {
     fn hash_view<H: KeyHasher>(view: View<'_, Entry<K, V>>, state: &mut H)
         requires { IsView (entry_shape K.shape V.shape) view }
         ensures { let calls = entry_calls K.shape V.shape K.key_calls V.key_calls in
-            state.new ≡ after_calls H.feed state.old (at_view calls view.entry) }
+            state.new ≡ after_calls H.hasher state.old (at_view calls view.entry) }
     {
         K::hash_view(view.key(), state);
         V::hash_view(view.value(), state);

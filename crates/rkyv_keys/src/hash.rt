@@ -20,14 +20,14 @@ pub trait KeyHash {
     /// Makes the value's calls of a hasher.
     fn hash<H: KeyHasher>(&self, state: &mut H)
         requires { can_read self.now }
-        ensures { state.new ≡ after_calls H.feed state.old (calls self.now) };
+        ensures { state.new ≡ after_calls H.hasher state.old (calls self.now) };
 }
 
 /// The hash of a value by a new hasher.
 #[inline]
 pub fn hash_value<Q: KeyHash, H: KeyHasher + Default>(value: &Q) -> u64
     requires { Q.can_read value.now }
-    ensures { result ≡ hash_of_calls H.initial H.feed H.finish (Q.calls value.now) }
+    ensures { result ≡ hash_of_calls H.hasher (Q.calls value.now) }
 {
     let mut state = H::default();
     value.hash(&mut state);

@@ -22,7 +22,7 @@ pub trait KeyElement: ElementEquiv {
     /// Makes the value's calls of a hasher.
     fn hash_view<H: KeyHasher>(view: View<'_, Self>, state: &mut H)
         requires { IsView Self.shape view }
-        ensures { state.new ≡ after_calls H.feed state.old (at_view key_calls view.entry) };
+        ensures { state.new ≡ after_calls H.hasher state.old (at_view key_calls view.entry) };
 
     ghost key: { IsKey Self.shape Self.same key_calls };
 }

@@ -46,7 +46,7 @@ pub trait ScalarKey: Scalar + Eq {
 
     /// Makes the value's call of a hasher.
     fn feed<H: KeyHasher>(self, state: &mut H)
-        ensures { state.new ≡ H.feed state.old (call self) };
+        ensures { state.new ≡ H.hasher.feed state.old (call self) };
 
     ghost tells: { TellsApart Self.eq };
 
@@ -216,7 +216,7 @@ impl<N: ScalarKey> KeyElement for N {
     fn hash_view<H: KeyHasher>(view: View<'_, N>, state: &mut H)
         requires { IsView (scalar_shape N.encoding) view }
         ensures { let calls = scalar_calls N.encoding N.call in
-            state.new ≡ after_calls H.feed state.old (at_view calls view.entry) }
+            state.new ≡ after_calls H.hasher state.old (at_view calls view.entry) }
     {
         view.to_native().feed(state);
     }

@@ -80,7 +80,7 @@ impl<W: Width> KeyElement for Text<W> {
     fn hash_view<H: KeyHasher>(view: View<'_, Text<W>>, state: &mut H)
         requires { IsView (text_shape W.word) view }
         ensures { let calls = text_key_calls W.word in
-            state.new ≡ after_calls H.feed state.old (at_view calls view.entry) }
+            state.new ≡ after_calls H.hasher state.old (at_view calls view.entry) }
     {
         view.as_str().hash(state);
     }

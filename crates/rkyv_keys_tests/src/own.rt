@@ -81,7 +81,7 @@ impl KeyElement for LowByte {
 
     fn hash_view<H: KeyHasher>(view: View<'_, LowByte>, state: &mut H)
         requires { IsView low_shape view }
-        ensures { state.new ≡ after_calls H.feed state.old (at_view low_calls view.entry) }
+        ensures { state.new ≡ after_calls H.hasher state.old (at_view low_calls view.entry) }
     {
         state.write_u8((number(view) % 256) as u8);
     }

@@ -52,7 +52,7 @@ impl KeyElement for ArchivedSpot {
 
     fn hash_view<H: KeyHasher>(view: View<'_, ArchivedSpot>, state: &mut H)
         requires { IsView spot_shape view }
-        ensures { state.new ≡ after_calls H.feed state.old (at_view spot_key_calls view.entry) }
+        ensures { state.new ≡ after_calls H.hasher state.old (at_view spot_key_calls view.entry) }
     {
         Entry::<i32, i32>::hash_view(view.at::<Entry<i32, i32>>(view.pos()), state);
     }

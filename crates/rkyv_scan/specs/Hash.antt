@@ -39,16 +39,19 @@ pub data HasherCall : Type 0 where
   U8 U16 U32 U64 U128 Usize : ℕ → HasherCall
   I8 I16 I32 I64 I128 Isize : ℤ → HasherCall
 
+-- a hasher over its states: that of a new one, that after one call, and what it answers
+pub record Hasher (State : Type 0) : Type 0 where
+  initial : State
+  feed : State → HasherCall → State
+  finish : State → ℕ
+
 -- the number after a list of calls, which are fed in order from the initial state on
-abbrev pub hash_of_calls : {State : Type 0} → State → (State → HasherCall → State) → (State → ℕ)
-    → List HasherCall → ℕ
-hash_of_calls initial feed finish calls = finish (fold feed initial calls)
+abbrev pub hash_of_calls : {State : Type 0} → Hasher State → List HasherCall → ℕ
+hash_of_calls hasher calls = hasher.finish (fold hasher.feed hasher.initial calls)
 
 -- the number after any list of calls is one of 64 bits
-abbrev pub NumbersFit : {State : Type 0} → State → (State → HasherCall → State) → (State → ℕ)
-    → Type 0
-NumbersFit initial feed finish =
-    (calls : List HasherCall) → hash_of_calls initial feed finish calls < 2 ^ 64
+abbrev pub NumbersFit : {State : Type 0} → Hasher State → Type 0
+NumbersFit hasher = (calls : List HasherCall) → hash_of_calls hasher calls < 2 ^ 64
 
 -- the little endian number of the first bytes from i on, as many as the width has
 abbrev pub number_from : Width → List ℕ → ℕ → ℕ
@@ -145,6 +148,10 @@ hash_words held words = fold hash_word held words
 abbrev pub fx_feed : SizeWords → ℕ → HasherCall → ℕ
 fx_feed sizes held call = hash_words held (call_words sizes call)
 
+-- a state is the held number, at first 0, which is what the hasher answers
+abbrev pub fx_hasher : SizeWords → Hasher ℕ
+fx_hasher sizes = record { initial = 0; feed = fx_feed sizes; finish = λ held. held }
+
 -- the number that a new hasher answers after a list of calls
 abbrev pub fx_hash : SizeWords → List HasherCall → ℕ
-fx_hash sizes calls = hash_of_calls 0 (fx_feed sizes) (λ held. held) calls
+fx_hash sizes calls = hash_of_calls (fx_hasher sizes) calls

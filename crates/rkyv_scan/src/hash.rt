@@ -6,7 +6,7 @@
 ghost use Rattle.std.specs.Prelude.{◌≡◌, ℕ, ◌+◌, ◌≤◌, ◌%◌, ◌^◌, length, List};
 ghost use Rattle.std.specs.Int.{w8, w16, w32, w64};
 ghost use Rattle.rkyv_scan.specs.Hash.{
-  HasherCall,
+  Hasher,
   Bytes,
   U8,
   U16,
@@ -32,7 +32,7 @@ ghost use Rattle.rkyv_scan.specs.Hash.{
   rest_words,
   hash_word,
   hash_words,
-  fx_feed,
+  fx_hasher,
 };
 ghost use Rattle.rkyv_scan.specs.Lemmas.Numbers.{fx_fits};
 
@@ -44,14 +44,8 @@ use std::simd::prelude::*;
 /// Each call's new state is a function of the old state and the call, and the number one of the
 /// state. What is said of words is said of `FxHasher64`; another hasher may take a call otherwise.
 pub trait KeyHasher: Default + Drop {
-    // The state of a new hasher.
-    ghost initial: { Self };
-
-    // The state after one call.
-    ghost feed: { Self → HasherCall → Self };
-
-    // What `finish` answers.
-    ghost finish: { Self → ℕ };
+    // The state of a new hasher, the state after one call, and what `finish` answers.
+    ghost hasher: { Hasher Self };
 
     /// Takes the bytes, but not their number: two writes may hash as one of both joined.
     ///
@@ -59,67 +53,67 @@ pub trait KeyHasher: Default + Drop {
     /// words of the fewer than eight bytes that are left: four, two and one of them, as their
     /// number has these bits.
     fn write(&mut self, bytes: &[u8])
-        ensures { self.new ≡ feed self.old (Bytes bytes.now) };
+        ensures { self.new ≡ hasher.feed self.old (Bytes bytes.now) };
 
     /// Feeds the number as one word.
     fn write_u8(&mut self, number: u8)
-        ensures { self.new ≡ feed self.old (U8 number) };
+        ensures { self.new ≡ hasher.feed self.old (U8 number) };
 
     /// Feeds the number as one word.
     fn write_u16(&mut self, number: u16)
-        ensures { self.new ≡ feed self.old (U16 number) };
+        ensures { self.new ≡ hasher.feed self.old (U16 number) };
 
     /// Feeds the number as one word.
     fn write_u32(&mut self, number: u32)
-        ensures { self.new ≡ feed self.old (U32 number) };
+        ensures { self.new ≡ hasher.feed self.old (U32 number) };
 
     /// Feeds the number as one word.
     fn write_u64(&mut self, number: u64)
-        ensures { self.new ≡ feed self.old (U64 number) };
+        ensures { self.new ≡ hasher.feed self.old (U64 number) };
 
     /// Feeds two words: the low 64 bits, and then the high ones.
     fn write_u128(&mut self, number: u128)
-        ensures { self.new ≡ feed self.old (U128 number) };
+        ensures { self.new ≡ hasher.feed self.old (U128 number) };
 
     /// Feeds one word: `FxHasher64` the low 32 bits, whatever the machine, and `FxHasher64Wide`
     /// all 64.
     fn write_usize(&mut self, number: usize)
-        ensures { self.new ≡ feed self.old (Usize number) };
+        ensures { self.new ≡ hasher.feed self.old (Usize number) };
 
     /// Feeds what `write_u8` does of the number with the same bits.
     fn write_i8(&mut self, number: i8)
-        ensures { self.new ≡ feed self.old (I8 number) };
+        ensures { self.new ≡ hasher.feed self.old (I8 number) };
 
     /// Feeds what `write_u16` does of the number with the same bits.
     fn write_i16(&mut self, number: i16)
-        ensures { self.new ≡ feed self.old (I16 number) };
+        ensures { self.new ≡ hasher.feed self.old (I16 number) };
 
     /// Feeds what `write_u32` does of the number with the same bits.
     fn write_i32(&mut self, number: i32)
-        ensures { self.new ≡ feed self.old (I32 number) };
+        ensures { self.new ≡ hasher.feed self.old (I32 number) };
 
     /// Feeds what `write_u64` does of the number with the same bits.
     fn write_i64(&mut self, number: i64)
-        ensures { self.new ≡ feed self.old (I64 number) };
+        ensures { self.new ≡ hasher.feed self.old (I64 number) };
 
     /// Feeds what `write_u128` does of the number with the same bits.
     fn write_i128(&mut self, number: i128)
-        ensures { self.new ≡ feed self.old (I128 number) };
+        ensures { self.new ≡ hasher.feed self.old (I128 number) };
 
     /// Feeds one word: `FxHasher64` the low 32 bits, whatever the machine, widened to 64 with
     /// their sign, and `FxHasher64Wide` all 64 bits.
     fn write_isize(&mut self, number: isize)
-        ensures { self.new ≡ feed self.old (Isize number) };
+        ensures { self.new ≡ hasher.feed self.old (Isize number) };
 
     /// The number of the calls so far. The state stays as it is, and may be fed further calls.
     fn finish(&self) -> u64
-        ensures { result ≡ finish self.now };
+        ensures { result ≡ hasher.finish self.now };
 
     // A default hasher is a new one.
-    ghost starts: { (s : Self) → Self.is_default s → s ≡ initial };
+    ghost starts: { (s : Self) → Self.is_default s → s ≡ hasher.initial };
 
     // What `finish` answers after any calls of a new hasher is below 2^64.
-    ghost fits: { NumbersFit initial feed finish };
+    ghost fits: { NumbersFit hasher };
 }
 
 /// How an `FxHasher` makes one word of a `usize`, and one of an `isize`.
@@ -297,11 +291,7 @@ impl<S> Default for FxHasher<S> {
 }
 
 impl<S: SizeRule> KeyHasher for FxHasher<S> {
-    ghost initial = { 0 };
-
-    ghost feed = { fx_feed S.words };
-
-    ghost finish = { λ s. s };
+    ghost hasher = { fx_hasher S.words };
 
     ghost starts = { λ s h. h };
 

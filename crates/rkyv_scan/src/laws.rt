@@ -57,12 +57,10 @@ pub fn empty_masks() -> (bytewise::Bitmask, generic::Bitmask, lanes::Bitmask)
 /// `FxHasher64Wide` all their bits.
 pub fn fx_hashers()
     ensures narrow { (calls : List HasherCall)
-        → hash_of_calls ⟦<FxHasher64 as KeyHasher>⟧.initial ⟦<FxHasher64 as KeyHasher>⟧.feed
-        ⟦<FxHasher64 as KeyHasher>⟧.finish calls
+        → hash_of_calls ⟦<FxHasher64 as KeyHasher>⟧.hasher calls
         ≡ fx_hash low_halves calls }
     ensures wide { (calls : List HasherCall)
-        → hash_of_calls ⟦<FxHasher64Wide as KeyHasher>⟧.initial
-        ⟦<FxHasher64Wide as KeyHasher>⟧.feed ⟦<FxHasher64Wide as KeyHasher>⟧.finish calls
+        → hash_of_calls ⟦<FxHasher64Wide as KeyHasher>⟧.hasher calls
         ≡ fx_hash all_bits calls }
 {}
 

@@ -10,7 +10,7 @@ const SEED: u64 = 0x517c_c1b7_2722_0a95;
 const OF_MINUS_ONE: u64 = 0xae83_3e48_d8dd_f56b;
 
 fn of_usize<H: KeyHasher>(number: usize) -> u64
-    ensures { result ≡ hash_of_calls H.initial H.feed H.finish (Usize number ∷ []) }
+    ensures { result ≡ hash_of_calls H.hasher (Usize number ∷ []) }
 {
     let mut state = H::default();
     state.write_usize(number);
@@ -18,7 +18,7 @@ fn of_usize<H: KeyHasher>(number: usize) -> u64
 }
 
 fn of_isize<H: KeyHasher>(number: isize) -> u64
-    ensures { result ≡ hash_of_calls H.initial H.feed H.finish (Isize number ∷ []) }
+    ensures { result ≡ hash_of_calls H.hasher (Isize number ∷ []) }
 {
     let mut state = H::default();
     state.write_isize(number);

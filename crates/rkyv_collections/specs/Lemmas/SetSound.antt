@@ -6,7 +6,7 @@ use Rattle.rkyv_base.specs.Format.{Format, IsFormat, StandsNear}
 use Rattle.rkyv_base.specs.Pairs.{written_as-format}
 use Rattle.rkyv_base.specs.Shape.{IsElement, Shape}
 use Rattle.rkyv_base.specs.Text.{IsArchiveWord}
-use Rattle.rkyv_scan.specs.Hash.{HasherCall}
+use Rattle.rkyv_scan.specs.Hash.{Hasher, HasherCall}
 use Rattle.rkyv_keys.specs.Equality.{Comparison}
 use Rattle.rkyv_keys.specs.Keys.{FitsItsEqual, IsKey, IsQuery}
 use Rattle.rkyv_collections.specs.Map.{hash_at}
@@ -16,26 +16,26 @@ use Rattle.rkyv_collections.specs.Listed.{listed, listed_format}
 use Rattle.rkyv_collections.specs.Set.{set_shape}
 use Rattle.rkyv_collections.specs.SetFormat.{SetStands, set_format, with_units}
 
-module _ {State : Type 0} (initial : State) (feed : State → HasherCall → State) (finish : State → ℕ) (w : Width) {k : Shape} (kl : IsElement k)
+module _ {State : Type 0} (hasher : Hasher State) (w : Width) {k : Shape} (kl : IsElement k)
     {A : Type 0} {key : List ℕ → ℕ → A → Type 0} {same : Comparison} {key_calls : List ℕ → ℕ → List HasherCall} (factor : ℕ × ℕ) where
   -- what stands as a set rests on the bytes on which it rests that the set holds
-  pub set_near : IsKey k same key_calls → StandsNear k key → StandsNear (set_shape w k) (SetStands w k key (hash_at initial feed finish key_calls) factor)
-  set_near law kn keys = map_near initial feed finish w kl unit_element factor law kn unit_near (with_units keys)
+  pub set_near : IsKey k same key_calls → StandsNear k key → StandsNear (set_shape w k) (SetStands w k key (hash_at hasher key_calls) factor)
+  set_near law kn keys = map_near hasher w kl unit_element factor law kn unit_near (with_units keys)
 
   -- in every archive in which what was written of a set sits, and its header, the set holds and stands
   pub set_sound : IsArchiveWord w → {can_read : A → Type 0} {calls : A → List HasherCall} {fits : A → List ℕ → ℕ → Bool} {equal : A → A → Bool} {R : Type 0} {kf : Format A R}
       → IsQuery k same key_calls can_read calls fits → FitsItsEqual k key equal fits → ((a : A) → equal a a ≡ true) → ((a : A) → can_read a) → IsFormat k key kf
-      → IsFormat (set_shape w k) (SetStands w k key (hash_at initial feed finish key_calls) factor) (set_format w k kf (hash_of initial feed finish calls) factor)
+      → IsFormat (set_shape w k) (SetStands w k key (hash_at hasher key_calls) factor) (set_format w k kf (hash_of hasher calls) factor)
   set_sound kind {can_read} {calls} {fits} {equal} {R} {kf} query native itself reads kw =
-      written_as-format with_units (set_shape w k) (MapStands w k unit_shape key unit_stands (hash_at initial feed finish key_calls) factor)
-      (map_format w k unit_shape kf unit_format (hash_of initial feed finish calls) factor)
-      (map_sound initial feed finish w kl unit_element factor kind query native itself reads kw unit_is_format)
+      written_as-format with_units (set_shape w k) (MapStands w k unit_shape key unit_stands (hash_at hasher key_calls) factor)
+      (map_format w k unit_shape kf unit_format (hash_of hasher calls) factor)
+      (map_sound hasher w kl unit_element factor kind query native itself reads kw unit_is_format)
 
   -- and of a list that is written by a call which takes exactly its keys
   pub listed_set_sound : (max : ℕ) → IsArchiveWord w → {can_read : A → Type 0} {calls : A → List HasherCall} {fits : A → List ℕ → ℕ → Bool} {equal : A → A → Bool} {R : Type 0} {kf : Format A R}
       → IsQuery k same key_calls can_read calls fits → FitsItsEqual k key equal fits → ((a : A) → equal a a ≡ true) → ((a : A) → can_read a) → IsFormat k key kf
-      → IsFormat (set_shape w k) (SetStands w k key (hash_at initial feed finish key_calls) factor)
-      (listed max factor (set_format w k kf (hash_of initial feed finish calls) factor))
+      → IsFormat (set_shape w k) (SetStands w k key (hash_at hasher key_calls) factor)
+      (listed max factor (set_format w k kf (hash_of hasher calls) factor))
   listed_set_sound max kind {can_read} {calls} {fits} {equal} {R} {kf} query native itself reads kw =
-      listed_format max factor (set_shape w k) (SetStands w k key (hash_at initial feed finish key_calls) factor)
-      (set_format w k kf (hash_of initial feed finish calls) factor) (set_sound kind query native itself reads kw)
+      listed_format max factor (set_shape w k) (SetStands w k key (hash_at hasher key_calls) factor)
+      (set_format w k kf (hash_of hasher calls) factor) (set_sound kind query native itself reads kw)

@@ -9,7 +9,7 @@ use Rattle.std.proofs.lemmas.List.{get_or-map, length-map}
 use Rattle.std.proofs.lemmas.Map.Keys.{apart_from_distinct}
 use Rattle.std.proofs.lemmas.Option.{get_or_from_slice_get, slice_get-get_or, slice_get_within}
 use Rattle.rkyv_scan.specs.Groups.{generic_kind}
-use Rattle.rkyv_scan.specs.Hash.{HasherCall, hash_of_calls}
+use Rattle.rkyv_scan.specs.Hash.{Hasher, HasherCall, hash_of_calls}
 use Rattle.rkyv_scan.specs.Lemmas.KindLaws.{word_lawful}
 use Rattle.rkyv_base.specs.Entry.{entry_element, entry_shape, value_offset}
 use Rattle.rkyv_base.specs.Format.{Format, IsFormat}
@@ -131,12 +131,12 @@ module _ (w : Width) (k v : Shape) (kl : IsElement k) (vl : IsElement v) {A B : 
   }
 
 -- of keys that are asked for by themselves
-pub entries_equal : {State : Type 0} (initial : State) (feed : State → HasherCall → State) (finish : State → ℕ) (w : Width) (kind : IsArchiveWord w)
+pub entries_equal : {State : Type 0} (hasher : Hasher State) (w : Width) (kind : IsArchiveWord w)
     {k v : Shape} (kl : IsElement k) (vl : IsElement v) {A B R : Type 0} {key : List ℕ → ℕ → A → Type 0} {equals : List ℕ → ℕ → B → Type 0} {same : Comparison} {key_calls : List ℕ → ℕ → List HasherCall}
     {can_read : A → Type 0} {calls : A → List HasherCall} {fits : A → List ℕ → ℕ → Bool} {equal : A → A → Bool} (factor : ℕ × ℕ)
     → IsQuery k same key_calls can_read calls fits → FitsItsEqual k key equal fits → IsEquivalence equal → ((a : A) → can_read a)
-    → (f : Format (List (A × B)) R) → IsFormat (map_shape w k v) (MapStands w k v key equals (hash_at initial feed finish key_calls) factor) f
-    → IsFormat (map_shape w k v) (EntriesEqual w k v (hash_of initial feed finish calls) fits equals) (of_entries equal f)
-entries_equal initial feed finish w kind {k} {v} kl vl {A} {B} {R} {key} {equals} {same} {key_calls} {can_read} {calls} {fits} {equal} factor query native laws reads f base =
-    written_equal w k v kl vl key equals (hash_of initial feed finish calls) (hash_at initial feed finish key_calls) fits equal
-    (λ q b p h yes'. ap (hash_of_calls initial feed finish) (sym (query.alike q b p (reads q) h yes'))) native laws factor kind f base
+    → (f : Format (List (A × B)) R) → IsFormat (map_shape w k v) (MapStands w k v key equals (hash_at hasher key_calls) factor) f
+    → IsFormat (map_shape w k v) (EntriesEqual w k v (hash_of hasher calls) fits equals) (of_entries equal f)
+entries_equal hasher w kind {k} {v} kl vl {A} {B} {R} {key} {equals} {same} {key_calls} {can_read} {calls} {fits} {equal} factor query native laws reads f base =
+    written_equal w k v kl vl key equals (hash_of hasher calls) (hash_at hasher key_calls) fits equal
+    (λ q b p h yes'. ap (hash_of_calls hasher) (sym (query.alike q b p (reads q) h yes'))) native laws factor kind f base

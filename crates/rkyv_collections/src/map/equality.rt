@@ -21,7 +21,7 @@ impl<'a, K: KeyElement, V: ElementEq, H: KeyHasher, W: Width> ArchivedHashMap<'a
         requires key { IsView K.shape key }
         requires value { IsView V.shape value }
         requires pair { IsAt value (archive_of key) (pos_of key + value_offset K.shape V.shape) }
-        ensures { let key_hash = hash_at H.initial H.feed H.finish K.key_calls in
+        ensures { let key_hash = hash_at H.hasher K.key_calls in
             result ≡ pair_matches W.word K.shape V.shape key_hash K.same V.same (bytes_of key.entry) (pos_of key.entry) (map_bytes self.entry) (map_pos self.entry) }
     {
         match self.get(&key) {
@@ -39,7 +39,7 @@ impl<'a, K: KeyElement, V: ElementEq, H: KeyHasher, W: Width> ArchivedHashMap<'a
     pub fn eq_map(self, other: ArchivedHashMap<'_, K, V, H, W>) -> bool
         requires own { IsMap W.word K.shape V.shape self }
         requires other { IsMap W.word K.shape V.shape other }
-        ensures { let key_hash = hash_at H.initial H.feed H.finish K.key_calls in
+        ensures { let key_hash = hash_at H.hasher K.key_calls in
             result ≡ map_equal W.word K.shape V.shape key_hash K.same V.same (map_bytes self.entry) (map_pos self.entry) (map_bytes other.entry) (map_pos other.entry) }
     {
         if self.len() != other.len() {
@@ -55,13 +55,13 @@ impl<'a, K: KeyElement, V: ElementEq, H: KeyHasher, W: Width> ArchivedHashMap<'a
 }
 
 impl<K: KeyElement, V: ElementEq, H: KeyHasher, W: Width> ElementEq for HashMapOf<K, V, H, W> {
-    ghost same = { map_equal W.word K.shape V.shape (hash_at H.initial H.feed H.finish K.key_calls) K.same V.same };
+    ghost same = { map_equal W.word K.shape V.shape (hash_at H.hasher K.key_calls) K.same V.same };
 
     #[inline]
     fn same(a: View<'_, HashMapOf<K, V, H, W>>, b: View<'_, HashMapOf<K, V, H, W>>) -> bool
         requires a { IsView (map_shape W.word K.shape V.shape) a }
         requires b { IsView (map_shape W.word K.shape V.shape) b }
-        ensures { let key_hash = hash_at H.initial H.feed H.finish K.key_calls in
+        ensures { let key_hash = hash_at H.hasher K.key_calls in
             result ≡ at_views (map_equal W.word K.shape V.shape key_hash K.same V.same) a.entry b.entry }
     {
         ArchivedHashMap::of(a).eq_map(ArchivedHashMap::of(b))

@@ -35,10 +35,10 @@ impl<'a, K: KeyElement, V: Element, H: KeyHasher, W: Width> ArchivedHashMap<'a, 
             × (pos ≡ value_pos K.shape V.shape place)) }
         ensures inside { IfSome result (λ pos. pos + V.shape.size ≤ length archive.now) }
         ensures answer { FindsKeyAt W.word K.shape V.shape archive.now root
-            (hash_of H.initial H.feed H.finish Q.calls key.now) (Q.fits key.now archive.now)
+            (hash_of H.hasher Q.calls key.now) (Q.fits key.now archive.now)
             (λ place. result ≡ option_map (value_pos K.shape V.shape) place) }
         ensures first { FindsFirstKeyAt W.word K.shape V.shape archive.now root
-            (hash_at H.initial H.feed H.finish K.key_calls) (Q.fits key.now archive.now)
+            (hash_at H.hasher K.key_calls) (Q.fits key.now archive.now)
             (λ place. result ≡ option_map (value_pos K.shape V.shape) place) }
     {
         let map = ArchivedHashMap::<K, V, H, W>::of(View::new(archive, root));
@@ -63,11 +63,11 @@ impl<'a, K: KeyElement, V: Element, H: KeyHasher, W: Width> ArchivedHashMap<'a, 
         requires query { Q.can_read key.now }
         requires callable { MayWriteFound V.shape F.pre archive.old write }
         ensures answer { FindsKeyAt W.word K.shape V.shape archive.old root
-            (hash_of H.initial H.feed H.finish Q.calls key.now) (Q.fits key.now archive.old)
+            (hash_of H.hasher Q.calls key.now) (Q.fits key.now archive.old)
             (λ place. WritesFound F.post write archive.old result archive.new
             (option_map (value_pos K.shape V.shape) place)) }
         ensures first { FindsFirstKeyAt W.word K.shape V.shape archive.old root
-            (hash_at H.initial H.feed H.finish K.key_calls) (Q.fits key.now archive.old)
+            (hash_at H.hasher K.key_calls) (Q.fits key.now archive.old)
             (λ place. WritesFound F.post write archive.old result archive.new
             (option_map (value_pos K.shape V.shape) place)) }
     {
@@ -92,12 +92,12 @@ pub fn set_value_of<
     requires map { Viewed (map_shape W.word K.shape (scalar_shape N.encoding)) archive.old root }
     requires query { A.can_read key.now }
     ensures answer { FindsKeyAt W.word K.shape (scalar_shape N.encoding) archive.old root
-        (hash_of H.initial H.feed H.finish A.calls key.now) (A.fits key.now archive.old)
+        (hash_of H.hasher A.calls key.now) (A.fits key.now archive.old)
         (λ place. SetsFound W.word K.shape N.encoding
-        (hash_at H.initial H.feed H.finish K.key_calls) archive.old root value result archive.new
+        (hash_at H.hasher K.key_calls) archive.old root value result archive.new
         (option_map (value_pos K.shape (scalar_shape N.encoding)) place)) }
     ensures listed { SetsFirst W.word K.shape N.encoding K.stands
-        (hash_at H.initial H.feed H.finish K.key_calls) (A.eq key.now)
+        (hash_at H.hasher K.key_calls) (A.eq key.now)
         archive.old root value result archive.new }
 {
     match ArchivedHashMap::<K, N, H, W>::value_pos_in(&*archive, root, key) {

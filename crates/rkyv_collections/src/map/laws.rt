@@ -14,13 +14,13 @@ use rkyv_scan::hash::KeyHasher;
 /// Two maps that were written of distinct keys are equal exactly where each pair of either is the
 /// same as one of the other.
 pub fn equal_maps_have_the_same_pairs<K: KeyElement, V: ElementEquiv, H: KeyHasher, W: Width>()
-    ensures { EqualHaveSamePairs W.word K.shape V.shape (hash_at H.initial H.feed H.finish K.key_calls) K.same V.same }
+    ensures { EqualHaveSamePairs W.word K.shape V.shape (hash_at H.hasher K.key_calls) K.same V.same }
 {}
 
 /// In a map that was written, `misplaced` is the number of keys that are the same as one handed in
 /// earlier.
 pub fn repeated_keys_are_misplaced<K: KeyElement, V: Element, H: KeyHasher, W: Width>()
-    ensures { RepeatedKeysAreMisplaced W.word K.shape V.shape (hash_at H.initial H.feed H.finish K.key_calls) K.same }
+    ensures { RepeatedKeysAreMisplaced W.word K.shape V.shape (hash_at H.hasher K.key_calls) K.same }
 {}
 
 /// In a map that stands for a list of pairs, what a lookup answers by its clause `first` is the
@@ -36,7 +36,7 @@ pub fn lookups_find_listed<
     W: Width,
 >()
     ensures { LookupsFindListed K.shape V.shape K.stands V.stands K V H W W.word
-        (hash_at H.initial H.feed H.finish K.key_calls) }
+        (hash_at H.hasher K.key_calls) }
 {}
 
 /// `FxHasher64` and `FxHasher64Wide` differ in `usize` and `isize` alone. A map whose keys feed

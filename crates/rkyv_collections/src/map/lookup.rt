@@ -46,13 +46,13 @@ impl<'a, K: KeyElement, V: Element, H: KeyHasher, W: Width> ArchivedHashMap<'a, 
         requires callable { MayAskKeys W.word K.shape V.shape self (F.pre cmp key) }
         ensures walked { IfSome result (IsEntryIn W.word K.shape V.shape self.entry) }
         ensures answer { FindsBy W.word K.shape V.shape self.entry (F.post cmp key.entry)
-            (hash_of H.initial H.feed H.finish Q.calls key.now)
+            (hash_of H.hasher Q.calls key.now)
             (IsEntryAt result) }
         ensures first { FindsFirstBy W.word K.shape V.shape self.entry (F.post cmp key.entry)
-            (hash_of H.initial H.feed H.finish Q.calls key.now)
-            (hash_at H.initial H.feed H.finish K.key_calls)
+            (hash_of H.hasher Q.calls key.now)
+            (hash_at H.hasher K.key_calls)
             (IsEntryAt result) }
-        ensures hash { hash_of H.initial H.feed H.finish Q.calls key.now < 2 ^ 64 }
+        ensures hash { hash_of H.hasher Q.calls key.now < 2 ^ 64 }
     {
         let hash = hash_value::<Q, H>(key);
         self.table().get_with(
@@ -85,11 +85,11 @@ impl<'a, K: KeyElement, V: Element, H: KeyHasher, W: Width> ArchivedHashMap<'a, 
         requires callable { MayAskKeys W.word K.shape V.shape self (F.pre cmp key) }
         ensures walked { IfSome result (IsPairIn W.word K.shape V.shape self.entry) }
         ensures answer { FindsBy W.word K.shape V.shape self.entry (F.post cmp key.entry)
-            (hash_of H.initial H.feed H.finish Q.calls key.now)
+            (hash_of H.hasher Q.calls key.now)
             (IsPairAt result) }
         ensures first { FindsFirstBy W.word K.shape V.shape self.entry (F.post cmp key.entry)
-            (hash_of H.initial H.feed H.finish Q.calls key.now)
-            (hash_at H.initial H.feed H.finish K.key_calls)
+            (hash_of H.hasher Q.calls key.now)
+            (hash_at H.hasher K.key_calls)
             (IsPairAt result) }
     {
         match self.find(key, cmp) {
@@ -110,11 +110,11 @@ impl<'a, K: KeyElement, V: Element, H: KeyHasher, W: Width> ArchivedHashMap<'a, 
         requires callable { MayAskKeys W.word K.shape V.shape self (F.pre cmp key) }
         ensures walked { IfSome result (IsValueIn W.word K.shape V.shape self.entry) }
         ensures answer { FindsBy W.word K.shape V.shape self.entry (F.post cmp key.entry)
-            (hash_of H.initial H.feed H.finish Q.calls key.now)
+            (hash_of H.hasher Q.calls key.now)
             (IsValueAt K.shape V.shape result) }
         ensures first { FindsFirstBy W.word K.shape V.shape self.entry (F.post cmp key.entry)
-            (hash_of H.initial H.feed H.finish Q.calls key.now)
-            (hash_at H.initial H.feed H.finish K.key_calls)
+            (hash_of H.hasher Q.calls key.now)
+            (hash_at H.hasher K.key_calls)
             (IsValueAt K.shape V.shape result) }
     {
         match self.find(key, cmp) {
@@ -130,13 +130,13 @@ impl<'a, K: KeyElement, V: Element, H: KeyHasher, W: Width> ArchivedHashMap<'a, 
         requires query { Q.can_read key.now }
         ensures walked { IfSome result (IsEntryIn W.word K.shape V.shape self.entry) }
         ensures answer { FindsKey W.word K.shape V.shape self.entry
-            (hash_of H.initial H.feed H.finish Q.calls key.now)
+            (hash_of H.hasher Q.calls key.now)
             (Q.fits key.now (map_bytes self.entry)) (IsEntryAt result) }
         ensures first { FindsFirstKey W.word K.shape V.shape self.entry
-            (hash_at H.initial H.feed H.finish K.key_calls)
+            (hash_at H.hasher K.key_calls)
             (Q.fits key.now (map_bytes self.entry)) (IsEntryAt result) }
         ensures complete { FindsOneKey W.word K.shape V.shape self.entry
-            (hash_at H.initial H.feed H.finish K.key_calls) K.same
+            (hash_at H.hasher K.key_calls) K.same
             (Q.fits key.now (map_bytes self.entry)) (IsEntryAt result) }
     {
         self.find(
@@ -160,13 +160,13 @@ impl<'a, K: KeyElement, V: Element, H: KeyHasher, W: Width> ArchivedHashMap<'a, 
         requires query { Q.can_read key.now }
         ensures walked { IfSome result (IsPairIn W.word K.shape V.shape self.entry) }
         ensures answer { FindsKey W.word K.shape V.shape self.entry
-            (hash_of H.initial H.feed H.finish Q.calls key.now)
+            (hash_of H.hasher Q.calls key.now)
             (Q.fits key.now (map_bytes self.entry)) (IsPairAt result) }
         ensures first { FindsFirstKey W.word K.shape V.shape self.entry
-            (hash_at H.initial H.feed H.finish K.key_calls)
+            (hash_at H.hasher K.key_calls)
             (Q.fits key.now (map_bytes self.entry)) (IsPairAt result) }
         ensures complete { FindsOneKey W.word K.shape V.shape self.entry
-            (hash_at H.initial H.feed H.finish K.key_calls) K.same
+            (hash_at H.hasher K.key_calls) K.same
             (Q.fits key.now (map_bytes self.entry)) (IsPairAt result) }
     {
         match self.find_key(key) {
@@ -182,13 +182,13 @@ impl<'a, K: KeyElement, V: Element, H: KeyHasher, W: Width> ArchivedHashMap<'a, 
         requires query { Q.can_read key.now }
         ensures walked { IfSome result (IsValueIn W.word K.shape V.shape self.entry) }
         ensures answer { FindsKey W.word K.shape V.shape self.entry
-            (hash_of H.initial H.feed H.finish Q.calls key.now)
+            (hash_of H.hasher Q.calls key.now)
             (Q.fits key.now (map_bytes self.entry)) (IsValueAt K.shape V.shape result) }
         ensures first { FindsFirstKey W.word K.shape V.shape self.entry
-            (hash_at H.initial H.feed H.finish K.key_calls)
+            (hash_at H.hasher K.key_calls)
             (Q.fits key.now (map_bytes self.entry)) (IsValueAt K.shape V.shape result) }
         ensures complete { FindsOneKey W.word K.shape V.shape self.entry
-            (hash_at H.initial H.feed H.finish K.key_calls) K.same
+            (hash_at H.hasher K.key_calls) K.same
             (Q.fits key.now (map_bytes self.entry)) (IsValueAt K.shape V.shape result) }
     {
         match self.find_key(key) {
@@ -203,13 +203,13 @@ impl<'a, K: KeyElement, V: Element, H: KeyHasher, W: Width> ArchivedHashMap<'a, 
         requires map { IsMap W.word K.shape V.shape self }
         requires query { Q.can_read key.now }
         ensures answer { FindsKey W.word K.shape V.shape self.entry
-            (hash_of H.initial H.feed H.finish Q.calls key.now)
+            (hash_of H.hasher Q.calls key.now)
             (Q.fits key.now (map_bytes self.entry)) (IsFoundAt result) }
         ensures first { FindsFirstKey W.word K.shape V.shape self.entry
-            (hash_at H.initial H.feed H.finish K.key_calls)
+            (hash_at H.hasher K.key_calls)
             (Q.fits key.now (map_bytes self.entry)) (IsFoundAt result) }
         ensures complete { FindsOneKey W.word K.shape V.shape self.entry
-            (hash_at H.initial H.feed H.finish K.key_calls) K.same
+            (hash_at H.hasher K.key_calls) K.same
             (Q.fits key.now (map_bytes self.entry)) (IsFoundAt result) }
     {
         self.find_key(key).is_some()
@@ -221,17 +221,17 @@ impl<'a, K: KeyElement, V: Element, H: KeyHasher, W: Width> ArchivedHashMap<'a, 
         requires map { IsMap W.word K.shape V.shape self }
         requires query { Q.can_read key.now }
         requires found { FindsKey W.word K.shape V.shape self
-            (hash_of H.initial H.feed H.finish Q.calls key.now)
+            (hash_of H.hasher Q.calls key.now)
             (Q.fits key.now (map_bytes self)) IsSome }
         ensures walked { IsValueIn W.word K.shape V.shape self.entry result }
         ensures answer { FindsKey W.word K.shape V.shape self.entry
-            (hash_of H.initial H.feed H.finish Q.calls key.now)
+            (hash_of H.hasher Q.calls key.now)
             (Q.fits key.now (map_bytes self.entry)) (IsValueAt K.shape V.shape (Some result)) }
         ensures first { FindsFirstKey W.word K.shape V.shape self.entry
-            (hash_at H.initial H.feed H.finish K.key_calls)
+            (hash_at H.hasher K.key_calls)
             (Q.fits key.now (map_bytes self.entry)) (IsValueAt K.shape V.shape (Some result)) }
         ensures complete { FindsOneKey W.word K.shape V.shape self.entry
-            (hash_at H.initial H.feed H.finish K.key_calls) K.same
+            (hash_at H.hasher K.key_calls) K.same
             (Q.fits key.now (map_bytes self.entry)) (IsValueAt K.shape V.shape (Some result)) }
     {
         self.find_key(key).unwrap().value()

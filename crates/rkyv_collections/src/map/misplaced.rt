@@ -20,13 +20,13 @@ impl<'a, K: KeyElement, V: Element, H: KeyHasher, W: Width> ArchivedHashMap<'a, 
     /// In a map that was written these are the keys that are the same as one handed in earlier.
     pub fn misplaced(self) -> usize
         requires { IsMap W.word K.shape V.shape self }
-        ensures { let key_hash = hash_at H.initial H.feed H.finish K.key_calls in
+        ensures { let key_hash = hash_at H.hasher K.key_calls in
             result ≡ map_misplaced W.word K.shape V.shape key_hash K.same (map_bytes self.entry) (map_pos self.entry) }
     {
         self.table().misplaced_by(
             |entry|
                 requires { IsView (entry_shape K.shape V.shape) entry }
-                ensures { result ≡ hash_at H.initial H.feed H.finish K.key_calls (bytes_of entry.entry) (pos_of entry.entry) }
+                ensures { result ≡ hash_at H.hasher K.key_calls (bytes_of entry.entry) (pos_of entry.entry) }
             { hash_value::<View<'_, K>, H>(&entry.key()) },
             |own, other|
                 requires own { IsView (entry_shape K.shape V.shape) own }

@@ -62,12 +62,12 @@ impl<'a, K: KeyElement, V: Element, H: KeyHasher, W: Width> ArchivedHashMap<'a, 
         ensures walked { IfSome result (IsKeyPosAt W.word K.shape V.shape (archive_in this.now)
             (pos_in this.now)) }
         ensures answer { FindsByAt W.word K.shape V.shape (archive_in this.now) (pos_in this.now)
-            (F.post cmp key.entry) (hash_of H.initial H.feed H.finish Q.calls key.now)
+            (F.post cmp key.entry) (hash_of H.hasher Q.calls key.now)
             (λ place. result ≡ place) }
         ensures first { FindsFirstByAt W.word K.shape V.shape
             (archive_in this.now) (pos_in this.now)
-            (F.post cmp key.entry) (hash_of H.initial H.feed H.finish Q.calls key.now)
-            (hash_at H.initial H.feed H.finish K.key_calls) (λ place. result ≡ place) }
+            (F.post cmp key.entry) (hash_of H.hasher Q.calls key.now)
+            (hash_at H.hasher K.key_calls) (λ place. result ≡ place) }
     {
         match ArchivedHashMap::of(this.as_view()).find(key, cmp) {
             Some(entry) => Some(entry.pos()),
@@ -86,11 +86,11 @@ impl<'a, K: KeyElement, V: Element, H: KeyHasher, W: Width> ArchivedHashMap<'a, 
         ensures walked { IfSome result (IsKeyPosAt W.word K.shape V.shape (archive_in this.now)
             (pos_in this.now)) }
         ensures answer { FindsKeyAt W.word K.shape V.shape (archive_in this.now) (pos_in this.now)
-            (hash_of H.initial H.feed H.finish Q.calls key.now)
+            (hash_of H.hasher Q.calls key.now)
             (Q.fits key.now (archive_in this.now)) (λ place. result ≡ place) }
         ensures first { FindsFirstKeyAt W.word K.shape V.shape
             (archive_in this.now) (pos_in this.now)
-            (hash_at H.initial H.feed H.finish K.key_calls)
+            (hash_at H.hasher K.key_calls)
             (Q.fits key.now (archive_in this.now)) (λ place. result ≡ place) }
     {
         match ArchivedHashMap::of(this.as_view()).find_key(key) {
@@ -120,12 +120,12 @@ impl<'a, K: KeyElement, V: Element, H: KeyHasher, W: Width> ArchivedHashMap<'a, 
         ensures walked { IfSome result (IsPairSeal W.word K.shape V.shape this.entry) }
         ensures answer { FindsByAt W.word K.shape V.shape
             (archive_in this.entry) (pos_in this.entry)
-            (F.post cmp key.entry) (hash_of H.initial H.feed H.finish Q.calls key.now)
+            (F.post cmp key.entry) (hash_of H.hasher Q.calls key.now)
             (IsPairSealAt result) }
         ensures first { FindsFirstByAt W.word K.shape V.shape
             (archive_in this.entry) (pos_in this.entry)
-            (F.post cmp key.entry) (hash_of H.initial H.feed H.finish Q.calls key.now)
-            (hash_at H.initial H.feed H.finish K.key_calls) (IsPairSealAt result) }
+            (F.post cmp key.entry) (hash_of H.hasher Q.calls key.now)
+            (hash_at H.hasher K.key_calls) (IsPairSealAt result) }
     {
         match Self::find_pos(&this, key, cmp) {
             Some(pos) => Some(this.split_value(pos)),
@@ -146,11 +146,11 @@ impl<'a, K: KeyElement, V: Element, H: KeyHasher, W: Width> ArchivedHashMap<'a, 
         ensures walked { IfSome result (IsPairSeal W.word K.shape V.shape this.entry) }
         ensures answer { FindsKeyAt W.word K.shape V.shape
             (archive_in this.entry) (pos_in this.entry)
-            (hash_of H.initial H.feed H.finish Q.calls key.now)
+            (hash_of H.hasher Q.calls key.now)
             (Q.fits key.now (archive_in this.entry)) (IsPairSealAt result) }
         ensures first { FindsFirstKeyAt W.word K.shape V.shape
             (archive_in this.entry) (pos_in this.entry)
-            (hash_at H.initial H.feed H.finish K.key_calls)
+            (hash_at H.hasher K.key_calls)
             (Q.fits key.now (archive_in this.entry)) (IsPairSealAt result) }
     {
         match Self::find_key_pos(&this, key) {
@@ -175,12 +175,12 @@ impl<'a, K: KeyElement, V: Element, H: KeyHasher, W: Width> ArchivedHashMap<'a, 
         ensures walked { IfSome result (IsValueSeal W.word K.shape V.shape this.entry) }
         ensures answer { FindsByAt W.word K.shape V.shape
             (archive_in this.entry) (pos_in this.entry)
-            (F.post cmp key.entry) (hash_of H.initial H.feed H.finish Q.calls key.now)
+            (F.post cmp key.entry) (hash_of H.hasher Q.calls key.now)
             (IsValueSealAt K.shape V.shape result) }
         ensures first { FindsFirstByAt W.word K.shape V.shape
             (archive_in this.entry) (pos_in this.entry)
-            (F.post cmp key.entry) (hash_of H.initial H.feed H.finish Q.calls key.now)
-            (hash_at H.initial H.feed H.finish K.key_calls) (IsValueSealAt K.shape V.shape result) }
+            (F.post cmp key.entry) (hash_of H.hasher Q.calls key.now)
+            (hash_at H.hasher K.key_calls) (IsValueSealAt K.shape V.shape result) }
     {
         match Self::find_pos(&this, key, cmp) {
             Some(pos) => Some(value_seal::<K, V, H, W>(this, pos)),
@@ -201,11 +201,11 @@ impl<'a, K: KeyElement, V: Element, H: KeyHasher, W: Width> ArchivedHashMap<'a, 
         ensures walked { IfSome result (IsValueSeal W.word K.shape V.shape this.entry) }
         ensures answer { FindsKeyAt W.word K.shape V.shape
             (archive_in this.entry) (pos_in this.entry)
-            (hash_of H.initial H.feed H.finish Q.calls key.now)
+            (hash_of H.hasher Q.calls key.now)
             (Q.fits key.now (archive_in this.entry)) (IsValueSealAt K.shape V.shape result) }
         ensures first { FindsFirstKeyAt W.word K.shape V.shape
             (archive_in this.entry) (pos_in this.entry)
-            (hash_at H.initial H.feed H.finish K.key_calls)
+            (hash_at H.hasher K.key_calls)
             (Q.fits key.now (archive_in this.entry)) (IsValueSealAt K.shape V.shape result) }
     {
         match Self::find_key_pos(&this, key) {
@@ -219,12 +219,12 @@ impl<'a, K: KeyElement, V: Element, H: KeyHasher, W: Width> ArchivedHashMap<'a, 
 /// are as before, each lookup finds the same key, and a map that was written stays one.
 pub fn value_writes_keep_maps<K: KeyElement, V: Element, H: KeyHasher, W: Width>()
     ensures { ValueWritesKeepMaps W.word K.shape V.shape
-        (hash_at H.initial H.feed H.finish K.key_calls) }
+        (hash_at H.hasher K.key_calls) }
 {}
 
 /// After such a write each query finds the same key.
 pub fn value_writes_keep_answers<K: KeyElement, V: Element, Q: Query<K>, H: KeyHasher, W: Width>()
-    ensures { let hash = hash_of H.initial H.feed H.finish Q.calls in
+    ensures { let hash = hash_of H.hasher Q.calls in
         ValueWritesKeepAnswers W.word K.shape V.shape Q.can_read hash Q.fits }
 {}
 
@@ -239,5 +239,5 @@ pub fn values_written_stand<
     W: Width,
 >()
     ensures { ValuesWrittenStand W.word K.shape V.shape K.stands V.stands
-        (hash_at H.initial H.feed H.finish K.key_calls) }
+        (hash_at H.hasher K.key_calls) }
 {}

@@ -23,8 +23,8 @@ pub fn written_maps_stand<
     B: Archive<W, Archived = V>,
 >()
     ensures { (load_factor : ℕ × ℕ) →
-        let hash = hash_at H.initial H.feed H.finish K.key_calls in
-        let own = hash_of H.initial H.feed H.finish A.calls in
+        let hash = hash_at H.hasher K.key_calls in
+        let own = hash_of H.hasher A.calls in
         IsFormat (map_shape W.word K.shape V.shape) (MapStands W.word K.shape V.shape K.stands V.stands hash load_factor)
         (map_format W.word K.shape V.shape A.format B.format own load_factor) }
 {}

@@ -21,7 +21,7 @@ impl<'a, K: KeyElement, H: KeyHasher, W: Width> ArchivedHashSet<'a, K, H, W> {
     pub fn eq_set(self, other: ArchivedHashSet<'_, K, H, W>) -> bool
         requires own { IsSet W.word K.shape self }
         requires other { IsSet W.word K.shape other }
-        ensures { let key_hash = hash_at H.initial H.feed H.finish K.key_calls in
+        ensures { let key_hash = hash_at H.hasher K.key_calls in
             result ≡ set_equal W.word K.shape key_hash K.same (set_bytes self.entry) (set_pos self.entry) (set_bytes other.entry) (set_pos other.entry) }
     {
         self.map.eq_map(other.map)
@@ -34,7 +34,7 @@ impl<'a, K: KeyElement, H: KeyHasher, W: Width> ArchivedHashSet<'a, K, H, W> {
     #[inline]
     pub fn misplaced(self) -> usize
         requires { IsSet W.word K.shape self }
-        ensures { let key_hash = hash_at H.initial H.feed H.finish K.key_calls in
+        ensures { let key_hash = hash_at H.hasher K.key_calls in
             result ≡ set_misplaced W.word K.shape key_hash K.same (set_bytes self.entry) (set_pos self.entry) }
     {
         self.map.misplaced()
@@ -42,13 +42,13 @@ impl<'a, K: KeyElement, H: KeyHasher, W: Width> ArchivedHashSet<'a, K, H, W> {
 }
 
 impl<K: KeyElement, H: KeyHasher, W: Width> ElementEq for HashSetOf<K, H, W> {
-    ghost same = { set_equal W.word K.shape (hash_at H.initial H.feed H.finish K.key_calls) K.same };
+    ghost same = { set_equal W.word K.shape (hash_at H.hasher K.key_calls) K.same };
 
     #[inline]
     fn same(a: View<'_, HashSetOf<K, H, W>>, b: View<'_, HashSetOf<K, H, W>>) -> bool
         requires a { IsView (set_shape W.word K.shape) a }
         requires b { IsView (set_shape W.word K.shape) b }
-        ensures { let key_hash = hash_at H.initial H.feed H.finish K.key_calls in
+        ensures { let key_hash = hash_at H.hasher K.key_calls in
             result ≡ at_views (set_equal W.word K.shape key_hash K.same) a.entry b.entry }
     {
         ArchivedHashSet::of(a).eq_set(ArchivedHashSet::of(b))

@@ -109,13 +109,13 @@ impl<'a, K: KeyElement, H: KeyHasher, W: Width> ArchivedHashSet<'a, K, H, W> {
         requires query { Q.can_read key.now }
         ensures walked { IfSome result (IsMemberIn W.word K.shape self.entry) }
         ensures answer { FindsMember W.word K.shape self.entry
-            (hash_of H.initial H.feed H.finish Q.calls key.now)
+            (hash_of H.hasher Q.calls key.now)
             (Q.fits key.now (set_bytes self.entry)) (IsEntryAt result) }
         ensures first { FindsFirstMember W.word K.shape self.entry
-            (hash_at H.initial H.feed H.finish K.key_calls)
+            (hash_at H.hasher K.key_calls)
             (Q.fits key.now (set_bytes self.entry)) (IsEntryAt result) }
         ensures complete { FindsOneMember W.word K.shape self.entry
-            (hash_at H.initial H.feed H.finish K.key_calls) K.same
+            (hash_at H.hasher K.key_calls) K.same
             (Q.fits key.now (set_bytes self.entry)) (IsEntryAt result) }
     {
         match self.map.get_key_value(key) {
@@ -130,13 +130,13 @@ impl<'a, K: KeyElement, H: KeyHasher, W: Width> ArchivedHashSet<'a, K, H, W> {
         requires set { IsSet W.word K.shape self }
         requires query { Q.can_read key.now }
         ensures answer { FindsMember W.word K.shape self.entry
-            (hash_of H.initial H.feed H.finish Q.calls key.now)
+            (hash_of H.hasher Q.calls key.now)
             (Q.fits key.now (set_bytes self.entry)) (IsFoundAt result) }
         ensures first { FindsFirstMember W.word K.shape self.entry
-            (hash_at H.initial H.feed H.finish K.key_calls)
+            (hash_at H.hasher K.key_calls)
             (Q.fits key.now (set_bytes self.entry)) (IsFoundAt result) }
         ensures complete { FindsOneMember W.word K.shape self.entry
-            (hash_at H.initial H.feed H.finish K.key_calls) K.same
+            (hash_at H.hasher K.key_calls) K.same
             (Q.fits key.now (set_bytes self.entry)) (IsFoundAt result) }
     {
         self.map.contains_key(key)

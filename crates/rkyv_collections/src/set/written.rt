@@ -23,8 +23,8 @@ pub fn written_sets_stand<
     A: NativeKey<K> + Archive<W, Archived = K>,
 >()
     ensures { (load_factor : ℕ × ℕ) →
-        let hash = hash_at H.initial H.feed H.finish K.key_calls in
-        let own = hash_of H.initial H.feed H.finish A.calls in
+        let hash = hash_at H.hasher K.key_calls in
+        let own = hash_of H.hasher A.calls in
         IsFormat (set_shape W.word K.shape) (SetStands W.word K.shape K.stands hash load_factor)
         (set_format W.word K.shape A.format own load_factor) }
 {}

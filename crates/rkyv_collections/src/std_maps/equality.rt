@@ -32,7 +32,7 @@ impl<'a, K: KeyElement, V, H: KeyHasher, W: Width> ArchivedHashMap<'a, K, V, H, 
         V: MatchesNative<B>,
         requires map { IsMap W.word K.shape V.shape self }
         requires query { A.can_read key.now }
-        ensures { let hash = hash_of H.initial H.feed H.finish A.calls in
+        ensures { let hash = hash_of H.hasher A.calls in
             IsTrue result ↔ FindsPair W.word K.shape V.shape hash A.fits V.equals (map_bytes self.entry) (map_pos self.entry) (key.now, value.now) }
     {
         match self.get(key) {
@@ -49,7 +49,7 @@ impl<'a, K: KeyElement, V, H: KeyHasher, W: Width> ArchivedHashMap<'a, K, V, H, 
         K: StandsFor<A>,
         V: MatchesNative<B>,
         requires map { IsMap W.word K.shape V.shape self }
-        ensures { let hash = hash_of H.initial H.feed H.finish A.calls in
+        ensures { let hash = hash_of H.hasher A.calls in
             IsTrue result ↔ StdMapEquals W.word K.shape V.shape hash A.fits V.equals (map_bytes self.entry) (map_pos self.entry) other.now }
     {
         if self.len() != other.len() {
@@ -73,12 +73,12 @@ impl<
     B,
     T: BuildHasher,
 > MatchesNative<HashMap<A, B, T>> for HashMapOf<K, V, H, W> {
-    ghost equals = { StdMapEquals W.word K.shape V.shape (hash_of H.initial H.feed H.finish A.calls) A.fits V.equals };
+    ghost equals = { StdMapEquals W.word K.shape V.shape (hash_of H.hasher A.calls) A.fits V.equals };
 
     #[inline]
     fn eq_native(view: View<'_, HashMapOf<K, V, H, W>>, value: &HashMap<A, B, T>) -> bool
         requires { IsView (map_shape W.word K.shape V.shape) view }
-        ensures { let hash = hash_of H.initial H.feed H.finish A.calls in
+        ensures { let hash = hash_of H.hasher A.calls in
             IsTrue result ↔ StandsAt (StdMapEquals W.word K.shape V.shape hash A.fits V.equals) view.entry value.now }
     {
         ArchivedHashMap::of(view).eq_std(value)
@@ -94,12 +94,12 @@ impl<
     B,
     T: BuildHasher,
 > MatchesNative<Hashed<HashMap<A, B, T>, H>> for HashMapOf<K, V, H, W> {
-    ghost equals = { λ b p x. StdMapEquals W.word K.shape V.shape (hash_of H.initial H.feed H.finish A.calls) A.fits V.equals b p x.map };
+    ghost equals = { λ b p x. StdMapEquals W.word K.shape V.shape (hash_of H.hasher A.calls) A.fits V.equals b p x.map };
 
     #[inline]
     fn eq_native(view: View<'_, HashMapOf<K, V, H, W>>, value: &Hashed<HashMap<A, B, T>, H>) -> bool
         requires { IsView (map_shape W.word K.shape V.shape) view }
-        ensures { let hash = hash_of H.initial H.feed H.finish A.calls in
+        ensures { let hash = hash_of H.hasher A.calls in
             IsTrue result ↔ StandsAt (StdMapEquals W.word K.shape V.shape hash A.fits V.equals) view.entry value.now.map }
     {
         ArchivedHashMap::of(view).eq_std(&value.map)
@@ -118,12 +118,12 @@ where
     B::Archived: MatchesNative<B>,
     A: NativeKey<A::Archived>,
 {
-    ghost equal = { let format = map_format W.word A.Archived.shape B.Archived.shape A.format B.format (hash_of H.initial H.feed H.finish A.calls) (7, 8) in
+    ghost equal = { let format = map_format W.word A.Archived.shape B.Archived.shape A.format B.format (hash_of H.hasher A.calls) (7, 8) in
         let shape = map_shape W.word A.Archived.shape B.Archived.shape in
         let whole = listed W.MAX_CAPACITY (7, 8) format in
-        written_as-format (λ x. x.map.entries) shape (EntriesEqual W.word A.Archived.shape B.Archived.shape (hash_of H.initial H.feed H.finish A.calls) A.fits B.Archived.equals) (of_entries A.eq whole)
-        (entries_equal H.initial H.feed H.finish W.word W.layout.kind A.Archived.laws B.Archived.laws (7, 8) A.query A.native A.Eq.laws A.reads whole
-        (listed_map_sound H.initial H.feed H.finish W.word A.Archived.laws B.Archived.laws (7, 8) W.MAX_CAPACITY W.layout.kind
+        written_as-format (λ x. x.map.entries) shape (EntriesEqual W.word A.Archived.shape B.Archived.shape (hash_of H.hasher A.calls) A.fits B.Archived.equals) (of_entries A.eq whole)
+        (entries_equal H.hasher W.word W.layout.kind A.Archived.laws B.Archived.laws (7, 8) A.query A.native A.Eq.laws A.reads whole
+        (listed_map_sound H.hasher W.word A.Archived.laws B.Archived.laws (7, 8) W.MAX_CAPACITY W.layout.kind
         A.query A.native A.Eq.laws.refl A.reads A.Archive.laws B.equal)) };
 }
 
@@ -153,7 +153,7 @@ impl<
 > EqArchived<ArchivedHashMap<'a, K, V, H, W>> for HashMap<A, B, T> {
     ghost can_compare = { IsMap W.word K.shape V.shape };
 
-    ghost equals_archived = { λ other m. StdMapEquals W.word K.shape V.shape (hash_of H.initial H.feed H.finish A.calls) A.fits V.equals (map_bytes other) (map_pos other) m };
+    ghost equals_archived = { λ other m. StdMapEquals W.word K.shape V.shape (hash_of H.hasher A.calls) A.fits V.equals (map_bytes other) (map_pos other) m };
 
     #[inline]
     fn eq_archived(&self, other: ArchivedHashMap<'a, K, V, H, W>) -> bool {

@@ -50,7 +50,7 @@ where
     type Resolver = HashMapResolver<W>;
 
     ghost format = { written_as (λ x. x.map.entries) (of_entries A.eq (listed W.MAX_CAPACITY (7, 8)
-        (map_format W.word A.Archived.shape B.Archived.shape A.format B.format (hash_of H.initial H.feed H.finish A.calls) (7, 8)))) };
+        (map_format W.word A.Archived.shape B.Archived.shape A.format B.format (hash_of H.hasher A.calls) (7, 8)))) };
 
     fn resolve(
         &self,
@@ -69,14 +69,14 @@ where
         )
     }
 
-    ghost laws = { let hash = hash_at H.initial H.feed H.finish A.Archived.key_calls in
+    ghost laws = { let hash = hash_at H.hasher A.Archived.key_calls in
         let stands = EntriesStand A.Archived.shape B.Archived.shape A.Archived.stands B.Archived.stands W.word A.eq in
-        let format = map_format W.word A.Archived.shape B.Archived.shape A.format B.format (hash_of H.initial H.feed H.finish A.calls) (7, 8) in
+        let format = map_format W.word A.Archived.shape B.Archived.shape A.format B.format (hash_of H.hasher A.calls) (7, 8) in
         let shape = map_shape W.word A.Archived.shape B.Archived.shape in
         let whole = listed W.MAX_CAPACITY (7, 8) format in
         written_as-format (λ x. x.map.entries) shape stands (of_entries A.eq whole)
         (entries_sound A.Archived.shape B.Archived.shape A.Archived.laws B.Archived.laws W.word A.eq A.Eq.laws hash (7, 8) W.layout.kind whole
-        (listed_map_sound H.initial H.feed H.finish W.word A.Archived.laws B.Archived.laws (7, 8) W.MAX_CAPACITY W.layout.kind
+        (listed_map_sound H.hasher W.word A.Archived.laws B.Archived.laws (7, 8) W.MAX_CAPACITY W.layout.kind
         A.query A.native A.Eq.laws.refl A.reads A.Archive.laws B.laws)) };
 }
 

@@ -61,7 +61,7 @@ where
     type Resolver = HashSetResolver<W>;
 
     ghost format = { written_as (λ x. with_units x.map.keys) (of_entries A.eq (listed W.MAX_CAPACITY (7, 8)
-        (map_format W.word A.Archived.shape unit_shape A.format unit_format (hash_of H.initial H.feed H.finish A.calls) (7, 8)))) };
+        (map_format W.word A.Archived.shape unit_shape A.format unit_format (hash_of H.hasher A.calls) (7, 8)))) };
 
     fn resolve(
         &self,
@@ -74,14 +74,14 @@ where
         ArchivedHashSet::<A::Archived, H, W>::resolve_from_len(len, load_factor, resolver, pos, out)
     }
 
-    ghost laws = { let hash = hash_at H.initial H.feed H.finish A.Archived.key_calls in
+    ghost laws = { let hash = hash_at H.hasher A.Archived.key_calls in
         let stands = EntriesStand A.Archived.shape unit_shape A.Archived.stands unit_stands W.word A.eq in
-        let format = map_format W.word A.Archived.shape unit_shape A.format unit_format (hash_of H.initial H.feed H.finish A.calls) (7, 8) in
+        let format = map_format W.word A.Archived.shape unit_shape A.format unit_format (hash_of H.hasher A.calls) (7, 8) in
         let shape = set_shape W.word A.Archived.shape in
         let whole = listed W.MAX_CAPACITY (7, 8) format in
         written_as-format (λ x. with_units x.map.keys) shape stands (of_entries A.eq whole)
         (entries_sound A.Archived.shape unit_shape A.Archived.laws unit_element W.word A.eq A.Eq.laws hash (7, 8) W.layout.kind whole
-        (listed_map_sound H.initial H.feed H.finish W.word A.Archived.laws unit_element (7, 8) W.MAX_CAPACITY W.layout.kind
+        (listed_map_sound H.hasher W.word A.Archived.laws unit_element (7, 8) W.MAX_CAPACITY W.layout.kind
         A.query A.native A.Eq.laws.refl A.reads A.Archive.laws unit_is_format)) };
 }
 
@@ -160,7 +160,7 @@ impl<'a, K: KeyElement, H: KeyHasher, W: Width> ArchivedHashSet<'a, K, H, W> {
     where
         K: StandsFor<A>,
         requires set { IsSet W.word K.shape self }
-        ensures { let hash = hash_of H.initial H.feed H.finish A.calls in
+        ensures { let hash = hash_of H.hasher A.calls in
             IsTrue result ↔ StdSetEquals W.word K.shape hash A.fits (set_bytes self.entry) (set_pos self.entry) other.now }
     {
         if self.len() != other.len() {
@@ -182,12 +182,12 @@ impl<
     A: NativeKey<K> + Hash,
     T: BuildHasher,
 > MatchesNative<HashSet<A, T>> for HashSetOf<K, H, W> {
-    ghost equals = { StdSetEquals W.word K.shape (hash_of H.initial H.feed H.finish A.calls) A.fits };
+    ghost equals = { StdSetEquals W.word K.shape (hash_of H.hasher A.calls) A.fits };
 
     #[inline]
     fn eq_native(view: View<'_, HashSetOf<K, H, W>>, value: &HashSet<A, T>) -> bool
         requires { IsView (set_shape W.word K.shape) view }
-        ensures { let hash = hash_of H.initial H.feed H.finish A.calls in
+        ensures { let hash = hash_of H.hasher A.calls in
             IsTrue result ↔ StandsAt (StdSetEquals W.word K.shape hash A.fits) view.entry value.now }
     {
         ArchivedHashSet::of(view).eq_std(value)
@@ -201,12 +201,12 @@ impl<
     A: NativeKey<K> + Hash,
     T: BuildHasher,
 > MatchesNative<Hashed<HashSet<A, T>, H>> for HashSetOf<K, H, W> {
-    ghost equals = { λ b p x. StdSetEquals W.word K.shape (hash_of H.initial H.feed H.finish A.calls) A.fits b p x.map };
+    ghost equals = { λ b p x. StdSetEquals W.word K.shape (hash_of H.hasher A.calls) A.fits b p x.map };
 
     #[inline]
     fn eq_native(view: View<'_, HashSetOf<K, H, W>>, value: &Hashed<HashSet<A, T>, H>) -> bool
         requires { IsView (set_shape W.word K.shape) view }
-        ensures { let hash = hash_of H.initial H.feed H.finish A.calls in
+        ensures { let hash = hash_of H.hasher A.calls in
             IsTrue result ↔ StandsAt (StdSetEquals W.word K.shape hash A.fits) view.entry value.now.map }
     {
         ArchivedHashSet::of(view).eq_std(&value.map)
@@ -223,7 +223,7 @@ impl<
 > EqArchived<ArchivedHashSet<'a, K, H, W>> for HashSet<A, T> {
     ghost can_compare = { IsSet W.word K.shape };
 
-    ghost equals_archived = { λ other s. StdSetEquals W.word K.shape (hash_of H.initial H.feed H.finish A.calls) A.fits (set_bytes other) (set_pos other) s };
+    ghost equals_archived = { λ other s. StdSetEquals W.word K.shape (hash_of H.hasher A.calls) A.fits (set_bytes other) (set_pos other) s };
 
     #[inline]
     fn eq_archived(&self, other: ArchivedHashSet<'a, K, H, W>) -> bool {
@@ -237,15 +237,15 @@ where
     A::Archived: KeyElement,
     A: NativeKey<A::Archived>,
 {
-    ghost equal = { let own = hash_of H.initial H.feed H.finish A.calls in
+    ghost equal = { let own = hash_of H.hasher A.calls in
         let equals = EntriesEqual W.word A.Archived.shape unit_shape own A.fits unit_stands in
         let format = map_format W.word A.Archived.shape unit_shape A.format unit_format own (7, 8) in
         let shape = set_shape W.word A.Archived.shape in
         let whole = listed W.MAX_CAPACITY (7, 8) format in
         set_equal_written W.word A.Archived.shape shape own A.fits (λ x. x.map.keys) (written_as (λ x. with_units x.map.keys) (of_entries A.eq whole))
         (written_as-format (λ x. with_units x.map.keys) shape equals (of_entries A.eq whole)
-        (entries_equal H.initial H.feed H.finish W.word W.layout.kind A.Archived.laws unit_element (7, 8) A.query A.native A.Eq.laws A.reads whole
-        (listed_map_sound H.initial H.feed H.finish W.word A.Archived.laws unit_element (7, 8) W.MAX_CAPACITY W.layout.kind
+        (entries_equal H.hasher W.word W.layout.kind A.Archived.laws unit_element (7, 8) A.query A.native A.Eq.laws A.reads whole
+        (listed_map_sound H.hasher W.word A.Archived.laws unit_element (7, 8) W.MAX_CAPACITY W.layout.kind
         A.query A.native A.Eq.laws.refl A.reads A.Archive.laws unit_is_format))) };
 }
 

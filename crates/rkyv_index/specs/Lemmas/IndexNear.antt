@@ -6,7 +6,7 @@ use Rattle.std.specs.Int.{Width, byte_len, cast_signed, from_le_bytes}
 use Rattle.std.proofs.lemmas.List.{ext_get_or, get_or-map, length-map}
 use Rattle.std.proofs.lemmas.List.FromFn.{get_or-range_with_len, length-range_with_len}
 use Rattle.std.proofs.lemmas.Option.{slice_get_within}
-use Rattle.rkyv_scan.specs.Hash.{HasherCall, hash_of_calls}
+use Rattle.rkyv_scan.specs.Hash.{Hasher, HasherCall, hash_of_calls}
 use Rattle.rkyv_base.specs.Bytes.{Same, number_at, same_part}
 use Rattle.rkyv_base.specs.Entry.{entry_element, entry_shape, same_key}
 use Rattle.rkyv_base.specs.Format.{StandsNear}
@@ -210,16 +210,16 @@ module _ (w : Width) (kind : IsArchiveWord w) (k v : Shape) (kl : IsElement k) (
           (same_pair i (omega (arith, inside, n)) pair (st.at i pair e));
     }
 
-module _ {State : Type 0} (initial : State) (feed : State → HasherCall → State) (finish : State → ℕ)
+module _ {State : Type 0} (hasher : Hasher State)
     (w : Width) (kind : IsArchiveWord w) {k v : Shape} (kl : IsElement k) (vl : IsElement v)
     {A B : Type 0} {key : List ℕ → ℕ → A → Type 0} {value : List ℕ → ℕ → B → Type 0}
     {same : Comparison} {key_calls : List ℕ → ℕ → List HasherCall} (factor : ℕ × ℕ) where
   -- what stands as an index map rests on the bytes on which it rests that the index map holds
   pub index_stands_near : IsKey k same key_calls → StandsNear k key → StandsNear v value
       → StandsNear (index_shape w (entry_shape k v)) (IndexStands w k v key value
-      (hash_at initial feed finish key_calls) factor)
+      (hash_at hasher key_calls) factor)
   index_stands_near key_law kn vn pairs b c p lo hi l o h fixed part st =
-      stands_again w kind k v kl vl key value (hash_at initial feed finish key_calls) factor
-      (λ b' c' q lo' hi' l' o' h' fixed' part'. ap (hash_of_calls initial feed finish)
+      stands_again w kind k v kl vl key value (hash_at hasher key_calls) factor
+      (λ b' c' q lo' hi' l' o' h' fixed' part'. ap (hash_of_calls hasher)
       (key_law.near b' c' q lo' hi' l' o' h' fixed' part')) kn vn pairs b c p lo hi l o h fixed
       part st

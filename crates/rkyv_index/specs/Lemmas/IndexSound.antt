@@ -24,7 +24,7 @@ use Rattle.rkyv_base.specs.Writing.{padding, zeros}
 use Rattle.rkyv_keys.specs.Asking.{hashes_as_written}
 use Rattle.rkyv_keys.specs.Equality.{Comparison}
 use Rattle.rkyv_keys.specs.Keys.{FitsItsEqual, IsQuery}
-use Rattle.rkyv_scan.specs.Hash.{HasherCall, hash_of_calls}
+use Rattle.rkyv_scan.specs.Hash.{Hasher, HasherCall, hash_of_calls}
 use Rattle.rkyv_index.specs.IndexFormat.{hash_of}
 use Rattle.rkyv_index.specs.Index.{hash_at}
 use Rattle.rkyv_table.specs.Table.Header.{cap_at, len_at}
@@ -412,7 +412,7 @@ index_is_format w kind e place back word k v kl vl key value kf vf kw vw own has
     kw vw)
     (λ pair. own pair.0) hash (λ pair b q h st. alike pair.0 b q (h.1.1, h.1.2) st.0) factor
 
-module _ {State : Type 0} (initial : State) (feed : State → HasherCall → State) (finish : State → ℕ)
+module _ {State : Type 0} (hasher : Hasher State)
     (w : Width) (kind : IsArchiveWord w) {P : Type 0} (e : Encoding P) (place : IsPlace w e)
     (back : CodesReadBack e) (word : IsWord e.word)
     {k v : Shape} (kl : IsElement k) (vl : IsElement v) {A B : Type 0} {key : List ℕ → ℕ → A
@@ -425,11 +425,10 @@ module _ {State : Type 0} (initial : State) (feed : State → HasherCall → Sta
       → ((a : A) → equal a a ≡ true) → ((a : A) → can_read a)
       → IsFormat k key kf → IsFormat v value vf
       → IsFormat (index_shape w (entry_shape k v)) (IndexStands w k v key value
-      (hash_at initial feed finish key_calls) factor) (index_format w e k v kf vf
-      (hash_of initial feed finish calls) factor)
+      (hash_at hasher key_calls) factor) (index_format w e k v kf vf
+      (hash_of hasher calls) factor)
   index_sound {can_read} {calls} {fits} {equal} {R} {Q} {kf} {vf} query native itself reads kw vw =
-      index_is_format w kind e place back word k v kl vl key value kf vf kw vw (hash_of initial feed
-      finish calls) (hash_at initial feed finish key_calls)
-      (λ a b q stands there. ap (hash_of_calls initial feed finish) (hashes_as_written k same
+      index_is_format w kind e place back word k v kl vl key value kf vf kw vw (hash_of hasher calls) (hash_at hasher key_calls)
+      (λ a b q stands there. ap (hash_of_calls hasher) (hashes_as_written k same
       key_calls can_read calls fits key equal itself query native a b q (reads a) stands there))
       factor

@@ -11,7 +11,7 @@ use Rattle.rkyv_base.specs.Shape.{IsElement, Shape}
 use Rattle.rkyv_base.specs.Text.{IsArchiveWord}
 use Rattle.rkyv_keys.specs.Equality.{Comparison}
 use Rattle.rkyv_keys.specs.Keys.{FitsItsEqual, IsKey, IsQuery}
-use Rattle.rkyv_scan.specs.Hash.{HasherCall}
+use Rattle.rkyv_scan.specs.Hash.{Hasher, HasherCall}
 use Rattle.rkyv_index.specs.Index.{hash_at}
 use Rattle.rkyv_index.specs.IndexFormat.{hash_of}
 use Rattle.rkyv_index.specs.IndexFormat.{CodesReadBack, IndexStands, index_format}
@@ -20,14 +20,14 @@ use Rattle.rkyv_index.specs.Lemmas.IndexSound.{index_sound}
 use Rattle.rkyv_index.specs.IndexSet.{index_set_shape}
 use Rattle.rkyv_index.specs.SetFormat.{IndexSetStands, index_set_format, with_units}
 
-module _ {State : Type 0} (initial : State) (feed : State → HasherCall → State) (finish : State → ℕ)
+module _ {State : Type 0} (hasher : Hasher State)
     (w : Width) (kind : IsArchiveWord w) {k : Shape} (kl : IsElement k)
     {A : Type 0} {key : List ℕ → ℕ → A → Type 0} {same : Comparison} {key_calls : List ℕ → ℕ
     → List HasherCall} (factor : ℕ × ℕ) where
   -- what stands as an index set rests on the bytes on which it rests that the index set holds
   pub index_set_near : IsKey k same key_calls → StandsNear k key → StandsNear (index_set_shape w k)
-      (IndexSetStands w k key (hash_at initial feed finish key_calls) factor)
-  index_set_near law kn keys = index_stands_near initial feed finish w kind kl unit_element factor
+      (IndexSetStands w k key (hash_at hasher key_calls) factor)
+  index_set_near law kn keys = index_stands_near hasher w kind kl unit_element factor
       law kn unit_near (with_units keys)
 
   -- in every archive in which what was written of an index set sits, and its header, the index set
@@ -37,12 +37,12 @@ module _ {State : Type 0} (initial : State) (feed : State → HasherCall → Sta
       → Bool} {equal : A → A → Bool} {R : Type 0} {kf : Format A R}
       → IsQuery k same key_calls can_read calls fits → FitsItsEqual k key equal fits
       → ((a : A) → equal a a ≡ true) → ((a : A) → can_read a) → IsFormat k key kf
-      → IsFormat (index_set_shape w k) (IndexSetStands w k key (hash_at initial feed finish
-      key_calls) factor) (index_set_format w e k kf (hash_of initial feed finish calls) factor)
+      → IsFormat (index_set_shape w k) (IndexSetStands w k key (hash_at hasher
+      key_calls) factor) (index_set_format w e k kf (hash_of hasher calls) factor)
   index_set_sound e place back word {can_read} {calls} {fits} {equal} {R} {kf} query native itself
       reads kw =
       written_as-format with_units (index_set_shape w k) (IndexStands w k unit_shape key unit_stands
-      (hash_at initial feed finish key_calls) factor)
-      (index_format w e k unit_shape kf unit_format (hash_of initial feed finish calls) factor)
-      (index_sound initial feed finish w kind e place back word kl unit_element factor query native
+      (hash_at hasher key_calls) factor)
+      (index_format w e k unit_shape kf unit_format (hash_of hasher calls) factor)
+      (index_sound hasher w kind e place back word kl unit_element factor query native
       itself reads kw unit_is_format)

@@ -41,13 +41,13 @@ impl<'a, K: KeyElement, V: Element, H: KeyHasher, W: Width> ArchivedIndexMap<'a,
         requires callable { MayAskKeys W.word K.shape V.shape self (F.pre cmp key) }
         ensures walked { IfSome result (IsHeld W.word self.entry) }
         ensures below { IfSome result (λ i. i < index_len W.word self.entry) }
-        ensures answer { let hash = hash_of_calls H.initial H.feed H.finish (Q.calls key.now) in
+        ensures answer { let hash = hash_of_calls H.hasher (Q.calls key.now) in
             FindsBy W.word K.shape V.shape self.entry (F.post cmp key.entry) hash (IsPlace result) }
-        ensures first { let hash = hash_of_calls H.initial H.feed H.finish (Q.calls key.now) in
-            let key_hash = hash_at H.initial H.feed H.finish K.key_calls in
+        ensures first { let hash = hash_of_calls H.hasher (Q.calls key.now) in
+            let key_hash = hash_at H.hasher K.key_calls in
             FindsFirstBy W.word K.shape V.shape self.entry (F.post cmp key.entry) hash key_hash
             (IsPlace result) }
-        ensures hash { hash_of_calls H.initial H.feed H.finish (Q.calls key.now) < 2 ^ 64 }
+        ensures hash { hash_of_calls H.hasher (Q.calls key.now) < 2 ^ 64 }
         ensures bounded { ReadsFew W.word self.entry strides.old strides.new }
     {
         let hash = hash_value::<Q, H>(key);
@@ -88,10 +88,10 @@ impl<'a, K: KeyElement, V: Element, H: KeyHasher, W: Width> ArchivedIndexMap<'a,
         requires query { Q.can_read key.now }
         requires callable { MayAskKeys W.word K.shape V.shape self (F.pre cmp key) }
         ensures walked { IfSome result (IsFullIn W.word K.shape V.shape self.entry) }
-        ensures answer { let hash = hash_of_calls H.initial H.feed H.finish (Q.calls key.now) in
+        ensures answer { let hash = hash_of_calls H.hasher (Q.calls key.now) in
             FindsBy W.word K.shape V.shape self.entry (F.post cmp key.entry) hash (IsFullAt result) }
-        ensures first { let hash = hash_of_calls H.initial H.feed H.finish (Q.calls key.now) in
-            let key_hash = hash_at H.initial H.feed H.finish K.key_calls in
+        ensures first { let hash = hash_of_calls H.hasher (Q.calls key.now) in
+            let key_hash = hash_at H.hasher K.key_calls in
             FindsFirstBy W.word K.shape V.shape self.entry (F.post cmp key.entry) hash key_hash
             (IsFullAt result) }
     {
@@ -111,13 +111,13 @@ impl<'a, K: KeyElement, V: Element, H: KeyHasher, W: Width> ArchivedIndexMap<'a,
         requires query { Q.can_read key.now }
         ensures walked { IfSome result (IsHeld W.word self.entry) }
         ensures below { IfSome result (λ i. i < index_len W.word self.entry) }
-        ensures answer { let hash = hash_of_calls H.initial H.feed H.finish (Q.calls key.now) in
+        ensures answer { let hash = hash_of_calls H.hasher (Q.calls key.now) in
             FindsPlace W.word K.shape V.shape self.entry hash (fits_at W.word K.shape V.shape
             self.entry (Q.fits key.now)) (IsPlace result) }
-        ensures first { let key_hash = hash_at H.initial H.feed H.finish K.key_calls in
+        ensures first { let key_hash = hash_at H.hasher K.key_calls in
             FindsFirstPlace W.word K.shape V.shape self.entry key_hash (fits_at W.word K.shape
             V.shape self.entry (Q.fits key.now)) (IsPlace result) }
-        ensures complete { let key_hash = hash_at H.initial H.feed H.finish K.key_calls in
+        ensures complete { let key_hash = hash_at H.hasher K.key_calls in
             index_misplaced W.word K.shape V.shape key_hash K.same (index_bytes self.entry)
             (index_pos self.entry) ≡ 0
             → FindsTheOne (index_len W.word self.entry) (fits_at W.word K.shape V.shape self.entry
@@ -145,13 +145,13 @@ impl<'a, K: KeyElement, V: Element, H: KeyHasher, W: Width> ArchivedIndexMap<'a,
         requires map { IsIndexMap W.word K.shape V.shape self }
         requires query { Q.can_read key.now }
         ensures walked { IfSome result (IsFullIn W.word K.shape V.shape self.entry) }
-        ensures answer { let hash = hash_of_calls H.initial H.feed H.finish (Q.calls key.now) in
+        ensures answer { let hash = hash_of_calls H.hasher (Q.calls key.now) in
             FindsPlace W.word K.shape V.shape self.entry hash (fits_at W.word K.shape V.shape
             self.entry (Q.fits key.now)) (IsFullAt result) }
-        ensures first { let key_hash = hash_at H.initial H.feed H.finish K.key_calls in
+        ensures first { let key_hash = hash_at H.hasher K.key_calls in
             FindsFirstPlace W.word K.shape V.shape self.entry key_hash (fits_at W.word K.shape
             V.shape self.entry (Q.fits key.now)) (IsFullAt result) }
-        ensures complete { let key_hash = hash_at H.initial H.feed H.finish K.key_calls in
+        ensures complete { let key_hash = hash_at H.hasher K.key_calls in
             index_misplaced W.word K.shape V.shape key_hash K.same (index_bytes self.entry)
             (index_pos self.entry) ≡ 0
             → FindsTheOne (index_len W.word self.entry) (fits_at W.word K.shape V.shape self.entry
@@ -210,11 +210,11 @@ impl<'a, K: KeyElement, V: Element, H: KeyHasher, W: Width> ArchivedIndexMap<'a,
         requires query { Q.can_read key.now }
         requires callable { MayAskKeys W.word K.shape V.shape self (F.pre cmp key) }
         ensures walked { IfSome result (IsPairIn W.word K.shape V.shape self.entry) }
-        ensures answer { let hash = hash_of_calls H.initial H.feed H.finish (Q.calls key.now) in
+        ensures answer { let hash = hash_of_calls H.hasher (Q.calls key.now) in
             FindsBy W.word K.shape V.shape self.entry (F.post cmp key.entry) hash
             (IsPairAt W.word K.shape V.shape self.entry result) }
-        ensures first { let hash = hash_of_calls H.initial H.feed H.finish (Q.calls key.now) in
-            let key_hash = hash_at H.initial H.feed H.finish K.key_calls in
+        ensures first { let hash = hash_of_calls H.hasher (Q.calls key.now) in
+            let key_hash = hash_at H.hasher K.key_calls in
             FindsFirstBy W.word K.shape V.shape self.entry (F.post cmp key.entry) hash key_hash
             (IsPairAt W.word K.shape V.shape self.entry result) }
     {
@@ -227,10 +227,10 @@ impl<'a, K: KeyElement, V: Element, H: KeyHasher, W: Width> ArchivedIndexMap<'a,
         requires map { IsIndexMap W.word K.shape V.shape self }
         requires query { Q.can_read key.now }
         ensures walked { IfSome result (IsPairIn W.word K.shape V.shape self.entry) }
-        ensures answer { let hash = hash_of_calls H.initial H.feed H.finish (Q.calls key.now) in
+        ensures answer { let hash = hash_of_calls H.hasher (Q.calls key.now) in
             FindsPlace W.word K.shape V.shape self.entry hash (fits_at W.word K.shape V.shape
             self.entry (Q.fits key.now)) (IsPairAt W.word K.shape V.shape self.entry result) }
-        ensures first { let key_hash = hash_at H.initial H.feed H.finish K.key_calls in
+        ensures first { let key_hash = hash_at H.hasher K.key_calls in
             FindsFirstPlace W.word K.shape V.shape self.entry key_hash (fits_at W.word K.shape
             V.shape self.entry (Q.fits key.now)) (IsPairAt W.word K.shape V.shape self.entry
             result) }
@@ -249,11 +249,11 @@ impl<'a, K: KeyElement, V: Element, H: KeyHasher, W: Width> ArchivedIndexMap<'a,
         requires query { Q.can_read key.now }
         requires callable { MayAskKeys W.word K.shape V.shape self (F.pre cmp key) }
         ensures walked { IfSome result (IsValueIn W.word K.shape V.shape self.entry) }
-        ensures answer { let hash = hash_of_calls H.initial H.feed H.finish (Q.calls key.now) in
+        ensures answer { let hash = hash_of_calls H.hasher (Q.calls key.now) in
             FindsBy W.word K.shape V.shape self.entry (F.post cmp key.entry) hash
             (IsValueAt W.word K.shape V.shape self.entry result) }
-        ensures first { let hash = hash_of_calls H.initial H.feed H.finish (Q.calls key.now) in
-            let key_hash = hash_at H.initial H.feed H.finish K.key_calls in
+        ensures first { let hash = hash_of_calls H.hasher (Q.calls key.now) in
+            let key_hash = hash_at H.hasher K.key_calls in
             FindsFirstBy W.word K.shape V.shape self.entry (F.post cmp key.entry) hash key_hash
             (IsValueAt W.word K.shape V.shape self.entry result) }
     {
@@ -266,10 +266,10 @@ impl<'a, K: KeyElement, V: Element, H: KeyHasher, W: Width> ArchivedIndexMap<'a,
         requires map { IsIndexMap W.word K.shape V.shape self }
         requires query { Q.can_read key.now }
         ensures walked { IfSome result (IsValueIn W.word K.shape V.shape self.entry) }
-        ensures answer { let hash = hash_of_calls H.initial H.feed H.finish (Q.calls key.now) in
+        ensures answer { let hash = hash_of_calls H.hasher (Q.calls key.now) in
             FindsPlace W.word K.shape V.shape self.entry hash (fits_at W.word K.shape V.shape
             self.entry (Q.fits key.now)) (IsValueAt W.word K.shape V.shape self.entry result) }
-        ensures first { let key_hash = hash_at H.initial H.feed H.finish K.key_calls in
+        ensures first { let key_hash = hash_at H.hasher K.key_calls in
             FindsFirstPlace W.word K.shape V.shape self.entry key_hash (fits_at W.word K.shape
             V.shape self.entry (Q.fits key.now)) (IsValueAt W.word K.shape V.shape self.entry
             result) }
@@ -289,10 +289,10 @@ impl<'a, K: KeyElement, V: Element, H: KeyHasher, W: Width> ArchivedIndexMap<'a,
         requires callable { MayAskKeys W.word K.shape V.shape self (F.pre cmp key) }
         ensures walked { IfSome result (IsHeld W.word self.entry) }
         ensures below { IfSome result (λ i. i < index_len W.word self.entry) }
-        ensures answer { let hash = hash_of_calls H.initial H.feed H.finish (Q.calls key.now) in
+        ensures answer { let hash = hash_of_calls H.hasher (Q.calls key.now) in
             FindsBy W.word K.shape V.shape self.entry (F.post cmp key.entry) hash (IsPlace result) }
-        ensures first { let hash = hash_of_calls H.initial H.feed H.finish (Q.calls key.now) in
-            let key_hash = hash_at H.initial H.feed H.finish K.key_calls in
+        ensures first { let hash = hash_of_calls H.hasher (Q.calls key.now) in
+            let key_hash = hash_at H.hasher K.key_calls in
             FindsFirstBy W.word K.shape V.shape self.entry (F.post cmp key.entry) hash key_hash
             (IsPlace result) }
     {
@@ -306,10 +306,10 @@ impl<'a, K: KeyElement, V: Element, H: KeyHasher, W: Width> ArchivedIndexMap<'a,
         requires query { Q.can_read key.now }
         ensures walked { IfSome result (IsHeld W.word self.entry) }
         ensures below { IfSome result (λ i. i < index_len W.word self.entry) }
-        ensures answer { let hash = hash_of_calls H.initial H.feed H.finish (Q.calls key.now) in
+        ensures answer { let hash = hash_of_calls H.hasher (Q.calls key.now) in
             FindsPlace W.word K.shape V.shape self.entry hash (fits_at W.word K.shape V.shape
             self.entry (Q.fits key.now)) (IsPlace result) }
-        ensures first { let key_hash = hash_at H.initial H.feed H.finish K.key_calls in
+        ensures first { let key_hash = hash_at H.hasher K.key_calls in
             FindsFirstPlace W.word K.shape V.shape self.entry key_hash (fits_at W.word K.shape
             V.shape self.entry (Q.fits key.now)) (IsPlace result) }
     {
@@ -321,10 +321,10 @@ impl<'a, K: KeyElement, V: Element, H: KeyHasher, W: Width> ArchivedIndexMap<'a,
     pub fn contains_key<Q: Query<K>>(self, key: &Q) -> bool
         requires map { IsIndexMap W.word K.shape V.shape self }
         requires query { Q.can_read key.now }
-        ensures answer { let hash = hash_of_calls H.initial H.feed H.finish (Q.calls key.now) in
+        ensures answer { let hash = hash_of_calls H.hasher (Q.calls key.now) in
             FindsPlace W.word K.shape V.shape self.entry hash (fits_at W.word K.shape V.shape
             self.entry (Q.fits key.now)) (IsFoundAt result) }
-        ensures first { let key_hash = hash_at H.initial H.feed H.finish K.key_calls in
+        ensures first { let key_hash = hash_at H.hasher K.key_calls in
             FindsFirstPlace W.word K.shape V.shape self.entry key_hash (fits_at W.word K.shape
             V.shape self.entry (Q.fits key.now)) (IsFoundAt result) }
     {

@@ -32,11 +32,11 @@ impl<'a, K: KeyElement, V: Element, H: KeyHasher, W: Width> Entries<'a, K, V, H,
     fn is_misplaced(self, place: usize) -> bool
         requires entries { AreEntries W.word K.shape V.shape self }
         requires below { place < index_len W.word self.map }
-        ensures told { let key_hash = hash_at H.initial H.feed H.finish K.key_calls in
+        ensures told { let key_hash = hash_at H.hasher K.key_calls in
             let own = own_found W.word K.shape V.shape key_hash K.same
             (index_bytes self.entry.map) (index_pos self.entry.map) place in
             result ≡ not (is_answer place own) }
-        ensures repeated { let key_hash = hash_at H.initial H.feed H.finish K.key_calls in
+        ensures repeated { let key_hash = hash_at H.hasher K.key_calls in
             let b = index_bytes self.entry.map in let p = index_pos self.entry.map in
             (homes : List ℕ) → IndexWrittenAt W.word (entry_shape K.shape V.shape).size key_hash b p
             homes
@@ -54,10 +54,10 @@ impl<'a, K: KeyElement, V: Element, H: KeyHasher, W: Width> ArchivedIndexMap<'a,
     /// In a map that was written these are the keys that are the same as one handed in earlier.
     pub fn misplaced(self) -> usize
         requires { IsIndexMap W.word K.shape V.shape self }
-        ensures told { let key_hash = hash_at H.initial H.feed H.finish K.key_calls in
+        ensures told { let key_hash = hash_at H.hasher K.key_calls in
             result ≡ index_misplaced W.word K.shape V.shape key_hash K.same
             (index_bytes self.entry) (index_pos self.entry) }
-        ensures repeated { let key_hash = hash_at H.initial H.feed H.finish K.key_calls in
+        ensures repeated { let key_hash = hash_at H.hasher K.key_calls in
             let b = index_bytes self.entry in let p = index_pos self.entry in
             (homes : List ℕ) → IndexWrittenAt W.word (entry_shape K.shape V.shape).size key_hash b p
             homes

@@ -44,7 +44,7 @@ impl<'a, A: KeyHash, B, H: KeyHasher, W: PlaceWidth, BK: Lend<A>, BV: Lend<B>> I
     ghost can_next = { λ s. (s.place + length (iter_rest s.entries) ≤ W.LIMIT)
         × ((key : A) → A.can_read key) };
 
-    ghost next_gives = { YieldsFirst (λ s. places_from (λ entry. hash_of H.initial H.feed H.finish
+    ghost next_gives = { YieldsFirst (λ s. places_from (λ entry. hash_of H.hasher
         A.calls (BK.lent entry.key)) W.Place.encoding.value s.place (iter_rest s.entries)) };
 
     ghost remaining = { λ s. at_most (length (iter_rest s.entries)) };

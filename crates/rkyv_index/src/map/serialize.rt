@@ -61,7 +61,7 @@ impl<'a, K: KeyElement, V, H: KeyHasher, W: PlaceWidth> ArchivedIndexMap<'a, K, 
         K: StandsFor<A>,
         V: StandsFor<B>,
         requires can { I.can_next iter }
-        ensures { let hash = hash_of H.initial H.feed H.finish A.calls in
+        ensures { let hash = hash_of H.hasher A.calls in
             let f = written_as (lent_pairs BK.lent BV.lent) (index_format W.word W.Place.encoding
             K.shape V.shape A.format B.format hash load_factor) in
             let gave = Drains I.next_gives iter in

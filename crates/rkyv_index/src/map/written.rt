@@ -27,8 +27,8 @@ pub fn written_index_maps_stand<
     B: Archive<W, Archived = V>,
 >()
     ensures { (load_factor : ℕ × ℕ) →
-        let hash = hash_at H.initial H.feed H.finish K.key_calls in
-        let own = hash_of H.initial H.feed H.finish A.calls in
+        let hash = hash_at H.hasher K.key_calls in
+        let own = hash_of H.hasher A.calls in
         IsFormat (index_shape W.word (entry_shape K.shape V.shape)) (IndexStands W.word K.shape
         V.shape K.stands V.stands hash load_factor)
         (index_format W.word W.Place.encoding K.shape V.shape A.format B.format own load_factor) }

@@ -38,10 +38,10 @@ impl<'a, K: KeyElement, H: KeyHasher, W: Width> ArchivedIndexSet<'a, K, H, W> {
     /// of how many an earlier place has the same key.
     pub fn misplaced(self) -> usize
         requires { IsIndexSet W.word K.shape self }
-        ensures told { let key_hash = hash_at H.initial H.feed H.finish K.key_calls in
+        ensures told { let key_hash = hash_at H.hasher K.key_calls in
             result ≡ index_misplaced W.word K.shape unit_shape key_hash K.same
             (index_bytes (keys_of self.entry)) (index_pos (keys_of self.entry)) }
-        ensures repeated { let key_hash = hash_at H.initial H.feed H.finish K.key_calls in
+        ensures repeated { let key_hash = hash_at H.hasher K.key_calls in
             let b = index_bytes (keys_of self.entry) in let p = index_pos (keys_of self.entry) in
             (homes : List ℕ) → IndexWrittenAt W.word (entry_shape K.shape unit_shape).size key_hash
             b p homes

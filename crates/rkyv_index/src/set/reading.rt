@@ -96,14 +96,14 @@ impl<'a, K: KeyElement, H: KeyHasher, W: Width> ArchivedIndexSet<'a, K, H, W> {
         requires set { IsIndexSet W.word K.shape self }
         requires query { Q.can_read key.now }
         ensures walked { IfSome result (IsFullMemberIn W.word K.shape self.entry) }
-        ensures answer { let hash = hash_of_calls H.initial H.feed H.finish (Q.calls key.now) in
+        ensures answer { let hash = hash_of_calls H.hasher (Q.calls key.now) in
             FindsPlace W.word K.shape unit_shape (keys_of self.entry) hash (fits_at W.word K.shape
             unit_shape (keys_of self.entry) (Q.fits key.now)) (IsFullMemberAt result) }
-        ensures first { let key_hash = hash_at H.initial H.feed H.finish K.key_calls in
+        ensures first { let key_hash = hash_at H.hasher K.key_calls in
             FindsFirstPlace W.word K.shape unit_shape (keys_of self.entry) key_hash
             (fits_at W.word K.shape unit_shape (keys_of self.entry) (Q.fits key.now))
             (IsFullMemberAt result) }
-        ensures complete { let key_hash = hash_at H.initial H.feed H.finish K.key_calls in
+        ensures complete { let key_hash = hash_at H.hasher K.key_calls in
             index_misplaced W.word K.shape unit_shape key_hash K.same
             (index_bytes (keys_of self.entry)) (index_pos (keys_of self.entry)) ≡ 0
             → FindsTheOne (index_len W.word (keys_of self.entry)) (fits_at W.word K.shape unit_shape
@@ -121,11 +121,11 @@ impl<'a, K: KeyElement, H: KeyHasher, W: Width> ArchivedIndexSet<'a, K, H, W> {
         requires set { IsIndexSet W.word K.shape self }
         requires query { Q.can_read key.now }
         ensures walked { IfSome result (IsMemberIn W.word K.shape self.entry) }
-        ensures answer { let hash = hash_of_calls H.initial H.feed H.finish (Q.calls key.now) in
+        ensures answer { let hash = hash_of_calls H.hasher (Q.calls key.now) in
             FindsPlace W.word K.shape unit_shape (keys_of self.entry) hash (fits_at W.word K.shape
             unit_shape (keys_of self.entry) (Q.fits key.now)) (IsMemberAt W.word K.shape
             self.entry result) }
-        ensures first { let key_hash = hash_at H.initial H.feed H.finish K.key_calls in
+        ensures first { let key_hash = hash_at H.hasher K.key_calls in
             FindsFirstPlace W.word K.shape unit_shape (keys_of self.entry) key_hash
             (fits_at W.word K.shape unit_shape (keys_of self.entry) (Q.fits key.now))
             (IsMemberAt W.word K.shape self.entry result) }
@@ -155,10 +155,10 @@ impl<'a, K: KeyElement, H: KeyHasher, W: Width> ArchivedIndexSet<'a, K, H, W> {
         requires query { Q.can_read key.now }
         ensures walked { IfSome result (IsHeld W.word (keys_of self.entry)) }
         ensures below { IfSome result (λ i. i < index_len W.word (keys_of self.entry)) }
-        ensures answer { let hash = hash_of_calls H.initial H.feed H.finish (Q.calls key.now) in
+        ensures answer { let hash = hash_of_calls H.hasher (Q.calls key.now) in
             FindsPlace W.word K.shape unit_shape (keys_of self.entry) hash (fits_at W.word K.shape
             unit_shape (keys_of self.entry) (Q.fits key.now)) (IsPlace result) }
-        ensures first { let key_hash = hash_at H.initial H.feed H.finish K.key_calls in
+        ensures first { let key_hash = hash_at H.hasher K.key_calls in
             FindsFirstPlace W.word K.shape unit_shape (keys_of self.entry) key_hash
             (fits_at W.word K.shape unit_shape (keys_of self.entry) (Q.fits key.now))
             (IsPlace result) }
@@ -171,10 +171,10 @@ impl<'a, K: KeyElement, H: KeyHasher, W: Width> ArchivedIndexSet<'a, K, H, W> {
     pub fn contains<Q: Query<K>>(self, key: &Q) -> bool
         requires set { IsIndexSet W.word K.shape self }
         requires query { Q.can_read key.now }
-        ensures answer { let hash = hash_of_calls H.initial H.feed H.finish (Q.calls key.now) in
+        ensures answer { let hash = hash_of_calls H.hasher (Q.calls key.now) in
             FindsPlace W.word K.shape unit_shape (keys_of self.entry) hash (fits_at W.word K.shape
             unit_shape (keys_of self.entry) (Q.fits key.now)) (IsFoundAt result) }
-        ensures first { let key_hash = hash_at H.initial H.feed H.finish K.key_calls in
+        ensures first { let key_hash = hash_at H.hasher K.key_calls in
             FindsFirstPlace W.word K.shape unit_shape (keys_of self.entry) key_hash
             (fits_at W.word K.shape unit_shape (keys_of self.entry) (Q.fits key.now))
             (IsFoundAt result) }

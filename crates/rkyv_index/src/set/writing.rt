@@ -76,7 +76,7 @@ impl<'a, K: KeyElement, H: KeyHasher, W: PlaceWidth> ArchivedIndexSet<'a, K, H, 
     where
         K: StandsFor<A>,
         requires can { I.can_next iter }
-        ensures { let hash = hash_of H.initial H.feed H.finish A.calls in
+        ensures { let hash = hash_of H.hasher A.calls in
             let f = written_as (lent_keys BK.lent) (index_set_format W.word W.Place.encoding K.shape
             A.format hash load_factor) in
             let gave = Drains I.next_gives iter in

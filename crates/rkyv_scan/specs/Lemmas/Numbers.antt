@@ -7,6 +7,7 @@ use Rattle.rkyv_scan.specs.Hash.{
   SizeWords,
   call_words,
   fx_feed,
+  fx_hasher,
   hash_word,
   hash_words,
 }
@@ -25,5 +26,5 @@ calls_fit sizes held [] h = h
 calls_fit sizes held (call ∷ calls) h =
     calls_fit sizes (fx_feed sizes held call) calls (words_fit held (call_words sizes call) h)
 
-pub fx_fits : (sizes : SizeWords) → NumbersFit 0 (fx_feed sizes) (λ held. held)
+pub fx_fits : (sizes : SizeWords) → NumbersFit (fx_hasher sizes)
 fx_fits sizes calls = calls_fit sizes 0 calls (omega arith)

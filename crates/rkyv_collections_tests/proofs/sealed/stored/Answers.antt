@@ -38,7 +38,7 @@ returns-in-Some-value_found g c =
     let h = g.H.KeyHasher in
     let f : ℕ → ℕ = value_pos g.K.Element.shape (scalar_shape e) in
     let d = c.write_value.new.bytes in
-    let hash = hash_of_calls h.initial h.feed h.finish (g.Q.KeyHash.calls c.args.key.now) in
+    let hash = hash_of_calls h.hasher (g.Q.KeyHash.calls c.args.key.now) in
     let one = c.write_value.ensures.kept.1.lookups hash (g.Q.Query.fits c.args.key.now) (g.met.H.KeyHasher.fits (g.Q.KeyHash.calls c.args.key.now))
     (rests_on_each g.K.Element.shape g.Q.KeyHash.can_read g.Q.Query.fits (rests_on_keys g.met.K.Element.laws g.met.K.ElementEquiv.equivalence g.met.K.KeyElement.key g.met.Q.Query.query) c.args.key.now c.requires.query) in
     let first = c.in-Some.ensures.answer in
@@ -51,7 +51,7 @@ pub returns-in-None-value_found : goal.returns-in-None-value_found
 returns-in-None-value_found g c =
     let h = g.H.KeyHasher in
     let f : ℕ → ℕ = value_pos g.K.Element.shape (scalar_shape g.N.Scalar.encoding) in
-    let hash = hash_of_calls h.initial h.feed h.finish (g.Q.KeyHash.calls c.args.key.now) in
+    let hash = hash_of_calls h.hasher (g.Q.KeyHash.calls c.args.key.now) in
     let one = c.write_value.ensures.kept.1.lookups hash (g.Q.Query.fits c.args.key.now) (g.met.H.KeyHasher.fits (g.Q.KeyHash.calls c.args.key.now))
     (rests_on_each g.K.Element.shape g.Q.KeyHash.can_read g.Q.Query.fits (rests_on_keys g.met.K.Element.laws g.met.K.ElementEquiv.equivalence g.met.K.KeyElement.key g.met.Q.Query.query) c.args.key.now c.requires.query) in
     absurd (none-some c.in-Some.pos (c.in-None-value_found.ensures.answer ∙ ap (option_map f) one ∙ sym c.in-Some.ensures.answer))

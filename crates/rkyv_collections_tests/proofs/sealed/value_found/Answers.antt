@@ -22,7 +22,7 @@ returns-in-Some-clause-answer g c =
     let place = ap (λ v. v.pos) c.of-map.ensures.view ∙ c.new.ensures.1 in
     let k = g.K.Element.shape in
     let v = g.V.Element.shape in
-    let hash = hash_of_calls g.H.KeyHasher.initial g.H.KeyHasher.feed g.H.KeyHasher.finish (g.Q.KeyHash.calls c.args.key.now) in
+    let hash = hash_of_calls g.H.KeyHasher.hasher (g.Q.KeyHash.calls c.args.key.now) in
     ap Some c.pos.ensures
     ∙ as_read c.of-map.result c.args.bytes.now c.args.root bytes place
     (λ d r. Some c.in-Some.value.pos ≡ option_map (value_pos k v) (pos_found generic_kind g.W.Width.word (entry_shape k v).size d r hash (g.Q.Query.fits c.args.key.now d))) c.in-Some.ensures.answer
@@ -33,7 +33,7 @@ returns-in-None-clause-answer g c =
     let place = ap (λ v. v.pos) c.of-map.ensures.view ∙ c.new.ensures.1 in
     let k = g.K.Element.shape in
     let v = g.V.Element.shape in
-    let hash = hash_of_calls g.H.KeyHasher.initial g.H.KeyHasher.feed g.H.KeyHasher.finish (g.Q.KeyHash.calls c.args.key.now) in
+    let hash = hash_of_calls g.H.KeyHasher.hasher (g.Q.KeyHash.calls c.args.key.now) in
     let none : Option ℕ = None in
     as_read c.of-map.result c.args.bytes.now c.args.root bytes place
     (λ d r. none ≡ option_map (value_pos k v) (pos_found generic_kind g.W.Width.word (entry_shape k v).size d r hash (g.Q.Query.fits c.args.key.now d))) c.in-None.ensures.answer

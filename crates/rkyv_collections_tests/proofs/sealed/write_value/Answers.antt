@@ -20,7 +20,7 @@ returns-clause-kept g c =
     let h = g.H.KeyHasher in
     let t = c.requires.place in (
       t.1.0,
-      map_kept_at g.K.Element.shape (scalar_shape e) g.met.K.Element.laws (scalar_element e g.met.N.Scalar.word) g.W.Width.word (hash_at h.initial h.feed h.finish g.K.KeyElement.key_calls)
-          (λ x y q lo hi l o holds fixed part. ap (hash_of_calls h.initial h.feed h.finish) (g.met.K.KeyElement.key.near x y q lo hi l o holds fixed part))
+      map_kept_at g.K.Element.shape (scalar_shape e) g.met.K.Element.laws (scalar_element e g.met.N.Scalar.word) g.W.Width.word (hash_at h.hasher g.K.KeyElement.key_calls)
+          (λ x y q lo hi l o holds fixed part. ap (hash_of_calls h.hasher) (g.met.K.KeyElement.key.near x y q lo hi l o holds fixed part))
           c.args.bytes.now c.set_at.new.bytes c.args.root t.0 c.args.pos c.requires.map t.1 t.2 c.set_at.ensures.sealed c.set_at.ensures.holds,
     )

@@ -12,7 +12,7 @@ invariant-loop-key g l =
     let w = g.W.Width.word in
     let k = g.K.Element.shape in
     let v = g.V.Element.shape in
-    let key_hash = hash_at g.H.KeyHasher.initial g.H.KeyHasher.feed g.H.KeyHasher.finish g.K.KeyElement.key_calls in
+    let key_hash = hash_at g.H.KeyHasher.hasher g.K.KeyElement.key_calls in
     let matches : ℕ → Bool = λ q. pair_matches w k v key_hash g.K.ElementEq.same g.V.ElementEq.same (map_bytes l.self) q (map_bytes l.other) (map_pos l.other) in
     AllStand (entry_shape k v) l.key-iterator
     × (l.key-iterator.archive ≡ map_archive l.self)

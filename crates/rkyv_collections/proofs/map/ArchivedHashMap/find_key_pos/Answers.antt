@@ -21,7 +21,7 @@ pub returns-in-Some-clause-answer : goal.returns-in-Some-clause-answer
 returns-in-Some-clause-answer g c =
     let bytes = ap (λ v. v.archive.now) c.of.ensures.view ∙ c.as_view.ensures.bytes in
     let place = ap (λ v. v.pos) c.of.ensures.view ∙ c.as_view.ensures.pos in
-    let hash = hash_of_calls g.H.KeyHasher.initial g.H.KeyHasher.feed g.H.KeyHasher.finish (g.Q.KeyHash.calls c.args.key.now) in
+    let hash = hash_of_calls g.H.KeyHasher.hasher (g.Q.KeyHash.calls c.args.key.now) in
     let size = (entry_shape g.K.Element.shape g.V.Element.shape).size in
     ap Some c.pos.ensures
     ∙ as_read c.of.result (archive_in c.args.this.now) (pos_in c.args.this.now) bytes place
@@ -31,7 +31,7 @@ pub returns-in-Some-clause-first : goal.returns-in-Some-clause-first
 returns-in-Some-clause-first g c = λ homes written.
     let bytes = ap (λ v. v.archive.now) c.of.ensures.view ∙ c.as_view.ensures.bytes in
     let place = ap (λ v. v.pos) c.of.ensures.view ∙ c.as_view.ensures.pos in
-    let key_hash = hash_at g.H.KeyHasher.initial g.H.KeyHasher.feed g.H.KeyHasher.finish g.K.KeyElement.key_calls in
+    let key_hash = hash_at g.H.KeyHasher.hasher g.K.KeyElement.key_calls in
     ap Some c.pos.ensures
     ∙ as_read c.of.result (archive_in c.args.this.now) (pos_in c.args.this.now) bytes place
     (λ d r. FindsFirstKeyAt g.W.Width.word g.K.Element.shape g.V.Element.shape d r key_hash (g.Q.Query.fits c.args.key.now d) (λ found. Some c.in-Some.found.pos ≡ found))

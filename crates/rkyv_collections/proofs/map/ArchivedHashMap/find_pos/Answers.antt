@@ -14,7 +14,7 @@ returns-in-Some-clause-answer g c = λ accept answers.
     let place = ap (λ v. v.pos) c.of.ensures.view ∙ c.as_view.ensures.pos in
     let b = archive_in c.args.this.now in
     let p = pos_in c.args.this.now in
-    let hash = hash_of_calls g.H.KeyHasher.initial g.H.KeyHasher.feed g.H.KeyHasher.finish (g.Q.KeyHash.calls c.args.key.now) in
+    let hash = hash_of_calls g.H.KeyHasher.hasher (g.Q.KeyHash.calls c.args.key.now) in
     let size = (entry_shape g.K.Element.shape g.V.Element.shape).size in
     ap Some c.pos.ensures
     ∙ as_read c.of.result b p bytes place (λ d r. Some c.in-Some.entry.pos ≡ pos_found generic_kind g.W.Width.word size d r hash accept)
@@ -29,7 +29,7 @@ returns-in-Some-clause-first g c = λ accept answers under homes written.
     let w = g.W.Width.word in
     let k = g.K.Element.shape in
     let v = g.V.Element.shape in
-    let key_hash = hash_at g.H.KeyHasher.initial g.H.KeyHasher.feed g.H.KeyHasher.finish g.K.KeyElement.key_calls in
+    let key_hash = hash_at g.H.KeyHasher.hasher g.K.KeyElement.key_calls in
     ap Some c.pos.ensures
     ∙ as_read c.of.result b p bytes place (λ d r. FindsFirstKeyAt w k v d r key_hash accept (λ found. Some c.in-Some.entry.pos ≡ found))
     (c.in-Some.ensures.first accept (answers_read c.of.result b p bytes place w k v _ accept answers) (under_read c.of.result b p bytes place w k v _ key_hash accept under)) homes written
@@ -40,7 +40,7 @@ returns-in-None-clause-answer g c = λ accept answers.
     let place = ap (λ v. v.pos) c.of.ensures.view ∙ c.as_view.ensures.pos in
     let b = archive_in c.args.this.now in
     let p = pos_in c.args.this.now in
-    let hash = hash_of_calls g.H.KeyHasher.initial g.H.KeyHasher.feed g.H.KeyHasher.finish (g.Q.KeyHash.calls c.args.key.now) in
+    let hash = hash_of_calls g.H.KeyHasher.hasher (g.Q.KeyHash.calls c.args.key.now) in
     let size = (entry_shape g.K.Element.shape g.V.Element.shape).size in
     let none : Option ℕ = None in
     as_read c.of.result b p bytes place (λ d r. none ≡ pos_found generic_kind g.W.Width.word size d r hash accept)
@@ -55,7 +55,7 @@ returns-in-None-clause-first g c = λ accept answers under homes written.
     let w = g.W.Width.word in
     let k = g.K.Element.shape in
     let v = g.V.Element.shape in
-    let key_hash = hash_at g.H.KeyHasher.initial g.H.KeyHasher.feed g.H.KeyHasher.finish g.K.KeyElement.key_calls in
+    let key_hash = hash_at g.H.KeyHasher.hasher g.K.KeyElement.key_calls in
     let none : Option ℕ = None in
     as_read c.of.result b p bytes place (λ d r. FindsFirstKeyAt w k v d r key_hash accept (λ found. none ≡ found))
     (c.in-None.ensures.first accept (answers_read c.of.result b p bytes place w k v _ accept answers) (under_read c.of.result b p bytes place w k v _ key_hash accept under)) homes written

@@ -9,7 +9,7 @@ use Rattle.rkyv_collections.proofs.map.ArchivedHashMap.serialize_from_iter.Goals
 
 pub returns : goal.returns
 returns g c =
-    let hash = hash_of g.H.KeyHasher.initial g.H.KeyHasher.feed g.H.KeyHasher.finish g.A.KeyHash.calls in
+    let hash = hash_of g.H.KeyHasher.hasher g.A.KeyHash.calls in
     let steps = g.I.Iterator.next_gives in
     let w = g.W.Width.word in
     let k = g.K.Element.shape in

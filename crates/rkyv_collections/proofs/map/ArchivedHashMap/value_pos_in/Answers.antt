@@ -33,7 +33,7 @@ returns-in-Some-clause-answer g c =
     let place = ap (λ v. v.pos) c.of-map.ensures.view ∙ c.new.ensures.1 in
     let k = g.K.Element.shape in
     let v = g.V.Element.shape in
-    let hash = hash_of_calls g.H.KeyHasher.initial g.H.KeyHasher.feed g.H.KeyHasher.finish (g.Q.KeyHash.calls c.args.key.now) in
+    let hash = hash_of_calls g.H.KeyHasher.hasher (g.Q.KeyHash.calls c.args.key.now) in
     ap Some c.pos.ensures
     ∙ as_read c.of-map.result c.args.archive.now c.args.root bytes place
     (λ d r. Some c.in-Some.value.pos ≡ option_map (value_pos k v) (pos_found generic_kind g.W.Width.word (entry_shape k v).size d r hash (g.Q.Query.fits c.args.key.now d))) c.in-Some.ensures.answer
@@ -44,7 +44,7 @@ returns-in-Some-clause-first g c = λ homes written.
     let place = ap (λ v. v.pos) c.of-map.ensures.view ∙ c.new.ensures.1 in
     let k = g.K.Element.shape in
     let v = g.V.Element.shape in
-    let key_hash = hash_at g.H.KeyHasher.initial g.H.KeyHasher.feed g.H.KeyHasher.finish g.K.KeyElement.key_calls in
+    let key_hash = hash_at g.H.KeyHasher.hasher g.K.KeyElement.key_calls in
     ap Some c.pos.ensures
     ∙ as_read c.of-map.result c.args.archive.now c.args.root bytes place
     (λ d r. FindsFirstKeyAt g.W.Width.word k v d r key_hash (g.Q.Query.fits c.args.key.now d) (λ found. Some c.in-Some.value.pos ≡ option_map (value_pos k v) found))
@@ -56,7 +56,7 @@ returns-in-None-clause-answer g c =
     let place = ap (λ v. v.pos) c.of-map.ensures.view ∙ c.new.ensures.1 in
     let k = g.K.Element.shape in
     let v = g.V.Element.shape in
-    let hash = hash_of_calls g.H.KeyHasher.initial g.H.KeyHasher.feed g.H.KeyHasher.finish (g.Q.KeyHash.calls c.args.key.now) in
+    let hash = hash_of_calls g.H.KeyHasher.hasher (g.Q.KeyHash.calls c.args.key.now) in
     let none : Option ℕ = None in
     as_read c.of-map.result c.args.archive.now c.args.root bytes place
     (λ d r. none ≡ option_map (value_pos k v) (pos_found generic_kind g.W.Width.word (entry_shape k v).size d r hash (g.Q.Query.fits c.args.key.now d))) c.in-None.ensures.answer
@@ -67,7 +67,7 @@ returns-in-None-clause-first g c =
     let place = ap (λ v. v.pos) c.of-map.ensures.view ∙ c.new.ensures.1 in
     let k = g.K.Element.shape in
     let v = g.V.Element.shape in
-    let key_hash = hash_at g.H.KeyHasher.initial g.H.KeyHasher.feed g.H.KeyHasher.finish g.K.KeyElement.key_calls in
+    let key_hash = hash_at g.H.KeyHasher.hasher g.K.KeyElement.key_calls in
     let none : Option ℕ = None in
     as_read c.of-map.result c.args.archive.now c.args.root bytes place
     (λ d r. FindsFirstKeyAt g.W.Width.word k v d r key_hash (g.Q.Query.fits c.args.key.now d) (λ found. none ≡ option_map (value_pos k v) found))

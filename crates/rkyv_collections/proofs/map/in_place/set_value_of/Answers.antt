@@ -15,11 +15,11 @@ returns-in-Some-clause-answer g c =
     let e = g.N.Scalar.encoding in
     let h = g.H.KeyHasher in
     let k = g.K.Element.shape in
-    let key_hash = hash_at h.initial h.feed h.finish g.K.KeyElement.key_calls in
+    let key_hash = hash_at h.hasher g.K.KeyElement.key_calls in
     let b = c.args.archive.now in
     let t = c.in-Some.ensures.walked in
     let kept = map_kept_at k (scalar_shape e) g.met.K.Element.laws (scalar_element e g.met.N.Scalar.word) g.W.Width.word key_hash
-    (λ x y q lo hi l o holds fixed part. ap (hash_of_calls h.initial h.feed h.finish) (g.met.K.KeyElement.key.near x y q lo hi l o holds fixed part))
+    (λ x y q lo hi l o holds fixed part. ap (hash_of_calls h.hasher) (g.met.K.KeyElement.key.near x y q lo hi l o holds fixed part))
     b c.set_at.new.bytes c.args.root t.0 c.in-Some.pos c.requires.map t.1 t.2 c.set_at.ensures.sealed c.set_at.ensures.holds in
     subst (SetsFound g.W.Width.word k e key_hash b c.args.root c.args.value true c.set_at.new.bytes) c.in-Some.ensures.answer (refl, c.set_at.ensures.written, (t.1.0, kept))
 
@@ -32,16 +32,16 @@ returns-in-Some-clause-listed g c = λ factor pairs st.
     let fits = g.A.Query.fits c.args.key.now b in
     let set = c.set_at.ensures in
     first_behind g.W.Width.word k (scalar_shape e) g.met.K.Element.laws (scalar_element e g.met.N.Scalar.word) g.K.StandsFor.stands (ScalarStands e)
-    (hash_at h.initial h.feed h.finish g.K.KeyElement.key_calls) factor b c.args.root pairs c.args.value fits (g.A.PartialEq.eq c.args.key.now) c.requires.map
+    (hash_at h.hasher g.K.KeyElement.key_calls) factor b c.args.root pairs c.args.value fits (g.A.PartialEq.eq c.args.key.now) c.requires.map
     (λ a q s there. g.met.A.NativeKey.native c.args.key.now a b q s there) st g.met.K.StandsFor.near (scalar_near e g.met.N.Scalar.word)
-    (λ x y q lo hi l o holds fixed part. ap (hash_of_calls h.initial h.feed h.finish) (g.met.K.KeyElement.key.near x y q lo hi l o holds fixed part))
+    (λ x y q lo hi l o holds fixed part. ap (hash_of_calls h.hasher) (g.met.K.KeyElement.key.near x y q lo hi l o holds fixed part))
     c.set_at.new.bytes c.in-Some.pos (c.in-Some.ensures.first st.homes st.written) set.sealed set.holds set.reads
 
 pub returns-in-None-clause-answer : goal.returns-in-None-clause-answer
 returns-in-None-clause-answer g c =
     let h = g.H.KeyHasher in
     let b = c.args.archive.now in
-    subst (SetsFound g.W.Width.word g.K.Element.shape g.N.Scalar.encoding (hash_at h.initial h.feed h.finish g.K.KeyElement.key_calls) b c.args.root c.args.value false b)
+    subst (SetsFound g.W.Width.word g.K.Element.shape g.N.Scalar.encoding (hash_at h.hasher g.K.KeyElement.key_calls) b c.args.root c.args.value false b)
     c.in-None.ensures.answer (refl, refl)
 
 pub returns-in-None-clause-listed : goal.returns-in-None-clause-listed
@@ -50,5 +50,5 @@ returns-in-None-clause-listed g c = λ factor pairs st.
     let h = g.H.KeyHasher in
     let b = c.args.archive.now in
     none_behind g.W.Width.word g.K.Element.shape (scalar_shape e) g.met.K.Element.laws (scalar_element e g.met.N.Scalar.word) g.K.StandsFor.stands (ScalarStands e)
-    (hash_at h.initial h.feed h.finish g.K.KeyElement.key_calls) factor b c.args.root pairs c.args.value (g.A.Query.fits c.args.key.now b) (g.A.PartialEq.eq c.args.key.now) c.requires.map
+    (hash_at h.hasher g.K.KeyElement.key_calls) factor b c.args.root pairs c.args.value (g.A.Query.fits c.args.key.now b) (g.A.PartialEq.eq c.args.key.now) c.requires.map
     (λ a q s there. g.met.A.NativeKey.native c.args.key.now a b q s there) st (c.in-None.ensures.first st.homes st.written)

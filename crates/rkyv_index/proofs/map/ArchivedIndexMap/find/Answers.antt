@@ -20,7 +20,7 @@ returns-in-Some-clause-answer g c = λ accept alone.
     let vl = g.met.V.Element.laws in
     let kind = g.met.W.Width.layout.kind in
     let is = g.met.W.Width.place in
-    let hash : c.hash_value-hash.result ≡ hash_of_calls g.H.KeyHasher.initial g.H.KeyHasher.feed g.H.KeyHasher.finish (g.Q.KeyHash.calls c.args.key.now) = c.hash_value-hash.ensures in
+    let hash : c.hash_value-hash.result ≡ hash_of_calls g.H.KeyHasher.hasher (g.Q.KeyHash.calls c.args.key.now) = c.hash_value-hash.ensures in
     let h = c.in-Some.held in
     let value : c.place_held.result ≡ number_at w b h.pos =
     c.place_held.ensures.value ∙ ap (λ (x : List ℕ). number_at w x h.pos) (read_there w kind k v kl vl m c.requires.map e is t c.table-table.ensures.at h c.in-Some.ensures.walked) in
@@ -44,13 +44,13 @@ returns-in-Some-clause-first g c = λ accept alone under homes written.
     let vl = g.met.V.Element.laws in
     let kind = g.met.W.Width.layout.kind in
     let is = g.met.W.Width.place in
-    let hash : c.hash_value-hash.result ≡ hash_of_calls g.H.KeyHasher.initial g.H.KeyHasher.feed g.H.KeyHasher.finish (g.Q.KeyHash.calls c.args.key.now) = c.hash_value-hash.ensures in
+    let hash : c.hash_value-hash.result ≡ hash_of_calls g.H.KeyHasher.hasher (g.Q.KeyHash.calls c.args.key.now) = c.hash_value-hash.ensures in
     let h = c.in-Some.held in
     let value : c.place_held.result ≡ number_at w b h.pos =
     c.place_held.ensures.value ∙ ap (λ (x : List ℕ). number_at w x h.pos) (read_there w kind k v kl vl m c.requires.map e is t c.table-table.ensures.at h c.in-Some.ensures.walked) in
-    let under' : AreUnderHash w k v m c.hash_value-hash.result (hash_at g.H.KeyHasher.initial g.H.KeyHasher.feed g.H.KeyHasher.finish g.K.KeyElement.key_calls) accept = λ i below accepted. under i below accepted ∙ sym hash in
+    let under' : AreUnderHash w k v m c.hash_value-hash.result (hash_at g.H.KeyHasher.hasher g.K.KeyElement.key_calls) accept = λ i below accepted. under i below accepted ∙ sym hash in
     let at = c.table-table.ensures.at in
-    let key_hash = hash_at g.H.KeyHasher.initial g.H.KeyHasher.feed g.H.KeyHasher.finish g.K.KeyElement.key_calls in
+    let key_hash = hash_at g.H.KeyHasher.hasher g.K.KeyElement.key_calls in
     let hashes = map (λ i. key_hash b (key_pos w k v m i)) (places_of (index_len w m)) in
     let found = c.in-Some.ensures.first hashes homes (λ q. accept (number_at w b q))
     (written_there w kind k v kl vl m c.requires.map e is t at key_hash homes written)
@@ -73,7 +73,7 @@ returns-clause-answer g c = λ accept alone.
     let vl = g.met.V.Element.laws in
     let kind = g.met.W.Width.layout.kind in
     let is = g.met.W.Width.place in
-    let hash : c.hash_value-hash.result ≡ hash_of_calls g.H.KeyHasher.initial g.H.KeyHasher.feed g.H.KeyHasher.finish (g.Q.KeyHash.calls c.args.key.now) = c.hash_value-hash.ensures in
+    let hash : c.hash_value-hash.result ≡ hash_of_calls g.H.KeyHasher.hasher (g.Q.KeyHash.calls c.args.key.now) = c.hash_value-hash.ensures in
     let found = c.in-None.ensures.answer (λ q. accept (number_at w b q))
     (λ place r item x. alone (number_at w (bytes_of place) place.pos) x.1.0 r (subst (λ y. IsKeyOf w k v y (number_at w (bytes_of place) place.pos) x.1.0) c.entries-entries.ensures.map x.1.1) x.1.2
     ∙ ap (λ (y : List ℕ). accept (number_at w y place.pos)) (read_there w kind k v kl vl m c.requires.map e is t c.table-table.ensures.at place item)) in
@@ -93,10 +93,10 @@ returns-clause-first g c = λ accept alone under homes written.
     let vl = g.met.V.Element.laws in
     let kind = g.met.W.Width.layout.kind in
     let is = g.met.W.Width.place in
-    let hash : c.hash_value-hash.result ≡ hash_of_calls g.H.KeyHasher.initial g.H.KeyHasher.feed g.H.KeyHasher.finish (g.Q.KeyHash.calls c.args.key.now) = c.hash_value-hash.ensures in
-    let under' : AreUnderHash w k v m c.hash_value-hash.result (hash_at g.H.KeyHasher.initial g.H.KeyHasher.feed g.H.KeyHasher.finish g.K.KeyElement.key_calls) accept = λ i below accepted. under i below accepted ∙ sym hash in
+    let hash : c.hash_value-hash.result ≡ hash_of_calls g.H.KeyHasher.hasher (g.Q.KeyHash.calls c.args.key.now) = c.hash_value-hash.ensures in
+    let under' : AreUnderHash w k v m c.hash_value-hash.result (hash_at g.H.KeyHasher.hasher g.K.KeyElement.key_calls) accept = λ i below accepted. under i below accepted ∙ sym hash in
     let at = c.table-table.ensures.at in
-    let key_hash = hash_at g.H.KeyHasher.initial g.H.KeyHasher.feed g.H.KeyHasher.finish g.K.KeyElement.key_calls in
+    let key_hash = hash_at g.H.KeyHasher.hasher g.K.KeyElement.key_calls in
     let hashes = map (λ i. key_hash b (key_pos w k v m i)) (places_of (index_len w m)) in
     let found = c.in-None.ensures.first hashes homes (λ q. accept (number_at w b q))
     (written_there w kind k v kl vl m c.requires.map e is t at key_hash homes written)

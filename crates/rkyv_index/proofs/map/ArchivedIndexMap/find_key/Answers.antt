@@ -26,7 +26,7 @@ returns-clause-first g c =
     c.find.ensures.first (fits_at w k v m fits)
     (λ i key r is e. e.1 ∙ ap (λ (a : Bor (List ℕ)). fits a.now key.pos) is.at.0 ∙ ap (fits (index_bytes m)) is.at.1)
     (query_under_hash w g.met.W.Width.layout.kind k v g.met.K.Element.laws g.met.V.Element.laws m
-    g.H.KeyHasher.initial g.H.KeyHasher.feed g.H.KeyHasher.finish g.K.ElementEq.same g.K.KeyElement.key_calls g.Q.KeyHash.can_read g.Q.KeyHash.calls g.Q.Query.fits g.met.Q.Query.query c.requires.map c.args.key.now c.requires.query)
+    g.H.KeyHasher.hasher g.K.ElementEq.same g.K.KeyElement.key_calls g.Q.KeyHash.can_read g.Q.KeyHash.calls g.Q.Query.fits g.met.Q.Query.query c.requires.map c.args.key.now c.requires.query)
 
 pub returns-clause-complete : goal.returns-clause-complete
 returns-clause-complete g c = λ none.
@@ -38,5 +38,5 @@ returns-clause-complete g c = λ none.
     let found = c.find.ensures.answer (fits_at w k v m fits)
     (λ i key r is e. e.1 ∙ ap (λ (a : Bor (List ℕ)). fits a.now key.pos) is.at.0 ∙ ap (fits (index_bytes m)) is.at.1) in
     subst (FindsTheOne (index_len w m) (fits_at w k v m fits)) (sym found)
-    (finds_the_one w g.met.W.Width.layout.kind k v g.met.K.Element.laws g.met.V.Element.laws g.H.KeyHasher.initial g.H.KeyHasher.feed g.H.KeyHasher.finish g.K.ElementEq.same g.K.KeyElement.key_calls
+    (finds_the_one w g.met.W.Width.layout.kind k v g.met.K.Element.laws g.met.V.Element.laws g.H.KeyHasher.hasher g.K.ElementEq.same g.K.KeyElement.key_calls
     g.Q.KeyHash.can_read g.Q.KeyHash.calls g.Q.Query.fits g.met.Q.Query.query (index_bytes m) (index_pos m) c.requires.map c.args.key.now c.requires.query c.find.ensures.hash none)

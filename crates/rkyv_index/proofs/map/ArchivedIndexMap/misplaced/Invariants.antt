@@ -15,7 +15,7 @@ invariant-loop-place g l =
     let v = g.V.Element.shape in
     let b = index_bytes l.fn.self in
     let p = index_pos l.fn.self in
-    let key_hash = hash_at g.H.KeyHasher.initial g.H.KeyHasher.feed g.H.KeyHasher.finish g.K.KeyElement.key_calls in
+    let key_hash = hash_at g.H.KeyHasher.hasher g.K.KeyElement.key_calls in
     let same = g.K.ElementEq.same in
     record {
       few : l.count ≤ l.place;

@@ -16,7 +16,7 @@ pub returns-in-Err : goal.returns-in-Err
 returns-in-Err g c =
     let shape = entry_shape g.A.Archived.Element.shape g.B.Archived.Element.shape in
     let f = written_as (pair_of g.BK.Lend.lent g.BV.Lend.lent) (pair_format g.A.Archived.Element.shape g.B.Archived.Element.shape g.A.Archive.format g.B.Archive.format) in
-    let hash : EntryAdapter g.row.BK.Denot g.row.BV.Denot g.row.A.Denot g.row.B.Denot → ℕ = λ entry. hash_of g.H.KeyHasher.initial g.H.KeyHasher.feed g.H.KeyHasher.finish g.A.KeyHash.calls (g.BK.Lend.lent entry.key) in
+    let hash : EntryAdapter g.row.BK.Denot g.row.BV.Denot g.row.A.Denot g.row.B.Denot → ℕ = λ entry. hash_of g.H.KeyHasher.hasher g.A.KeyHash.calls (g.BK.Lend.lent entry.key) in
     let e = g.W.Place.Scalar.encoding in
     let w = g.W.Width.word in
     let xs = c.args.entries.now in
@@ -31,7 +31,7 @@ pub returns-in-Err-serialize_row : goal.returns-in-Err-serialize_row
 returns-in-Err-serialize_row g c =
     let shape = entry_shape g.A.Archived.Element.shape g.B.Archived.Element.shape in
     let f = written_as (pair_of g.BK.Lend.lent g.BV.Lend.lent) (pair_format g.A.Archived.Element.shape g.B.Archived.Element.shape g.A.Archive.format g.B.Archive.format) in
-    let hash : EntryAdapter g.row.BK.Denot g.row.BV.Denot g.row.A.Denot g.row.B.Denot → ℕ = λ entry. hash_of g.H.KeyHasher.initial g.H.KeyHasher.feed g.H.KeyHasher.finish g.A.KeyHash.calls (g.BK.Lend.lent entry.key) in
+    let hash : EntryAdapter g.row.BK.Denot g.row.BV.Denot g.row.A.Denot g.row.B.Denot → ℕ = λ entry. hash_of g.H.KeyHasher.hasher g.A.KeyHash.calls (g.BK.Lend.lent entry.key) in
     let e = g.W.Place.Scalar.encoding in
     let w = g.W.Width.word in
     let xs = c.args.entries.now in
@@ -48,7 +48,7 @@ pub returns-in-Err-align_for_in : goal.returns-in-Err-align_for_in
 returns-in-Err-align_for_in g c =
     let shape = entry_shape g.A.Archived.Element.shape g.B.Archived.Element.shape in
     let f = written_as (pair_of g.BK.Lend.lent g.BV.Lend.lent) (pair_format g.A.Archived.Element.shape g.B.Archived.Element.shape g.A.Archive.format g.B.Archive.format) in
-    let hash : EntryAdapter g.row.BK.Denot g.row.BV.Denot g.row.A.Denot g.row.B.Denot → ℕ = λ entry. hash_of g.H.KeyHasher.initial g.H.KeyHasher.feed g.H.KeyHasher.finish g.A.KeyHash.calls (g.BK.Lend.lent entry.key) in
+    let hash : EntryAdapter g.row.BK.Denot g.row.BV.Denot g.row.A.Denot g.row.B.Denot → ℕ = λ entry. hash_of g.H.KeyHasher.hasher g.A.KeyHash.calls (g.BK.Lend.lent entry.key) in
     let e = g.W.Place.Scalar.encoding in
     let w = g.W.Width.word in
     let xs = c.args.entries.now in
@@ -67,7 +67,7 @@ pub write_row-requires-clause-count : goal.write_row-requires-clause-count
 write_row-requires-clause-count g c =
     let shape = entry_shape g.A.Archived.Element.shape g.B.Archived.Element.shape in
     let f = written_as (pair_of g.BK.Lend.lent g.BV.Lend.lent) (pair_format g.A.Archived.Element.shape g.B.Archived.Element.shape g.A.Archive.format g.B.Archive.format) in
-    let hash : EntryAdapter g.row.BK.Denot g.row.BV.Denot g.row.A.Denot g.row.B.Denot → ℕ = λ entry. hash_of g.H.KeyHasher.initial g.H.KeyHasher.feed g.H.KeyHasher.finish g.A.KeyHash.calls (g.BK.Lend.lent entry.key) in
+    let hash : EntryAdapter g.row.BK.Denot g.row.BV.Denot g.row.A.Denot g.row.B.Denot → ℕ = λ entry. hash_of g.H.KeyHasher.hasher g.A.KeyHash.calls (g.BK.Lend.lent entry.key) in
     let e = g.W.Place.Scalar.encoding in
     let w = g.W.Width.word in
     let xs = c.args.entries.now in
@@ -79,7 +79,7 @@ pub returns-in-Ok-write_row : goal.returns-in-Ok-write_row
 returns-in-Ok-write_row g c =
     let shape = entry_shape g.A.Archived.Element.shape g.B.Archived.Element.shape in
     let f = written_as (pair_of g.BK.Lend.lent g.BV.Lend.lent) (pair_format g.A.Archived.Element.shape g.B.Archived.Element.shape g.A.Archive.format g.B.Archive.format) in
-    let hash : EntryAdapter g.row.BK.Denot g.row.BV.Denot g.row.A.Denot g.row.B.Denot → ℕ = λ entry. hash_of g.H.KeyHasher.initial g.H.KeyHasher.feed g.H.KeyHasher.finish g.A.KeyHash.calls (g.BK.Lend.lent entry.key) in
+    let hash : EntryAdapter g.row.BK.Denot g.row.BV.Denot g.row.A.Denot g.row.B.Denot → ℕ = λ entry. hash_of g.H.KeyHasher.hasher g.A.KeyHash.calls (g.BK.Lend.lent entry.key) in
     let e = g.W.Place.Scalar.encoding in
     let w = g.W.Width.word in
     let xs = c.args.entries.now in
@@ -99,7 +99,7 @@ pub returns-in-Err-write_row : goal.returns-in-Err-write_row
 returns-in-Err-write_row g c =
     let shape = entry_shape g.A.Archived.Element.shape g.B.Archived.Element.shape in
     let f = written_as (pair_of g.BK.Lend.lent g.BV.Lend.lent) (pair_format g.A.Archived.Element.shape g.B.Archived.Element.shape g.A.Archive.format g.B.Archive.format) in
-    let hash : EntryAdapter g.row.BK.Denot g.row.BV.Denot g.row.A.Denot g.row.B.Denot → ℕ = λ entry. hash_of g.H.KeyHasher.initial g.H.KeyHasher.feed g.H.KeyHasher.finish g.A.KeyHash.calls (g.BK.Lend.lent entry.key) in
+    let hash : EntryAdapter g.row.BK.Denot g.row.BV.Denot g.row.A.Denot g.row.B.Denot → ℕ = λ entry. hash_of g.H.KeyHasher.hasher g.A.KeyHash.calls (g.BK.Lend.lent entry.key) in
     let e = g.W.Place.Scalar.encoding in
     let w = g.W.Width.word in
     let xs = c.args.entries.now in

@@ -9,7 +9,7 @@ use Rattle.rkyv_collections.proofs.std_maps.hash_map.HashedHashMapSerialize.seri
 pub returns : goal.returns
 returns g c =
     let m = c.args.self.now.map in
-    let hash = hash_of g.H.KeyHasher.initial g.H.KeyHasher.feed g.H.KeyHasher.finish g.A.KeyHash.calls in
+    let hash = hash_of g.H.KeyHasher.hasher g.A.KeyHash.calls in
     let f = map_format g.W.Width.word g.A.Archived.Element.shape g.B.Archived.Element.shape g.A.Archive.format g.B.Archive.format hash (7, 8) in
     let o = g.S.Writer.output c.args.serializer.now in
     let o' = g.S.Writer.output c.serialize_from_iter.new.serializer in

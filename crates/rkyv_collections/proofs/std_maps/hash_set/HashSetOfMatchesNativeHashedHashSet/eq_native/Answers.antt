@@ -8,7 +8,7 @@ use Rattle.rkyv_collections.proofs.std_maps.hash_set.HashSetOfMatchesNativeHashe
 
 pub returns : goal.returns
 returns g c =
-    let hash = hash_of g.H.KeyHasher.initial g.H.KeyHasher.feed g.H.KeyHasher.finish g.A.KeyHash.calls in
+    let hash = hash_of g.H.KeyHasher.hasher g.A.KeyHash.calls in
     let value = c.args.value.now.map in
     let at = c.of.ensures.at in
     let told : List ℕ → ℕ → Type 0 = λ b p. IsTrue c.eq_std.result ↔ StdSetEquals g.W.Width.word g.K.Element.shape hash g.A.Query.fits b p value in

@@ -11,7 +11,7 @@ use Rattle.rkyv_collections.proofs.std_maps.hash_set.HashedHashSetSerialize.seri
 pub returns : goal.returns
 returns g c =
     let keys = c.args.self.now.map.keys in
-    let hash = hash_of g.H.KeyHasher.initial g.H.KeyHasher.feed g.H.KeyHasher.finish g.A.KeyHash.calls in
+    let hash = hash_of g.H.KeyHasher.hasher g.A.KeyHash.calls in
     let f = map_format g.W.Width.word g.A.Archived.Element.shape unit_shape g.A.Archive.format unit_format hash (7, 8) in
     let o = g.S.Writer.output c.args.serializer.now in
     let o' = g.S.Writer.output c.serialize_from_iter.new.serializer in
