@@ -22,7 +22,13 @@ use std::test::Fail;
 struct Grams(u32);
 
 impl Scalar for Grams {
-    ghost encoding = { record { word = w32; code = λ g. g.0; value = λ n. record { 0 = n }; IsCode = λ n. ⊤ } };
+    ghost encoding = { record {
+      word = w32;
+      code = λ g. g.0;
+      value = λ n. record { 0 = n };
+      IsCode =
+          λ n. ⊤;
+    } };
 
     fn byte_count() -> usize {
         4

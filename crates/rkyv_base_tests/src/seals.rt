@@ -32,7 +32,8 @@ fn sets_over(bytes: &mut [u8], place: usize, value: i64)
 #[tactic(auto, using(rkyv_base::proofs::Sealing::joined, rkyv_base::proofs::Sealing::key_in_front))]
 fn sets_behind_key(archive: &mut [u8], entry_pos: u64, value: u32) -> u32
     requires inside { entry_pos + 8 ≤ length archive.old }
-    requires entry { Viewed (entry_shape (scalar_shape (unsigned w32)) (scalar_shape (unsigned w32)))
+    requires entry { Viewed (entry_shape (scalar_shape (unsigned w32))
+        (scalar_shape (unsigned w32)))
         archive.old entry_pos }
     ensures key { result ≡ number_at w32 archive.old entry_pos }
     ensures written { archive.new ≡ with_value (unsigned w32) archive.old (entry_pos + 4) value }

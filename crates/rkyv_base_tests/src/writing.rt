@@ -24,7 +24,12 @@ struct NoRoom;
 impl Writer for LateWriter {
     type Fault = NoRoom;
 
-    ghost output = { λ w. record { start = 4294967290; bytes = w.bytes.items; failures = w.failures } };
+    ghost output = { λ w. record {
+      start = 4294967290;
+      bytes = w.bytes.items;
+      failures =
+          w.failures;
+    } };
 
     fn pos(&self) -> u64 {
         4_294_967_290 + self.bytes.len() as u64

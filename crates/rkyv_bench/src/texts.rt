@@ -4,7 +4,8 @@ ghost use Rattle.std.specs.Prelude.{◌≡◌};
 ghost use Rattle.rkyv_bench_calls.specs.Archives.{IsArchive, IsLengthAnd1, root, short_text};
 ghost use Rattle.rkyv_bench_calls.specs.Building.{IsBuilt, MapsTexts};
 ghost use Rattle.rkyv_bench_calls.specs.Cuts.{AreTexts, texts};
-ghost use Rattle.rkyv_bench_calls.specs.Totals.{pair_weight, text_hash, text_looked_up, text_weight, total, walked};
+ghost use Rattle.rkyv_bench_calls.specs.Totals.{pair_weight, text_hash, text_looked_up};
+ghost use Rattle.rkyv_bench_calls.specs.Totals.{text_weight, total, walked};
 
 use rkyv_bench_calls::texts::{access_text, build_text, hash_text, lookup_text, walk_text};
 use std::alloc::Global;
@@ -63,7 +64,8 @@ pub extern "C" fn rkyv_bench_lookup_text(archive: &[u8], bytes: &[u8], ends: &[u
 #[unsafe(no_mangle)]
 pub extern "C" fn rkyv_bench_walk_text(archive: &[u8]) -> u64
     requires { IsArchive short_text archive.now }
-    ensures { result ≡ total (pair_weight short_text text_weight archive.now) (walked short_text archive.now (root archive.now)) }
+    ensures { result ≡ total (pair_weight short_text text_weight archive.now)
+        (walked short_text archive.now (root archive.now)) }
 {
     walk_text(archive)
 }

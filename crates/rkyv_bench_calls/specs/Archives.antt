@@ -38,4 +38,5 @@ IsMapAtRoot m archive = IsAt m.view archive (root archive.now)
 
 -- the map's length and one more, or 0 where the bytes are no archive
 abbrev pub IsLengthAnd1 : Shape → List ℕ → ℕ → Type 0
-IsLengthAnd1 key b n = (IsArchive key b × (n ≡ len_at w32 b (root b) + 1)) ⊎ ((IsArchive key b → ⊥) × (n ≡ 0))
+IsLengthAnd1 key b n = (IsArchive key b × (n ≡ len_at w32 b (root b) + 1))
+    ⊎ ((IsArchive key b → ⊥) × (n ≡ 0))

@@ -25,29 +25,39 @@ IsKept old new n = (n ≡ 0) × (new ≡ old)
 
 -- the bytes were put in front, or don't fit
 abbrev pub IsPut : List ℕ → List ℕ → List ℕ → ℕ → Type 0
-IsPut bytes old new n = AreInFront bytes old new n ⊎ (IsKept old new n × (length old < length bytes))
+IsPut bytes old new n = AreInFront bytes old new n
+    ⊎ (IsKept old new n × (length old < length bytes))
 
 -- an archive was put in front, or nothing was written
 abbrev pub IsBuilt : (List ℕ → Type 0) → List ℕ → List ℕ → ℕ → Type 0
-IsBuilt IsOne old new n = ((bytes : List ℕ) × IsOne bytes × AreInFront bytes old new n) ⊎ IsKept old new n
+IsBuilt IsOne old new n = ((bytes : List ℕ) × IsOne bytes × AreInFront bytes old new n)
+    ⊎ IsKept old new n
 
--- the bytes are the archive of a map of numbers to numbers, in this order, under the load factor 7 / 8, and no others
+-- the bytes are the archive of a map of numbers to numbers, in this order, under the load factor 7
+-- / 8, and no others
 abbrev pub IsNumberMap : List (ℕ × ℕ) → List ℕ → Type 0
 IsNumberMap pairs bytes = ArchiveOf 4294967295 (map_of number_shape)
-    (MapStands w32 number_shape number_shape (ScalarStands (unsigned w32)) (ScalarStands (unsigned w32)) (λ b q. number_hash (number_at w32 b q)) (7, 8))
-    (listed 4294967295 (7, 8) (map_format w32 number_shape number_shape (scalar_format (unsigned w32)) (scalar_format (unsigned w32)) number_hash (7, 8)))
+    (MapStands w32 number_shape number_shape (ScalarStands (unsigned w32))
+    (ScalarStands (unsigned w32)) (λ b q. number_hash (number_at w32 b q)) (7, 8))
+    (listed 4294967295 (7, 8) (map_format w32 number_shape number_shape
+    (scalar_format (unsigned w32)) (scalar_format (unsigned w32)) number_hash (7, 8)))
     pairs bytes
 
 -- and of the lent texts to numbers
 abbrev pub IsTextMap : List (Bor (List ℕ) × ℕ) → List ℕ → Type 0
 IsTextMap pairs bytes = ArchiveOf 4294967295 (map_of short_text)
-    (MapStands w32 short_text number_shape (λ b q text. TextReads w32 b q text.now) (ScalarStands (unsigned w32)) (λ b q. text_hash (text_at w32 b q)) (7, 8))
-    (listed 4294967295 (7, 8) (map_format w32 short_text number_shape (written_as (λ text. text.now) (text_format w32)) (scalar_format (unsigned w32)) (λ text. text_hash text.now) (7, 8)))
+    (MapStands w32 short_text number_shape (λ b q text. TextReads w32 b q text.now)
+    (ScalarStands (unsigned w32)) (λ b q. text_hash (text_at w32 b q)) (7, 8))
+    (listed 4294967295 (7, 8) (map_format w32 short_text number_shape
+    (written_as (λ text. text.now) (text_format w32)) (scalar_format (unsigned w32)) (λ text.
+    text_hash text.now) (7, 8)))
     pairs bytes
 
 -- the bytes are the archive of a map of these texts, each to the value at its place
 abbrev pub MapsTexts : List (List ℕ) → List ℕ → List ℕ → Type 0
-MapsTexts texts values bytes = (lent : List (Bor (List ℕ))) × (map (λ text. text.now) lent ≡ texts) × IsTextMap (zip lent values) bytes
+MapsTexts texts values bytes =
+    (lent : List (Bor (List ℕ))) × (map (λ text. text.now) lent ≡ texts)
+    × IsTextMap (zip lent values) bytes
 
 -- and of these numbers
 abbrev pub MapsNumbers : List ℕ → List ℕ → List ℕ → Type 0

@@ -1,5 +1,6 @@
 -- What each measured call sums up.
-use Rattle.std.specs.Prelude.{ℕ, ◌+◌, ◌^◌, ◌%◌, ◌==◌, Bool, List, [], ◌∷◌, length, Option, None, Some}
+use Rattle.std.specs.Prelude.{ℕ, ◌+◌, ◌^◌, ◌%◌, ◌==◌, Bool, List, [], ◌∷◌, length, Option, None}
+use Rattle.std.specs.Prelude.{Some}
 use Rattle.std.specs.Int.{w32}
 use Rattle.std.specs.List.{sum_by}
 use Rattle.rkyv_base.specs.Bytes.{number_at}
@@ -36,14 +37,17 @@ value_or_miss key b (Some q) = number_at w32 b (q + value_offset key number_shap
 
 -- that of the key which a lookup under a hash finds in the archive, of those that fit
 abbrev pub looked_up : Shape → List ℕ → ℕ → ℕ → (ℕ → Bool) → ℕ
-looked_up key b p hash fits = value_or_miss key b (pos_found generic_kind w32 (entry_shape key number_shape).size b p hash fits)
+looked_up key b p hash fits = value_or_miss key b
+    (pos_found generic_kind w32 (entry_shape key number_shape).size b p hash fits)
 
 -- of a number and of a text, in the archive whose header stands at p
 abbrev pub number_looked_up_at : List ℕ → ℕ → ℕ → ℕ
-number_looked_up_at b p number = looked_up number_shape b p (number_hash number) (λ q. number == number_at w32 b q)
+number_looked_up_at b p number =
+    looked_up number_shape b p (number_hash number) (λ q. number == number_at w32 b q)
 
 abbrev pub text_looked_up_at : List ℕ → ℕ → List ℕ → ℕ
-text_looked_up_at b p text = looked_up short_text b p (text_hash text) (λ q. same_bytes text (text_at w32 b q))
+text_looked_up_at b p text = looked_up short_text b p (text_hash text) (λ q.
+    same_bytes text (text_at w32 b q))
 
 -- what is counted of an asked number, in the map at the root
 abbrev pub number_looked_up : List ℕ → ℕ → ℕ

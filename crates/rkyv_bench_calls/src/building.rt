@@ -43,7 +43,8 @@ struct Both<'a, A, B> {
 impl<'a, A: Copy, B: Copy> Iterator for Both<'a, A, B> {
     type Item = (A, B);
 
-    ghost next_gives = { YieldsFirstBy (λ both. both) (λ s. zip (iter_rest s.keys) (iter_rest s.values)) };
+    ghost next_gives = { YieldsFirstBy (λ both. both) (λ s.
+        zip (iter_rest s.keys) (iter_rest s.values)) };
 
     ghost remaining = { λ s. at_most (length (iter_rest s.keys)) };
 
@@ -62,9 +63,11 @@ impl<'a, A: Copy, B: Copy> Iterator for Both<'a, A, B> {
 impl<'a, W: Width, H: KeyHasher, A, B, K: KeyElement + StandsFor<A>, V: StandsFor<B>> StandsFor<
     Pairs<'a, A, B, H>,
 > for HashMapOf<K, V, H, W> {
-    ghost stands = { λ b p x. MapStands W.word K.shape V.shape K.stands V.stands (hash_at H.hasher K.key_calls) (7, 8) b p (zip x.keys.now x.values.now) };
+    ghost stands = { λ b p x. MapStands W.word K.shape V.shape K.stands V.stands
+        (hash_at H.hasher K.key_calls) (7, 8) b p (zip x.keys.now x.values.now) };
 
-    ghost near = { λ x. map_near H.hasher W.word K.laws V.laws (7, 8) K.key K.near V.near (zip x.keys.now x.values.now) };
+    ghost near = { λ x. map_near H.hasher W.word K.laws V.laws (7, 8) K.key K.near V.near
+        (zip x.keys.now x.values.now) };
 }
 
 impl<'a, W: Width, H: KeyHasher, A: Archive<W>, B: Archive<W>> Archive<W> for Pairs<'a, A, B, H>
@@ -77,7 +80,8 @@ where
     type Resolver = HashMapResolver<W>;
 
     ghost format = { written_as (λ x. zip x.keys.now x.values.now) (listed W.MAX_CAPACITY (7, 8)
-        (map_format W.word A.Archived.shape B.Archived.shape A.format B.format (hash_of H.hasher A.calls) (7, 8))) };
+        (map_format W.word A.Archived.shape B.Archived.shape A.format B.format
+        (hash_of H.hasher A.calls) (7, 8))) };
 
     fn resolve(
         &self,
@@ -96,11 +100,16 @@ where
         )
     }
 
-    ghost laws = { let stands = MapStands W.word A.Archived.shape B.Archived.shape A.Archived.stands B.Archived.stands (hash_at H.hasher A.Archived.key_calls) (7, 8) in
-        let format = map_format W.word A.Archived.shape B.Archived.shape A.format B.format (hash_of H.hasher A.calls) (7, 8) in
+    ghost laws = { let stands = MapStands W.word A.Archived.shape B.Archived.shape A.Archived.stands
+        B.Archived.stands (hash_at H.hasher A.Archived.key_calls) (7, 8) in
+        let format = map_format W.word A.Archived.shape B.Archived.shape A.format B.format
+        (hash_of H.hasher A.calls) (7, 8) in
         let shape = map_shape W.word A.Archived.shape B.Archived.shape in
-        written_as-format (λ x. zip x.keys.now x.values.now) shape stands (listed W.MAX_CAPACITY (7, 8) format) (listed_format W.MAX_CAPACITY (7, 8) shape stands format
-        (map_sound H.hasher W.word A.Archived.laws B.Archived.laws (7, 8) W.layout.kind A.query A.native A.Eq.laws.refl A.reads A.Archive.laws B.laws)) };
+        written_as-format (λ x. zip x.keys.now x.values.now) shape stands
+        (listed W.MAX_CAPACITY (7, 8) format)
+        (listed_format W.MAX_CAPACITY (7, 8) shape stands format
+        (map_sound H.hasher W.word A.Archived.laws B.Archived.laws (7, 8) W.layout.kind A.query
+        A.native A.Eq.laws.refl A.reads A.Archive.laws B.laws)) };
 }
 
 impl<
@@ -153,7 +162,8 @@ pub(crate) fn build<V: Serialize<VecWriter, Narrow>>(
     value: &V,
     out: &mut [u8],
 ) -> usize
-    ensures { IsBuilt (ArchiveOf 4294967295 V.Archived.shape V.Archived.stands V.format value.now) out.old out.new result }
+    ensures { IsBuilt (ArchiveOf 4294967295 V.Archived.shape V.Archived.stands V.format value.now)
+        out.old out.new result }
 {
     match to_bytes(alloc, value) {
         Ok(bytes) => put(bytes.as_slice(), out),

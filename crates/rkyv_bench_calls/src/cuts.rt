@@ -29,7 +29,8 @@ impl<'a> Iterator for Cuts<'a> {
 
     ghost can_next = { λ s. AreTextsFrom s.bytes.now s.from (iter_rest s.ends) };
 
-    ghost next_gives = { YieldsFirstBy (λ text. text.now) (λ s. cut_from s.bytes.now s.from (iter_rest s.ends)) };
+    ghost next_gives = { YieldsFirstBy (λ text. text.now) (λ s.
+        cut_from s.bytes.now s.from (iter_rest s.ends)) };
 
     ghost remaining = { λ s. at_most (length (iter_rest s.ends)) };
 

@@ -3,7 +3,8 @@
 ghost use Rattle.std.specs.Prelude.{◌≡◌};
 ghost use Rattle.rkyv_bench_calls.specs.Archives.{IsArchive, IsLengthAnd1, number_shape, root};
 ghost use Rattle.rkyv_bench_calls.specs.Building.{IsBuilt, MapsNumbers};
-ghost use Rattle.rkyv_bench_calls.specs.Totals.{number_hash, number_looked_up, number_weight, pair_weight, total, walked};
+ghost use Rattle.rkyv_bench_calls.specs.Totals.{number_hash, number_looked_up, number_weight};
+ghost use Rattle.rkyv_bench_calls.specs.Totals.{pair_weight, total, walked};
 
 use crate::building::{Pairs, build};
 use crate::totals::{hash_total, length_and_1, lookup_total, map_in, walk_total};
@@ -56,7 +57,8 @@ pub fn lookup_u32(archive: &[u8], keys: &[u32]) -> u64
 /// The archive must have been accepted: `access_u32` answered more than 0.
 pub fn walk_u32(archive: &[u8]) -> u64
     requires { IsArchive number_shape archive.now }
-    ensures { result ≡ total (pair_weight number_shape number_weight archive.now) (walked number_shape archive.now (root archive.now)) }
+    ensures { result ≡ total (pair_weight number_shape number_weight archive.now)
+        (walked number_shape archive.now (root archive.now)) }
 {
     walk_total::<u32>(map_in(archive))
 }

@@ -4,7 +4,8 @@ ghost use Rattle.std.specs.Prelude.{◌≡◌};
 ghost use Rattle.rkyv_bench_calls.specs.Archives.{IsArchive, IsLengthAnd1, root, short_text};
 ghost use Rattle.rkyv_bench_calls.specs.Building.{IsBuilt, MapsTexts};
 ghost use Rattle.rkyv_bench_calls.specs.Cuts.{AreTexts, texts};
-ghost use Rattle.rkyv_bench_calls.specs.Totals.{pair_weight, text_hash, text_looked_up, text_weight, total, walked};
+ghost use Rattle.rkyv_bench_calls.specs.Totals.{pair_weight, text_hash, text_looked_up};
+ghost use Rattle.rkyv_bench_calls.specs.Totals.{text_weight, total, walked};
 
 use crate::building::{Pairs, build};
 use crate::cuts::{Cuts, cut, list};
@@ -72,7 +73,8 @@ pub fn lookup_text(archive: &[u8], bytes: &[u8], ends: &[u32]) -> u64
 /// The archive must have been accepted: `access_text` answered more than 0.
 pub fn walk_text(archive: &[u8]) -> u64
     requires { IsArchive short_text archive.now }
-    ensures { result ≡ total (pair_weight short_text text_weight archive.now) (walked short_text archive.now (root archive.now)) }
+    ensures { result ≡ total (pair_weight short_text text_weight archive.now)
+        (walked short_text archive.now (root archive.now)) }
 {
     walk_total::<Text>(map_in(archive))
 }

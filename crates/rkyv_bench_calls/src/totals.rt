@@ -4,7 +4,8 @@ ghost use Rattle.std.specs.Int.{w32};
 ghost use Rattle.std.specs.Iterator.{Drains, IsFinite};
 ghost use Rattle.std.specs.Prelude.{List, ◌≡◌};
 ghost use Rattle.rkyv_collections.specs.Map.{IsMap, map_bytes, map_pos};
-ghost use Rattle.rkyv_bench_calls.specs.Archives.{IsArchive, IsLengthAnd1, IsMapAtRoot, number_shape};
+ghost use Rattle.rkyv_bench_calls.specs.Archives.{IsArchive, IsLengthAnd1, IsMapAtRoot};
+ghost use Rattle.rkyv_bench_calls.specs.Archives.{number_shape};
 ghost use Rattle.rkyv_bench_calls.specs.Totals.{hash_by, looked_up, pair_weight, total, walked};
 
 use crate::weighing::Weigh;
@@ -61,7 +62,8 @@ fn value_or_miss<K: KeyElement, Q: Query<K>>(map: ArchivedHashMap<'_, K, u32>, k
     requires map { IsMap w32 K.shape number_shape map }
     requires read { Q.can_read key.now }
     ensures { let b = map_bytes map.entry in
-        result ≡ looked_up K.shape b (map_pos map.entry) (hash_by (Q.calls key.now)) (Q.fits key.now b) }
+        result ≡ looked_up K.shape b (map_pos map.entry) (hash_by (Q.calls key.now))
+        (Q.fits key.now b) }
 {
     match map.get(key) {
         Some(value) => u64::from(value.to_native()),
@@ -83,7 +85,8 @@ pub(crate) fn lookup_total<
     requires read { (key : Q) → Q.can_read key }
     ensures { let b = map_bytes map.entry in
         (items : List B) × Drains I.next_gives keys items
-        × (result ≡ total (λ item. looked_up K.shape b (map_pos map.entry) (hash_by (Q.calls (B.lent item))) (Q.fits (B.lent item) b)) items) }
+        × (result ≡ total (λ item. looked_up K.shape b (map_pos map.entry)
+        (hash_by (Q.calls (B.lent item))) (Q.fits (B.lent item) b)) items) }
 {
     let mut total = 0u64;
     for key in keys {

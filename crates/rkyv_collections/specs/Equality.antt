@@ -1,5 +1,6 @@
 -- When two maps are equal.
-use Rattle.std.specs.Prelude.{◌≡◌, ℕ, ◌+◌, ◌<◌, ◌↔◌, List, Bool, true, false, ◌&&◌, ◌==◌, length, slice_index}
+use Rattle.std.specs.Prelude.{◌≡◌, ℕ, ◌+◌, ◌<◌, ◌↔◌, List, Bool, true, false, ◌&&◌, ◌==◌, length}
+use Rattle.std.specs.Prelude.{slice_index}
 use Rattle.std.specs.Int.{Width}
 use Rattle.std.specs.List.{list_all}
 use Rattle.std.specs.Option.{option_map, unwrap_or}
@@ -16,7 +17,8 @@ use Rattle.rkyv_collections.specs.Map.{MapWrittenAt, map_shape}
 abbrev pub pair_at : Width → Shape → Shape → List ℕ → ℕ → List ℕ → ℕ → ℕ
 pair_at w k v b p homes i = item_at w (entry_shape k v).size b p (slice_index homes i)
 
-module _ (w : Width) (k v : Shape) (key_hash : List ℕ → ℕ → ℕ) (same_key same_value : Comparison) where
+module _ (w : Width) (k v : Shape) (key_hash : List ℕ → ℕ
+    → ℕ) (same_key same_value : Comparison) where
   -- the key that stands in b at q is found in the map of c at r, with a value that is the same
   abbrev pub pair_matches : List ℕ → ℕ → List ℕ → ℕ → Bool
   pair_matches b q c r =
@@ -26,20 +28,25 @@ module _ (w : Width) (k v : Shape) (key_hash : List ℕ → ℕ → ℕ) (same_k
 
   -- the maps have equal lengths, and each pair of the first is matched in the second
   abbrev pub map_equal : Comparison
-  map_equal b p c r = (len_at w b p == len_at w c r) && list_all (λ q. pair_matches b q c r) (item_positions w (entry_shape k v).size b p)
+  map_equal b p c r = (len_at w b p == len_at w c r)
+      && list_all (λ q. pair_matches b q c r) (item_positions w (entry_shape k v).size b p)
 
   -- a map that stands and was written with these homes, no two keys of which are the same
   pub record IsWrittenApart (b : List ℕ) (p : ℕ) (homes : List ℕ) : Type 0 where
     pub stands : Viewed (map_shape w k v) b p
     pub written : MapWrittenAt w (entry_shape k v) key_hash b p homes
-    pub apart : (i j : ℕ) → i < length homes → j < length homes → same_key b (pair_at w k v b p homes i) b (pair_at w k v b p homes j) ≡ true → i ≡ j
+    pub apart : (i j : ℕ) → i < length homes → j < length homes
+        → same_key b (pair_at w k v b p homes i) b (pair_at w k v b p homes j) ≡ true → i ≡ j
 
   -- each pair of the first map is the same as one of the second
   abbrev pub EachIsIn : List ℕ → ℕ → List ℕ → List ℕ → ℕ → List ℕ → Type 0
   EachIsIn b p homes c r others =
-      (i : ℕ) → i < length homes → (j : ℕ) × (j < length others) × (entry_same k v same_key same_value b (pair_at w k v b p homes i) c (pair_at w k v c r others j) ≡ true)
+      (i : ℕ) → i < length homes → (j : ℕ) × (j < length others)
+      × (entry_same k v same_key same_value b (pair_at w k v b p homes i) c
+      (pair_at w k v c r others j) ≡ true)
 
   -- two such maps are equal exactly where each pair of either is the same as one of the other
   abbrev pub EqualHaveSamePairs : Type 0
-  EqualHaveSamePairs = (b c : List ℕ) (p r : ℕ) (homes others : List ℕ) → IsWrittenApart b p homes → IsWrittenApart c r others
+  EqualHaveSamePairs = (b c : List ℕ) (p r : ℕ) (homes others : List ℕ) → IsWrittenApart b p homes
+      → IsWrittenApart c r others
       → (map_equal b p c r ≡ true) ↔ (EachIsIn b p homes c r others × EachIsIn c r others b p homes)

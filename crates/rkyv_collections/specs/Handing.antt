@@ -15,16 +15,21 @@ lent_pairs key value items = map (λ item. (key item.0, value item.1)) items
 abbrev pub AllCame : {X : Type 0} → (List X → Type 0) → ℕ → List X → Type 0
 AllCame gave len items = gave items × (length items ≡ len)
 
-module _ {X : Type 0} (gave : List X → Type 0) (len : ℕ) (load_factor : ℕ × ℕ) (max : ℕ) (f : Format (List X) TableResolver) (o o' : Output) (limit : ℕ) where
+module _ {X : Type 0} (gave : List X → Type 0) (len : ℕ) (load_factor : ℕ × ℕ) (max : ℕ)
+    (f : Format (List X) TableResolver) (o o' : Output) (limit : ℕ) where
   -- the items that came were written
   abbrev pub WroteItems : TableResolver → Type 0
-  WroteItems r = HasCapacity len load_factor max × (items : List X) × AllCame gave len items × Serialized limit f items o o' r
+  WroteItems r = HasCapacity len load_factor max × (items : List X) × AllCame gave len items
+      × Serialized limit f items o o' r
 
   -- a cause of the call's own, and nothing was written; or else writing the items that came gave up
   abbrev pub NoItems : {F : Type 0} → (ℕ → Type 0) → WriteError F → Type 0
   NoItems other e = (OwnCause len load_factor max other e × (o' ≡ o))
-      ⊎ (HasCapacity len load_factor max × (items : List X) × AllCame gave len items × GaveUp limit f items o o' e)
+      ⊎ (HasCapacity len load_factor max × (items : List X) × AllCame gave len items
+      × GaveUp limit f items o o' e)
 
 -- one step of an iterator of pairs, with the hash of the pair's key
-abbrev pub HashedStep : {S BK BV A B : Type 0} → (S → Option (BK × BV) → S → Type 0) → (BK → ℕ) → S → Option (ℕ × EntryAdapter BK BV A B) → S → Type 0
-HashedStep steps hash s r t = MatchOption r (steps s None t) (λ x. (x.0 ≡ hash x.1.key) × steps s (Some (x.1.key, x.1.value)) t)
+abbrev pub HashedStep : {S BK BV A B : Type 0} → (S → Option (BK × BV) → S → Type 0) → (BK → ℕ) → S
+    → Option (ℕ × EntryAdapter BK BV A B) → S → Type 0
+HashedStep steps hash s r t = MatchOption r (steps s None t) (λ x. (x.0 ≡ hash x.1.key)
+    × steps s (Some (x.1.key, x.1.value)) t)

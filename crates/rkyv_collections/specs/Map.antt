@@ -12,7 +12,8 @@ use Rattle.rkyv_base.specs.View.{IsAt, IsView, archive_of, bytes_of, pos_of}
 use Rattle.rkyv_base.specs.declared.entry.Entry.{Entry}
 use Rattle.rkyv_base.specs.declared.view.View.{View}
 use Rattle.rkyv_table.specs.Table.Header.{cap_at, len_at}
-use Rattle.rkyv_table.specs.Table.Reading.{IsWalked, WrittenAt, home_positions, item_at, item_positions, pos_found, pos_of_found}
+use Rattle.rkyv_table.specs.Table.Reading.{IsWalked, WrittenAt, home_positions, item_at}
+use Rattle.rkyv_table.specs.Table.Reading.{item_positions, pos_found, pos_of_found}
 use Rattle.rkyv_table.specs.Table.Layout.{table_shape}
 use Rattle.rkyv_collections.specs.declared.map.ArchivedHashMap.{ArchivedHashMap}
 
@@ -58,45 +59,55 @@ module _ {K V H W : Type 0} where
   IsKeyPos w k v m q = IsKeyPosAt w k v (map_bytes m) (map_pos m) q
 
   -- the view is that of a key of the map
-  pub record IsKeyIn (w : Width) (k v : Shape) (m : ArchivedHashMap K V H W) (key : View K) : Type 0 where
-    pub archive : key.archive ≡ map_archive m
-    pub viewed : IsView k key
-    pub place : IsKeyPos w k v m key.pos
+  pub record IsKeyIn (w : Width) (k v : Shape) (m : ArchivedHashMap K V H W) (key : View K) : Type 0
+    where
+      pub archive : key.archive ≡ map_archive m
+      pub viewed : IsView k key
+      pub place : IsKeyPos w k v m key.pos
 
   -- the view is that of the value behind a key of the map
-  pub record IsValueIn (w : Width) (k v : Shape) (m : ArchivedHashMap K V H W) (value : View V) : Type 0 where
+  pub record IsValueIn (w : Width) (k v : Shape) (m : ArchivedHashMap K V H W)
+      (value : View V) : Type 0 where
     pub viewed : IsView v value
     pub key : ℕ
     pub walked : IsKeyPos w k v m key
     pub at : IsAt value (map_archive m) (key + value_offset k v)
 
   -- the views are those of a key of the map and of the value behind it
-  pub record IsPairIn (w : Width) (k v : Shape) (m : ArchivedHashMap K V H W) (pair : View K × View V) : Type 0 where
+  pub record IsPairIn (w : Width) (k v : Shape) (m : ArchivedHashMap K V H W)
+      (pair : View K × View V) : Type 0 where
     pub key : IsKeyIn w k v m pair.0
     pub viewed : IsView v pair.1
     pub at : IsAt pair.1 (map_archive m) (pos_of pair.0 + value_offset k v)
 
 -- the hash of the key that stands at q
-abbrev pub hash_at : {State : Type 0} → Hasher State → (List ℕ → ℕ → List HasherCall) → List ℕ → ℕ → ℕ
+abbrev pub hash_at : {State : Type 0} → Hasher State → (List ℕ → ℕ → List HasherCall) → List ℕ → ℕ
+    → ℕ
 hash_at hasher calls b q = hash_of_calls hasher (calls b q)
 
--- the table at p was written of entries under the hashes of their keys, handed in in this order, with their homes
+-- the table at p was written of entries under the hashes of their keys, handed in in this order,
+-- with their homes
 abbrev pub MapWrittenAt : Width → Shape → (List ℕ → ℕ → ℕ) → List ℕ → ℕ → List ℕ → Type 0
-MapWrittenAt w s hash b p homes = WrittenAt w b p (map (hash b) (home_positions w s.size b p homes)) homes
+MapWrittenAt w s hash b p homes =
+    WrittenAt w b p (map (hash b) (home_positions w s.size b p homes)) homes
 
 module _ (w : Width) (k v : Shape) (b : List ℕ) (p : ℕ) where
   -- only keys under the hash are accepted, in the map at p
   abbrev pub AreUnderHashAt : ℕ → (List ℕ → ℕ → ℕ) → (ℕ → Bool) → Type 0
-  AreUnderHashAt hash key_hash accept = (q : ℕ) → IsKeyPosAt w k v b p q → accept q ≡ true → key_hash b q ≡ hash
+  AreUnderHashAt hash key_hash accept = (q : ℕ) → IsKeyPosAt w k v b p q → accept q ≡ true
+      → key_hash b q ≡ hash
 
-  -- what is told is told of the position of the key that a lookup under the hash finds, on any accepted map
+  -- what is told is told of the position of the key that a lookup under the hash finds, on any
+  -- accepted map
   abbrev pub FindsKeyAt : ℕ → (ℕ → Bool) → (Option ℕ → Type 0) → Type 0
-  FindsKeyAt hash accept Told = Told (pos_found generic_kind w (entry_shape k v).size b p hash accept)
+  FindsKeyAt hash accept Told = Told
+      (pos_found generic_kind w (entry_shape k v).size b p hash accept)
 
   -- and on a written one: of the position of the first accepted key in the order handed in
   abbrev pub FindsFirstKeyAt : (List ℕ → ℕ → ℕ) → (ℕ → Bool) → (Option ℕ → Type 0) → Type 0
   FindsFirstKeyAt key_hash accept Told =
-      (homes : List ℕ) → MapWrittenAt w (entry_shape k v) key_hash b p homes → Told (find accept (home_positions w (entry_shape k v).size b p homes))
+      (homes : List ℕ) → MapWrittenAt w (entry_shape k v) key_hash b p homes
+      → Told (find accept (home_positions w (entry_shape k v).size b p homes))
 
 module _ {K V H W : Type 0} (w : Width) (k v : Shape) (m : ArchivedHashMap K V H W) where
   -- the comparison may be asked of each key
@@ -105,11 +116,13 @@ module _ {K V H W : Type 0} (w : Width) (k v : Shape) (m : ArchivedHashMap K V H
 
   -- of each key the comparison answers what accept tells of its position
   abbrev pub AnswersKeys : (View K → Bool → Type 0) → (ℕ → Bool) → Type 0
-  AnswersKeys post accept = (key : View K) (r : Bool) → IsKeyIn w k v m key → post key r → r ≡ accept key.pos
+  AnswersKeys post accept = (key : View K) (r : Bool) → IsKeyIn w k v m key → post key r
+      → r ≡ accept key.pos
 
   -- the same of the map that is read
   abbrev pub AreUnderHash : ℕ → (List ℕ → ℕ → ℕ) → (ℕ → Bool) → Type 0
-  AreUnderHash hash key_hash accept = AreUnderHashAt w k v (map_bytes m) (map_pos m) hash key_hash accept
+  AreUnderHash hash key_hash accept =
+      AreUnderHashAt w k v (map_bytes m) (map_pos m) hash key_hash accept
 
   -- what is told is told of the key that a lookup under the hash finds in the map
   abbrev pub FindsKey : ℕ → (ℕ → Bool) → (Option ℕ → Type 0) → Type 0
@@ -117,20 +130,26 @@ module _ {K V H W : Type 0} (w : Width) (k v : Shape) (m : ArchivedHashMap K V H
 
   -- what is told is told of the first accepted key that was handed in, where the map was written
   abbrev pub FindsFirstKey : (List ℕ → ℕ → ℕ) → (ℕ → Bool) → (Option ℕ → Type 0) → Type 0
-  FindsFirstKey key_hash accept Told = FindsFirstKeyAt w k v (map_bytes m) (map_pos m) key_hash accept Told
+  FindsFirstKey key_hash accept Told =
+      FindsFirstKeyAt w k v (map_bytes m) (map_pos m) key_hash accept Told
 
-  -- what is told of what a lookup by a comparison finds, for each function of positions as which the comparison answers
+  -- what is told of what a lookup by a comparison finds, for each function of positions as which
+  -- the comparison answers
   abbrev pub FindsBy : (View K → Bool → Type 0) → ℕ → (Option ℕ → Type 0) → Type 0
   FindsBy post hash Told = (accept : ℕ → Bool) → AnswersKeys post accept → FindsKey hash accept Told
 
   -- and on a written map, where it accepts keys under the hash alone
-  abbrev pub FindsFirstBy : (View K → Bool → Type 0) → ℕ → (List ℕ → ℕ → ℕ) → (Option ℕ → Type 0) → Type 0
+  abbrev pub FindsFirstBy : (View K → Bool → Type 0) → ℕ → (List ℕ → ℕ → ℕ) → (Option ℕ → Type 0)
+      → Type 0
   FindsFirstBy post hash key_hash Told =
-      (accept : ℕ → Bool) → AnswersKeys post accept → AreUnderHash hash key_hash accept → FindsFirstKey key_hash accept Told
+      (accept : ℕ → Bool) → AnswersKeys post accept → AreUnderHash hash key_hash accept
+      → FindsFirstKey key_hash accept Told
 
 -- the view is that of an entry of the map
-abbrev pub IsEntryIn : {K V H W : Type 0} → Width → Shape → Shape → ArchivedHashMap K V H W → View (Entry K V) → Type 0
-IsEntryIn w k v m entry = (entry.archive ≡ map_archive m) × IsView (entry_shape k v) entry × IsKeyPos w k v m entry.pos
+abbrev pub IsEntryIn : {K V H W : Type 0} → Width → Shape → Shape → ArchivedHashMap K V H W
+    → View (Entry K V) → Type 0
+IsEntryIn w k v m entry = (entry.archive ≡ map_archive m) × IsView (entry_shape k v) entry
+    × IsKeyPos w k v m entry.pos
 
 -- the key that was found stands at the position, or none was found
 abbrev pub IsEntryAt : {E : Type 0} → Option (View E) → Option ℕ → Type 0

@@ -21,15 +21,22 @@ abbrev pub keyed : {A B : Type 0} → (A → ℕ) → List (A × B) → List (�
 keyed hash pairs = map (λ pair. (hash pair.0, pair)) pairs
 
 -- how a list of pairs, in the order handed in, is written as a map under a load factor
-abbrev pub map_format : {A B R Q : Type 0} → Width → Shape → Shape → Format A R → Format B Q → (A → ℕ) → ℕ × ℕ → Format (List (A × B)) TableResolver
-map_format w k v key value hash load_factor = written_as (keyed hash) (table_format w (entry_shape k v) (pair_format k v key value) load_factor)
+abbrev pub map_format : {A B R Q : Type 0} → Width → Shape → Shape → Format A R → Format B Q
+    → (A → ℕ) → ℕ × ℕ → Format (List (A × B)) TableResolver
+map_format w k v key value hash load_factor =
+    written_as (keyed hash) (table_format w (entry_shape k v) (pair_format k v key value)
+    load_factor)
 
--- A header of a map of the pairs stands at p: the map was written of them in this order, under the hashes of their keys,
+-- A header of a map of the pairs stands at p: the map was written of them in this order, under the
+-- hashes of their keys,
 -- and each pair stands in its home. `hash b q` is the hash of the key that stands at q.
-pub record MapStands {A B : Type 0} (w : Width) (k v : Shape) (key : List ℕ → ℕ → A → Type 0) (value : List ℕ → ℕ → B → Type 0) (hash : List ℕ → ℕ → ℕ) (load_factor : ℕ × ℕ)
+pub record MapStands {A B : Type 0} (w : Width) (k v : Shape) (key : List ℕ → ℕ → A
+    → Type 0) (value : List ℕ → ℕ → B → Type 0) (hash : List ℕ → ℕ → ℕ) (load_factor : ℕ × ℕ)
     (b : List ℕ) (p : ℕ) (pairs : List (A × B)) : Type 0 where
   pub homes : List ℕ
   pub written : MapWrittenAt w (entry_shape k v) hash b p homes
   pub len : len_at w b p ≡ length pairs
   pub cap : cap_at w b p ≡ capacity (length pairs) load_factor
-  pub at : (i : ℕ) (pair : A × B) → slice_get pairs i ≡ Some pair → PairStands k v key value b (slice_index (home_positions w (entry_shape k v).size b p homes) i) pair
+  pub at : (i : ℕ) (pair : A × B) → slice_get pairs i ≡ Some pair
+      → PairStands k v key value b (slice_index (home_positions w (entry_shape k v).size b p homes)
+      i) pair

@@ -15,13 +15,17 @@ use Rattle.rkyv_collections.specs.declared.map.ArchivedHashMap.{ArchivedHashMap}
 abbrev pub map_misplaced : Width → Shape → Shape → (List ℕ → ℕ → ℕ) → Comparison → List ℕ → ℕ → ℕ
 map_misplaced w k v key_hash same_key b p =
     let at : ℕ → ℕ = item_at w (entry_shape k v).size b p in
-    misplaced generic_kind (table_controls w b p) (cap_at w b p) (len_at w b p) (λ i. key_hash b (at i)) (λ i j. same_key b (at i) b (at j))
+    misplaced generic_kind (table_controls w b p) (cap_at w b p) (len_at w b p)
+    (λ i. key_hash b (at i)) (λ i j. same_key b (at i) b (at j))
 
--- In a map that stands and was written, those keys are misplaced that are the same as one handed in earlier.
+-- In a map that stands and was written, those keys are misplaced that are the same as one handed in
+-- earlier.
 abbrev pub RepeatedKeysAreMisplaced : Width → Shape → Shape → (List ℕ → ℕ → ℕ) → Comparison → Type 0
 RepeatedKeysAreMisplaced w k v key_hash same_key =
-    (b : List ℕ) (p : ℕ) (homes : List ℕ) → Viewed (map_shape w k v) b p → MapWrittenAt w (entry_shape k v) key_hash b p homes
-    → map_misplaced w k v key_hash same_key b p ≡ repeated (λ q r. same_key b q b r) (home_positions w (entry_shape k v).size b p homes)
+    (b : List ℕ) (p : ℕ) (homes : List ℕ) → Viewed (map_shape w k v) b p
+    → MapWrittenAt w (entry_shape k v) key_hash b p homes
+    → map_misplaced w k v key_hash same_key b p
+    ≡ repeated (λ q r. same_key b q b r) (home_positions w (entry_shape k v).size b p homes)
 
 module _ (w : Width) (size : ℕ) (b : List ℕ) (p : ℕ) (fits : ℕ → Bool) where
   -- no key of the map fits
@@ -40,8 +44,12 @@ module _ (w : Width) (size : ℕ) (b : List ℕ) (p : ℕ) (fits : ℕ → Bool)
   abbrev pub FindsTheOne : Option ℕ → Type 0
   FindsTheOne found = MatchOption found NoneFits FitsAlone
 
--- where no key of the map is misplaced, what is told is told of the position of the one key that fits, or of none where none does
-abbrev pub FindsOneKey : {K V H W : Type 0} → Width → Shape → Shape → ArchivedHashMap K V H W → (List ℕ → ℕ → ℕ) → Comparison
+-- where no key of the map is misplaced, what is told is told of the position of the one key that
+-- fits, or of none where none does
+abbrev pub FindsOneKey : {K V H W : Type 0} → Width → Shape → Shape → ArchivedHashMap K V H W
+    → (List ℕ → ℕ → ℕ) → Comparison
     → (ℕ → Bool) → (Option ℕ → Type 0) → Type 0
-FindsOneKey w k v m key_hash same_key fits Told = map_misplaced w k v key_hash same_key (map_bytes m) (map_pos m) ≡ 0
-    → (place : Option ℕ) × FindsTheOne w (entry_shape k v).size (map_bytes m) (map_pos m) fits place × Told place
+FindsOneKey w k v m key_hash same_key fits Told =
+    map_misplaced w k v key_hash same_key (map_bytes m) (map_pos m) ≡ 0
+    → (place : Option ℕ) × FindsTheOne w (entry_shape k v).size (map_bytes m) (map_pos m) fits place
+    × Told place

@@ -13,15 +13,18 @@ use Rattle.rkyv_base.specs.declared.view.View.{View}
 use Rattle.rkyv_table.specs.Table.Reading.{IsWalked, item_at}
 use Rattle.rkyv_table.specs.Table.SealedLookup.{pos_of_seal}
 use Rattle.rkyv_table.specs.Table.SealedTable.{KeptByValueWrites}
-use Rattle.rkyv_collections.specs.Map.{AreUnderHashAt, FindsFirstKeyAt, FindsKeyAt, IsKeyPosAt, map_shape}
+use Rattle.rkyv_collections.specs.Map.{AreUnderHashAt, FindsFirstKeyAt, FindsKeyAt, IsKeyPosAt}
+use Rattle.rkyv_collections.specs.Map.{map_shape}
 use Rattle.rkyv_collections.specs.declared.map.HashMapOf.{HashMapOf}
 
 -- the header of a map stands where the seal is
-abbrev pub IsMapSeal : {K V H W : Type 0} → Width → Shape → Shape → ArchiveSeal (HashMapOf K V H W) → Type 0
+abbrev pub IsMapSeal : {K V H W : Type 0} → Width → Shape → Shape → ArchiveSeal (HashMapOf K V H W)
+    → Type 0
 IsMapSeal w k v a = Viewed (map_shape w k v) (archive_in a) (pos_in a)
 
 -- the view is that of a key of the map at p, in the same bytes
-pub record IsKeyAt {K : Type 0} (w : Width) (k v : Shape) (b : List ℕ) (p : ℕ) (key : View K) : Type 0 where
+pub record IsKeyAt {K : Type 0} (w : Width) (k v : Shape) (b : List ℕ) (p : ℕ) (key : View K) : Type
+    0 where
   pub bytes : bytes_of key ≡ b
   pub viewed : IsView k key
   pub place : IsKeyPosAt w k v b p (pos_of key)
@@ -33,18 +36,24 @@ module _ {K : Type 0} (w : Width) (k v : Shape) (b : List ℕ) (p : ℕ) where
 
   -- of each key the comparison answers what accept tells of its position
   abbrev pub AnswersKeysAt : (View K → Bool → Type 0) → (ℕ → Bool) → Type 0
-  AnswersKeysAt post accept = (key : View K) (r : Bool) → IsKeyAt w k v b p key → post key r → r ≡ accept (pos_of key)
+  AnswersKeysAt post accept = (key : View K) (r : Bool) → IsKeyAt w k v b p key → post key r
+      → r ≡ accept (pos_of key)
 
-  -- what is told of what a lookup by a comparison finds, for each function of positions as which the comparison answers
+  -- what is told of what a lookup by a comparison finds, for each function of positions as which
+  -- the comparison answers
   abbrev pub FindsByAt : (View K → Bool → Type 0) → ℕ → (Option ℕ → Type 0) → Type 0
-  FindsByAt post hash Told = (accept : ℕ → Bool) → AnswersKeysAt post accept → FindsKeyAt w k v b p hash accept Told
+  FindsByAt post hash Told = (accept : ℕ → Bool) → AnswersKeysAt post accept
+      → FindsKeyAt w k v b p hash accept Told
 
   -- and on a written map, where it accepts keys under the hash alone
-  abbrev pub FindsFirstByAt : (View K → Bool → Type 0) → ℕ → (List ℕ → ℕ → ℕ) → (Option ℕ → Type 0) → Type 0
+  abbrev pub FindsFirstByAt : (View K → Bool → Type 0) → ℕ → (List ℕ → ℕ → ℕ) → (Option ℕ → Type 0)
+      → Type 0
   FindsFirstByAt post hash key_hash Told = (accept : ℕ → Bool) → AnswersKeysAt post accept
-      → AreUnderHashAt w k v b p hash key_hash accept → FindsFirstKeyAt w k v b p key_hash accept Told
+      → AreUnderHashAt w k v b p hash key_hash accept
+      → FindsFirstKeyAt w k v b p key_hash accept Told
 
--- The key of the pair in bucket i of the map at p stands at q, and the value behind it. Every write of the value alone that
+-- The key of the pair in bucket i of the map at p stands at q, and the value behind it. Every write
+-- of the value alone that
 -- keeps the value keeps the map: its header, its controls, all keys and all other values.
 pub record IsPairPos (w : Width) (k v : Shape) (b : List ℕ) (p i q : ℕ) : Type 0 where
   pub walked : IsWalked w b p i
@@ -53,8 +62,10 @@ pub record IsPairPos (w : Width) (k v : Shape) (b : List ℕ) (p i q : ℕ) : Ty
   pub value : Viewed v b (value_pos k v q)
   pub kept : KeptByValueWrites w k v b p i
 
--- the bytes are cut at the begin of the pair's value: the key is viewed in the front, and the seal is at the begin of the back
-pub record LendsPair {K V : Type 0} (w : Width) (k v : Shape) (b : List ℕ) (p i : ℕ) (pair : View K × Seal V) : Type 0 where
+-- the bytes are cut at the begin of the pair's value: the key is viewed in the front, and the seal
+-- is at the begin of the back
+pub record LendsPair {K V : Type 0} (w : Width) (k v : Shape) (b : List ℕ) (p i : ℕ)
+    (pair : View K × Seal V) : Type 0 where
   pub at : IsPairPos w k v b p i (pos_of pair.0)
   pub key : IsView k pair.0
   pub front : bytes_of pair.0 ≡ take (value_pos k v (pos_of pair.0)) b
@@ -62,7 +73,8 @@ pub record LendsPair {K V : Type 0} (w : Width) (k v : Shape) (b : List ℕ) (p 
   pub begin : seal_pos pair.1 ≡ 0
 
 -- the seal is at the pair's value, in the same bytes
-pub record LendsValue {V : Type 0} (w : Width) (k v : Shape) (b : List ℕ) (p i : ℕ) (value : Seal V) : Type 0 where
+pub record LendsValue {V : Type 0} (w : Width) (k v : Shape) (b : List ℕ) (p i : ℕ)
+    (value : Seal V) : Type 0 where
   pub key : ℕ
   pub at : IsPairPos w k v b p i key
   pub bytes : bytes_in value ≡ b
@@ -79,7 +91,8 @@ module _ {K V H W : Type 0} (w : Width) (k v : Shape) (a : ArchiveSeal (HashMapO
 
 -- the key that was found stands at the position, or none was found
 abbrev pub IsPairSealAt : {K V : Type 0} → Option (View K × Seal V) → Option ℕ → Type 0
-IsPairSealAt {K} {V} result place = option_map (λ (pair : View K × Seal V). pos_of pair.0) result ≡ place
+IsPairSealAt {K} {V} result place =
+    option_map (λ (pair : View K × Seal V). pos_of pair.0) result ≡ place
 
 -- the value that was found stands behind the key at the position, or none was found
 abbrev pub IsValueSealAt : {V : Type 0} → Shape → Shape → Option (Seal V) → Option ℕ → Type 0

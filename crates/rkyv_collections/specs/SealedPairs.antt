@@ -11,7 +11,8 @@ use Rattle.rkyv_base.specs.declared.view.View.{View}
 use Rattle.rkyv_table.specs.Controls.Placing.{walk}
 use Rattle.rkyv_table.specs.Table.Header.{cap_at, len_at}
 use Rattle.rkyv_table.specs.Table.Reading.{table_controls}
-use Rattle.rkyv_table.specs.Table.SealedItems.{CountsDown, IsSealIter, SameArchive, StaysThere, buckets_left, cursor_bytes, items_left}
+use Rattle.rkyv_table.specs.Table.SealedItems.{CountsDown, IsSealIter, SameArchive, StaysThere}
+use Rattle.rkyv_table.specs.Table.SealedItems.{buckets_left, cursor_bytes, items_left}
 use Rattle.rkyv_table.specs.Table.SealedTable.{KeepsTable, SameValue}
 use Rattle.rkyv_table.specs.declared.table.raw_iter_seal.RawIterSeal.{RawIterSeal}
 use Rattle.rkyv_collections.specs.SealedMap.{IsPairPos, LendsPair, LendsValue}
@@ -33,13 +34,15 @@ module _ {K V : Type 0} (k v : Shape) where
   IsPairIter w p r = IsSealIter w (entry_shape k v) p r
 
   -- all pairs of the map at p in these bytes are left
-  pub record HasAllPairs (w : Width) (b : List ℕ) (p : ℕ) (r : RawIterSeal (Entry K V)) : Type 0 where
-    pub iter : IsPairIter w p r
-    pub buckets : buckets_left w p r ≡ walk (table_controls w b p) (cap_at w b p)
-    pub count : items_left r ≡ len_at w b p
+  pub record HasAllPairs (w : Width) (b : List ℕ) (p : ℕ) (r : RawIterSeal (Entry K V)) : Type 0
+    where
+      pub iter : IsPairIter w p r
+      pub buckets : buckets_left w p r ≡ walk (table_controls w b p) (cap_at w b p)
+      pub count : items_left r ≡ len_at w b p
 
   -- the first of the pairs that are left is taken, and its key stands at q
-  pub record TakesPairAt (w : Width) (p : ℕ) (before after : RawIterSeal (Entry K V)) (q : ℕ) : Type 0 where
+  pub record TakesPairAt (w : Width) (p : ℕ) (before after : RawIterSeal (Entry K V)) (q : ℕ) : Type
+      0 where
     pub bucket : ℕ
     pub first : buckets_left w p before ≡ bucket ∷ buckets_left w p after
     pub pair : IsPairPos w k v (cursor_bytes before) p bucket q
@@ -54,33 +57,39 @@ module _ {K V : Type 0} (k v : Shape) where
   -- a step over the positions of a map's keys; of its values
   abbrev pub TakesKeyPos : RawIterSeal (Entry K V) → Option ℕ → RawIterSeal (Entry K V) → Type 0
   TakesKeyPos before result after =
-      (w : Width) (p : ℕ) → IsPairIter w p before → MatchOption result (IsDone w p before after) (TakesPairAt w p before after)
+      (w : Width) (p : ℕ) → IsPairIter w p before
+      → MatchOption result (IsDone w p before after) (TakesPairAt w p before after)
 
   -- a step answers where the value of the first pair that is left stands, or none is left
   abbrev pub TakesValuePos : RawIterSeal (Entry K V) → Option ℕ → RawIterSeal (Entry K V) → Type 0
   TakesValuePos before result after =
       (w : Width) (p : ℕ) → IsPairIter w p before
-      → MatchOption result (IsDone w p before after) (λ q. (key : ℕ) × (q ≡ value_pos k v key) × TakesPairAt w p before after key)
+      → MatchOption result (IsDone w p before after) (λ q. (key : ℕ) × (q ≡ value_pos k v key)
+      × TakesPairAt w p before after key)
 
   -- the first pair that a cursor over a map has left is lent; none is where none is left
   abbrev pub LendsFirstPair : RawIterSeal (Entry K V) → Option (View K × Seal V) → Type 0
   LendsFirstPair before result =
       (w : Width) (p : ℕ) → IsPairIter w p before
       → MatchOption result (buckets_left w p before ≡ [])
-      (λ pair. (i : ℕ) × (rest : List ℕ) × (buckets_left w p before ≡ i ∷ rest) × LendsPair w k v (cursor_bytes before) p i pair)
+      (λ pair. (i : ℕ) × (rest : List ℕ) × (buckets_left w p before ≡ i ∷ rest)
+      × LendsPair w k v (cursor_bytes before) p i pair)
 
   -- the value of the first pair
   abbrev pub LendsFirstValue : RawIterSeal (Entry K V) → Option (Seal V) → Type 0
   LendsFirstValue before result =
       (w : Width) (p : ℕ) → IsPairIter w p before
       → MatchOption result (buckets_left w p before ≡ [])
-      (λ value. (i : ℕ) × (rest : List ℕ) × (buckets_left w p before ≡ i ∷ rest) × LendsValue w k v (cursor_bytes before) p i value)
+      (λ value. (i : ℕ) × (rest : List ℕ) × (buckets_left w p before ≡ i ∷ rest)
+      × LendsValue w k v (cursor_bytes before) p i value)
 
-  -- a cursor over a map of which the value behind the key at q was written is one over the map, which is kept, with the same pairs left
+  -- a cursor over a map of which the value behind the key at q was written is one over the map,
+  -- which is kept, with the same pairs left
   abbrev pub KeepsPairs : RawIterSeal (Entry K V) → ℕ → RawIterSeal (Entry K V) → Type 0
   KeepsPairs before q after =
       (w : Width) (p i : ℕ) → IsPairIter w p before → IsPairPos w k v (cursor_bytes before) p i q
-      → KeepsTable w (entry_shape k v) (cursor_bytes before) (cursor_bytes after) p i × SameValue k (cursor_bytes before) (cursor_bytes after) q
+      → KeepsTable w (entry_shape k v) (cursor_bytes before) (cursor_bytes after) p i
+      × SameValue k (cursor_bytes before) (cursor_bytes after) q
       × IsPairIter w p after × (buckets_left w p after ≡ buckets_left w p before)
 
   -- of which the value at q was written
@@ -88,16 +97,21 @@ module _ {K V : Type 0} (k v : Shape) where
   KeepsValues before q after = (key : ℕ) → q ≡ value_pos k v key → KeepsPairs before key after
 
   -- a writer may be given the bytes of the cursor, at each place at which a value fits
-  abbrev pub MayWriteValue : {F : Type 0} → (F → MutBor (List ℕ) → ℕ → Type 0) → RawIterSeal (Entry K V) → F → Type 0
-  MayWriteValue pre before write = (b : MutBor (List ℕ)) (q : ℕ) → b.now ≡ cursor_bytes before → q + v.size ≤ length b.now → pre write b q
+  abbrev pub MayWriteValue : {F : Type 0} → (F → MutBor (List ℕ) → ℕ → Type 0)
+      → RawIterSeal (Entry K V) → F → Type 0
+  MayWriteValue pre before write = (b : MutBor (List ℕ)) (q : ℕ) → b.now ≡ cursor_bytes before
+      → q + v.size ≤ length b.now → pre write b q
 
   -- at each place at which a pair fits
-  abbrev pub MayWritePair : {F : Type 0} → (F → MutBor (List ℕ) → ℕ → Type 0) → RawIterSeal (Entry K V) → F → Type 0
+  abbrev pub MayWritePair : {F : Type 0} → (F → MutBor (List ℕ) → ℕ → Type 0)
+      → RawIterSeal (Entry K V) → F → Type 0
   MayWritePair pre before write = (b : MutBor (List ℕ)) (q : ℕ)
       → b.now ≡ cursor_bytes before → value_pos k v q + v.size ≤ length b.now → pre write b q
 
-  -- a step over the positions of a map's keys, and what the writer does to the archive where a pair was left
-  pub record StepsAndWritesPair (Writes : List ℕ → ℕ → List ℕ → Type 0) (before : RawIterSeal (Entry K V))
+  -- a step over the positions of a map's keys, and what the writer does to the archive where a pair
+  -- was left
+  pub record StepsAndWritesPair (Writes : List ℕ → ℕ → List ℕ
+      → Type 0) (before : RawIterSeal (Entry K V))
       (result : Option ℕ) (after : RawIterSeal (Entry K V)) : Type 0 where
     pub stepped : RawIterSeal (Entry K V)
     pub archive : SameArchive before stepped
@@ -106,10 +120,14 @@ module _ {K V : Type 0} (k v : Shape) where
     pub writes : MatchOption result (after ≡ stepped)
         (λ q. StaysThere stepped after × Writes (cursor_bytes stepped) q (cursor_bytes after))
 
-  -- a step over the positions of a map's values, and what the writer does to the archive where a value was left
-  pub record StepsAndWritesValue (Writes : List ℕ → ℕ → List ℕ → Type 0) (before : RawIterSeal (Entry K V)) (result : Option ℕ) (after : RawIterSeal (Entry K V)) : Type 0 where
+  -- a step over the positions of a map's values, and what the writer does to the archive where a
+  -- value was left
+  pub record StepsAndWritesValue (Writes : List ℕ → ℕ → List ℕ
+      → Type 0) (before : RawIterSeal (Entry K V)) (result : Option ℕ)
+      (after : RawIterSeal (Entry K V)) : Type 0 where
     pub stepped : RawIterSeal (Entry K V)
     pub archive : SameArchive before stepped
     pub counts : CountsDown before result stepped
     pub takes : TakesValuePos before result stepped
-    pub writes : MatchOption result (after ≡ stepped) (λ q. StaysThere stepped after × Writes (cursor_bytes stepped) q (cursor_bytes after))
+    pub writes : MatchOption result (after ≡ stepped) (λ q. StaysThere stepped after
+        × Writes (cursor_bytes stepped) q (cursor_bytes after))

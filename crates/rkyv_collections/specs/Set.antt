@@ -1,4 +1,5 @@
--- What a hash set is in an archive, and what a lookup in it answers: all of it as in the map of its keys.
+-- What a hash set is in an archive, and what a lookup in it answers: all of it as in the map of its
+-- keys.
 use Rattle.std.specs.Prelude.{ℕ, List, Bool, Option}
 use Rattle.std.specs.Borrow.{Bor}
 use Rattle.std.specs.Int.{Width}
@@ -9,7 +10,8 @@ use Rattle.rkyv_base.specs.declared.view.View.{View}
 use Rattle.rkyv_keys.specs.Equality.{Comparison}
 use Rattle.rkyv_keys.specs.OfUnits.{unit_same}
 use Rattle.rkyv_collections.specs.Equality.{map_equal}
-use Rattle.rkyv_collections.specs.Map.{FindsFirstKey, FindsKey, IsKeyIn, IsMap, key_positions, map_archive, map_bytes, map_len, map_pos, map_shape}
+use Rattle.rkyv_collections.specs.Map.{FindsFirstKey, FindsKey, IsKeyIn, IsMap, key_positions}
+use Rattle.rkyv_collections.specs.Map.{map_archive, map_bytes, map_len, map_pos, map_shape}
 use Rattle.rkyv_collections.specs.Misplaced.{FindsOneKey, map_misplaced}
 use Rattle.rkyv_collections.specs.declared.set.ArchivedHashSet.{ArchivedHashSet}
 
@@ -50,17 +52,24 @@ module _ {K H W : Type 0} where
   abbrev pub IsMemberIn : Width → Shape → ArchivedHashSet K H W → View K → Type 0
   IsMemberIn w k s key = IsKeyIn w k unit_shape s.map key
 
-  -- what is told is told of the position of the key that a lookup under the hash finds, on any accepted set
-  abbrev pub FindsMember : Width → Shape → ArchivedHashSet K H W → ℕ → (ℕ → Bool) → (Option ℕ → Type 0) → Type 0
+  -- what is told is told of the position of the key that a lookup under the hash finds, on any
+  -- accepted set
+  abbrev pub FindsMember : Width → Shape → ArchivedHashSet K H W → ℕ → (ℕ → Bool)
+      → (Option ℕ → Type 0) → Type 0
   FindsMember w k s hash accept Told = FindsKey w k unit_shape s.map hash accept Told
 
   -- and on a written one: of the position of the first accepted key in the order handed in
-  abbrev pub FindsFirstMember : Width → Shape → ArchivedHashSet K H W → (List ℕ → ℕ → ℕ) → (ℕ → Bool) → (Option ℕ → Type 0) → Type 0
-  FindsFirstMember w k s key_hash accept Told = FindsFirstKey w k unit_shape s.map key_hash accept Told
+  abbrev pub FindsFirstMember : Width → Shape → ArchivedHashSet K H W → (List ℕ → ℕ → ℕ)
+      → (ℕ → Bool) → (Option ℕ → Type 0) → Type 0
+  FindsFirstMember w k s key_hash accept Told =
+      FindsFirstKey w k unit_shape s.map key_hash accept Told
 
-  -- and where no key is misplaced: of the position of the one key that fits, or of none where none does
-  abbrev pub FindsOneMember : Width → Shape → ArchivedHashSet K H W → (List ℕ → ℕ → ℕ) → Comparison → (ℕ → Bool) → (Option ℕ → Type 0) → Type 0
-  FindsOneMember w k s key_hash same fits Told = FindsOneKey w k unit_shape s.map key_hash same fits Told
+  -- and where no key is misplaced: of the position of the one key that fits, or of none where none
+  -- does
+  abbrev pub FindsOneMember : Width → Shape → ArchivedHashSet K H W → (List ℕ → ℕ → ℕ) → Comparison
+      → (ℕ → Bool) → (Option ℕ → Type 0) → Type 0
+  FindsOneMember w k s key_hash same fits Told =
+      FindsOneKey w k unit_shape s.map key_hash same fits Told
 
 -- equally many keys, and each of the first is found in the other
 abbrev pub set_equal : Width → Shape → (List ℕ → ℕ → ℕ) → Comparison → Comparison

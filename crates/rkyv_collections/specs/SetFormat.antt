@@ -13,17 +13,22 @@ abbrev pub with_units : {A : Type 0} → List A → List (A × Unit {0})
 with_units keys = map (λ key. (key, tt)) keys
 
 -- how a list of keys, in the order handed in, is written as a set under a load factor
-abbrev pub set_format : {A R : Type 0} → Width → Shape → Format A R → (A → ℕ) → ℕ × ℕ → Format (List A) TableResolver
-set_format w k key hash load_factor = written_as with_units (map_format w k unit_shape key unit_format hash load_factor)
+abbrev pub set_format : {A R : Type 0} → Width → Shape → Format A R → (A → ℕ) → ℕ × ℕ
+    → Format (List A) TableResolver
+set_format w k key hash load_factor =
+    written_as with_units (map_format w k unit_shape key unit_format hash load_factor)
 
 -- a header of a set of the keys stands at p
-abbrev pub SetStands : {A : Type 0} → Width → Shape → (List ℕ → ℕ → A → Type 0) → (List ℕ → ℕ → ℕ) → ℕ × ℕ → List ℕ → ℕ → List A → Type 0
-SetStands w k key hash load_factor b p keys = MapStands w k unit_shape key unit_stands hash load_factor b p (with_units keys)
+abbrev pub SetStands : {A : Type 0} → Width → Shape → (List ℕ → ℕ → A → Type 0) → (List ℕ → ℕ → ℕ)
+    → ℕ × ℕ → List ℕ → ℕ → List A → Type 0
+SetStands w k key hash load_factor b p keys =
+    MapStands w k unit_shape key unit_stands hash load_factor b p (with_units keys)
 
 -- the keys that items lend
 abbrev pub lent_keys : {BK A : Type 0} → (BK → A) → List BK → List A
 lent_keys key items = map key items
 
 -- one step of an iterator of keys, with the unit value
-abbrev pub UnitStep : {S BK : Type 0} → (S → Option BK → S → Type 0) → S → Option (BK × Unit {0}) → S → Type 0
+abbrev pub UnitStep : {S BK : Type 0} → (S → Option BK → S → Type 0) → S → Option (BK × Unit {0})
+    → S → Type 0
 UnitStep steps s r t = MatchOption r (steps s None t) (λ x. steps s (Some x.0) t)

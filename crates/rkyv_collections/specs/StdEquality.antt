@@ -9,10 +9,13 @@ use Rattle.rkyv_base.specs.Shape.{Shape}
 use Rattle.rkyv_table.specs.Table.Header.{len_at}
 use Rattle.rkyv_table.specs.Table.Reading.{pos_found}
 
-module _ {A B : Type 0} (w : Width) (k v : Shape) (hash : A → ℕ) (fits : A → List ℕ → ℕ → Bool) (equals : List ℕ → ℕ → B → Type 0) where
+module _ {A B : Type 0} (w : Width) (k v : Shape) (hash : A → ℕ) (fits : A → List ℕ → ℕ
+    → Bool) (equals : List ℕ → ℕ → B → Type 0) where
   -- the pair's key is found in the map at p, with a value that equals the pair's
   abbrev pub FindsPair : List ℕ → ℕ → A × B → Type 0
-  FindsPair b p pair = IsSomeAnd (pos_found generic_kind w (entry_shape k v).size b p (hash pair.0) (fits pair.0 b)) (λ q. equals b (q + value_offset k v) pair.1)
+  FindsPair b p pair = IsSomeAnd
+      (pos_found generic_kind w (entry_shape k v).size b p (hash pair.0) (fits pair.0 b)) (λ q.
+      equals b (q + value_offset k v) pair.1)
 
   -- the map at p has as many pairs as these entries, each of which is found in it
   abbrev pub EntriesEqual : List ℕ → ℕ → List (A × B) → Type 0

@@ -19,49 +19,69 @@ use Rattle.rkyv_collections.specs.StdEquality.{EntriesEqual, FindsPair}
 use Rattle.rkyv_collections.specs.StdMap.{EntriesStand}
 
 -- a set of std's stands: its keys do, each with the unit value
-abbrev pub StdSetStands : {A S : Type 0} → Shape → (List ℕ → ℕ → A → Type 0) → Width → (A → A → Bool) → List ℕ → ℕ → HashSet A S → Type 0
-StdSetStands k key w equal b p s = EntriesStand k unit_shape key unit_stands w equal b p (with_units s.keys)
+abbrev pub StdSetStands : {A S : Type 0} → Shape → (List ℕ → ℕ → A → Type 0) → Width
+    → (A → A → Bool) → List ℕ → ℕ → HashSet A S → Type 0
+StdSetStands k key w equal b p s =
+    EntriesStand k unit_shape key unit_stands w equal b p (with_units s.keys)
 
 pub keys_with_units : {A : Type 0} (keys : List A) → keys_of (with_units keys) ≡ keys
 keys_with_units [] = refl
 keys_with_units {A} (x ∷ xs) = ap (λ (t : List A). x ∷ t) (keys_with_units xs)
 
 -- a key of which this is told was inserted
-abbrev pub InsertsKey : {A S : Type 0} → (A → A → Bool) → (A → Type 0) → HashSet A S → HashSet A S → Type 0
-InsertsKey {A} equal Told s n = (key : A) × Told key × Updates equal s n key true × IsUnique equal n × (hasher_of n ≡ hasher_of s)
+abbrev pub InsertsKey : {A S : Type 0} → (A → A → Bool) → (A → Type 0) → HashSet A S → HashSet A S
+    → Type 0
+InsertsKey {A} equal Told s n =
+    (key : A) × Told key × Updates equal s n key true × IsUnique equal n
+    × (hasher_of n ≡ hasher_of s)
 
 -- reading a key and inserting it may fail for want of memory, and where reading the key may
 abbrev pub key_refuses : Refusals → Refusals
 key_refuses key b q e = (e ≡ Memory) ⊎ key b q e
 
--- reading a set of std's back may fail for want of memory, and where reading a key of the set at p may
+-- reading a set of std's back may fail for want of memory, and where reading a key of the set at p
+-- may
 abbrev pub std_set_refuses : Width → Shape → Refusals → Refusals
-std_set_refuses w k key b p e = (e ≡ Memory) ⊎ ((q : ℕ) × IsKeyPosAt w k unit_shape b p q × key b q e)
+std_set_refuses w k key b p e =
+    (e ≡ Memory) ⊎ ((q : ℕ) × IsKeyPosAt w k unit_shape b p q × key b q e)
 
 -- a set of std's was read back: it stands, and has this state
-abbrev pub ReadsStdSet : {A S : Type 0} → (List ℕ → ℕ → HashSet A S → Type 0) → List ℕ → ℕ → S → HashSet A S → Type 0
+abbrev pub ReadsStdSet : {A S : Type 0} → (List ℕ → ℕ → HashSet A S → Type 0) → List ℕ → ℕ → S
+    → HashSet A S → Type 0
 ReadsStdSet stands b p state s = stands b p s × (hasher_of s ≡ state)
 
 -- the set at p has as many keys as the set of std's, each key of which is found in it
-abbrev pub StdSetEquals : {A S : Type 0} → Width → Shape → (A → ℕ) → (A → List ℕ → ℕ → Bool) → List ℕ → ℕ → HashSet A S → Type 0
-StdSetEquals w k hash fits b p s = (len_at w b p ≡ hash_set_len s) × All (λ key. FindsPair w k unit_shape hash fits unit_stands b p (key, tt)) s.keys
+abbrev pub StdSetEquals : {A S : Type 0} → Width → Shape → (A → ℕ) → (A → List ℕ → ℕ → Bool)
+    → List ℕ → ℕ → HashSet A S → Type 0
+StdSetEquals w k hash fits b p s =
+    (len_at w b p ≡ hash_set_len s)
+    × All (λ key. FindsPair w k unit_shape hash fits unit_stands b p (key, tt)) s.keys
 
-all_units : {A : Type 0} (P : A × Unit {0} → Type 0) (keys : List A) → All P (with_units keys) → All (λ key. P (key, tt)) keys
+all_units : {A : Type 0} (P : A × Unit {0} → Type 0) (keys : List A) → All P (with_units keys)
+    → All (λ key. P (key, tt)) keys
 all_units P [] all = λ k d h. absurd (omega (arith, h))
 all_units P (x ∷ xs) all =
-    All-cons (λ key. P (key, tt)) x xs (All-head P (x, tt) (with_units xs) all) (all_units P xs (All-tail P (x, tt) (with_units xs) all))
+    All-cons (λ key. P (key, tt)) x xs (All-head P (x, tt) (with_units xs) all)
+    (all_units P xs (All-tail P (x, tt) (with_units xs) all))
 
 -- what equals the keys, each with the unit value, equals the set
-pub set_equal_entries : {A : Type 0} (w : Width) (k : Shape) (hash : A → ℕ) (fits : A → List ℕ → ℕ → Bool) (b : List ℕ) (p : ℕ) (keys : List A)
+pub set_equal_entries : {A : Type 0} (w : Width) (k : Shape) (hash : A → ℕ) (fits : A → List ℕ → ℕ
+    → Bool) (b : List ℕ) (p : ℕ) (keys : List A)
     → EntriesEqual w k unit_shape hash fits unit_stands b p (with_units keys)
-    → (len_at w b p ≡ length keys) × All (λ key. FindsPair w k unit_shape hash fits unit_stands b p (key, tt)) keys
-set_equal_entries w k hash fits b p keys h =
-    (h.0 ∙ length-map keys (λ key. (key, tt)), all_units (FindsPair w k unit_shape hash fits unit_stands b p) keys h.1)
+    → (len_at w b p ≡ length keys)
+    × All (λ key. FindsPair w k unit_shape hash fits unit_stands b p (key, tt)) keys
+set_equal_entries w k hash fits b p keys h = (
+  h.0 ∙ length-map keys (λ key. (key, tt)),
+  all_units (FindsPair w k unit_shape hash fits unit_stands b p) keys h.1,
+)
 
 -- what is written of a set of std's equals it
-pub set_equal_written : {X A R : Type 0} (w : Width) (k s : Shape) (hash : A → ℕ) (fits : A → List ℕ → ℕ → Bool) (seen : X → List A) (f : Format X R)
-    → IsFormat s (λ b p x. EntriesEqual w k unit_shape hash fits unit_stands b p (with_units (seen x))) f
-    → IsFormat s (λ b p x. (len_at w b p ≡ length (seen x)) × All (λ key. FindsPair w k unit_shape hash fits unit_stands b p (key, tt)) (seen x)) f
+pub set_equal_written : {X A R : Type 0} (w : Width) (k s : Shape) (hash : A → ℕ) (fits : A → List ℕ
+    → ℕ → Bool) (seen : X → List A) (f : Format X R)
+    → IsFormat s (λ b p x. EntriesEqual w k unit_shape hash fits unit_stands b p
+    (with_units (seen x))) f
+    → IsFormat s (λ b p x. (len_at w b p ≡ length (seen x))
+    × All (λ key. FindsPair w k unit_shape hash fits unit_stands b p (key, tt)) (seen x)) f
 set_equal_written w k s hash fits seen f law = record {
   whole = law.whole;
   clear = law.clear;

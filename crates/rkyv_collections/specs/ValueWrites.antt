@@ -12,7 +12,8 @@ use Rattle.rkyv_collections.specs.MapFormat.{MapStands}
 
 -- whether a key fits rests on the bytes on which it rests that the key holds
 abbrev pub RestsOnKey : Shape → (List ℕ → ℕ → Bool) → Type 0
-RestsOnKey k fits = (b c : List ℕ) (q : ℕ) → Standing k b q → SameValue k b c q → fits c q ≡ fits b q
+RestsOnKey k fits = (b c : List ℕ) (q : ℕ) → Standing k b q → SameValue k b c q
+    → fits c q ≡ fits b q
 
 module _ (w : Width) (k v : Shape) where
   -- where the entry in bucket i stands, and where its value begins
@@ -24,35 +25,49 @@ module _ (w : Width) (k v : Shape) where
     pub sealed : Sealed b (value_pos k v q) v.size c
     pub keeps : Keeps v b c (value_pos k v q)
 
-  -- The map at p in b is one in c, of which the value in bucket i was written: its header, its controls, all keys and all
-  -- other values are the same, each lookup finds the same key, and a map that was written stays one.
+  -- The map at p in b is one in c, of which the value in bucket i was written: its header, its
+  -- controls, all keys and all
+  -- other values are the same, each lookup finds the same key, and a map that was written stays
+  -- one.
   pub record KeepsMap (key_hash : List ℕ → ℕ → ℕ) (b c : List ℕ) (p i : ℕ) : Type 0 where
     pub table : KeepsTable w (entry_shape k v) b c p i
     pub stands : Viewed (map_shape w k v) c p
     pub places : (j : ℕ) → entry_at c p j ≡ entry_at b p j
     pub keys : (j : ℕ) → IsWalked w b p j → SameValue k b c (entry_at b p j)
-    pub hashes : (j : ℕ) → IsWalked w b p j → key_hash c (entry_at b p j) ≡ key_hash b (entry_at b p j)
+    pub hashes : (j : ℕ) → IsWalked w b p j
+        → key_hash c (entry_at b p j) ≡ key_hash b (entry_at b p j)
     pub lookups : (hash : ℕ) (fits : List ℕ → ℕ → Bool) → hash < 2 ^ 64 → RestsOnKey k fits
-        → pos_found generic_kind w (entry_shape k v).size c p hash (fits c) ≡ pos_found generic_kind w (entry_shape k v).size b p hash (fits b)
-    pub written : (homes : List ℕ) → MapWrittenAt w (entry_shape k v) key_hash b p homes → MapWrittenAt w (entry_shape k v) key_hash c p homes
+        → pos_found generic_kind w (entry_shape k v).size c p hash (fits c)
+        ≡ pos_found generic_kind w (entry_shape k v).size b p hash (fits b)
+    pub written : (homes : List ℕ) → MapWrittenAt w (entry_shape k v) key_hash b p homes
+        → MapWrittenAt w (entry_shape k v) key_hash c p homes
 
   -- a write of one value in place keeps the map
   abbrev pub ValueWritesKeepMaps : (List ℕ → ℕ → ℕ) → Type 0
   ValueWritesKeepMaps key_hash =
-      (b c : List ℕ) (p i : ℕ) → Viewed (map_shape w k v) b p → IsWalked w b p i → WritesValue b c (entry_at b p i) → KeepsMap key_hash b c p i
+      (b c : List ℕ) (p i : ℕ) → Viewed (map_shape w k v) b p → IsWalked w b p i
+      → WritesValue b c (entry_at b p i) → KeepsMap key_hash b c p i
 
-  -- a write of one value in place keeps the answer of each query, whose hash is a function of the query
-  abbrev pub ValueWritesKeepAnswers : {Q : Type 0} → (Q → Type 0) → (Q → ℕ) → (Q → List ℕ → ℕ → Bool) → Type 0
+  -- a write of one value in place keeps the answer of each query, whose hash is a function of the
+  -- query
+  abbrev pub ValueWritesKeepAnswers : {Q : Type 0} → (Q → Type 0) → (Q → ℕ)
+      → (Q → List ℕ → ℕ → Bool) → Type 0
   ValueWritesKeepAnswers {Q} can_read hash fits =
-      (b c : List ℕ) (p i : ℕ) → Viewed (map_shape w k v) b p → IsWalked w b p i → WritesValue b c (entry_at b p i)
+      (b c : List ℕ) (p i : ℕ) → Viewed (map_shape w k v) b p → IsWalked w b p i
+      → WritesValue b c (entry_at b p i)
       → (q : Q) → can_read q
-      → pos_found generic_kind w (entry_shape k v).size c p (hash q) (fits q c) ≡ pos_found generic_kind w (entry_shape k v).size b p (hash q) (fits q b)
+      → pos_found generic_kind w (entry_shape k v).size c p (hash q) (fits q c)
+      ≡ pos_found generic_kind w (entry_shape k v).size b p (hash q) (fits q b)
 
   -- a map that stands for a list of pairs stands for the list with the new value
-  abbrev pub ValuesWrittenStand : {A B : Type 0} → (List ℕ → ℕ → A → Type 0) → (List ℕ → ℕ → B → Type 0) → (List ℕ → ℕ → ℕ) → Type 0
+  abbrev pub ValuesWrittenStand : {A B : Type 0} → (List ℕ → ℕ → A → Type 0)
+      → (List ℕ → ℕ → B → Type 0) → (List ℕ → ℕ → ℕ) → Type 0
   ValuesWrittenStand {A} {B} key value key_hash =
-      (b c : List ℕ) (p n : ℕ) (factor : ℕ × ℕ) (pairs : List (A × B)) (pair : A × B) (new : B) → Viewed (map_shape w k v) b p
-      → (stands : MapStands w k v key value key_hash factor b p pairs) → slice_get pairs n ≡ Some pair
+      (b c : List ℕ) (p n : ℕ) (factor : ℕ × ℕ) (pairs : List (A × B)) (pair : A × B) (new : B)
+      → Viewed (map_shape w k v) b p
+      → (stands : MapStands w k v key value key_hash factor b p pairs)
+      → slice_get pairs n ≡ Some pair
       → WritesValue b c (slice_index (home_positions w (entry_shape k v).size b p stands.homes) n)
-      → value c (value_pos k v (slice_index (home_positions w (entry_shape k v).size b p stands.homes) n)) new
+      → value c (value_pos k v (slice_index
+      (home_positions w (entry_shape k v).size b p stands.homes) n)) new
       → MapStands w k v key value key_hash factor c p (slice_set pairs n (pair.0, new))

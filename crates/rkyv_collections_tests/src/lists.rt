@@ -35,7 +35,8 @@ struct Halves<'a, A, B> {
 impl<'a, A, B> Iterator for Halves<'a, A, B> {
     type Item = (&'a A, &'a B);
 
-    ghost next_gives = { YieldsFirstBy (λ halves. (halves.0.now, halves.1.now)) (λ s. iter_rest s.pairs) };
+    ghost next_gives = { YieldsFirstBy (λ halves. (halves.0.now, halves.1.now))
+        (λ s. iter_rest s.pairs) };
 
     ghost remaining = { λ s. at_most (length (iter_rest s.pairs)) };
 
@@ -50,9 +51,11 @@ impl<'a, A, B> Iterator for Halves<'a, A, B> {
 impl<W: Width, H: KeyHasher, A, B, K: KeyElement + StandsFor<A>, V: StandsFor<B>> StandsFor<
     Pairs<A, B, H>,
 > for HashMapOf<K, V, H, W> {
-    ghost stands = { λ b p x. MapStands W.word K.shape V.shape K.stands V.stands (hash_at H.hasher K.key_calls) (7, 8) b p x.0.items };
+    ghost stands = { λ b p x. MapStands W.word K.shape V.shape K.stands V.stands
+        (hash_at H.hasher K.key_calls) (7, 8) b p x.0.items };
 
-    ghost near = { λ x. map_near H.hasher W.word K.laws V.laws (7, 8) K.key K.near V.near x.0.items };
+    ghost near = { λ x. map_near H.hasher W.word K.laws V.laws (7, 8) K.key K.near V.near
+        x.0.items };
 }
 
 impl<W: Width, H: KeyHasher, A: Archive<W>, B: Archive<W>> Archive<W> for Pairs<A, B, H>
@@ -65,7 +68,8 @@ where
     type Resolver = HashMapResolver<W>;
 
     ghost format = { written_as (λ x. x.0.items) (listed W.MAX_CAPACITY (7, 8)
-        (map_format W.word A.Archived.shape B.Archived.shape A.format B.format (hash_of H.hasher A.calls) (7, 8))) };
+        (map_format W.word A.Archived.shape B.Archived.shape A.format B.format
+        (hash_of H.hasher A.calls) (7, 8))) };
 
     fn resolve(
         &self,
@@ -84,11 +88,15 @@ where
         )
     }
 
-    ghost laws = { let stands = MapStands W.word A.Archived.shape B.Archived.shape A.Archived.stands B.Archived.stands (hash_at H.hasher A.Archived.key_calls) (7, 8) in
-        let format = map_format W.word A.Archived.shape B.Archived.shape A.format B.format (hash_of H.hasher A.calls) (7, 8) in
+    ghost laws = { let stands = MapStands W.word A.Archived.shape B.Archived.shape A.Archived.stands
+        B.Archived.stands (hash_at H.hasher A.Archived.key_calls) (7, 8) in
+        let format = map_format W.word A.Archived.shape B.Archived.shape A.format B.format
+        (hash_of H.hasher A.calls) (7, 8) in
         let shape = map_shape W.word A.Archived.shape B.Archived.shape in
-        written_as-format (λ x. x.0.items) shape stands (listed W.MAX_CAPACITY (7, 8) format) (listed_format W.MAX_CAPACITY (7, 8) shape stands format
-        (map_sound H.hasher W.word A.Archived.laws B.Archived.laws (7, 8) W.layout.kind A.query A.native A.Eq.laws.refl A.reads A.Archive.laws B.laws)) };
+        written_as-format (λ x. x.0.items) shape stands (listed W.MAX_CAPACITY (7, 8) format)
+        (listed_format W.MAX_CAPACITY (7, 8) shape stands format
+        (map_sound H.hasher W.word A.Archived.laws B.Archived.laws (7, 8) W.layout.kind A.query
+        A.native A.Eq.laws.refl A.reads A.Archive.laws B.laws)) };
 }
 
 impl<S: Writer, W: Width, H: KeyHasher, A: Serialize<S, W>, B: Serialize<S, W>> Serialize<S, W>

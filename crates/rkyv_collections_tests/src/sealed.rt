@@ -48,9 +48,12 @@ fn value_found<K: KeyElement, V: Element, H: KeyHasher, W: Width, Q: Query<K>>(
 ) -> Option<u64>
     requires map { Viewed (map_shape W.word K.shape V.shape) bytes.now root }
     requires query { Q.can_read key.now }
-    ensures walked { IfSome result (λ pos. (place : ℕ) × IsKeyPosAt W.word K.shape V.shape bytes.now root place × (pos ≡ value_pos K.shape V.shape place)) }
+    ensures walked { IfSome result (λ pos. (place : ℕ)
+        × IsKeyPosAt W.word K.shape V.shape bytes.now root place
+        × (pos ≡ value_pos K.shape V.shape place)) }
     ensures answer { let hash = hash_of_calls H.hasher (Q.calls key.now) in
-        FindsKeyAt W.word K.shape V.shape bytes.now root hash (Q.fits key.now bytes.now) (λ place. result ≡ option_map (value_pos K.shape V.shape) place) }
+        FindsKeyAt W.word K.shape V.shape bytes.now root hash (Q.fits key.now bytes.now) (λ place.
+        result ≡ option_map (value_pos K.shape V.shape) place) }
 {
     let map = ArchivedHashMap::<K, V, H, W>::of(View::new(bytes, root));
     match map.get(key) {
@@ -67,9 +70,11 @@ fn write_value<K: KeyElement, N: Scalar, H: KeyHasher, W: Width>(
     value: N,
 )
     requires map { Viewed (map_shape W.word K.shape (scalar_shape N.encoding)) bytes.old root }
-    requires place { (place : ℕ) × IsKeyPosAt W.word K.shape (scalar_shape N.encoding) bytes.old root place × (pos ≡ value_pos K.shape (scalar_shape N.encoding) place) }
+    requires place { (place : ℕ) × IsKeyPosAt W.word K.shape (scalar_shape N.encoding) bytes.old
+        root place × (pos ≡ value_pos K.shape (scalar_shape N.encoding) place) }
     ensures kept { let key_hash = hash_at H.hasher K.key_calls in
-        (i : ℕ) × KeepsMap W.word K.shape (scalar_shape N.encoding) key_hash bytes.old bytes.new root i }
+        (i : ℕ) × KeepsMap W.word K.shape (scalar_shape N.encoding) key_hash bytes.old bytes.new
+        root i }
     ensures reads { value_at N.encoding bytes.new pos ≡ value }
 {
     set_at(bytes, pos as usize, value);
@@ -86,7 +91,8 @@ fn stored<K: KeyElement, N: Scalar, H: KeyHasher, W: Width, Q: Query<K>>(
     requires map { Viewed (map_shape W.word K.shape (scalar_shape N.encoding)) bytes.old root }
     requires query { Q.can_read key.now }
     ensures { let hash = hash_of_calls H.hasher (Q.calls key.now) in
-        FindsKeyAt W.word K.shape (scalar_shape N.encoding) bytes.old root hash (Q.fits key.now bytes.old) (λ place. result ≡ option_map (λ _. value) place) }
+        FindsKeyAt W.word K.shape (scalar_shape N.encoding) bytes.old root hash
+        (Q.fits key.now bytes.old) (λ place. result ≡ option_map (λ _. value) place) }
 {
     let pos = match value_found::<K, N, H, W, Q>(&*bytes, root, key) {
         Some(pos) => pos,
@@ -198,7 +204,8 @@ fn a_pair_is_lent_with_its_key(rt: HostRuntime) {
     assert_eq!(rt; (before, bytes[4]), (Some(Some((1, 2))), 7));
 }
 
-// Writes a number over the value that a comparison finds which always answers this: what stood there.
+// Writes a number over the value that a comparison finds which always answers this: what stood
+// there.
 fn replace_by(
     bytes: &mut [u8],
     key: u32,
@@ -237,8 +244,8 @@ fn a_comparison_may_be_handed_in(rt: HostRuntime) {
     assert_eq!(rt; (key, before, bytes[4]), (Some(Some(1)), Some(Some(2)), 7));
 }
 
-// Writes these numbers over the values that a cursor lends, one after the other. Whether there are as
-// many values, the cursor tells each time how many are left, and lends nothing after the last.
+// Writes these numbers over the values that a cursor lends, one after the other. Whether there are
+// as many values, the cursor tells each time how many are left, and lends nothing after the last.
 fn write_values(bytes: &mut [u8], values: &[i8]) -> Result<bool, VerifyError> {
     let whole = access_mut::<Small>(bytes)?;
     let mut rest = ArchivedHashMap::values_seal(whole);

@@ -342,8 +342,8 @@ fn a_limit_keeps_a_front_of_the_archive(rt: HostRuntime) -> Result<(), Fail> {
     Ok(())
 }
 
-// How many texts of an archived set one of std's has, and how many of that one the archived set has;
-// and whether they are equal, by the calls of both sides.
+// How many texts of an archived set one of std's has, and how many of that one the archived set
+// has; and whether they are equal, by the calls of both sides.
 fn members_both_ways(
     bytes: &[u8],
     words: &HashSet<String>,
@@ -396,7 +396,8 @@ fn a_set_in_a_map(rt: HostRuntime) -> Result<(), Fail> {
     Ok(())
 }
 
-// Whether an archived map equals one with a hash state of its own, and is read back with that state.
+// Whether an archived map equals one with a hash state of its own, and is read back with that
+// state.
 fn is_read_with<T: BuildHasher + Copy + Drop>(
     alloc: Global,
     bytes: &[u8],

@@ -46,8 +46,8 @@ fn next_value<K: Element, V: Element, H, W>(rest: &mut Values<'_, K, V, H, W>) -
     }
 }
 
-// What a walk over the pairs of a map gives at its first six asks, and how many are left before, after
-// two of them and then, by both calls.
+// What a walk over the pairs of a map gives at its first six asks, and how many are left before,
+// after two of them and then, by both calls.
 fn pairs_of<K: Element, V: Element>(
     bytes: &[u8],
 ) -> Result<

@@ -6,8 +6,11 @@ use Rattle.rkyv_base.specs.declared.writer.NoMemory.{NoMemory}
 use Rattle.rkyv_dict.specs.Archives.{IsArchive, IsRefused, entry_count}
 use Rattle.rkyv_dict.specs.Built.{BuildRefused, IsBuilt, kind_of_pairs}
 use Rattle.rkyv_dict.specs.Errors.{wants_memory}
-use Rattle.rkyv_dict.specs.Output.{answered, audit_line, bad_line, built_line, error_line, get_line, hex_line, list_lines, ok_line, refused_line}
-use Rattle.rkyv_dict.specs.Script.{Request, set_kind, set_width, set_load_factor, put_numbers, put_texts, build_archive, check_archive, show_hex, get_value, list_pairs, count_misplaced, request_of}
+use Rattle.rkyv_dict.specs.Output.{answered, audit_line, bad_line, built_line, error_line, get_line}
+use Rattle.rkyv_dict.specs.Output.{hex_line, list_lines, ok_line, refused_line}
+use Rattle.rkyv_dict.specs.Script.{Request, set_kind, set_width, set_load_factor, put_numbers}
+use Rattle.rkyv_dict.specs.Script.{put_texts, build_archive, check_archive, show_hex, get_value}
+use Rattle.rkyv_dict.specs.Script.{list_pairs, count_misplaced, request_of}
 use Rattle.rkyv_dict.specs.State.{State, emptied, form_of, with_numbers, with_texts}
 
 -- ---- the two requests whose outcome rests on the bytes
@@ -54,9 +57,12 @@ Shows s shown answer s' = (answer ≡ shown) × (s' ≡ s)
 abbrev pub Does : State → Request → List ℕ → State → Type 0
 Does s (set_kind kind) answer s' = Sets (emptied kind s.bits s) answer s'
 Does s (set_width bits) answer s' = Sets (emptied (kind_of_pairs s.pairs) bits s) answer s'
-Does s (set_load_factor numerator denominator) answer s' = Sets (record s { load_factor = (numerator, denominator) }) answer s'
-Does s (put_numbers key value) answer s' = Sets (record s { pairs = with_numbers s.pairs key value }) answer s'
-Does s (put_texts key value) answer s' = Sets (record s { pairs = with_texts s.pairs key value }) answer s'
+Does s (set_load_factor numerator denominator) answer s' =
+    Sets (record s { load_factor = (numerator, denominator) }) answer s'
+Does s (put_numbers key value) answer s' =
+    Sets (record s { pairs = with_numbers s.pairs key value }) answer s'
+Does s (put_texts key value) answer s' =
+    Sets (record s { pairs = with_texts s.pairs key value }) answer s'
 Does s build_archive answer s' = Builds s answer s' ⊎ RefusesBuild s answer s'
 Does s (check_archive bytes) answer s' = Takes s bytes answer s' ⊎ RefusesCheck s bytes answer s'
 Does s show_hex answer s' = Shows s (answered hex_line s.archive) answer s'
@@ -79,4 +85,5 @@ DoesLine s (b ∷ bs) answer s' = DoesIf s (request_of (kind_of_pairs s.pairs) (
 -- the lines, one after the other from a state on, answer this and lead to that state
 unfoldable pub Runs : State → List (List ℕ) → List ℕ → State → Type 0
 Runs s [] output s' = Sets s output s'
-Runs s (l ∷ ls) output s' = (answer : List ℕ) × (next : State) × (rest : List ℕ) × DoesLine s l answer next × Runs next ls rest s' × (output ≡ answer ++ rest)
+Runs s (l ∷ ls) output s' = (answer : List ℕ) × (next : State) × (rest : List ℕ)
+    × DoesLine s l answer next × Runs next ls rest s' × (output ≡ answer ++ rest)

@@ -1,5 +1,6 @@
 -- An archive of a form: when bytes are one, and what it answers.
-use Rattle.std.specs.Prelude.{ℕ, ◌==◌, ◌+◌, ◌-◌, Bool, List, [], ◌∷◌, ◌++◌, length, Option, Some, None, codes, decimal}
+use Rattle.std.specs.Prelude.{ℕ, ◌==◌, ◌+◌, ◌-◌, Bool, List, [], ◌∷◌, ◌++◌, length, Option, Some}
+use Rattle.std.specs.Prelude.{None, codes, decimal}
 use Rattle.std.specs.Int.{w32}
 use Rattle.std.specs.List.{flat_map}
 use Rattle.std.specs.Option.{option_map}
@@ -74,11 +75,14 @@ module _ (k : Parts) where
 
     -- the number of pairs, then a line for each
     unfoldable pub pair_lines : List ℕ
-    pair_lines = line (codes "entries " ++ decimal pair_count) ++ flat_map (line_at k.shape k.text b) pair_positions
+    pair_lines = line (codes "entries " ++ decimal pair_count)
+        ++ flat_map (line_at k.shape k.text b) pair_positions
 
-    -- the text of the value that a lookup finds of a key with these calls, where accept tells of a key by its place
+    -- the text of the value that a lookup finds of a key with these calls, where accept tells of a
+    -- key by its place
     unfoldable pub value_under : List HasherCall → (ℕ → Bool) → Option (List ℕ)
-    value_under calls accept = option_map value_text (pos_found generic_kind k.word pair_shape.size b root (hash calls) accept)
+    value_under calls accept = option_map value_text
+        (pos_found generic_kind k.word pair_shape.size b root (hash calls) accept)
 
     -- how many keys a lookup doesn't answer where they stand
     unfoldable pub keys_misplaced : ℕ
@@ -106,8 +110,10 @@ misplaced_count form b = keys_misplaced (parts_of form) b
 
 -- the text of the value that a lookup finds; a key of another kind is never found
 abbrev pub found_in : Kind → Bits → List ℕ → Asked → Option (List ℕ)
-found_in Num bits b (asked_number n) = value_under (number_parts bits) b (number_calls n) (λ q. n == number_at w32 b q)
-found_in Text bits b (asked_text t) = value_under (text_parts bits) b (text_calls t) (λ q. same_bytes t (text_at (word_of bits) b q))
+found_in Num bits b (asked_number n) =
+    value_under (number_parts bits) b (number_calls n) (λ q. n == number_at w32 b q)
+found_in Text bits b (asked_text t) =
+    value_under (text_parts bits) b (text_calls t) (λ q. same_bytes t (text_at (word_of bits) b q))
 found_in Num bits b (asked_text t) = None
 found_in Text bits b (asked_number n) = None
 

@@ -34,7 +34,8 @@ module _ (k : Parts) {A : Type 0} (factor : ℕ × ℕ) where
   module _ (stands : List ℕ → ℕ → A → Type 0) where
     -- a header of a map of the pairs stands at p
     abbrev pub PairsStandAt : List ℕ → ℕ → List (A × A) → Type 0
-    PairsStandAt b p pairs = MapStands k.word k.shape k.shape stands stands (λ c q. hash (k.calls c q)) factor b p pairs
+    PairsStandAt b p pairs = MapStands k.word k.shape k.shape stands stands (λ c q.
+        hash (k.calls c q)) factor b p pairs
 
     -- a map of the pairs stands at the root
     unfoldable pub PairsStand : List (A × A) → List ℕ → Type 0
@@ -43,23 +44,28 @@ module _ (k : Parts) {A : Type 0} (factor : ℕ × ℕ) where
   module _ {R : Type 0} (most : ℕ) (format : Format A R) (calls : A → List HasherCall) where
     -- how the pairs are written, in at most so many buckets
     abbrev pub pairs_format : Format (List (A × A)) TableResolver
-    pairs_format = listed most factor (map_format k.word k.shape k.shape format format (λ a. hash (calls a)) factor)
+    pairs_format = listed most factor
+        (map_format k.word k.shape k.shape format format (λ a. hash (calls a)) factor)
 
     -- the bytes are the archive of the pairs
     unfoldable pub IsArchiveOf : (List ℕ → ℕ → A → Type 0) → List (A × A) → List ℕ → Type 0
-    IsArchiveOf stands pairs b = ArchiveOf k.limit (header_shape k) (PairsStandAt stands) pairs_format pairs b
+    IsArchiveOf stands pairs b = ArchiveOf k.limit (header_shape k) (PairsStandAt stands)
+        pairs_format pairs b
 
     -- no archive was made of the pairs
     unfoldable pub NoArchiveOf : {F : Type 0} → List (A × A) → WriteError F → Type 0
     NoArchiveOf pairs e = ArchiveRefused k.limit (header_shape k) pairs_format pairs e
 
--- The bytes are the archive of the pairs, in their order, as a map under the load factor: they are accepted, the map of the
+-- The bytes are the archive of the pairs, in their order, as a map under the load factor: they are
+-- accepted, the map of the
 -- pairs stands at the root, and no bytes but its own are there.
 abbrev pub built_in : Kind → Bits → ℕ × ℕ → Pairs → List ℕ → Type 0
 built_in Num bits factor (numbers pairs) b =
-    IsArchiveOf (number_parts bits) factor (buckets_of bits) (scalar_format (unsigned w32)) number_calls (ScalarStands (unsigned w32)) pairs b
+    IsArchiveOf (number_parts bits) factor (buckets_of bits) (scalar_format (unsigned w32))
+    number_calls (ScalarStands (unsigned w32)) pairs b
 built_in Text bits factor (texts pairs) b =
-    IsArchiveOf (text_parts bits) factor (buckets_of bits) (text_format (word_of bits)) text_calls (TextReads (word_of bits)) pairs b
+    IsArchiveOf (text_parts bits) factor (buckets_of bits) (text_format (word_of bits)) text_calls
+    (TextReads (word_of bits)) pairs b
 built_in Num bits factor (texts pairs) b = ⊥
 built_in Text bits factor (numbers pairs) b = ⊥
 
@@ -69,8 +75,12 @@ IsBuilt form factor pairs b = built_in form.kind form.bits factor pairs b
 
 -- why there is no archive of the pairs
 abbrev pub refused_in : {F : Type 0} → Kind → Bits → ℕ × ℕ → Pairs → WriteError F → Type 0
-refused_in Num bits factor (numbers pairs) e = NoArchiveOf (number_parts bits) factor (buckets_of bits) (scalar_format (unsigned w32)) number_calls pairs e
-refused_in Text bits factor (texts pairs) e = NoArchiveOf (text_parts bits) factor (buckets_of bits) (text_format (word_of bits)) text_calls pairs e
+refused_in Num bits factor (numbers pairs) e =
+    NoArchiveOf (number_parts bits) factor (buckets_of bits) (scalar_format (unsigned w32))
+    number_calls pairs e
+refused_in Text bits factor (texts pairs) e =
+    NoArchiveOf (text_parts bits) factor (buckets_of bits) (text_format (word_of bits)) text_calls
+    pairs e
 refused_in Num bits factor (texts pairs) e = ⊥
 refused_in Text bits factor (numbers pairs) e = ⊥
 
@@ -80,8 +90,10 @@ BuildRefused form factor pairs e = refused_in form.kind form.bits factor pairs e
 
 -- a map of the pairs stands at the root, in whatever archive
 abbrev pub holds_in : Kind → Bits → ℕ × ℕ → List ℕ → Pairs → Type 0
-holds_in Num bits factor b (numbers pairs) = PairsStand (number_parts bits) factor (ScalarStands (unsigned w32)) pairs b
-holds_in Text bits factor b (texts pairs) = PairsStand (text_parts bits) factor (TextReads (word_of bits)) pairs b
+holds_in Num bits factor b (numbers pairs) =
+    PairsStand (number_parts bits) factor (ScalarStands (unsigned w32)) pairs b
+holds_in Text bits factor b (texts pairs) =
+    PairsStand (text_parts bits) factor (TextReads (word_of bits)) pairs b
 holds_in Num bits factor b (texts pairs) = ⊥
 holds_in Text bits factor b (numbers pairs) = ⊥
 

@@ -1,9 +1,20 @@
 -- Errors as the answers tell them: the number and the name.
 use Rattle.std.specs.Prelude.{ℕ, Bool, true, false, List, codes}
 use Rattle.rkyv_base.specs.declared.errors.VerifyError.{VerifyError}
-use Rattle.rkyv_base.specs.declared.errors.VerifyError.TheVariants.{OutOfRange, Unaligned, InvalidLength, WrongNumberOfElements, UnwrappedControlByte, PlaceOutOfRange, InvalidValue, Refused}
+use Rattle.rkyv_base.specs.declared.errors.VerifyError.TheVariants.{OutOfRange, Unaligned}
+use Rattle.rkyv_base.specs.declared.errors.VerifyError.TheVariants.{InvalidLength}
+use Rattle.rkyv_base.specs.declared.errors.VerifyError.TheVariants.{WrongNumberOfElements}
+use Rattle.rkyv_base.specs.declared.errors.VerifyError.TheVariants.{UnwrappedControlByte}
+use Rattle.rkyv_base.specs.declared.errors.VerifyError.TheVariants.{PlaceOutOfRange, InvalidValue}
+use Rattle.rkyv_base.specs.declared.errors.VerifyError.TheVariants.{Refused}
 use Rattle.rkyv_base.specs.declared.errors.WriteError.{WriteError}
-use Rattle.rkyv_base.specs.declared.errors.WriteError.TheVariants.{InvalidLoadFactor, IteratorLengthMismatch, CapacityTooLarge, PositionTooLarge, DistanceTooLarge, TextTooLong, Writer, Memory, Refused as RefusedWrite}
+use Rattle.rkyv_base.specs.declared.errors.WriteError.TheVariants.{InvalidLoadFactor}
+use Rattle.rkyv_base.specs.declared.errors.WriteError.TheVariants.{IteratorLengthMismatch}
+use Rattle.rkyv_base.specs.declared.errors.WriteError.TheVariants.{CapacityTooLarge}
+use Rattle.rkyv_base.specs.declared.errors.WriteError.TheVariants.{PositionTooLarge}
+use Rattle.rkyv_base.specs.declared.errors.WriteError.TheVariants.{DistanceTooLarge, TextTooLong}
+use Rattle.rkyv_base.specs.declared.errors.WriteError.TheVariants.{Writer, Memory}
+use Rattle.rkyv_base.specs.declared.errors.WriteError.TheVariants.{Refused as RefusedWrite}
 use Rattle.rkyv_dict.specs.declared.run.RunError.{RunError}
 use Rattle.rkyv_dict.specs.declared.run.RunError.TheVariants.{Read, Write, Memory as NoMemoryLeft}
 

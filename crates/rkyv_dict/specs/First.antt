@@ -1,4 +1,5 @@
--- The value of the first pair whose key is the one that is asked for: of a list, and of a map that was written.
+-- The value of the first pair whose key is the one that is asked for: of a list, and of a map that
+-- was written.
 use Rattle.std.specs.Prelude.{ℕ, ◌==◌, Bool, List, Option, None, decimal}
 use Rattle.std.specs.List.{find}
 use Rattle.std.specs.Option.{option_map}
@@ -25,6 +26,8 @@ module _ (k : Parts) (b : List ℕ) where
   unfoldable pub HasHomes : List ℕ → Type 0
   HasHomes homes = MapWrittenAt k.word (pair_shape k) (λ c q. hash (k.calls c q)) b (root k b) homes
 
-  -- the text of the value of the first of them whose key is accepted, where accept tells of a key by its place
+  -- the text of the value of the first of them whose key is accepted, where accept tells of a key
+  -- by its place
   unfoldable pub first_under : List ℕ → (ℕ → Bool) → Option (List ℕ)
-  first_under homes accept = option_map (value_text k b) (find accept (home_positions k.word (pair_shape k).size b (root k b) homes))
+  first_under homes accept = option_map (value_text k b)
+      (find accept (home_positions k.word (pair_shape k).size b (root k b) homes))

@@ -1,5 +1,6 @@
 -- Bytes as two digits each.
-use Rattle.std.specs.Prelude.{ℕ, ◌+◌, ◌*◌, ◌/◌, ◌%◌, ◌&&◌, nat_lt, if◌then◌else◌, List, [], ◌∷◌, Option, Some, None}
+use Rattle.std.specs.Prelude.{ℕ, ◌+◌, ◌*◌, ◌/◌, ◌%◌, ◌&&◌, nat_lt, if◌then◌else◌, List, [], ◌∷◌}
+use Rattle.std.specs.Prelude.{Option, Some, None}
 use Rattle.std.specs.Char.{digit_value, is_ascii_hexdigit}
 use Rattle.std.specs.List.{flat_map}
 use Rattle.std.specs.Option.{option_map}
@@ -18,7 +19,8 @@ hex_of bytes = flat_map hex_of_byte bytes
 
 -- the byte that two digits of either case say
 unfoldable pub byte_said : ℕ → ℕ → Option ℕ
-byte_said high low = if is_ascii_hexdigit high && is_ascii_hexdigit low then Some (digit_value high * 16 + digit_value low) else None
+byte_said high low = if is_ascii_hexdigit high
+    && is_ascii_hexdigit low then Some (digit_value high * 16 + digit_value low) else None
 
 -- one byte more, in front
 abbrev pub behind : Option ℕ → Option (List ℕ) → Option (List ℕ)

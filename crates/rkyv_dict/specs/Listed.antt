@@ -12,8 +12,10 @@ written_under seen f = record {
   far = λ x. (f x).far (seen x);
 }
 
-pub written_under-format : {X V R : Type 0} (seen : X → V) (s : Shape) (stands : X → List ℕ → ℕ → V → Type 0) (f : X → Format V R)
-    → ((x : X) → IsFormat s (stands x) (f x)) → IsFormat s (λ b p x. stands x b p (seen x)) (written_under seen f)
+pub written_under-format : {X V R : Type 0} (seen : X → V) (s : Shape) (stands : X → List ℕ → ℕ → V
+    → Type 0) (f : X → Format V R)
+    → ((x : X) → IsFormat s (stands x) (f x))
+    → IsFormat s (λ b p x. stands x b p (seen x)) (written_under seen f)
 written_under-format seen s stands f laws = record {
   whole = λ x. (laws x).whole (seen x);
   clear = λ x. (laws x).clear (seen x);

@@ -21,7 +21,8 @@ abbrev pub ChecksAreOne : Type 0
 ChecksAreOne = (form : Form) (b : List ℕ) (e : VerifyError) → IsRefused form b e
     → (IsArchive form b → ⊥) × ((d : VerifyError) → IsRefused form b d → e ≡ d)
 
--- A build is refused for one cause, and of pairs that have an archive for none, want of memory aside.
+-- A build is refused for one cause, and of pairs that have an archive for none, want of memory
+-- aside.
 pub record RefusedBuildsAreOne : Type 0 where
   pub causes : (form : Form) (factor : ℕ × ℕ) (pairs : Pairs) (c d : WriteError NoMemory)
       → BuildRefused form factor pairs c → BuildRefused form factor pairs d

@@ -21,7 +21,8 @@ answered answer (Some archived) = answer archived
 abbrev pub hex_line : Archived → List ℕ
 hex_line archived = line (hex_of archived.bytes)
 
--- the value of a key: in an archive that was built, of the first pair that was put with it; else what a lookup finds
+-- the value of a key: in an archive that was built, of the first pair that was put with it; else
+-- what a lookup finds
 abbrev pub value_in : Form → List ℕ → Option Pairs → Asked → Option (List ℕ)
 value_in form bytes None key = value_found form bytes key
 value_in form bytes (Some pairs) key = first_value pairs key
@@ -33,7 +34,8 @@ abbrev pub list_lines : Form → Archived → List ℕ
 list_lines form archived = listing form archived.bytes
 
 abbrev pub audit_line : Form → Archived → List ℕ
-audit_line form archived = line (codes "misplaced " ++ decimal (misplaced_count form archived.bytes))
+audit_line form archived = line (codes "misplaced "
+    ++ decimal (misplaced_count form archived.bytes))
 
 abbrev pub built_line : List ℕ → List ℕ
 built_line bytes = line (codes "built " ++ decimal (length bytes))

@@ -16,8 +16,10 @@ use Rattle.rkyv_dict.specs.declared.form.Kind.{Kind}
 use Rattle.rkyv_dict.specs.declared.form.Kind.TheVariants.{Num, Text}
 use Rattle.rkyv_dict.specs.Forms.{limit_of, word_of}
 
--- The archives of maps whose keys and values are of one kind: the word of their width and their greatest length; what the
--- bytes of a key or value are; the text that the one at a place prints as; when two are the same; its calls of a hasher.
+-- The archives of maps whose keys and values are of one kind: the word of their width and their
+-- greatest length; what the
+-- bytes of a key or value are; the text that the one at a place prints as; when two are the same;
+-- its calls of a hasher.
 pub record Parts : Type 1 where
   pub word : Width
   pub limit : ℕ
@@ -26,8 +28,10 @@ pub record Parts : Type 1 where
   pub same : Comparison
   pub calls : List ℕ → ℕ → List HasherCall
 
-abbrev pub parts_by : Width → ℕ → Shape → (List ℕ → ℕ → List ℕ) → Comparison → (List ℕ → ℕ → List HasherCall) → Parts
-parts_by word limit shape text same calls = record { word = word; limit = limit; shape = shape; text = text; same = same; calls = calls }
+abbrev pub parts_by : Width → ℕ → Shape → (List ℕ → ℕ → List ℕ) → Comparison
+    → (List ℕ → ℕ → List HasherCall) → Parts
+parts_by word limit shape text same calls =
+    record { word = word; limit = limit; shape = shape; text = text; same = same; calls = calls }
 
 -- the number that stands at a place, as decimal digits
 abbrev pub number_text : List ℕ → ℕ → List ℕ

@@ -1,6 +1,7 @@
 -- A script's lines, and what a line asks for.
 use denote.Ref.{Bor}
-use Rattle.std.specs.Prelude.{ℕ, ◌&&◌, ◌||◌, ◌==◌, Bool, not, nat_le, if◌then◌else◌, List, [], ◌∷◌, length, Option, Some, None, codes, slice_index}
+use Rattle.std.specs.Prelude.{ℕ, ◌&&◌, ◌||◌, ◌==◌, Bool, not, nat_le, if◌then◌else◌, List, [], ◌∷◌}
+use Rattle.std.specs.Prelude.{length, Option, Some, None, codes, slice_index}
 use Rattle.std.specs.List.{slice_split, list_all}
 use Rattle.std.specs.Char.{is_ascii_digit}
 use Rattle.std.specs.Option.{option_map, option_copied}
@@ -54,11 +55,13 @@ words_left rest = parts_after 32 (option_copied rest)
 
 -- a digit and more digits, the first of them no 0 unless it stands alone
 abbrev pub is_numeral : List ℕ → Bool
-is_numeral word = nat_le 1 (length word) && (list_all is_ascii_digit word && (length word == 1 || not (slice_index word 0 == 48)))
+is_numeral word = nat_le 1 (length word)
+    && (list_all is_ascii_digit word && (length word == 1 || not (slice_index word 0 == 48)))
 
 -- the number that a word says, where it is at most `most`
 unfoldable pub number_of : ℕ → List ℕ → Option ℕ
-number_of most word = if is_numeral word && nat_le (digits_value 10 word) most then Some (digits_value 10 word) else None
+number_of most word = if is_numeral word
+    && nat_le (digits_value 10 word) most then Some (digits_value 10 word) else None
 
 -- a text is a word of one byte or more
 abbrev pub text_of : List ℕ → Option (List ℕ)
@@ -67,11 +70,13 @@ text_of (b ∷ bs) = Some (b ∷ bs)
 
 -- the kind that a word names
 abbrev pub kind_of_word : List ℕ → Option Kind
-kind_of_word word = if bytes_eq word (codes "num") then Some Num else if bytes_eq word (codes "text") then Some Text else None
+kind_of_word word = if bytes_eq word (codes "num") then Some Num else if bytes_eq word
+    (codes "text") then Some Text else None
 
 -- the width that a word names
 abbrev pub bits_of_word : List ℕ → Option Bits
-bits_of_word word = if bytes_eq word (codes "32") then Some Bits32 else if bytes_eq word (codes "64") then Some Bits64 else None
+bits_of_word word = if bytes_eq word (codes "32") then Some Bits32 else if bytes_eq word
+    (codes "64") then Some Bits64 else None
 
 -- pairs of digits of either case, at least one
 abbrev pub hex_of_word : List ℕ → Option (List ℕ)
@@ -105,7 +110,8 @@ both_of (Some a) None = None
 both_of None b = None
 
 -- what the two words say
-abbrev pub said_by_both : {A : Type 0} → (List ℕ → Option A) → Option (List ℕ × List ℕ) → Option (A × A)
+abbrev pub said_by_both : {A : Type 0} → (List ℕ → Option A) → Option (List ℕ × List ℕ)
+    → Option (A × A)
 said_by_both says None = None
 said_by_both says (Some words) = both_of (says words.0) (says words.1)
 
@@ -128,20 +134,26 @@ width_asked arguments = option_map (λ b. set_width b) (said_by bits_of_word (on
 
 -- two numbers of 64 bits
 abbrev pub load_factor_asked : List (List ℕ) → Option Request
-load_factor_asked arguments = option_map (λ p. set_load_factor p.0 p.1) (said_by_both (number_of 18_446_744_073_709_551_615) (two_of arguments))
+load_factor_asked arguments = option_map (λ p. set_load_factor p.0 p.1)
+    (said_by_both (number_of 18_446_744_073_709_551_615) (two_of arguments))
 
 -- a key and a value of this kind
 abbrev pub put_asked : Kind → List (List ℕ) → Option Request
-put_asked Num arguments = option_map (λ p. put_numbers p.0 p.1) (said_by_both (number_of most_number) (two_of arguments))
-put_asked Text arguments = option_map (λ p. put_texts p.0 p.1) (said_by_both text_of (two_of arguments))
+put_asked Num arguments = option_map (λ p. put_numbers p.0 p.1)
+    (said_by_both (number_of most_number) (two_of arguments))
+put_asked Text arguments = option_map (λ p. put_texts p.0 p.1)
+    (said_by_both text_of (two_of arguments))
 
 -- a key of this kind
 abbrev pub get_asked : Kind → List (List ℕ) → Option Request
-get_asked Num arguments = option_map (λ k. get_value (asked_number k)) (said_by (number_of most_number) (one_of arguments))
-get_asked Text arguments = option_map (λ t. get_value (asked_text t)) (said_by text_of (one_of arguments))
+get_asked Num arguments = option_map (λ k. get_value (asked_number k))
+    (said_by (number_of most_number) (one_of arguments))
+get_asked Text arguments = option_map (λ t. get_value (asked_text t))
+    (said_by text_of (one_of arguments))
 
 abbrev pub check_asked : List (List ℕ) → Option Request
-check_asked arguments = option_map (λ bytes. check_archive bytes) (said_by hex_of_word (one_of arguments))
+check_asked arguments = option_map (λ bytes. check_archive bytes)
+    (said_by hex_of_word (one_of arguments))
 
 -- what a verb and its arguments ask for
 unfoldable pub request_by : Kind → List ℕ → List (List ℕ) → Option Request

@@ -1,8 +1,12 @@
 -- What contracts see of commands.
 use Rattle.rkyv_dict.specs.Forms.{key_seen}
-use Rattle.rkyv_dict.specs.Script.{Request, set_kind, set_width, set_load_factor, put_numbers, put_texts, build_archive, check_archive, show_hex, get_value, list_pairs, count_misplaced}
+use Rattle.rkyv_dict.specs.Script.{Request, set_kind, set_width, set_load_factor, put_numbers}
+use Rattle.rkyv_dict.specs.Script.{put_texts, build_archive, check_archive, show_hex, get_value}
+use Rattle.rkyv_dict.specs.Script.{list_pairs, count_misplaced}
 use Rattle.rkyv_dict.specs.declared.script.Command.{Command}
-use Rattle.rkyv_dict.specs.declared.script.Command.TheVariants.{SetKind, SetWidth, SetLoadFactor, PutNumbers, PutTexts, Build, Check, Hex, Get, ListPairs, Audit}
+use Rattle.rkyv_dict.specs.declared.script.Command.TheVariants.{SetKind, SetWidth, SetLoadFactor}
+use Rattle.rkyv_dict.specs.declared.script.Command.TheVariants.{PutNumbers, PutTexts, Build, Check}
+use Rattle.rkyv_dict.specs.declared.script.Command.TheVariants.{Hex, Get, ListPairs, Audit}
 
 -- a command as what its line asks for
 abbrev pub request_seen : Command → Request

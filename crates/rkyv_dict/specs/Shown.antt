@@ -8,8 +8,18 @@ use Rattle.rkyv_dict.specs.State.{Archived, State}
 
 -- an archive that was built, was built of the first pairs of the list
 abbrev pub archived_seen : Pairs → Stored → Archived
-archived_seen pairs stored = record { bytes = stored.bytes.items; built_of = option_map (λ n. take_pairs n pairs) stored.handed }
+archived_seen pairs stored = record {
+  bytes = stored.bytes.items;
+  built_of =
+      option_map (λ n. take_pairs n pairs) stored.handed;
+}
 
 -- a dictionary as the state that a script has set
 abbrev pub state_seen : Dict → State
-state_seen dict = record { bits = dict.bits; load_factor = dict.load_factor; pairs = pairs_seen dict.list; archive = option_map (archived_seen (pairs_seen dict.list)) dict.archive }
+state_seen dict = record {
+  bits = dict.bits;
+  load_factor = dict.load_factor;
+  pairs =
+      pairs_seen dict.list;
+  archive = option_map (archived_seen (pairs_seen dict.list)) dict.archive;
+}

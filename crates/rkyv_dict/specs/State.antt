@@ -15,7 +15,8 @@ pub record Archived : Type 0 where
   pub bytes : List ℕ
   pub built_of : Option Pairs
 
--- the width, the load factor, the list of pairs, whose kind is the one that is set, and the archive, if there is one
+-- the width, the load factor, the list of pairs, whose kind is the one that is set, and the
+-- archive, if there is one
 pub record State : Type 0 where
   pub bits : Bits
   pub load_factor : ℕ × ℕ
@@ -37,7 +38,13 @@ start = record { bits = Bits32; load_factor = (7, 8); pairs = no_pairs Num; arch
 
 -- another form: the list and the archive are emptied, and the load factor is kept
 abbrev pub emptied : Kind → Bits → State → State
-emptied kind bits s = record { bits = bits; load_factor = s.load_factor; pairs = no_pairs kind; archive = None }
+emptied kind bits s = record {
+  bits = bits;
+  load_factor = s.load_factor;
+  pairs =
+      no_pairs kind;
+  archive = None;
+}
 
 -- a pair more at the end; a pair of the other kind is never put
 abbrev pub with_numbers : Pairs → ℕ → ℕ → Pairs
@@ -52,7 +59,8 @@ with_texts (texts pairs) key value = texts (pairs ++ (key, value) ∷ [])
 -- an archive of this form; what was built holds the pairs that it was built of
 pub record IsSoundIn (form : Form) (archived : Archived) : Type 0 where
   pub archive : IsArchive form archived.bytes
-  pub built : ForSome archived.built_of (λ pairs. (factor : ℕ × ℕ) × Holds form factor archived.bytes pairs)
+  pub built : ForSome archived.built_of (λ pairs. (factor : ℕ × ℕ)
+      × Holds form factor archived.bytes pairs)
 
 -- the archive of a state, if there is one, is one
 unfoldable pub IsSound : State → Type 0

@@ -1,13 +1,18 @@
 //! The archives of a dictionary: checking, looking up, listing, counting and building.
 
-ghost use Rattle.std.specs.Prelude.{ℕ, ◌≡◌, ◌++◌, IfSome, List, MatchResult, OnOk, codes, decimal, string_bytes};
+ghost use Rattle.std.specs.Prelude.{ℕ, ◌≡◌, ◌++◌, IfSome, List, MatchResult, OnOk, codes, decimal};
+ghost use Rattle.std.specs.Prelude.{string_bytes};
 ghost use Rattle.std.specs.List.{flat_map};
 ghost use Rattle.std.specs.Option.{option_map};
 ghost use Rattle.rkyv_base.specs.View.{IsAt, IsView};
 ghost use Rattle.rkyv_keys.specs.Places.{at_view};
 ghost use Rattle.rkyv_collections.specs.Map.{IsMap, key_positions, map_bytes};
-ghost use Rattle.rkyv_dict.specs.Archives.{IsArchive, IsMapArchive, IsRefused, MapArchiveFails, entry_count, keys_misplaced, line, line_at, listing, misplaced_count, pair_count, pair_lines, root, value_found, value_line, value_under};
-ghost use Rattle.rkyv_dict.specs.Built.{BuildRefused, Holds, IsArchiveOf, IsBuilt, NoArchiveOf, form_of_pairs};
+ghost use Rattle.rkyv_dict.specs.Archives.{IsArchive, IsMapArchive, IsRefused, MapArchiveFails};
+ghost use Rattle.rkyv_dict.specs.Archives.{entry_count, keys_misplaced, line, line_at, listing};
+ghost use Rattle.rkyv_dict.specs.Archives.{misplaced_count, pair_count, pair_lines, root};
+ghost use Rattle.rkyv_dict.specs.Archives.{value_found, value_line, value_under};
+ghost use Rattle.rkyv_dict.specs.Built.{BuildRefused, Holds, IsArchiveOf, IsBuilt, NoArchiveOf};
+ghost use Rattle.rkyv_dict.specs.Built.{form_of_pairs};
 ghost use Rattle.rkyv_dict.specs.First.{HasHomes, first_under, first_value};
 ghost use Rattle.rkyv_dict.specs.Forms.{Pairs, key_seen, pairs_seen};
 ghost use Rattle.rkyv_dict.specs.Parts.{parts_by};
@@ -36,7 +41,8 @@ fn push_line(out: &mut String, text: &str) -> Result<(), AllocError>
 
 /// Whether the bytes are the archive of a map: its length.
 fn check_map<P: Part, W: Width>(bytes: &[u8]) -> Result<usize, VerifyError>
-    ensures { let m = parts_by W.word W.LIMIT P.shape P.text P.same P.key_calls in MatchResult result
+    ensures { let m = parts_by W.word W.LIMIT P.shape P.text P.same P.key_calls in
+        MatchResult result
         (λ n. IsMapArchive m bytes.now × (n ≡ pair_count m bytes.now))
         (MapArchiveFails m bytes.now) }
 {
@@ -163,9 +169,11 @@ fn build_map<A: NativeKey<A::Archived> + Serialize<VecWriter, W>, W: Width>(
 ) -> Result<Vec<u8>, WriteError<NoMemory>>
 where
     A::Archived: Part,
-    ensures { let m = parts_by W.word W.LIMIT A.Archived.shape A.Archived.text A.Archived.same A.Archived.key_calls in
+    ensures { let m = parts_by W.word W.LIMIT A.Archived.shape A.Archived.text A.Archived.same
+        A.Archived.key_calls in
         MatchResult result
-        (λ v. IsArchiveOf m load_factor W.MAX_CAPACITY A.format A.calls A.Archived.stands pairs.now v.items)
+        (λ v. IsArchiveOf m load_factor W.MAX_CAPACITY A.format A.calls A.Archived.stands pairs.now
+        v.items)
         (NoArchiveOf m load_factor W.MAX_CAPACITY A.format A.calls pairs.now) }
 {
     let list = Listed { pairs, load_factor };

@@ -2,7 +2,8 @@
 ghost use Rattle.rkyv_dict.specs.Hex.{byte_said, bytes_said, hex_of, hex_of_byte};
 ghost use Rattle.std.specs.Char.{digit_value, is_ascii_hexdigit};
 ghost use Rattle.std.specs.Option.{option_map};
-ghost use Rattle.std.specs.Prelude.{◌≡◌, ◌<◌, ◌++◌, IfOk, IfSome, None, OnOk, Some, if◌then◌else◌, string_bytes};
+ghost use Rattle.std.specs.Prelude.{◌≡◌, ◌<◌, ◌++◌, IfOk, IfSome, None, OnOk, Some, if◌then◌else◌};
+ghost use Rattle.std.specs.Prelude.{string_bytes};
 
 use std::alloc::{AllocError, Global};
 

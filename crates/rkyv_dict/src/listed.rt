@@ -39,7 +39,8 @@ struct Halves<'a, A> {
 impl<'a, A> Iterator for Halves<'a, A> {
     type Item = (&'a A, &'a A);
 
-    ghost next_gives = { YieldsFirstBy (λ halves. (halves.0.now, halves.1.now)) (λ s. iter_rest s.pairs) };
+    ghost next_gives = { YieldsFirstBy (λ halves. (halves.0.now, halves.1.now))
+        (λ s. iter_rest s.pairs) };
 
     ghost remaining = { λ s. at_most (length (iter_rest s.pairs)) };
 
@@ -53,9 +54,11 @@ impl<'a, A> Iterator for Halves<'a, A> {
 
 impl<'a, W: Width, A, K: KeyElement + StandsFor<A>> StandsFor<Listed<'a, A>>
     for HashMapOf<K, K, FxHasher64, W> {
-    ghost stands = { λ b p x. MapStands W.word K.shape K.shape K.stands K.stands (λ c q. hash (K.key_calls c q)) x.load_factor b p x.pairs.now };
+    ghost stands = { λ b p x. MapStands W.word K.shape K.shape K.stands K.stands (λ c q.
+        hash (K.key_calls c q)) x.load_factor b p x.pairs.now };
 
-    ghost near = { λ x. map_near 0 (fx_feed low_halves) (λ held. held) W.word K.laws K.laws x.load_factor K.key K.near K.near x.pairs.now };
+    ghost near = { λ x. map_near 0 (fx_feed low_halves) (λ held. held) W.word K.laws K.laws
+        x.load_factor K.key K.near K.near x.pairs.now };
 }
 
 impl<'a, W: Width, A: Archive<W>> Archive<W> for Listed<'a, A>
@@ -68,7 +71,8 @@ where
     type Resolver = HashMapResolver<W>;
 
     ghost format = { written_under (λ x. x.pairs.now) (λ x. listed W.MAX_CAPACITY x.load_factor
-        (map_format W.word A.Archived.shape A.Archived.shape A.format A.format (λ a. hash (A.calls a)) x.load_factor)) };
+        (map_format W.word A.Archived.shape A.Archived.shape A.format A.format
+        (λ a. hash (A.calls a)) x.load_factor)) };
 
     fn resolve(
         &self,
@@ -88,11 +92,18 @@ where
     }
 
     ghost laws = { let shape = map_shape W.word A.Archived.shape A.Archived.shape in
-        let stands : Self → List ℕ → ℕ → List (A × A) → Type 0 = λ x. MapStands W.word A.Archived.shape A.Archived.shape A.Archived.stands A.Archived.stands (λ c q. hash (A.Archived.key_calls c q)) x.load_factor in
-        let format : Self → Format (List (A × A)) TableResolver = λ x. map_format W.word A.Archived.shape A.Archived.shape A.format A.format (λ a. hash (A.calls a)) x.load_factor in
-        written_under-format (λ x. x.pairs.now) shape stands (λ x. listed W.MAX_CAPACITY x.load_factor (format x))
+        let stands : Self → List ℕ → ℕ → List (A × A) → Type 0 =
+        λ x. MapStands W.word A.Archived.shape A.Archived.shape A.Archived.stands
+        A.Archived.stands (λ c q. hash (A.Archived.key_calls c q)) x.load_factor in
+        let format : Self → Format (List (A × A)) TableResolver =
+        λ x. map_format W.word A.Archived.shape A.Archived.shape A.format A.format
+        (λ a. hash (A.calls a)) x.load_factor in
+        written_under-format (λ x. x.pairs.now) shape stands (λ x.
+        listed W.MAX_CAPACITY x.load_factor (format x))
         (λ x. listed_format W.MAX_CAPACITY x.load_factor shape (stands x) (format x)
-        (map_sound 0 (fx_feed low_halves) (λ held. held) W.word A.Archived.laws A.Archived.laws x.load_factor W.layout.kind A.query A.native A.Eq.laws.refl A.reads A.Archive.laws A.Archive.laws)) };
+        (map_sound 0 (fx_feed low_halves) (λ held. held) W.word A.Archived.laws A.Archived.laws
+        x.load_factor W.layout.kind A.query A.native A.Eq.laws.refl A.reads A.Archive.laws
+        A.Archive.laws)) };
 }
 
 impl<'a, S: Writer, W: Width, A: Serialize<S, W>> Serialize<S, W> for Listed<'a, A>

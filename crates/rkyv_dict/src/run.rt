@@ -1,9 +1,11 @@
 //! Runs a script from a reader, and writes its answers to a writer.
-ghost use Rattle.rkyv_dict.specs.Run.{AppendsAnswers, AppendsBeginning, AppendsFront, Gathers, MovesFront};
+ghost use Rattle.rkyv_dict.specs.Run.{AppendsAnswers, AppendsBeginning, AppendsFront, Gathers};
+ghost use Rattle.rkyv_dict.specs.Run.{MovesFront};
 ghost use Rattle.rkyv_dict.specs.Errors.{message_of};
 ghost use Rattle.rkyv_dict.specs.declared.run.RunError.TheVariants.{Memory};
 ghost use Rattle.std.specs.Io.KnownBytes.{Appends, IsAtEnd};
-ghost use Rattle.std.specs.Prelude.{◌≡◌, ◌≢◌, ◌<◌, IfErr, IfOk, IfSome, IsErrOf, IsTrue, OnErr, OnOk, Some, false, length, string_bytes, vec_len};
+ghost use Rattle.std.specs.Prelude.{◌≡◌, ◌≢◌, ◌<◌, IfErr, IfOk, IfSome, IsErrOf, IsTrue, OnErr};
+ghost use Rattle.std.specs.Prelude.{OnOk, Some, false, length, string_bytes, vec_len};
 
 use crate::dict::Dict;
 use crate::words::cut;

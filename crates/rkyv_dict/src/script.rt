@@ -1,5 +1,7 @@
 //! The lines of a script: what a line asks for.
-ghost use Rattle.rkyv_dict.specs.Script.{bare_of, check_asked, get_asked, kind_asked, load_factor_asked, put_asked, request_by, request_of, width_asked, words_left};
+ghost use Rattle.rkyv_dict.specs.Script.{bare_of, check_asked, get_asked, kind_asked};
+ghost use Rattle.rkyv_dict.specs.Script.{load_factor_asked, put_asked, request_by, request_of};
+ghost use Rattle.rkyv_dict.specs.Script.{width_asked, words_left};
 ghost use Rattle.rkyv_dict.specs.Seen.{request_seen};
 ghost use Rattle.std.specs.Option.{option_map};
 ghost use Rattle.std.specs.Prelude.{◌≡◌, IfOk};

@@ -1,5 +1,7 @@
 //! The words of a line, and what each of them says.
-ghost use Rattle.rkyv_dict.specs.Script.{bits_of_word, is_numeral, kind_of_word, number_of, one_of, parts_after, parts_of, said_by, said_by_both, text_of, two_of, words_left, words_of};
+ghost use Rattle.rkyv_dict.specs.Script.{bits_of_word, is_numeral, kind_of_word, number_of, one_of};
+ghost use Rattle.rkyv_dict.specs.Script.{parts_after, parts_of, said_by, said_by_both, text_of};
+ghost use Rattle.rkyv_dict.specs.Script.{two_of, words_left, words_of};
 ghost use Rattle.std.specs.Char.{digit_value, is_ascii_digit};
 ghost use Rattle.std.specs.List.{list_all, position};
 ghost use Rattle.std.specs.Option.{option_copied, option_map};

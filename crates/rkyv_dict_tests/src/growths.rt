@@ -1,5 +1,5 @@
-//! Growths that are refused. Which one is, is up to who runs the tests: `tools/refuse-growths` refuses
-//! each in turn. What ends in `succeeds` passes only where none is.
+//! Growths that are refused. Which one is, is up to who runs the tests: `tools/refuse-growths`
+//! refuses each in turn. What ends in `succeeds` passes only where none is.
 
 use rkyv_base::errors::WriteError;
 use rkyv_base::writer::NoMemory;

@@ -1,4 +1,5 @@
-//! Tests of `rkyv_dict`: scripts and what they answer, archives of each form, and streams that fail.
+//! Tests of `rkyv_dict`: scripts and what they answer, archives of each form, and streams that
+//! fail.
 #![tactic(auto)]
 
 #[cfg(test)]

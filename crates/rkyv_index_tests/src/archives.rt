@@ -60,8 +60,8 @@ pub(crate) fn no_wide_pairs() -> [u8; 32] {
     bytes
 }
 
-// The map of 1 to 2 and 1 to 9: places from 0 on, controls from 12 on, entries from 43 on, header at
-// 48.
+// The map of 1 to 2 and 1 to 9: places from 0 on, controls from 12 on, entries from 43 on, header
+// at 48.
 pub(crate) fn one_key_twice() -> [u8; 64] {
     let mut bytes = [0xff; 64];
     bytes[..12].copy_from_slice(&[0, 0, 0, 0, 1, 0, 0, 0, 0, 0, 0, 0]);

@@ -12,7 +12,8 @@ use Rattle.rkyv_base.specs.Shape.{IsElement, Shape}
 use Rattle.rkyv_base.specs.Format.{StandsNear}
 use Rattle.rkyv_keys.specs.Equality.{Comparison, IsEquivalence}
 use Rattle.rkyv_keys.specs.Keys.{IsKey, IsQuery, ReadsAnywhere}
-use Rattle.rkyv_keys.specs.OfValues.{values_same, value_calls, value_fits, value_equivalence, value_key, value_query}
+use Rattle.rkyv_keys.specs.OfValues.{values_same, value_calls, value_fits, value_equivalence}
+use Rattle.rkyv_keys.specs.OfValues.{value_key, value_query}
 use Rattle.rkyv_keys.specs.Reading.{Refusals}
 
 abbrev pub low_shape : Shape
@@ -55,5 +56,6 @@ pub low_key : IsKey low_shape low_same low_calls
 low_key = value_key low_shape low_byte nat_eq unsigned_Decides byte_call
     (λ v b c p lo hi l o h fixed part st. subst (λ s. from_le_bytes w32 s % 256 ≡ v) fixed st)
 
-pub low_query : {Q : Type 0} (seen : Q → ℕ) → IsQuery low_shape low_same low_calls ReadsAnywhere (λ q. byte_call (seen q)) (low_fits seen)
+pub low_query : {Q : Type 0} (seen : Q → ℕ)
+    → IsQuery low_shape low_same low_calls ReadsAnywhere (λ q. byte_call (seen q)) (low_fits seen)
 low_query seen = value_query low_shape low_byte nat_eq unsigned_Decides byte_call seen

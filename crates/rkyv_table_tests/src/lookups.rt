@@ -258,8 +258,8 @@ fn the_second_stride_is_read_where_the_first_is_full(rt: HostRuntime) -> Result<
     Ok(())
 }
 
-/// The items that a comparison is asked for, which accepts none, in the table of sixteen items under
-/// one hash.
+/// The items that a comparison is asked for, which accepts none, in the table of sixteen items
+/// under one hash.
 #[derive(Drop)]
 pub(crate) struct Asks {
     count: Cell<usize>,

@@ -66,8 +66,8 @@ fn a_changed_key_is_misplaced(rt: HostRuntime) {
     assert_eq!(rt; misplaced(&bytes).ok(), Some(1));
 }
 
-// How many numbers are misplaced under the hash 2, where each is the same as those that aren't less,
-// and where it is the same as those that aren't greater.
+// How many numbers are misplaced under the hash 2, where each is the same as those that aren't
+// less, and where it is the same as those that aren't greater.
 fn misplaced_by_order(bytes: &[u8]) -> Result<(usize, usize), VerifyError> {
     let table = ArchivedHashTable::of(access::<TableOf<u8>>(bytes)?);
     let by_less = table.misplaced_by(|_| 2, |own, other| own.to_native() <= other.to_native());

@@ -31,8 +31,8 @@ const NESTED: [u8; 112] = [
 fn texts_are_written_by_ascending_bucket(rt: HostRuntime) -> Result<(), Fail> {
     let texts = ["wonderful one", "wonderful two"];
     let (bytes, pos) = written(rt.alloc(), &texts, &[2, 2], (1, 1))?;
-    // the first text is in the highest bucket, and so the last; an empty bucket stands between them,
-    // and the texts begin 15 and 44 bytes before what tells of them
+    // the first text is in the highest bucket, and so the last; an empty bucket stands between
+    // them, and the texts begin 15 and 44 bytes before what tells of them
     let front = b"wonderful twowonderful one\0\0\
 \x8d\0\0\0\xf1\xff\xff\xff\0\0\0\0\0\0\0\0\x8d\0\0\0\xd4\xff\xff\xff\0\xff\0\0\xff\0";
     let written = is_then_empty(bytes.as_slice(), front, 25);

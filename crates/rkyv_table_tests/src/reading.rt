@@ -37,7 +37,8 @@ pub(crate) fn value_of<K: Scalar + PartialEq, V: Scalar, W: Width>(
     let found = table.get_counted(
         hash,
         |pair| -> bool
-            requires { IsView (entry_shape (scalar_shape K.encoding) (scalar_shape V.encoding)) pair }
+            requires { IsView (entry_shape (scalar_shape K.encoding) (scalar_shape V.encoding))
+                pair }
         { has_key(pair, key) },
         &mut strides,
     );
@@ -57,7 +58,8 @@ pub(crate) fn pos_of<K: Scalar + PartialEq, V: Scalar, W: Width>(
     Ok(table.get_pos_with(
         hash,
         |pair| -> bool
-            requires { IsView (entry_shape (scalar_shape K.encoding) (scalar_shape V.encoding)) pair }
+            requires { IsView (entry_shape (scalar_shape K.encoding) (scalar_shape V.encoding))
+                pair }
         { has_key(pair, key) },
     ))
 }

@@ -24,8 +24,8 @@ fn is_refused(
     }
 }
 
-// Whether a table of these numbers, each under the next hash, is refused with this text, and nothing
-// is written.
+// Whether a table of these numbers, each under the next hash, is refused with this text, and
+// nothing is written.
 fn refuses(
     alloc: Global,
     items: &[u8],

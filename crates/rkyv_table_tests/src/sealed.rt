@@ -7,8 +7,8 @@ use rkyv_base::errors::VerifyError;
 use rkyv_table::table::{ArchivedHashTable, TableOf};
 use std::test::Fail;
 
-// Whether a sealed lookup in the table of sixteen items under one hash, which accepts none, asks for
-// each item that it should.
+// Whether a sealed lookup in the table of sixteen items under one hash, which accepts none, asks
+// for each item that it should.
 fn asks_sealed(bytes: &mut [u8]) -> Result<bool, VerifyError> {
     let whole = access_mut::<TableOf<u8>>(bytes)?;
     let asks = Asks::new();
@@ -53,8 +53,8 @@ fn pos_of_number(bytes: &[u8], hash: u64, wanted: u8) -> Result<Option<u64>, Ver
     Ok(table.get_pos_with(hash, |item| item.to_native() == wanted))
 }
 
-// Writes these numbers over the items that a cursor lends, one after the other. Whether there are as
-// many items, the cursor tells each time how many are left, and lends nothing after the last.
+// Writes these numbers over the items that a cursor lends, one after the other. Whether there are
+// as many items, the cursor tells each time how many are left, and lends nothing after the last.
 fn write_each(bytes: &mut [u8], numbers: &[u8]) -> Result<bool, VerifyError> {
     let whole = access_mut::<TableOf<u8>>(bytes)?;
     let mut rest = ArchivedHashTable::raw_iter_seal(whole);

@@ -15,7 +15,8 @@ use rkyv_table::table::ArchivedHashTable;
 use std::alloc::Global;
 use std::test::Fail;
 
-// Whether a table that is written by groups of this kind has its first control here, and these bytes.
+// Whether a table that is written by groups of this kind has its first control here, and these
+// bytes.
 fn is_by<G: GroupKind, U: Serialize<VecWriter, Narrow>>(
     alloc: Global,
     items: &[U],
@@ -147,8 +148,8 @@ fn capacities_about_one_stride(rt: HostRuntime) {
     assert_eq!(rt; (fifteen, sixteen), (true, true));
 }
 
-// Whether the table of 1 and 4,294,967,297, under their hashes by one of the hashers, is written with
-// these tags.
+// Whether the table of 1 and 4,294,967,297, under their hashes by one of the hashers, is written
+// with these tags.
 fn has_tags_of_wide<H: KeyHasher + Default>(
     alloc: Global,
     first: u8,

@@ -1,5 +1,7 @@
--- A map that was written holds and stands wherever its bytes sit, and stands where the same bytes do.
-use Rattle.std.proofs.Common.{◌≡◌, ℕ, ◌+◌, ◌-◌, ◌*◌, ◌<◌, ◌≤◌, refl, sym, ap, subst, ◌∙◌, arith, inl, inr, List, [], ◌∷◌, map, length, slice_get, slice_index, Some}
+-- A map that was written holds and stands wherever its bytes sit, and stands where the same bytes
+-- do.
+use Rattle.std.proofs.Common.{◌≡◌, ℕ, ◌+◌, ◌-◌, ◌*◌, ◌<◌, ◌≤◌, refl, sym, ap, subst, ◌∙◌, arith}
+use Rattle.std.proofs.Common.{inl, inr, List, [], ◌∷◌, map, length, slice_get, slice_index, Some}
 use Rattle.std.specs.Int.{Width, byte_len}
 use Rattle.std.specs.Prelude.{slice_range}
 use Rattle.std.proofs.lemmas.List.{ext_get_or, get_or-map, length-map}
@@ -13,12 +15,14 @@ use Rattle.rkyv_base.specs.Text.{IsArchiveWord}
 use Rattle.rkyv_table.specs.Table.Header.{cap_at}
 use Rattle.rkyv_table.specs.Controls.Numbers.{capacity, control_count}
 use Rattle.rkyv_table.specs.Controls.Placing.{Written}
-use Rattle.rkyv_table.specs.Table.Reading.{WrittenAt, controls_pos, home_positions, item_at, table_controls}
+use Rattle.rkyv_table.specs.Table.Reading.{WrittenAt, controls_pos, home_positions, item_at}
+use Rattle.rkyv_table.specs.Table.Reading.{table_controls}
 use Rattle.rkyv_table.specs.Table.Layout.{TableHolds}
 use Rattle.rkyv_table.specs.Table.TableFormat.{TableStands}
 use Rattle.rkyv_table.specs.Lemmas.TableSound.{table_is_format}
 use Rattle.rkyv_table.specs.Table.Taking.{hashes_of, items_of}
-use Rattle.rkyv_table.specs.Lemmas.ItemPositions.{HeldPart, HoldsWithin, holds_at, item_holds, told_pos}
+use Rattle.rkyv_table.specs.Lemmas.ItemPositions.{HeldPart, HoldsWithin, holds_at, item_holds}
+use Rattle.rkyv_table.specs.Lemmas.ItemPositions.{told_pos}
 use Rattle.rkyv_table.specs.Lemmas.SameHeader.{cap_same, len_same, pos_same}
 use Rattle.rkyv_table.specs.Table.WrittenTables.{IsWrittenOf}
 use Rattle.rkyv_table.proofs.WrittenTables.{home_count, home_pos, home_walked, table_written}
@@ -27,14 +31,18 @@ use Rattle.rkyv_collections.specs.MapFormat.{MapStands, keyed, map_format}
 
 -- the hash of a key rests on the bytes on which it rests that the key holds
 abbrev pub HashNear : Shape → (List ℕ → ℕ → ℕ) → Type 0
-HashNear k hash = (b c : List ℕ) (q lo hi l : ℕ) → lo ≤ hi → k.holds b q lo hi l → Same b c q (q + k.size) → Same b c lo l → hash b q ≡ hash c q
+HashNear k hash = (b c : List ℕ) (q lo hi l : ℕ) → lo ≤ hi → k.holds b q lo hi l
+    → Same b c q (q + k.size) → Same b c lo l → hash b q ≡ hash c q
 
 -- a key that was written of a value has the value's hash
-abbrev pub HashesAlike : {A : Type 0} → Shape → (List ℕ → ℕ → A → Type 0) → (List ℕ → ℕ → ℕ) → (A → ℕ) → Type 0
-HashesAlike {A = A} k key hash own = (a : A) (b : List ℕ) (q : ℕ) → Standing k b q → key b q a → own a ≡ hash b q
+abbrev pub HashesAlike : {A : Type 0} → Shape → (List ℕ → ℕ → A → Type 0) → (List ℕ → ℕ → ℕ)
+    → (A → ℕ) → Type 0
+HashesAlike {A = A} k key hash own = (a : A) (b : List ℕ) (q : ℕ) → Standing k b q → key b q a
+    → own a ≡ hash b q
 
 module _ {A B : Type 0} (own : A → ℕ) where
-  keyed_hashes : (pairs : List (A × B)) → hashes_of (keyed own pairs) ≡ map (λ pair. own pair.0) pairs
+  keyed_hashes : (pairs : List (A × B))
+      → hashes_of (keyed own pairs) ≡ map (λ pair. own pair.0) pairs
   keyed_hashes [] = refl
   keyed_hashes (x ∷ xs) = ap (λ (t : List ℕ). own x.0 ∷ t) (keyed_hashes xs)
 
@@ -54,42 +62,57 @@ module _ (k v : Shape) (kl : IsElement k) (vl : IsElement v) (w : Width) where
   place b p homes i = slice_index (home_positions w S.size b p homes) i
 
   -- the key of an entry that holds
-  pub key_standing : (b : List ℕ) (q lo hi l : ℕ) → HoldsWithin S b q lo hi l → hi ≤ q → Standing k b q
+  pub key_standing : (b : List ℕ) (q lo hi l : ℕ) → HoldsWithin S b q lo hi l → hi ≤ q
+      → Standing k b q
   key_standing b q lo hi l h o =
       let e = h.holds in
       standing k kl b q h.lower hi e.1 h.below o e.2
 
-  module _ (b : List ℕ) (p lo hi l : ℕ) (h : TableHolds w S b p lo hi l) (hashes homes : List ℕ) (written : WrittenAt w b p hashes homes) where
+  module _ (b : List ℕ) (p lo hi l : ℕ) (h : TableHolds w S b p lo hi l) (hashes homes : List ℕ)
+      (written : WrittenAt w b p hashes homes) where
     -- the entry of each item handed in
-    pub entry_there : (i : ℕ) → i < length homes → (t : HeldPart w S b p lo hi l) × HoldsWithin S b (place b p homes i) lo t.begin t.begin
+    pub entry_there : (i : ℕ) → i < length homes
+        → (t : HeldPart w S b p lo hi l) × HoldsWithin S b (place b p homes i) lo t.begin t.begin
         × (t.begin ≤ place b p homes i) × (place b p homes i + S.size ≤ l)
     entry_there i below =
         let walked = home_walked w b p hashes homes written i below in
         let t = holds_at w S law b p lo hi l h (omega (arith, walked.0)) in
         let r = item_holds w S law b p lo hi l h (slice_index homes i) walked t in
-        let e = sym (home_pos w S.size b p homes i below) in
-        (t, subst (λ q. HoldsWithin S b q lo t.begin t.begin) e r.0, subst (λ q. t.begin ≤ q) e r.1, subst (λ q. q + S.size ≤ l) e r.2)
+        let e = sym (home_pos w S.size b p homes i below) in (
+          t,
+          subst (λ q. HoldsWithin S b q lo t.begin t.begin) e r.0,
+          subst (λ q. t.begin ≤ q) e r.1,
+          subst (λ q. q + S.size ≤ l) e r.2,
+        )
 
-  module _ {A B : Type 0} (key : List ℕ → ℕ → A → Type 0) (value : List ℕ → ℕ → B → Type 0) (hash : List ℕ → ℕ → ℕ) (factor : ℕ × ℕ) where
-    module _ (near : HashNear k hash) (kn : StandsNear k key) (vn : StandsNear v value) (pairs : List (A × B)) (b c : List ℕ) (p lo hi l : ℕ) (o : lo ≤ hi)
-        (h : TableHolds w S b p lo hi l) (fixed : Same b c p (p + 3 * byte_len w)) (part : Same b c lo l) (st : MapStands w k v key value hash factor b p pairs) where
+  module _ {A B : Type 0} (key : List ℕ → ℕ → A → Type 0) (value : List ℕ → ℕ → B
+      → Type 0) (hash : List ℕ → ℕ → ℕ) (factor : ℕ × ℕ) where
+    module _ (near : HashNear k hash) (kn : StandsNear k key) (vn : StandsNear v value)
+        (pairs : List (A × B)) (b c : List ℕ) (p lo hi l : ℕ) (o : lo ≤ hi)
+        (h : TableHolds w S b p lo hi l) (fixed : Same b c p (p + 3 * byte_len w))
+        (part : Same b c lo l) (st : MapStands w k v key value hash factor b p pairs) where
       same_positions : home_positions w S.size b p st.homes ≡ home_positions w S.size c p st.homes
       same_positions = ap (λ z. map (λ i. z - (i + 1) * S.size) st.homes) (pos_same w b c p fixed)
 
       abbrev hashes : List ℕ
       hashes = map (hash b) (home_positions w S.size b p st.homes)
 
-      there : (i : ℕ) → i < length st.homes → (t : HeldPart w S b p lo hi l) × HoldsWithin S b (place b p st.homes i) lo t.begin t.begin
+      there : (i : ℕ) → i < length st.homes
+          → (t : HeldPart w S b p lo hi l)
+          × HoldsWithin S b (place b p st.homes i) lo t.begin t.begin
           × (t.begin ≤ place b p st.homes i) × (place b p st.homes i + S.size ≤ l)
       there i below = entry_there b p lo hi l h hashes st.homes st.written i below
 
-      same_entry : (i : ℕ) (below : i < length st.homes) → Same b c (place b p st.homes i) (place b p st.homes i + S.size)
+      same_entry : (i : ℕ) (below : i < length st.homes)
+          → Same b c (place b p st.homes i) (place b p st.homes i + S.size)
       same_entry i below =
           let r = there i below in
           let above = r.0.part.above in
-          same_part b c lo l (place b p st.homes i) (place b p st.homes i + S.size) (omega (arith, above, r.2)) (omega (arith, r.3)) (omega arith) part
+          same_part b c lo l (place b p st.homes i) (place b p st.homes i + S.size)
+          (omega (arith, above, r.2)) (omega (arith, r.3)) (omega arith) part
 
-      same_hash : (i : ℕ) → i < length st.homes → hash b (place b p st.homes i) ≡ hash c (place b p st.homes i)
+      same_hash : (i : ℕ) → i < length st.homes
+          → hash b (place b p st.homes i) ≡ hash c (place b p st.homes i)
       same_hash i below =
           let r = there i below in
           let q = place b p st.homes i in
@@ -98,7 +121,8 @@ module _ (k v : Shape) (kl : IsElement k) (vl : IsElement v) (w : Width) where
           let y = vl.between b (q + value_offset k v) e.1 r.0.begin r.1.rest x.1 e.3 in
           let ends = r.0.ends in
           let low = r.1.above in
-          near b c q r.1.lower r.0.begin e.1 r.1.below e.2 (same_key k v kl vl b c q e.0 (same_entry i below))
+          near b c q r.1.lower r.0.begin e.1 r.1.below e.2
+          (same_key k v kl vl b c q e.0 (same_entry i below))
           (same_part b c lo l r.1.lower e.1 low (omega (arith, x.1, ends)) x.0 part)
 
       abbrev again : List ℕ
@@ -110,10 +134,12 @@ module _ (k v : Shape) (kl : IsElement k) (vl : IsElement v) (w : Width) where
           let hc = home_positions w S.size c p st.homes in
           let nb : length hb ≡ length st.homes = length-map st.homes (item_at w S.size b p) in
           let nc : length hc ≡ length st.homes = length-map st.homes (item_at w S.size c p) in
-          ext_get_or 0 hashes again (length-map hb (hash b) ∙ nb ∙ sym nc ∙ sym (length-map hc (hash c)))
+          ext_get_or 0 hashes again (length-map hb (hash b) ∙ nb ∙ sym nc
+          ∙ sym (length-map hc (hash c)))
           (λ i below.
           let n : i < length st.homes = omega (arith, below, length-map hb (hash b), nb) in
-          get_or-map (hash b) hb i 0 0 (omega (arith, n, nb)) ∙ same_hash i n ∙ ap (λ (xs : List ℕ). hash c (slice_index xs i)) same_positions
+          get_or-map (hash b) hb i 0 0 (omega (arith, n, nb)) ∙ same_hash i n
+          ∙ ap (λ (xs : List ℕ). hash c (slice_index xs i)) same_positions
           ∙ sym (get_or-map (hash c) hc i 0 0 (omega (arith, n, nc))))
 
       same_controls : 0 < cap_at w b p → table_controls w b p ≡ table_controls w c p
@@ -123,9 +149,11 @@ module _ (k v : Shape) (kl : IsElement k) (vl : IsElement v) (w : Width) where
           let above = t.part.above in
           let ends = t.ends in
           let z = controls_pos w b p in
-          same_part b c lo l z (z + control_count (cap_at w b p)) (omega (arith, at, above)) (omega (arith, at, ends)) (omega arith) part
+          same_part b c lo l z (z + control_count (cap_at w b p)) (omega (arith, at, above))
+          (omega (arith, at, ends)) (omega arith) part
           ∙ ap (λ n. slice_range c n (n + control_count (cap_at w b p))) (pos_same w b c p fixed)
-          ∙ ap (λ n. slice_range c (controls_pos w c p) (controls_pos w c p + control_count n)) (cap_same w b c p fixed)
+          ∙ ap (λ n. slice_range c (controls_pos w c p) (controls_pos w c p + control_count n))
+          (cap_same w b c p fixed)
 
       written_again : WrittenAt w c p hashes st.homes
       written_again = record {
@@ -136,7 +164,8 @@ module _ (k v : Shape) (kl : IsElement k) (vl : IsElement v) (w : Width) where
           | inr e ↦ inr (
             subst (λ n. length hashes < n) (cap_same w b c p fixed) e.0,
             subst (λ n. Written n hashes st.homes (table_controls w c p)) (cap_same w b c p fixed)
-                (subst (λ (xs : List ℕ). Written (cap_at w b p) hashes st.homes xs) (same_controls (omega (arith, e.0))) e.1),
+                (subst (λ (xs : List ℕ). Written (cap_at w b p) hashes st.homes xs)
+                (same_controls (omega (arith, e.0))) e.1),
           )
         ];
       }
@@ -159,13 +188,17 @@ module _ (k v : Shape) (kl : IsElement k) (vl : IsElement v) (w : Width) where
             let ends = r.0.ends in
             let ends' = r.1.ends in
             let x = law.between b q r.1.lower r.0.begin r.1.rest r.1.below r.1.holds in
-            let there' = pair_near k v kl vl key value kn vn pair b c q r.1.lower r.0.begin r.1.rest r.1.below r.1.holds (same_entry i below)
-            (same_part b c lo l r.1.lower r.1.rest r.1.above (omega (arith, ends, ends')) x.0 part) (st.at i pair e) in
-            subst (λ (xs : List ℕ). PairStands k v key value c (slice_index xs i) pair) same_positions there';
+            let there' = pair_near k v kl vl key value kn vn pair b c q r.1.lower r.0.begin r.1.rest
+            r.1.below r.1.holds (same_entry i below)
+            (same_part b c lo l r.1.lower r.1.rest r.1.above (omega (arith, ends, ends')) x.0 part)
+            (st.at i pair e) in
+            subst (λ (xs : List ℕ). PairStands k v key value c (slice_index xs i) pair)
+            same_positions there';
       }
 
     module _ (own : A → ℕ) (alike : HashesAlike k key hash own) where
-      module _ (pairs : List (A × B)) (c : List ℕ) (p lo hi l : ℕ) (h : TableHolds w S c p lo hi l) (t : TableStands w S (PairStands k v key value) factor c p (keyed own pairs)) where
+      module _ (pairs : List (A × B)) (c : List ℕ) (p lo hi l : ℕ) (h : TableHolds w S c p lo hi l)
+          (t : TableStands w S (PairStands k v key value) factor c p (keyed own pairs)) where
         whole : IsWrittenOf w S.size (PairStands k v key value) c p (keyed own pairs)
         whole = table_written w S (PairStands k v key value) factor c p (keyed own pairs) t
 
@@ -184,8 +217,10 @@ module _ (k v : Shape) (kl : IsElement k) (vl : IsElement v) (w : Width) where
         homes_count : length homes ≡ length pairs
         homes_count = home_count w c p under homes whole.written ∙ under_count
 
-        pair_at : (i : ℕ) (pair : A × B) → slice_get pairs i ≡ Some pair → PairStands k v key value c (place c p homes i) pair
-        pair_at i pair e = whole.at i pair (ap (λ (xs : List (A × B)). slice_get xs i) (keyed_items own pairs) ∙ e)
+        pair_at : (i : ℕ) (pair : A × B) → slice_get pairs i ≡ Some pair
+            → PairStands k v key value c (place c p homes i) pair
+        pair_at i pair e = whole.at i pair
+            (ap (λ (xs : List (A × B)). slice_get xs i) (keyed_items own pairs) ∙ e)
 
         hash_there : (i : ℕ) → i < length pairs → slice_index under i ≡ hash c (place c p homes i)
         hash_there i inside = elim (slice_get_cases pairs i).1 [
@@ -194,7 +229,9 @@ module _ (k v : Shape) (kl : IsElement k) (vl : IsElement v) (w : Width) where
               let r = entry_there c p lo hi l h under homes whole.written i below in
               let q = place c p homes i in
               let stands = key_standing c q lo r.0.begin r.0.begin r.1 r.2 in
-              ap (λ (xs : List ℕ). slice_index xs i) (keyed_hashes own pairs) ∙ get_or-map (λ (pair : A × B). own pair.0) pairs i x.0 0 inside ∙ ap (λ (pair : A × B). own pair.0) x.3
+              ap (λ (xs : List ℕ). slice_index xs i) (keyed_hashes own pairs)
+              ∙ get_or-map (λ (pair : A × B). own pair.0) pairs i x.0 0 inside
+              ∙ ap (λ (pair : A × B). own pair.0) x.3
               ∙ alike x.0.0 c q stands (pair_at i x.0 x.2).0
           | inr x ↦ absurd (omega (arith, x.0, inside))
         ]
@@ -203,10 +240,12 @@ module _ (k v : Shape) (kl : IsElement k) (vl : IsElement v) (w : Width) where
         hashes_there =
             let places = home_positions w S.size c p homes in
             let n : length places ≡ length homes = length-map homes (item_at w S.size c p) in
-            ext_get_or 0 under (map (hash c) places) (under_count ∙ sym homes_count ∙ sym n ∙ sym (length-map places (hash c)))
+            ext_get_or 0 under (map (hash c) places) (under_count ∙ sym homes_count ∙ sym n
+            ∙ sym (length-map places (hash c)))
             (λ i below.
             let inside : i < length pairs = omega (arith, below, under_count) in
-            hash_there i inside ∙ sym (get_or-map (hash c) places i 0 0 (omega (arith, inside, n, homes_count))))
+            hash_there i inside ∙ sym (get_or-map (hash c) places i 0 0
+            (omega (arith, inside, n, homes_count))))
 
         pub pairs_stand : MapStands w k v key value hash factor c p pairs
         pairs_stand = record {
@@ -217,12 +256,17 @@ module _ (k v : Shape) (kl : IsElement k) (vl : IsElement v) (w : Width) where
           at = pair_at;
         }
 
-      module _ {R Q : Type 0} (kind : IsArchiveWord w) (kf : Format A R) (vf : Format B Q) (kw : IsFormat k key kf) (vw : IsFormat v value vf) where
-        -- In every archive in which what was written of a map sits, and, aligned behind it, its header, the map holds, with its
+      module _ {R Q : Type 0} (kind : IsArchiveWord w) (kf : Format A R) (vf : Format B Q)
+          (kw : IsFormat k key kf) (vw : IsFormat v value vf) where
+        -- In every archive in which what was written of a map sits, and, aligned behind it, its
+        -- header, the map holds, with its
         -- parts in their place, and stands.
-        pub map_is_format : IsFormat (map_shape w k v) (MapStands w k v key value hash factor) (map_format w k v kf vf own factor)
+        pub map_is_format : IsFormat (map_shape w k v) (MapStands w k v key value hash factor)
+            (map_format w k v kf vf own factor)
         map_is_format =
-            let table = table_is_format w kind S law (PairStands k v key value) (pair_format k v kf vf) (pair_is_format k v kl vl key value kf vf kw vw) factor in
+            let table = table_is_format w kind S law (PairStands k v key value)
+            (pair_format k v kf vf) (pair_is_format k v kl vl key value kf vf kw vw)
+            factor in
             record {
               whole = λ pairs r p out i. table.whole (keyed own pairs) r p out i;
               clear = λ pairs r p out i f. table.clear (keyed own pairs) r p out i f;

@@ -14,32 +14,51 @@ use Rattle.rkyv_collections.specs.MapFormat.{MapStands, hash_of, map_format}
 use Rattle.rkyv_collections.specs.Lemmas.MapLaws.{map_is_format, stands_again}
 use Rattle.rkyv_collections.specs.Listed.{listed, listed_format}
 
-module _ {State : Type 0} (hasher : Hasher State) (w : Width) {k v : Shape} (kl : IsElement k) (vl : IsElement v)
-    {A B : Type 0} {key : List ℕ → ℕ → A → Type 0} {value : List ℕ → ℕ → B → Type 0} {same : Comparison} {key_calls : List ℕ → ℕ → List HasherCall} (factor : ℕ × ℕ) where
+module _ {State : Type 0} (hasher : Hasher State) (w : Width) {k v : Shape} (kl : IsElement k)
+    (vl : IsElement v)
+    {A B : Type 0} {key : List ℕ → ℕ → A → Type 0} {value : List ℕ → ℕ → B
+    → Type 0} {same : Comparison} {key_calls : List ℕ → ℕ
+    → List HasherCall} (factor : ℕ × ℕ) where
   -- what stands as a map rests on the bytes on which it rests that the map holds
   pub map_near : IsKey k same key_calls → StandsNear k key → StandsNear v value
       → StandsNear (map_shape w k v) (MapStands w k v key value (hash_at hasher key_calls) factor)
   map_near law kn vn pairs b c p lo hi l o h fixed part st =
       stands_again k v kl vl w key value (hash_at hasher key_calls) factor
-      (λ b' c' q lo' hi' l' o' h' fixed' part'. ap (hash_of_calls hasher) (law.near b' c' q lo' hi' l' o' h' fixed' part')) kn vn pairs b c p lo hi l o h fixed part st
+      (λ b' c' q lo' hi' l' o' h' fixed' part'.
+      ap (hash_of_calls hasher) (law.near b' c' q lo' hi' l' o' h' fixed' part')) kn vn pairs b
+      c p lo hi l o h fixed part st
 
-  -- in every archive in which what was written of a map sits, and its header, the map holds and stands
-  pub map_sound : IsArchiveWord w → {can_read : A → Type 0} {calls : A → List HasherCall} {fits : A → List ℕ → ℕ → Bool} {equal : A → A → Bool} {R Q : Type 0} {kf : Format A R} {vf : Format B Q}
-      → IsQuery k same key_calls can_read calls fits → FitsItsEqual k key equal fits → ((a : A) → equal a a ≡ true) → ((a : A) → can_read a)
+  -- in every archive in which what was written of a map sits, and its header, the map holds and
+  -- stands
+  pub map_sound : IsArchiveWord w
+      → {can_read : A → Type 0} {calls : A → List HasherCall} {fits : A → List ℕ → ℕ
+      → Bool} {equal : A → A → Bool} {R Q : Type 0} {kf : Format A R} {vf : Format B Q}
+      → IsQuery k same key_calls can_read calls fits → FitsItsEqual k key equal fits
+      → ((a : A) → equal a a ≡ true) → ((a : A) → can_read a)
       → IsFormat k key kf → IsFormat v value vf
-      → IsFormat (map_shape w k v) (MapStands w k v key value (hash_at hasher key_calls) factor) (map_format w k v kf vf (hash_of hasher calls) factor)
-  map_sound kind {can_read} {calls} {fits} {equal} {R} {Q} {kf} {vf} query native itself reads kw vw =
+      → IsFormat (map_shape w k v) (MapStands w k v key value (hash_at hasher key_calls) factor)
+      (map_format w k v kf vf (hash_of hasher calls) factor)
+  map_sound kind {can_read} {calls} {fits} {equal} {R} {Q} {kf} {vf} query native itself reads kw
+      vw =
       map_is_format k v kl vl w key value (hash_at hasher key_calls) factor (hash_of hasher calls)
-      (λ a b q stands there. ap (hash_of_calls hasher) (hashes_as_written k same key_calls can_read calls fits key equal itself query native a b q (reads a) stands there))
+      (λ a b q stands there. ap (hash_of_calls hasher)
+      (hashes_as_written k same key_calls can_read calls fits key equal itself query native a b
+      q (reads a) stands there))
       kind kf vf kw vw
 
   -- and of a list that is written by a call which takes exactly its pairs
-  pub listed_map_sound : (max : ℕ) → IsArchiveWord w → {can_read : A → Type 0} {calls : A → List HasherCall} {fits : A → List ℕ → ℕ → Bool} {equal : A → A → Bool}
+  pub listed_map_sound : (max : ℕ) → IsArchiveWord w
+      → {can_read : A → Type 0} {calls : A → List HasherCall} {fits : A → List ℕ → ℕ
+      → Bool} {equal : A → A → Bool}
       {R Q : Type 0} {kf : Format A R} {vf : Format B Q}
-      → IsQuery k same key_calls can_read calls fits → FitsItsEqual k key equal fits → ((a : A) → equal a a ≡ true) → ((a : A) → can_read a)
+      → IsQuery k same key_calls can_read calls fits → FitsItsEqual k key equal fits
+      → ((a : A) → equal a a ≡ true) → ((a : A) → can_read a)
       → IsFormat k key kf → IsFormat v value vf
       → IsFormat (map_shape w k v) (MapStands w k v key value (hash_at hasher key_calls) factor)
       (listed max factor (map_format w k v kf vf (hash_of hasher calls) factor))
-  listed_map_sound max kind {can_read} {calls} {fits} {equal} {R} {Q} {kf} {vf} query native itself reads kw vw =
-      listed_format max factor (map_shape w k v) (MapStands w k v key value (hash_at hasher key_calls) factor)
-      (map_format w k v kf vf (hash_of hasher calls) factor) (map_sound kind query native itself reads kw vw)
+  listed_map_sound max kind {can_read} {calls} {fits} {equal} {R} {Q} {kf} {vf} query native itself
+      reads kw vw =
+      listed_format max factor (map_shape w k v)
+      (MapStands w k v key value (hash_at hasher key_calls) factor)
+      (map_format w k v kf vf (hash_of hasher calls) factor)
+      (map_sound kind query native itself reads kw vw)

@@ -1,7 +1,8 @@
 -- The laws that an archived list of keys keeps as a set.
 use Rattle.std.specs.Prelude.{◌≡◌, ℕ, Bool, true, List}
 use Rattle.std.specs.Int.{Width}
-use Rattle.rkyv_base.specs.Empty.{unit_element, unit_format, unit_is_format, unit_near, unit_shape, unit_stands}
+use Rattle.rkyv_base.specs.Empty.{unit_element, unit_format, unit_is_format, unit_near, unit_shape}
+use Rattle.rkyv_base.specs.Empty.{unit_stands}
 use Rattle.rkyv_base.specs.Format.{Format, IsFormat, StandsNear}
 use Rattle.rkyv_base.specs.Pairs.{written_as-format}
 use Rattle.rkyv_base.specs.Shape.{IsElement, Shape}
@@ -17,25 +18,38 @@ use Rattle.rkyv_collections.specs.Set.{set_shape}
 use Rattle.rkyv_collections.specs.SetFormat.{SetStands, set_format, with_units}
 
 module _ {State : Type 0} (hasher : Hasher State) (w : Width) {k : Shape} (kl : IsElement k)
-    {A : Type 0} {key : List ℕ → ℕ → A → Type 0} {same : Comparison} {key_calls : List ℕ → ℕ → List HasherCall} (factor : ℕ × ℕ) where
+    {A : Type 0} {key : List ℕ → ℕ → A → Type 0} {same : Comparison} {key_calls : List ℕ → ℕ
+    → List HasherCall} (factor : ℕ × ℕ) where
   -- what stands as a set rests on the bytes on which it rests that the set holds
-  pub set_near : IsKey k same key_calls → StandsNear k key → StandsNear (set_shape w k) (SetStands w k key (hash_at hasher key_calls) factor)
+  pub set_near : IsKey k same key_calls → StandsNear k key
+      → StandsNear (set_shape w k) (SetStands w k key (hash_at hasher key_calls) factor)
   set_near law kn keys = map_near hasher w kl unit_element factor law kn unit_near (with_units keys)
 
-  -- in every archive in which what was written of a set sits, and its header, the set holds and stands
-  pub set_sound : IsArchiveWord w → {can_read : A → Type 0} {calls : A → List HasherCall} {fits : A → List ℕ → ℕ → Bool} {equal : A → A → Bool} {R : Type 0} {kf : Format A R}
-      → IsQuery k same key_calls can_read calls fits → FitsItsEqual k key equal fits → ((a : A) → equal a a ≡ true) → ((a : A) → can_read a) → IsFormat k key kf
-      → IsFormat (set_shape w k) (SetStands w k key (hash_at hasher key_calls) factor) (set_format w k kf (hash_of hasher calls) factor)
+  -- in every archive in which what was written of a set sits, and its header, the set holds and
+  -- stands
+  pub set_sound : IsArchiveWord w
+      → {can_read : A → Type 0} {calls : A → List HasherCall} {fits : A → List ℕ → ℕ
+      → Bool} {equal : A → A → Bool} {R : Type 0} {kf : Format A R}
+      → IsQuery k same key_calls can_read calls fits → FitsItsEqual k key equal fits
+      → ((a : A) → equal a a ≡ true) → ((a : A) → can_read a) → IsFormat k key kf
+      → IsFormat (set_shape w k) (SetStands w k key (hash_at hasher key_calls) factor)
+      (set_format w k kf (hash_of hasher calls) factor)
   set_sound kind {can_read} {calls} {fits} {equal} {R} {kf} query native itself reads kw =
-      written_as-format with_units (set_shape w k) (MapStands w k unit_shape key unit_stands (hash_at hasher key_calls) factor)
+      written_as-format with_units (set_shape w k)
+      (MapStands w k unit_shape key unit_stands (hash_at hasher key_calls) factor)
       (map_format w k unit_shape kf unit_format (hash_of hasher calls) factor)
       (map_sound hasher w kl unit_element factor kind query native itself reads kw unit_is_format)
 
   -- and of a list that is written by a call which takes exactly its keys
-  pub listed_set_sound : (max : ℕ) → IsArchiveWord w → {can_read : A → Type 0} {calls : A → List HasherCall} {fits : A → List ℕ → ℕ → Bool} {equal : A → A → Bool} {R : Type 0} {kf : Format A R}
-      → IsQuery k same key_calls can_read calls fits → FitsItsEqual k key equal fits → ((a : A) → equal a a ≡ true) → ((a : A) → can_read a) → IsFormat k key kf
+  pub listed_set_sound : (max : ℕ) → IsArchiveWord w
+      → {can_read : A → Type 0} {calls : A → List HasherCall} {fits : A → List ℕ → ℕ
+      → Bool} {equal : A → A → Bool} {R : Type 0} {kf : Format A R}
+      → IsQuery k same key_calls can_read calls fits → FitsItsEqual k key equal fits
+      → ((a : A) → equal a a ≡ true) → ((a : A) → can_read a) → IsFormat k key kf
       → IsFormat (set_shape w k) (SetStands w k key (hash_at hasher key_calls) factor)
       (listed max factor (set_format w k kf (hash_of hasher calls) factor))
-  listed_set_sound max kind {can_read} {calls} {fits} {equal} {R} {kf} query native itself reads kw =
+  listed_set_sound max kind {can_read} {calls} {fits} {equal} {R} {kf} query native itself reads
+      kw =
       listed_format max factor (set_shape w k) (SetStands w k key (hash_at hasher key_calls) factor)
-      (set_format w k kf (hash_of hasher calls) factor) (set_sound kind query native itself reads kw)
+      (set_format w k kf (hash_of hasher calls) factor)
+      (set_sound kind query native itself reads kw)

@@ -1,5 +1,7 @@
 -- A map of std's equals what was written of it.
-use Rattle.std.proofs.Common.{◌≡◌, ℕ, zero, suc, ◌+◌, ◌<◌, ◌^◌, refl, sym, ap, subst, ◌∙◌, arith, Bool, true, false, List, [], ◌∷◌, map, length, slice_get, slice_index, get_or, Some}
+use Rattle.std.proofs.Common.{◌≡◌, ℕ, zero, suc, ◌+◌, ◌<◌, ◌^◌, refl, sym, ap, subst, ◌∙◌, arith}
+use Rattle.std.proofs.Common.{Bool, true, false, List, [], ◌∷◌, map, length, slice_get, slice_index}
+use Rattle.std.proofs.Common.{get_or, Some}
 use Rattle.std.specs.Cmp.{IsEquivalence}
 use Rattle.std.specs.Int.{Width}
 use Rattle.std.specs.List.{All, IsDistinct, find}
@@ -30,17 +32,23 @@ use Rattle.rkyv_collections.specs.StdEquality.{EntriesEqual, FindsPair}
 use Rattle.rkyv_collections.specs.StdMap.{of_entries}
 
 -- the first number of a list that passes
-find_only : (test : ℕ → Bool) (xs : List ℕ) (n : ℕ) → n < length xs → test (get_or xs n 0) ≡ true → ((j : ℕ) → j < n → test (get_or xs j 0) ≡ false)
+find_only : (test : ℕ → Bool) (xs : List ℕ) (n : ℕ) → n < length xs → test (get_or xs n 0) ≡ true
+    → ((j : ℕ) → j < n → test (get_or xs j 0) ≡ false)
     → find test xs ≡ Some (get_or xs n 0)
 find_only test [] n h here others = absurd (omega (arith, h))
 find_only test (x ∷ xs) zero h here others = rw here refl
 find_only test (x ∷ xs) (suc n) h here others =
-    rw (others 0 (omega arith)) (find_only test xs n (omega (arith, h)) here (λ j l. others (suc j) (omega (arith, l))))
+    rw (others 0 (omega arith)) (find_only test xs n (omega (arith, h)) here (λ j l.
+    others (suc j) (omega (arith, l))))
 
-module _ (w : Width) (k v : Shape) (kl : IsElement k) (vl : IsElement v) {A B : Type 0} (key : List ℕ → ℕ → A → Type 0) (equals : List ℕ → ℕ → B → Type 0)
+module _ (w : Width) (k v : Shape) (kl : IsElement k) (vl : IsElement v) {A B : Type 0}
+    (key : List ℕ → ℕ → A → Type 0) (equals : List ℕ → ℕ → B → Type 0)
     (own : A → ℕ) (there : List ℕ → ℕ → ℕ) (fits : A → List ℕ → ℕ → Bool) (equal : A → A → Bool)
-    (alike : (q : A) (b : List ℕ) (p : ℕ) → Standing k b p → fits q b p ≡ true → there b p ≡ own q) (native : FitsItsEqual k key equal fits) (laws : IsEquivalence equal) (factor : ℕ × ℕ) where
-  module _ (b : List ℕ) (p : ℕ) (view : Viewed (map_shape w k v) b p) (pairs : List (A × B)) (st : MapStands w k v key equals there factor b p pairs)
+    (alike : (q : A) (b : List ℕ) (p : ℕ) → Standing k b p → fits q b p ≡ true
+    → there b p ≡ own q) (native : FitsItsEqual k key equal fits) (laws : IsEquivalence equal)
+    (factor : ℕ × ℕ) where
+  module _ (b : List ℕ) (p : ℕ) (view : Viewed (map_shape w k v) b p) (pairs : List (A × B))
+      (st : MapStands w k v key equals there factor b p pairs)
       (apart : IsDistinct equal (keys_of pairs)) where
     abbrev size : ℕ
     size = (entry_shape k v).size
@@ -55,31 +63,42 @@ module _ (w : Width) (k v : Shape) (kl : IsElement k) (vl : IsElement v) {A B : 
     homes_total = home_count w b p hashes st.homes st.written ∙ sym st.written.count ∙ st.len
 
     hashes_total : length hashes ≡ length st.homes
-    hashes_total = length-map (home_positions w size b p st.homes) (there b) ∙ length-map st.homes (item_at w size b p)
+    hashes_total = length-map (home_positions w size b p st.homes) (there b)
+        ∙ length-map st.homes (item_at w size b p)
 
     key_stands : (i : ℕ) → i < length st.homes → Standing k b (place i)
     key_stands i h =
-        standing_key kl vl b (place i) (item_viewed w (entry_shape k v) (entry_element k v kl vl) b p view (slice_index st.homes i) (home_walked w b p hashes st.homes st.written i h)).stands
+        standing_key kl vl b (place i)
+        (item_viewed w (entry_shape k v) (entry_element k v kl vl) b p view
+        (slice_index st.homes i) (home_walked w b p hashes st.homes st.written i h)).stands
 
-    pair_stands : (i : ℕ) (y : A × B) → i < length st.homes → slice_get pairs i ≡ Some y → PairStands k v key equals b (place i) y
-    pair_stands i y h e = subst (λ q. PairStands k v key equals b q y) (home_pos w size b p st.homes i h) (st.at i y e)
+    pair_stands : (i : ℕ) (y : A × B) → i < length st.homes → slice_get pairs i ≡ Some y
+        → PairStands k v key equals b (place i) y
+    pair_stands i y h e = subst (λ q. PairStands k v key equals b q y)
+        (home_pos w size b p st.homes i h) (st.at i y e)
 
-    fits_is : (q : A) (i : ℕ) (y : A × B) → i < length st.homes → slice_get pairs i ≡ Some y → fits q b (place i) ≡ equal q y.0
+    fits_is : (q : A) (i : ℕ) (y : A × B) → i < length st.homes → slice_get pairs i ≡ Some y
+        → fits q b (place i) ≡ equal q y.0
     fits_is q i y h e = native q y.0 b (place i) (key_stands i h) (pair_stands i y h e).0
 
     hash_is : (i : ℕ) → i < length st.homes → slice_index hashes i ≡ there b (place i)
     hash_is i h =
         let n = length-map st.homes (item_at w size b p) in
-        get_or-map (there b) (home_positions w size b p st.homes) i 0 0 (omega (arith, n, h)) ∙ ap (there b) (home_pos w size b p st.homes i h)
+        get_or-map (there b) (home_positions w size b p st.homes) i 0 0 (omega (arith, n, h))
+        ∙ ap (there b) (home_pos w size b p st.homes i h)
 
-    under : (q : A) (i : ℕ) → i < length st.homes → fits q b (place i) ≡ true → there b (place i) ≡ own q
+    under : (q : A) (i : ℕ) → i < length st.homes → fits q b (place i) ≡ true
+        → there b (place i) ≡ own q
     under q i h = alike q b (place i) (key_stands i h)
 
-    key_of : (i : ℕ) (y : A × B) (d : A) → slice_get pairs i ≡ Some y → get_or (keys_of pairs) i d ≡ y.0
+    key_of : (i : ℕ) (y : A × B) (d : A) → slice_get pairs i ≡ Some y
+        → get_or (keys_of pairs) i d ≡ y.0
     key_of i y d e =
-        get_or-map (λ (x : A × B). x.0) pairs i y d (slice_get_within pairs i y e) ∙ ap (λ (x : A × B). x.0) (get_or_from_slice_get pairs i y y e)
+        get_or-map (λ (x : A × B). x.0) pairs i y d (slice_get_within pairs i y e)
+        ∙ ap (λ (x : A × B). x.0) (get_or_from_slice_get pairs i y y e)
 
-    no_other : (n : ℕ) (y : A × B) → slice_get pairs n ≡ Some y → (j : ℕ) → j < n → fits y.0 b (place j) ≡ false
+    no_other : (n : ℕ) (y : A × B) → slice_get pairs n ≡ Some y → (j : ℕ) → j < n
+        → fits y.0 b (place j) ≡ false
     no_other n y e j less =
         let inside = slice_get_within pairs n y e in
         let below : j < length st.homes = omega (arith, less, inside, homes_total) in
@@ -87,33 +106,45 @@ module _ (w : Width) (k v : Shape) (kl : IsElement k) (vl : IsElement v) {A B : 
         let at = slice_get-get_or pairs j y (omega (arith, less, inside)) in
         let count = length-map pairs (λ (z : A × B). z.0) in
         fits_is y.0 j x below at ∙ laws.symm y.0 x.0
-        ∙ ap (λ z. equal z y.0) (sym (key_of j x y.0 at)) ∙ ap (equal (get_or (keys_of pairs) j y.0)) (sym (key_of n y y.0 e))
-        ∙ apart_from_distinct equal (keys_of pairs) j n y.0 apart less (omega (arith, inside, count))
+        ∙ ap (λ z. equal z y.0) (sym (key_of j x y.0 at))
+        ∙ ap (equal (get_or (keys_of pairs) j y.0)) (sym (key_of n y y.0 e))
+        ∙ apart_from_distinct equal (keys_of pairs) j n y.0 apart less
+        (omega (arith, inside, count))
 
-    pair_found : (n : ℕ) (y : A × B) → slice_get pairs n ≡ Some y → pos_found generic_kind w size b p (own y.0) (fits y.0 b) ≡ Some (place n)
+    pair_found : (n : ℕ) (y : A × B) → slice_get pairs n ≡ Some y
+        → pos_found generic_kind w size b p (own y.0) (fits y.0 b) ≡ Some (place n)
     pair_found n y e =
         let inside = slice_get_within pairs n y e in
         let below : n < length st.homes = omega (arith, inside, homes_total) in
         let places = home_positions w size b p st.homes in
         let total = length-map st.homes (item_at w size b p) in
         let here : fits y.0 b (place n) ≡ true = fits_is y.0 n y below e ∙ laws.refl y.0 in
-        let small : own y.0 < 2 ^ 64 = subst (λ x. x < 2 ^ 64) (hash_is n below ∙ under y.0 n below here) (st.written.fit n 0 (omega (arith, below, hashes_total))) in
-        first_found generic_kind word_lawful w size b p (own y.0) small hashes st.homes (fits y.0 b) st.written
+        let small : own y.0 < 2 ^ 64 =
+        subst (λ x. x < 2 ^ 64) (hash_is n below
+        ∙ under y.0 n below here) (st.written.fit n 0
+        (omega (arith, below, hashes_total))) in
+        first_found generic_kind word_lawful w size b p (own y.0) small hashes st.homes (fits y.0 b)
+        st.written
         (λ i h accepted.
         let l : i < length st.homes = omega (arith, h, hashes_total) in
-        hash_is i l ∙ under y.0 i l (ap (fits y.0 b) (sym (home_pos w size b p st.homes i l)) ∙ accepted))
-        ∙ find_only (fits y.0 b) places n (omega (arith, below, total)) (ap (fits y.0 b) (home_pos w size b p st.homes n below) ∙ here)
-        (λ j less. ap (fits y.0 b) (home_pos w size b p st.homes j (omega (arith, less, below))) ∙ no_other n y e j less)
+        hash_is i l ∙ under y.0 i l (ap (fits y.0 b) (sym (home_pos w size b p st.homes i l))
+        ∙ accepted))
+        ∙ find_only (fits y.0 b) places n (omega (arith, below, total))
+        (ap (fits y.0 b) (home_pos w size b p st.homes n below) ∙ here)
+        (λ j less. ap (fits y.0 b) (home_pos w size b p st.homes j (omega (arith, less, below)))
+        ∙ no_other n y e j less)
         ∙ ap Some (home_pos w size b p st.homes n below)
 
     pub each_found : All (FindsPair w k v own fits equals b p) pairs
     each_found n d h =
         let y = get_or pairs n d in
         let e = slice_get-get_or pairs n d h in
-        subst (λ o. IsSomeAnd o (λ q. equals b (q + value_offset k v) y.1)) (sym (pair_found n y e)) (pair_stands n y (omega (arith, h, homes_total)) e).1
+        subst (λ o. IsSomeAnd o (λ q. equals b (q + value_offset k v) y.1)) (sym (pair_found n y e))
+        (pair_stands n y (omega (arith, h, homes_total)) e).1
 
   -- in every archive in which what was written of a map of std's sits, the map there equals it
-  pub written_equal : {R : Type 0} (kind : IsArchiveWord w) (f : Format (List (A × B)) R) → IsFormat (map_shape w k v) (MapStands w k v key equals there factor) f
+  pub written_equal : {R : Type 0} (kind : IsArchiveWord w) (f : Format (List (A × B)) R)
+      → IsFormat (map_shape w k v) (MapStands w k v key equals there factor) f
       → IsFormat (map_shape w k v) (EntriesEqual w k v own fits equals) (of_entries equal f)
   written_equal {R} kind f base = record {
     whole = λ es. base.whole es;
@@ -125,18 +156,30 @@ module _ (w : Width) (k v : Shape) (kl : IsElement k) (vl : IsElement v) {A B : 
         let view : Viewed (map_shape w k v) c p = record {
           inside = omega (arith, inside, whole);
           aligned = al;
-          stands = standing (map_shape w k v) (table_element w kind (entry_shape k v) (entry_element k v kl vl)) c p p0 (p0 + length part) d.0 (omega arith) o d.1;
+          stands = standing (map_shape w k v)
+              (table_element w kind (entry_shape k v) (entry_element k v kl vl)) c p p0
+              (p0 + length part) d.0 (omega arith) o d.1;
         } in
         (d.0, d.1, (d.2.len, each_found c p view es d.2 h.0));
   }
 
 -- of keys that are asked for by themselves
 pub entries_equal : {State : Type 0} (hasher : Hasher State) (w : Width) (kind : IsArchiveWord w)
-    {k v : Shape} (kl : IsElement k) (vl : IsElement v) {A B R : Type 0} {key : List ℕ → ℕ → A → Type 0} {equals : List ℕ → ℕ → B → Type 0} {same : Comparison} {key_calls : List ℕ → ℕ → List HasherCall}
-    {can_read : A → Type 0} {calls : A → List HasherCall} {fits : A → List ℕ → ℕ → Bool} {equal : A → A → Bool} (factor : ℕ × ℕ)
-    → IsQuery k same key_calls can_read calls fits → FitsItsEqual k key equal fits → IsEquivalence equal → ((a : A) → can_read a)
-    → (f : Format (List (A × B)) R) → IsFormat (map_shape w k v) (MapStands w k v key equals (hash_at hasher key_calls) factor) f
-    → IsFormat (map_shape w k v) (EntriesEqual w k v (hash_of hasher calls) fits equals) (of_entries equal f)
-entries_equal hasher w kind {k} {v} kl vl {A} {B} {R} {key} {equals} {same} {key_calls} {can_read} {calls} {fits} {equal} factor query native laws reads f base =
-    written_equal w k v kl vl key equals (hash_of hasher calls) (hash_at hasher key_calls) fits equal
-    (λ q b p h yes'. ap (hash_of_calls hasher) (sym (query.alike q b p (reads q) h yes'))) native laws factor kind f base
+    {k v : Shape} (kl : IsElement k) (vl : IsElement v) {A B R : Type 0} {key : List ℕ → ℕ → A
+    → Type 0} {equals : List ℕ → ℕ → B → Type 0} {same : Comparison} {key_calls : List ℕ → ℕ
+    → List HasherCall}
+    {can_read : A → Type 0} {calls : A → List HasherCall} {fits : A → List ℕ → ℕ
+    → Bool} {equal : A → A → Bool} (factor : ℕ × ℕ)
+    → IsQuery k same key_calls can_read calls fits → FitsItsEqual k key equal fits
+    → IsEquivalence equal → ((a : A) → can_read a)
+    → (f : Format (List (A × B)) R)
+    → IsFormat (map_shape w k v) (MapStands w k v key equals (hash_at hasher key_calls) factor)
+    f
+    → IsFormat (map_shape w k v) (EntriesEqual w k v (hash_of hasher calls) fits equals)
+    (of_entries equal f)
+entries_equal hasher w kind {k} {v} kl vl {A} {B} {R} {key} {equals} {same} {key_calls} {can_read}
+    {calls} {fits} {equal} factor query native laws reads f base =
+    written_equal w k v kl vl key equals (hash_of hasher calls) (hash_at hasher key_calls) fits
+    equal
+    (λ q b p h yes'. ap (hash_of_calls hasher) (sym (query.alike q b p (reads q) h yes'))) native
+    laws factor kind f base

@@ -1,5 +1,7 @@
 -- What was written of a map of std's stands as that map, and stands where the same bytes do.
-use Rattle.std.proofs.Common.{◌≡◌, ℕ, zero, suc, ◌+◌, ◌-◌, ◌*◌, ◌<◌, ◌≤◌, ◌↔◌, refl, sym, ap, subst, ◌∙◌, arith, inl, inr, ◌⊎◌, Bool, true, false, cond, eqb, List, [], ◌∷◌, map, length, slice_get, slice_index, Option, Some, None}
+use Rattle.std.proofs.Common.{◌≡◌, ℕ, zero, suc, ◌+◌, ◌-◌, ◌*◌, ◌<◌, ◌≤◌, ◌↔◌, refl, sym, ap, subst}
+use Rattle.std.proofs.Common.{◌∙◌, arith, inl, inr, ◌⊎◌, Bool, true, false, cond, eqb, List, []}
+use Rattle.std.proofs.Common.{◌∷◌, map, length, slice_get, slice_index, Option, Some, None}
 use Rattle.std.specs.Cmp.{IsEquivalence}
 use Rattle.std.specs.Int.{Width, byte_len}
 use Rattle.std.specs.List.{All, AllZip, Contains, IsDistinct}
@@ -21,7 +23,8 @@ use Rattle.rkyv_table.specs.Table.Header.{cap_at, len_at}
 use Rattle.rkyv_table.specs.Lemmas.ItemPositions.{holds_at, item_holds, told_pos}
 use Rattle.rkyv_table.specs.Controls.Numbers.{control_count}
 use Rattle.rkyv_table.specs.Controls.Placing.{walk}
-use Rattle.rkyv_table.specs.Table.Reading.{IsWalked, controls_pos, home_positions, item_at, item_positions, table_controls}
+use Rattle.rkyv_table.specs.Table.Reading.{IsWalked, controls_pos, home_positions, item_at}
+use Rattle.rkyv_table.specs.Table.Reading.{item_positions, table_controls}
 use Rattle.rkyv_table.specs.Lemmas.SameHeader.{cap_same, pos_same}
 use Rattle.rkyv_table.specs.Table.Layout.{TableHolds}
 use Rattle.rkyv_table.specs.Lemmas.TableLaws.{table_element}
@@ -40,7 +43,8 @@ module _ (k v : Shape) (kl : IsElement k) (vl : IsElement v) (w : Width) where
   abbrev law : IsElement S
   law = entry_element k v kl vl
 
-  module _ (b c : List ℕ) (p lo hi l : ℕ) (o : lo ≤ hi) (h : TableHolds w S b p lo hi l) (fixed : Same b c p (p + 3 * byte_len w)) (part : Same b c lo l) where
+  module _ (b c : List ℕ) (p lo hi l : ℕ) (o : lo ≤ hi) (h : TableHolds w S b p lo hi l)
+      (fixed : Same b c p (p + 3 * byte_len w)) (part : Same b c lo l) where
     same_controls : 0 < cap_at w b p → table_controls w b p ≡ table_controls w c p
     same_controls some =
         let t = holds_at w S law b p lo hi l h some in
@@ -48,27 +52,35 @@ module _ (k v : Shape) (kl : IsElement k) (vl : IsElement v) (w : Width) where
         let above = t.part.above in
         let ends = t.ends in
         let z = controls_pos w b p in
-        same_part b c lo l z (z + control_count (cap_at w b p)) (omega (arith, at, above)) (omega (arith, at, ends)) (omega arith) part
+        same_part b c lo l z (z + control_count (cap_at w b p)) (omega (arith, at, above))
+        (omega (arith, at, ends)) (omega arith) part
         ∙ ap (λ n. slice_range c n (n + control_count (cap_at w b p))) (pos_same w b c p fixed)
-        ∙ ap (λ n. slice_range c (controls_pos w c p) (controls_pos w c p + control_count n)) (cap_same w b c p fixed)
+        ∙ ap (λ n. slice_range c (controls_pos w c p) (controls_pos w c p + control_count n))
+        (cap_same w b c p fixed)
 
-    same_walk : walk (table_controls w b p) (cap_at w b p) ≡ walk (table_controls w c p) (cap_at w c p)
+    same_walk : walk (table_controls w b p) (cap_at w b p)
+        ≡ walk (table_controls w c p) (cap_at w c p)
     same_walk = elim (cases_eq (cap_at w b p) 0) [
       | inl none ↦
-          ap (walk (table_controls w b p)) none ∙ walk_none (table_controls w b p) ∙ sym (walk_none (table_controls w c p))
+          ap (walk (table_controls w b p)) none ∙ walk_none (table_controls w b p)
+          ∙ sym (walk_none (table_controls w c p))
           ∙ ap (walk (table_controls w c p)) (sym none ∙ cap_same w b c p fixed)
       | inr some ↦
-          ap (λ (xs : List ℕ). walk xs (cap_at w b p)) (same_controls (omega arith)) ∙ ap (walk (table_controls w c p)) (cap_same w b c p fixed)
+          ap (λ (xs : List ℕ). walk xs (cap_at w b p)) (same_controls (omega arith))
+          ∙ ap (walk (table_controls w c p)) (cap_same w b c p fixed)
     ]
 
     -- the same pairs are walked at the same places
     pub same_positions : item_positions w S.size b p ≡ item_positions w S.size c p
     same_positions =
         ap (map (item_at w S.size b p)) same_walk
-        ∙ ap (λ z. map (λ i. z - (i + 1) * S.size) (walk (table_controls w c p) (cap_at w c p))) (pos_same w b c p fixed)
+        ∙ ap (λ z. map (λ i. z - (i + 1) * S.size) (walk (table_controls w c p) (cap_at w c p)))
+        (pos_same w b c p fixed)
 
-    module _ {A B : Type 0} {key : List ℕ → ℕ → A → Type 0} {value : List ℕ → ℕ → B → Type 0} (kn : StandsNear k key) (vn : StandsNear v value) where
-      pair_again : (i : ℕ) → IsWalked w b p i → (pair : A × B) → PairStands k v key value b (item_at w S.size b p i) pair
+    module _ {A B : Type 0} {key : List ℕ → ℕ → A → Type 0} {value : List ℕ → ℕ → B
+        → Type 0} (kn : StandsNear k key) (vn : StandsNear v value) where
+      pair_again : (i : ℕ) → IsWalked w b p i → (pair : A × B)
+          → PairStands k v key value b (item_at w S.size b p i) pair
           → PairStands k v key value c (item_at w S.size b p i) pair
       pair_again i walked pair st =
           let q = item_at w S.size b p i in
@@ -78,43 +90,57 @@ module _ (k v : Shape) (kl : IsElement k) (vl : IsElement v) (w : Width) where
           let ends = t.ends in
           let ends' = r.0.ends in
           let x = law.between b q r.0.lower t.begin r.0.rest r.0.below r.0.holds in
-          pair_near k v kl vl key value kn vn pair b c q r.0.lower t.begin r.0.rest r.0.below r.0.holds
+          pair_near k v kl vl key value kn vn pair b c q r.0.lower t.begin r.0.rest r.0.below
+          r.0.holds
           (same_part b c lo l q (q + S.size) (omega (arith, r.1, above)) r.2 (omega arith) part)
           (same_part b c lo l r.0.lower r.0.rest r.0.above (omega (arith, ends, ends')) x.0 part) st
 
-      pairs_again : (is : List ℕ) → All (IsWalked w b p) is → (pairs : List (A × B)) → ArePairsAt k v key value b (map (item_at w S.size b p) is) pairs
+      pairs_again : (is : List ℕ) → All (IsWalked w b p) is → (pairs : List (A × B))
+          → ArePairsAt k v key value b (map (item_at w S.size b p) is) pairs
           → ArePairsAt k v key value c (map (item_at w S.size b p) is) pairs
       pairs_again [] walked [] r = r
       pairs_again [] walked (x ∷ xs) r = r
       pairs_again (i ∷ is) walked [] r = r
-      pairs_again (i ∷ is) walked (x ∷ xs) r =
-          (pair_again i (All-head (IsWalked w b p) i is walked) x r.0, pairs_again is (All-tail (IsWalked w b p) i is walked) xs r.1)
+      pairs_again (i ∷ is) walked (x ∷ xs) r = (
+        pair_again i (All-head (IsWalked w b p) i is walked) x r.0,
+        pairs_again is (All-tail (IsWalked w b p) i is walked) xs r.1,
+      )
 
-      pub entries_again : (equal : A → A → Bool) (es : List (A × B)) → EntriesStand k v key value w equal b p es → EntriesStand k v key value w equal c p es
+      pub entries_again : (equal : A → A → Bool) (es : List (A × B))
+          → EntriesStand k v key value w equal b p es → EntriesStand k v key value w equal c p es
       entries_again equal es st = record {
         pairs = st.pairs;
-        read = subst (λ (places : List ℕ). ArePairsAt k v key value c places st.pairs) same_positions
-            (pairs_again (walk (table_controls w b p) (cap_at w b p)) (walked_all w S law b p) st.pairs st.read);
+        read = subst (λ (places : List ℕ). ArePairsAt k v key value c places st.pairs)
+            same_positions
+            (pairs_again (walk (table_controls w b p) (cap_at w b p)) (walked_all w S law b p)
+            st.pairs st.read);
         inserted = st.inserted;
       }
 
   -- that entries stand rests on the bytes on which it rests that the map holds
-  pub entries_near : {A B : Type 0} {key : List ℕ → ℕ → A → Type 0} {value : List ℕ → ℕ → B → Type 0} (equal : A → A → Bool) → StandsNear k key → StandsNear v value
+  pub entries_near : {A B : Type 0} {key : List ℕ → ℕ → A → Type 0} {value : List ℕ → ℕ → B
+      → Type 0} (equal : A → A → Bool) → StandsNear k key → StandsNear v value
       → StandsNear {V = List (A × B)} (map_shape w k v) (EntriesStand k v key value w equal)
-  entries_near equal kn vn es b c p lo hi l o h fixed part st = entries_again b c p lo hi l o h fixed part kn vn equal es st
+  entries_near equal kn vn es b c p lo hi l o h fixed part st =
+      entries_again b c p lo hi l o h fixed part kn vn equal es st
 
 -- Pairs of distinct keys, each with a home of its own.
-module _ {A B : Type 0} (equal : A → A → Bool) (laws : IsEquivalence equal) (pairs : List (A × B)) (apart : IsDistinct equal (keys_of pairs))
+module _ {A B : Type 0} (equal : A → A → Bool) (laws : IsEquivalence equal) (pairs : List (A × B))
+    (apart : IsDistinct equal (keys_of pairs))
     (homes : List ℕ) (once : IsDistinct eqb homes) (count : length homes ≡ length pairs) where
   -- the pair has its home in bucket i
   abbrev Picks : ℕ → A × B → Type 0
-  Picks i y = (n : ℕ) × (n < length homes) × (slice_index homes n ≡ i) × (slice_get pairs n ≡ Some y)
+  Picks i y = (n : ℕ) × (n < length homes) × (slice_index homes n ≡ i)
+      × (slice_get pairs n ≡ Some y)
 
   homes_apart : (n m : ℕ) → n < m → m < length homes → slice_index homes n ≡ slice_index homes m → ⊥
   homes_apart n m h l e =
-      both_ways (eqb (slice_index homes n) (slice_index homes m)) (apart_from_distinct eqb homes n m 0 once h l) (eq-eqb (slice_index homes n) (slice_index homes m) e)
+      both_ways (eqb (slice_index homes n) (slice_index homes m))
+      (apart_from_distinct eqb homes n m 0 once h l)
+      (eq-eqb (slice_index homes n) (slice_index homes m) e)
 
-  one_home : (n m : ℕ) → n < length homes → m < length homes → slice_index homes n ≡ slice_index homes m → n ≡ m
+  one_home : (n m : ℕ) → n < length homes → m < length homes
+      → slice_index homes n ≡ slice_index homes m → n ≡ m
   one_home n m h l e = elim (cases_lt n m) [
     | inl less ↦ absurd (homes_apart n m less l e)
     | inr more ↦ elim (cases_eq n m) [
@@ -127,8 +153,10 @@ module _ {A B : Type 0} (equal : A → A → Bool) (laws : IsEquivalence equal) 
   same_lookup x q h = ap (λ (test : A → Bool). lookup test pairs) (λ i z. laws.congr x q z h i)
 
   -- a pair that is picked is found by its key
-  picked_found : (i : ℕ) (y : A × B) → Picks i y → (q : A) → equal y.0 q ≡ true → Some y.1 ≡ lookup (equal q) pairs
-  picked_found i y h q e = sym (lookup_from_place laws pairs h.0 y.0 y.1 apart h.3) ∙ same_lookup y.0 q e
+  picked_found : (i : ℕ) (y : A × B) → Picks i y → (q : A) → equal y.0 q ≡ true
+      → Some y.1 ≡ lookup (equal q) pairs
+  picked_found i y h q e = sym (lookup_from_place laws pairs h.0 y.0 y.1 apart h.3)
+      ∙ same_lookup y.0 q e
 
   -- a key that is found is that of the pair in some home
   Hits : A → Type 0
@@ -147,13 +175,15 @@ module _ {A B : Type 0} (equal : A → A → Bool) (laws : IsEquivalence equal) 
         (at.0, below, get_or_default homes at.0 i 0 below),
         λ y picked.
             let n = one_home picked.0 at.0 picked.1 below picked.2 in
-            let is : y ≡ (at.1, x) = same_Some y (at.1, x) (sym picked.3 ∙ ap (slice_get pairs) n ∙ at.2) in
+            let is : y ≡ (at.1, x) = same_Some y (at.1, x) (sym picked.3 ∙ ap (slice_get pairs) n
+            ∙ at.2) in
             ap (λ (z : A × B). equal z.0 q) is ∙ laws.symm at.1 q ∙ at.3,
       )
 
   -- inserting the picked pairs in turn gives what is found among the pairs
   inserted : (q : A) (is : List ℕ) (ys : List (A × B)) → AllZip Picks is ys → (f : A → Option B)
-      → (f q ≡ lookup (equal q) pairs) ⊎ ((i : ℕ) × Contains is i × ((y : A × B) → Picks i y → equal y.0 q ≡ true))
+      → (f q ≡ lookup (equal q) pairs)
+      ⊎ ((i : ℕ) × Contains is i × ((y : A × B) → Picks i y → equal y.0 q ≡ true))
       → update_all equal f ys q ≡ lookup (equal q) pairs
   inserted q [] [] z f (inl e) = e
   inserted q [] [] z f (inr h) = absurd (omega (arith, h.1.1))
@@ -166,104 +196,140 @@ module _ {A B : Type 0} (equal : A → A → Bool) (laws : IsEquivalence equal) 
         | inr other ↦ inserted q is ys z.1 g (rest hit other)
       ]
     where
-      rest : (f q ≡ lookup (equal q) pairs) ⊎ ((j : ℕ) × Contains (i ∷ is) j × ((x : A × B) → Picks j x → equal x.0 q ≡ true)) → equal y.0 q ≡ false
-          → (cond (equal y.0 q) (Some y.1) (f q) ≡ lookup (equal q) pairs) ⊎ ((j : ℕ) × Contains is j × ((x : A × B) → Picks j x → equal x.0 q ≡ true))
+      rest : (f q ≡ lookup (equal q) pairs)
+          ⊎ ((j : ℕ) × Contains (i ∷ is) j × ((x : A × B) → Picks j x → equal x.0 q ≡ true))
+          → equal y.0 q ≡ false
+          → (cond (equal y.0 q) (Some y.1) (f q) ≡ lookup (equal q) pairs)
+          ⊎ ((j : ℕ) × Contains is j × ((x : A × B) → Picks j x → equal x.0 q ≡ true))
       rest (inl e) other = inl (rw other e)
-      rest (inr (j, (zero, l, at), h)) other = absurd (both_ways (equal y.0 q) other (h y (z.0.0, z.0.1, z.0.2 ∙ at, z.0.3)))
+      rest (inr (j, (zero, l, at), h)) other =
+          absurd (both_ways (equal y.0 q) other (h y (z.0.0, z.0.1, z.0.2 ∙ at, z.0.3)))
       rest (inr (j, (suc n, l, at), h)) other = inr (j, (n, omega (arith, l), at), h)
 
   beyond : (n : ℕ) → n < length homes → length pairs ≤ n → ⊥
   beyond n h g = omega (arith, h, g, count)
 
   -- the pairs that the buckets pick
-  pick_all : (P : ℕ → A × B → Type 0) → ((n : ℕ) (y : A × B) → n < length homes → slice_get pairs n ≡ Some y → P (slice_index homes n) y)
-      → (is : List ℕ) → All (Contains homes) is → (ys : List (A × B)) × AllZip P is ys × AllZip Picks is ys
+  pick_all : (P : ℕ → A × B → Type 0)
+      → ((n : ℕ) (y : A × B) → n < length homes → slice_get pairs n ≡ Some y
+      → P (slice_index homes n) y)
+      → (is : List ℕ) → All (Contains homes) is → (ys : List (A × B)) × AllZip P is ys
+      × AllZip Picks is ys
   pick_all P stands [] all = ([], tt, tt)
   pick_all P stands (i ∷ is) all =
       let home = All-head (Contains homes) i is all in
       let rest = pick_all P stands is (All-tail (Contains homes) i is all) in
       let at : slice_index homes home.0 ≡ i = get_or_default homes home.0 0 i home.1 ∙ home.2 in
       elim (slice_get_cases pairs home.0).1 [
-        | inl x ↦ (x.0 ∷ rest.0, (subst (λ j. P j x.0) at (stands home.0 x.0 home.1 x.2), rest.1), ((home.0, home.1, at, x.2), rest.2))
+        | inl x ↦ (
+          x.0 ∷ rest.0,
+          (subst (λ j. P j x.0) at (stands home.0 x.0 home.1 x.2), rest.1),
+          ((home.0, home.1, at, x.2), rest.2),
+        )
         | inr x ↦ absurd (beyond home.0 home.1 x.0)
       ]
 
-module _ (k v : Shape) (kl : IsElement k) (vl : IsElement v) (w : Width) {A B : Type 0} {key : List ℕ → ℕ → A → Type 0} {value : List ℕ → ℕ → B → Type 0}
-    (equal : A → A → Bool) (laws : IsEquivalence equal) (hash : List ℕ → ℕ → ℕ) (factor : ℕ × ℕ) where
-  -- a map of distinct keys that was written stands as a map of std's that finds what is found among its pairs
-  module _ (b : List ℕ) (p : ℕ) (view : Viewed (map_shape w k v) b p) (pairs : List (A × B)) (st : MapStands w k v key value hash factor b p pairs)
-      (apart : IsDistinct equal (keys_of pairs)) where
-    walked : List ℕ
-    walked = walk (table_controls w b p) (cap_at w b p)
+module _ (k v : Shape) (kl : IsElement k) (vl : IsElement v) (w : Width) {A B : Type 0}
+    {key : List ℕ → ℕ → A → Type 0} {value : List ℕ → ℕ → B → Type 0}
+    (equal : A → A → Bool) (laws : IsEquivalence equal) (hash : List ℕ → ℕ → ℕ) (factor : ℕ × ℕ)
+  where
+    -- a map of distinct keys that was written stands as a map of std's that finds what is found
+    -- among
+    -- its pairs
+    module _ (b : List ℕ) (p : ℕ) (view : Viewed (map_shape w k v) b p) (pairs : List (A × B))
+        (st : MapStands w k v key value hash factor b p pairs)
+        (apart : IsDistinct equal (keys_of pairs)) where
+      walked : List ℕ
+      walked = walk (table_controls w b p) (cap_at w b p)
 
-    home_total : length st.homes ≡ length pairs
-    home_total =
-        let hashes = map (hash b) (home_positions w (entry_shape k v).size b p st.homes) in
-        home_count w b p hashes st.homes st.written ∙ sym st.written.count ∙ st.len
+      home_total : length st.homes ≡ length pairs
+      home_total =
+          let hashes = map (hash b) (home_positions w (entry_shape k v).size b p st.homes) in
+          home_count w b p hashes st.homes st.written ∙ sym st.written.count ∙ st.len
 
-    -- the walk visits each home, and nothing else
-    Visits : Type 0
-    Visits = ((i : ℕ) → Contains walked i ↔ Contains st.homes i) × IsDistinct eqb st.homes
+      -- the walk visits each home, and nothing else
+      Visits : Type 0
+      Visits = ((i : ℕ) → Contains walked i ↔ Contains st.homes i) × IsDistinct eqb st.homes
 
-    visits : Visits
-    unfolding walked Visits
-    visits =
-        let hashes = map (hash b) (home_positions w (entry_shape k v).size b p st.homes) in
-        elim st.written.placed [
-          | inl none ↦
-              let count = walk_count w (entry_shape k v) (entry_element k v kl vl) b p view in
-              let homes : length st.homes ≡ 0 = ap length none.1 in
-              let len : len_at w b p ≡ 0 = st.len ∙ sym home_total ∙ homes in (
-                λ i. (λ at. absurd (omega (arith, at.1, count, len)), λ at. absurd (omega (arith, at.1, homes))),
-                IsDistinct-from_apart eqb st.homes (λ i j d less h. absurd (omega (arith, h, homes))),
-              )
-          | inr placed ↦
-              let all = walked_homes (cap_at w b p) hashes st.homes (table_controls w b p) placed.0 st.written.fit placed.1 in
-              (all.members, all.once)
-        ]
+      visits : Visits
+      unfolding walked Visits
+      visits =
+          let hashes = map (hash b) (home_positions w (entry_shape k v).size b p st.homes) in
+          elim st.written.placed [
+            | inl none ↦
+                let count = walk_count w (entry_shape k v) (entry_element k v kl vl) b p view in
+                let homes : length st.homes ≡ 0 = ap length none.1 in
+                let len : len_at w b p ≡ 0 = st.len ∙ sym home_total ∙ homes in (
+                  λ i. (
+                    λ at. absurd (omega (arith, at.1, count, len)),
+                    λ at. absurd (omega (arith, at.1, homes)),
+                  ),
+                  IsDistinct-from_apart eqb st.homes (λ i j d less h.
+                      absurd (omega (arith, h, homes))),
+                )
+            | inr placed ↦
+                let all = walked_homes (cap_at w b p) hashes st.homes (table_controls w b p)
+                placed.0
+                st.written.fit placed.1 in
+                (all.members, all.once)
+          ]
 
-    pair_there : (n : ℕ) (y : A × B) → n < length st.homes → slice_get pairs n ≡ Some y
-        → PairStands k v key value b (item_at w (entry_shape k v).size b p (slice_index st.homes n)) y
-    pair_there n y h e =
-        subst (λ q. PairStands k v key value b q y) (home_pos w (entry_shape k v).size b p st.homes n h) (st.at n y e)
+      pair_there : (n : ℕ) (y : A × B) → n < length st.homes → slice_get pairs n ≡ Some y
+          → PairStands k v key value b (item_at w (entry_shape k v).size b p
+          (slice_index st.homes n))
+          y
+      pair_there n y h e =
+          subst (λ q. PairStands k v key value b q y)
+          (home_pos w (entry_shape k v).size b p st.homes n h) (st.at n y e)
 
-    zip_positions : (is : List ℕ) (ys : List (A × B)) → AllZip (λ i y. PairStands k v key value b (item_at w (entry_shape k v).size b p i) y) is ys
-        → ArePairsAt k v key value b (map (item_at w (entry_shape k v).size b p) is) ys
-    zip_positions [] [] z = z
-    zip_positions [] (y ∷ ys) z = z
-    zip_positions (i ∷ is) [] z = z
-    zip_positions (i ∷ is) (y ∷ ys) z = (z.0, zip_positions is ys z.1)
+      zip_positions : (is : List ℕ) (ys : List (A × B))
+          → AllZip (λ i y. PairStands k v key value b (item_at w (entry_shape k v).size b p i) y) is
+          ys
+          → ArePairsAt k v key value b (map (item_at w (entry_shape k v).size b p) is) ys
+      zip_positions [] [] z = z
+      zip_positions [] (y ∷ ys) z = z
+      zip_positions (i ∷ is) [] z = z
+      zip_positions (i ∷ is) (y ∷ ys) z = (z.0, zip_positions is ys z.1)
 
-    pub reads_written : (ys : List (A × B)) × ArePairsAt k v key value b (item_positions w (entry_shape k v).size b p) ys
-        × ((q : A) → lookup (equal q) pairs ≡ update_all equal (λ _. None) ys q)
-    unfolding walked Visits Hits
-    reads_written =
-        let picked = pick_all equal laws pairs apart st.homes visits.1 home_total (λ i y. PairStands k v key value b (item_at w (entry_shape k v).size b p i) y) pair_there
-        walked (All-weaker (Contains walked) (Contains st.homes) (λ i at. (visits.0 i).0 at) walked (All-contains_itself walked)) in (
-          picked.0,
-          zip_positions walked picked.0 picked.1,
-          λ q. sym (inserted equal laws pairs apart st.homes visits.1 home_total q walked picked.0 picked.2 (λ _. None)
-              (elim (found_picked equal laws pairs apart st.homes visits.1 home_total q (lookup (equal q) pairs) refl) [
-                | inl none ↦ inl (sym none)
-                | inr hit ↦ inr (hit.0, (visits.0 hit.0).1 hit.1, hit.2)
-              ])),
-        )
+      pub reads_written : (ys : List (A × B))
+          × ArePairsAt k v key value b (item_positions w (entry_shape k v).size b p) ys
+          × ((q : A) → lookup (equal q) pairs ≡ update_all equal (λ _. None) ys q)
+      unfolding walked Visits Hits
+      reads_written =
+          let picked = pick_all equal laws pairs apart st.homes visits.1 home_total (λ i y.
+          PairStands k v key value b (item_at w (entry_shape k v).size b p i) y) pair_there
+          walked (All-weaker (Contains walked) (Contains st.homes) (λ i at. (visits.0 i).0 at)
+          walked
+          (All-contains_itself walked)) in (
+            picked.0,
+            zip_positions walked picked.0 picked.1,
+            λ q. sym (inserted equal laws pairs apart st.homes visits.1 home_total q walked picked.0
+                picked.2 (λ _. None)
+                (elim (found_picked equal laws pairs apart st.homes visits.1 home_total q
+                (lookup (equal q) pairs) refl) [
+                  | inl none ↦ inl (sym none)
+                  | inr hit ↦ inr (hit.0, (visits.0 hit.0).1 hit.1, hit.2)
+                ])),
+          )
 
-  -- what is written of entries of distinct keys stands as them
-  pub entries_sound : {R : Type 0} (kind : IsArchiveWord w) (f : Format (List (A × B)) R) → IsFormat (map_shape w k v) (MapStands w k v key value hash factor) f
-      → IsFormat (map_shape w k v) (EntriesStand k v key value w equal) (of_entries equal f)
-  entries_sound {R} kind f base = record {
-    whole = λ es. base.whole es;
-    clear = λ es. base.clear es;
-    sound = λ es r c p0 p part out h i s t o al.
-        let d = base.sound es r c p0 p part out h.1 i s t o al in
-        let whole = base.whole es r p out i in
-        let inside = t.inside in
-        let view : Viewed (map_shape w k v) c p = record {
-          inside = omega (arith, inside, whole);
-          aligned = al;
-          stands = standing (map_shape w k v) (table_element w kind (entry_shape k v) (entry_element k v kl vl)) c p p0 (p0 + length part) d.0 (omega arith) o d.1;
-        } in
-        let read = reads_written c p view es d.2 h.0 in
-        (d.0, d.1, record { pairs = read.0; read = read.1; inserted = (read.2, h.0) });
-  }
+    -- what is written of entries of distinct keys stands as them
+    pub entries_sound : {R : Type 0} (kind : IsArchiveWord w) (f : Format (List (A × B)) R)
+        → IsFormat (map_shape w k v) (MapStands w k v key value hash factor) f
+        → IsFormat (map_shape w k v) (EntriesStand k v key value w equal) (of_entries equal f)
+    entries_sound {R} kind f base = record {
+      whole = λ es. base.whole es;
+      clear = λ es. base.clear es;
+      sound = λ es r c p0 p part out h i s t o al.
+          let d = base.sound es r c p0 p part out h.1 i s t o al in
+          let whole = base.whole es r p out i in
+          let inside = t.inside in
+          let view : Viewed (map_shape w k v) c p = record {
+            inside = omega (arith, inside, whole);
+            aligned = al;
+            stands = standing (map_shape w k v)
+                (table_element w kind (entry_shape k v) (entry_element k v kl vl)) c p p0
+                (p0 + length part) d.0 (omega arith) o d.1;
+          } in
+          let read = reads_written c p view es d.2 h.0 in
+          (d.0, d.1, record { pairs = read.0; read = read.1; inserted = (read.2, h.0) });
+    }

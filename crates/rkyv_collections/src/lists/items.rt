@@ -80,7 +80,8 @@ impl<'a, A> Iterator for Rest<'a, A> {
 
 impl<'a, W: Width, H: KeyHasher, A, K: KeyElement + StandsFor<A>> StandsFor<SetItems<'a, A, H>>
     for HashSetOf<K, H, W> {
-    ghost stands = { λ b p x. SetStands W.word K.shape K.stands (hash_at H.hasher K.key_calls) x.load_factor b p x.items.now };
+    ghost stands = { λ b p x. SetStands W.word K.shape K.stands (hash_at H.hasher K.key_calls)
+        x.load_factor b p x.items.now };
 
     ghost near = { λ x. set_near H.hasher W.word K.laws x.load_factor K.key K.near x.items.now };
 }
@@ -112,8 +113,10 @@ where
         let own = hash_of H.hasher A.calls in
         written_under-format (λ x. x.items.now) (set_shape W.word A.Archived.shape)
         (λ x. SetStands W.word A.Archived.shape A.Archived.stands hash x.load_factor)
-        (λ x. listed W.MAX_CAPACITY x.load_factor (set_format W.word A.Archived.shape A.format own x.load_factor))
-        (λ x. listed_set_sound H.hasher W.word A.Archived.laws x.load_factor W.MAX_CAPACITY W.layout.kind
+        (λ x. listed W.MAX_CAPACITY x.load_factor
+        (set_format W.word A.Archived.shape A.format own x.load_factor))
+        (λ x. listed_set_sound H.hasher W.word A.Archived.laws x.load_factor W.MAX_CAPACITY
+        W.layout.kind
         A.query A.native A.Eq.laws.refl A.reads A.Archive.laws) };
 }
 

@@ -83,9 +83,11 @@ impl<'a, A, B> Iterator for Halves<'a, A, B> {
 impl<'a, W: Width, H: KeyHasher, A, B, K: KeyElement + StandsFor<A>, V: StandsFor<B>> StandsFor<
     MapPairs<'a, A, B, H>,
 > for HashMapOf<K, V, H, W> {
-    ghost stands = { λ b p x. MapStands W.word K.shape V.shape K.stands V.stands (hash_at H.hasher K.key_calls) x.load_factor b p x.pairs.now };
+    ghost stands = { λ b p x. MapStands W.word K.shape V.shape K.stands V.stands
+        (hash_at H.hasher K.key_calls) x.load_factor b p x.pairs.now };
 
-    ghost near = { λ x. map_near H.hasher W.word K.laws V.laws x.load_factor K.key K.near V.near x.pairs.now };
+    ghost near = { λ x. map_near H.hasher W.word K.laws V.laws x.load_factor K.key K.near V.near
+        x.pairs.now };
 }
 
 impl<'a, W: Width, H: KeyHasher, A: Archive<W>, B: Archive<W>> Archive<W> for MapPairs<'a, A, B, H>
@@ -98,7 +100,8 @@ where
     type Resolver = HashMapResolver<W>;
 
     ghost format = { written_under (λ x. x.pairs.now) (λ x. listed W.MAX_CAPACITY x.load_factor
-        (map_format W.word A.Archived.shape B.Archived.shape A.format B.format (hash_of H.hasher A.calls) x.load_factor)) };
+        (map_format W.word A.Archived.shape B.Archived.shape A.format B.format
+        (hash_of H.hasher A.calls) x.load_factor)) };
 
     fn resolve(
         &self,
@@ -120,9 +123,13 @@ where
     ghost laws = { let hash = hash_at H.hasher A.Archived.key_calls in
         let own = hash_of H.hasher A.calls in
         written_under-format (λ x. x.pairs.now) (map_shape W.word A.Archived.shape B.Archived.shape)
-        (λ x. MapStands W.word A.Archived.shape B.Archived.shape A.Archived.stands B.Archived.stands hash x.load_factor)
-        (λ x. listed W.MAX_CAPACITY x.load_factor (map_format W.word A.Archived.shape B.Archived.shape A.format B.format own x.load_factor))
-        (λ x. listed_map_sound H.hasher W.word A.Archived.laws B.Archived.laws x.load_factor W.MAX_CAPACITY W.layout.kind
+        (λ x. MapStands W.word A.Archived.shape B.Archived.shape A.Archived.stands B.Archived.stands
+        hash x.load_factor)
+        (λ x. listed W.MAX_CAPACITY x.load_factor
+        (map_format W.word A.Archived.shape B.Archived.shape A.format B.format own
+        x.load_factor))
+        (λ x. listed_map_sound H.hasher W.word A.Archived.laws B.Archived.laws x.load_factor
+        W.MAX_CAPACITY W.layout.kind
         A.query A.native A.Eq.laws.refl A.reads A.Archive.laws B.laws) };
 }
 

@@ -28,5 +28,6 @@ impl<K: Element, V: Element, H, W: Width> Element for HashMapOf<K, V, H, W> {
         ArchivedHashTable::<Entry<K, V>, W>::verify(bytes, pos, range)
     }
 
-    ghost laws = { table_element W.word W.layout.kind (entry_shape K.shape V.shape) (entry_element K.shape V.shape K.laws V.laws) };
+    ghost laws = { table_element W.word W.layout.kind (entry_shape K.shape V.shape)
+        (entry_element K.shape V.shape K.laws V.laws) };
 }

@@ -22,7 +22,8 @@ impl<'a, K: KeyElement, V: ElementEq, H: KeyHasher, W: Width> ArchivedHashMap<'a
         requires value { IsView V.shape value }
         requires pair { IsAt value (archive_of key) (pos_of key + value_offset K.shape V.shape) }
         ensures { let key_hash = hash_at H.hasher K.key_calls in
-            result ≡ pair_matches W.word K.shape V.shape key_hash K.same V.same (bytes_of key.entry) (pos_of key.entry) (map_bytes self.entry) (map_pos self.entry) }
+            result ≡ pair_matches W.word K.shape V.shape key_hash K.same V.same (bytes_of key.entry)
+            (pos_of key.entry) (map_bytes self.entry) (map_pos self.entry) }
     {
         match self.get(&key) {
             Some(found) => V::same(value, found),
@@ -40,7 +41,8 @@ impl<'a, K: KeyElement, V: ElementEq, H: KeyHasher, W: Width> ArchivedHashMap<'a
         requires own { IsMap W.word K.shape V.shape self }
         requires other { IsMap W.word K.shape V.shape other }
         ensures { let key_hash = hash_at H.hasher K.key_calls in
-            result ≡ map_equal W.word K.shape V.shape key_hash K.same V.same (map_bytes self.entry) (map_pos self.entry) (map_bytes other.entry) (map_pos other.entry) }
+            result ≡ map_equal W.word K.shape V.shape key_hash K.same V.same (map_bytes self.entry)
+            (map_pos self.entry) (map_bytes other.entry) (map_pos other.entry) }
     {
         if self.len() != other.len() {
             return false;
@@ -62,7 +64,8 @@ impl<K: KeyElement, V: ElementEq, H: KeyHasher, W: Width> ElementEq for HashMapO
         requires a { IsView (map_shape W.word K.shape V.shape) a }
         requires b { IsView (map_shape W.word K.shape V.shape) b }
         ensures { let key_hash = hash_at H.hasher K.key_calls in
-            result ≡ at_views (map_equal W.word K.shape V.shape key_hash K.same V.same) a.entry b.entry }
+            result ≡ at_views (map_equal W.word K.shape V.shape key_hash K.same V.same) a.entry
+            b.entry }
     {
         ArchivedHashMap::of(a).eq_map(ArchivedHashMap::of(b))
     }

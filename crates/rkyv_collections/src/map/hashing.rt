@@ -35,7 +35,8 @@ impl<A: KeyHash, B, H: KeyHasher, BK: Lend<A>, BV: Lend<B>, I: Iterator<Item = (
 
     ghost can_next = { λ s. I.can_next s.pairs × ((key : A) → A.can_read key) };
 
-    ghost next_gives = { λ s r t. HashedStep I.next_gives (λ key. hash_of H.hasher A.calls (BK.lent key)) s.pairs r t.pairs };
+    ghost next_gives = { λ s r t. HashedStep I.next_gives (λ key.
+        hash_of H.hasher A.calls (BK.lent key)) s.pairs r t.pairs };
 
     ghost remaining = { λ s. I.remaining s.pairs };
 

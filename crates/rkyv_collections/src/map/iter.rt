@@ -53,7 +53,8 @@ impl<'a, K: Element, V: Element, H, W> Iterator for Iter<'a, K, V, H, W> {
     fn size_hint(&self) -> (usize, Option<usize>)
         ensures lower { IsWithinCount result.0 (at_most (length self.now.places)) }
         ensures upper { IfSome result.1 (UpTo (at_most (length self.now.places))) }
-        ensures exact { (result.0 ≡ length self.now.places) × (result.1 ≡ Some (length self.now.places)) }
+        ensures exact { (result.0 ≡ length self.now.places)
+            × (result.1 ≡ Some (length self.now.places)) }
     {
         self.entries.size_hint()
     }
@@ -101,7 +102,8 @@ impl<'a, K: Element, V: Element, H, W> Iterator for Keys<'a, K, V, H, W> {
     fn size_hint(&self) -> (usize, Option<usize>)
         ensures lower { IsWithinCount result.0 (at_most (length self.now.places)) }
         ensures upper { IfSome result.1 (UpTo (at_most (length self.now.places))) }
-        ensures exact { (result.0 ≡ length self.now.places) × (result.1 ≡ Some (length self.now.places)) }
+        ensures exact { (result.0 ≡ length self.now.places)
+            × (result.1 ≡ Some (length self.now.places)) }
     {
         self.pairs.size_hint()
     }
@@ -149,7 +151,8 @@ impl<'a, K: Element, V: Element, H, W> Iterator for Values<'a, K, V, H, W> {
     fn size_hint(&self) -> (usize, Option<usize>)
         ensures lower { IsWithinCount result.0 (at_most (length self.now.places)) }
         ensures upper { IfSome result.1 (UpTo (at_most (length self.now.places))) }
-        ensures exact { (result.0 ≡ length self.now.places) × (result.1 ≡ Some (length self.now.places)) }
+        ensures exact { (result.0 ≡ length self.now.places)
+            × (result.1 ≡ Some (length self.now.places)) }
     {
         self.rest.size_hint()
     }

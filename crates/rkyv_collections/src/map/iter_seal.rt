@@ -69,8 +69,10 @@ fn pair_at<K: Element, V: Element>(
     requires { value_pos K.shape V.shape pos + V.shape.size ≤ length archive.old }
     ensures inside { IfSome result (λ pair. LiesIn V.shape pair.1) }
     ensures viewed { IfSome result (λ pair. IsView K.shape pair.0) }
-    ensures key { IfSome result (λ pair. (pos_of pair.0 ≡ pos) × (bytes_of pair.0 ≡ take (value_pos K.shape V.shape pos) archive.old)) }
-    ensures value { IfSome result (λ pair. (seal_pos pair.1 ≡ 0) × (bytes_in pair.1 ≡ drop (value_pos K.shape V.shape pos) archive.old)) }
+    ensures key { IfSome result (λ pair. (pos_of pair.0 ≡ pos)
+        × (bytes_of pair.0 ≡ take (value_pos K.shape V.shape pos) archive.old)) }
+    ensures value { IfSome result (λ pair. (seal_pos pair.1 ≡ 0)
+        × (bytes_in pair.1 ≡ drop (value_pos K.shape V.shape pos) archive.old)) }
     ensures found { Viewed K.shape archive.old pos → IsSome result }
 {
     let begin = pos as usize + value_offset::<K, V>();
@@ -112,8 +114,10 @@ impl<'a, K: Element, V: Element, H, W> IterMut<'a, K, V, H, W> {
     pub fn next_pos(&mut self) -> Option<u64>
         ensures archive { SameArchive (entries_in self.old) (entries_in self.new) }
         ensures counts { CountsDown (entries_in self.old) result (entries_in self.new) }
-        ensures inside { IfSome result (λ q. value_pos K.shape V.shape q + V.shape.size ≤ length (cursor_bytes (entries_in self.old))) }
-        ensures takes { TakesKeyPos K.shape V.shape (entries_in self.old) result (entries_in self.new) }
+        ensures inside { IfSome result (λ q. value_pos K.shape V.shape q + V.shape.size
+            ≤ length (cursor_bytes (entries_in self.old))) }
+        ensures takes { TakesKeyPos K.shape V.shape (entries_in self.old) result
+            (entries_in self.new) }
     {
         if whole_size::<K, V>() > LARGEST {
             return None;
@@ -169,11 +173,14 @@ impl<'a, K: Element, N: Scalar, H, W> IterMut<'a, K, N, H, W> {
     /// Writes the value behind the key at a position.
     #[inline]
     pub fn set_at(&mut self, pos: u64, value: N)
-        requires { value_pos K.shape (scalar_shape N.encoding) pos + byte_len N.encoding.word ≤ length (cursor_bytes (entries_in self.old)) }
+        requires { value_pos K.shape (scalar_shape N.encoding) pos + byte_len N.encoding.word
+            ≤ length (cursor_bytes (entries_in self.old)) }
         ensures stays { StaysThere (entries_in self.old) (entries_in self.new) }
         ensures written { cursor_bytes (entries_in self.new)
-            ≡ with_value N.encoding (cursor_bytes (entries_in self.old)) (value_pos K.shape (scalar_shape N.encoding) pos) value }
-        ensures kept { KeepsPairs K.shape (scalar_shape N.encoding) (entries_in self.old) pos (entries_in self.new) }
+            ≡ with_value N.encoding (cursor_bytes (entries_in self.old))
+            (value_pos K.shape (scalar_shape N.encoding) pos) value }
+        ensures kept { KeepsPairs K.shape (scalar_shape N.encoding) (entries_in self.old) pos
+            (entries_in self.new) }
     {
         self.entries.write_at(pos, value_offset::<K, N>(), value);
     }
@@ -199,8 +206,10 @@ impl<'a, K: Element, V: Element, H, W> ValuesMut<'a, K, V, H, W> {
     pub fn next_pos(&mut self) -> Option<u64>
         ensures archive { SameArchive (entries_of self.old) (entries_of self.new) }
         ensures counts { CountsDown (entries_of self.old) result (entries_of self.new) }
-        ensures inside { IfSome result (λ q. q + V.shape.size ≤ length (cursor_bytes (entries_of self.old))) }
-        ensures takes { TakesValuePos K.shape V.shape (entries_of self.old) result (entries_of self.new) }
+        ensures inside { IfSome result (λ q. q + V.shape.size
+            ≤ length (cursor_bytes (entries_of self.old))) }
+        ensures takes { TakesValuePos K.shape V.shape (entries_of self.old) result
+            (entries_of self.new) }
     {
         match self.pairs.next_pos() {
             Some(key) => Some(behind::<K, V>(self.pairs.entries.bytes(), key)),
@@ -246,8 +255,10 @@ impl<'a, K: Element, N: Scalar, H, W> ValuesMut<'a, K, N, H, W> {
     pub fn set_at(&mut self, pos: u64, value: N)
         requires { pos + byte_len N.encoding.word ≤ length (cursor_bytes (entries_of self.old)) }
         ensures stays { StaysThere (entries_of self.old) (entries_of self.new) }
-        ensures written { cursor_bytes (entries_of self.new) ≡ with_value N.encoding (cursor_bytes (entries_of self.old)) pos value }
-        ensures kept { KeepsValues K.shape (scalar_shape N.encoding) (entries_of self.old) pos (entries_of self.new) }
+        ensures written { cursor_bytes (entries_of self.new)
+            ≡ with_value N.encoding (cursor_bytes (entries_of self.old)) pos value }
+        ensures kept { KeepsValues K.shape (scalar_shape N.encoding) (entries_of self.old) pos
+            (entries_of self.new) }
     {
         self.pairs.entries.write_at(pos, 0, value);
     }

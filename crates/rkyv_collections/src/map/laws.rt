@@ -14,13 +14,15 @@ use rkyv_scan::hash::KeyHasher;
 /// Two maps that were written of distinct keys are equal exactly where each pair of either is the
 /// same as one of the other.
 pub fn equal_maps_have_the_same_pairs<K: KeyElement, V: ElementEquiv, H: KeyHasher, W: Width>()
-    ensures { EqualHaveSamePairs W.word K.shape V.shape (hash_at H.hasher K.key_calls) K.same V.same }
+    ensures { EqualHaveSamePairs W.word K.shape V.shape (hash_at H.hasher K.key_calls) K.same
+        V.same }
 {}
 
 /// In a map that was written, `misplaced` is the number of keys that are the same as one handed in
 /// earlier.
 pub fn repeated_keys_are_misplaced<K: KeyElement, V: Element, H: KeyHasher, W: Width>()
-    ensures { RepeatedKeysAreMisplaced W.word K.shape V.shape (hash_at H.hasher K.key_calls) K.same }
+    ensures { RepeatedKeysAreMisplaced W.word K.shape V.shape (hash_at H.hasher K.key_calls)
+        K.same }
 {}
 
 /// In a map that stands for a list of pairs, what a lookup answers by its clause `first` is the

@@ -152,8 +152,9 @@ impl<'a, K: KeyElement, V: Element, H: KeyHasher, W: Width> ArchivedHashMap<'a, 
     /// The pair whose key is the one that is asked for: in a map that was written the first such
     /// one, in the order in which the pairs were handed in.
     ///
-    /// In a map of strangers a key may stand where its hash doesn't lead; then it isn't found. Where
-    /// `misplaced` is 0 none does: the one key that fits is found, and none exactly where none fits.
+    /// In a map of strangers a key may stand where its hash doesn't lead; then it isn't found.
+    /// Where `misplaced` is 0 none does: the one key that fits is found, and none exactly where
+    /// none fits.
     #[inline]
     pub fn get_key_value<Q: Query<K>>(self, key: &Q) -> Option<(View<'a, K>, View<'a, V>)>
         requires map { IsMap W.word K.shape V.shape self }

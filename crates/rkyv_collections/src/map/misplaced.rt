@@ -21,17 +21,20 @@ impl<'a, K: KeyElement, V: Element, H: KeyHasher, W: Width> ArchivedHashMap<'a, 
     pub fn misplaced(self) -> usize
         requires { IsMap W.word K.shape V.shape self }
         ensures { let key_hash = hash_at H.hasher K.key_calls in
-            result ≡ map_misplaced W.word K.shape V.shape key_hash K.same (map_bytes self.entry) (map_pos self.entry) }
+            result ≡ map_misplaced W.word K.shape V.shape key_hash K.same (map_bytes self.entry)
+            (map_pos self.entry) }
     {
         self.table().misplaced_by(
             |entry|
                 requires { IsView (entry_shape K.shape V.shape) entry }
-                ensures { result ≡ hash_at H.hasher K.key_calls (bytes_of entry.entry) (pos_of entry.entry) }
+                ensures { result ≡ hash_at H.hasher K.key_calls (bytes_of entry.entry)
+                    (pos_of entry.entry) }
             { hash_value::<View<'_, K>, H>(&entry.key()) },
             |own, other|
                 requires own { IsView (entry_shape K.shape V.shape) own }
                 requires other { IsView (entry_shape K.shape V.shape) other }
-                ensures { result ≡ K.same (bytes_of own.entry) (pos_of own.entry) (bytes_of other.entry) (pos_of other.entry) }
+                ensures { result ≡ K.same (bytes_of own.entry) (pos_of own.entry)
+                    (bytes_of other.entry) (pos_of other.entry) }
             { K::same(own.key(), other.key()) },
         )
     }

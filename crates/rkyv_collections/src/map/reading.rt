@@ -3,7 +3,8 @@ ghost use Rattle.std.specs.Prelude.{IsTrue, ◌↔◌, ◌≡◌};
 ghost use Rattle.rkyv_base.specs.Entry.{entry_shape};
 ghost use Rattle.rkyv_base.specs.View.{IsAt, IsView};
 ghost use Rattle.rkyv_table.specs.Table.Reading.{IsTable};
-ghost use Rattle.rkyv_collections.specs.Map.{IsMap, map_archive, map_cap, map_len, map_pos, map_shape};
+ghost use Rattle.rkyv_collections.specs.Map.{IsMap, map_archive, map_cap, map_len, map_pos};
+ghost use Rattle.rkyv_collections.specs.Map.{map_shape};
 
 use crate::map::{ArchivedHashMap, HashMapOf};
 use rkyv_base::element::Element;

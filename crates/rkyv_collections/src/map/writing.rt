@@ -63,10 +63,15 @@ impl<'a, K: KeyElement, V, H: KeyHasher, W: Width> ArchivedHashMap<'a, K, V, H, 
         V: StandsFor<B>,
         requires can { I.can_next iter }
         ensures { let hash = hash_of H.hasher A.calls in
-            let f = written_as (lent_pairs BK.lent BV.lent) (map_format W.word K.shape V.shape A.format B.format hash load_factor) in
-            let gave = Drains I.next_gives iter in let o = S.output serializer.old in let o' = S.output serializer.new in MatchResult result
+            let f = written_as (lent_pairs BK.lent BV.lent)
+            (map_format W.word K.shape V.shape A.format B.format hash load_factor) in
+            let gave = Drains I.next_gives iter in
+            let o = S.output serializer.old in
+            let o' = S.output serializer.new in
+            MatchResult result
             (WroteItems gave len load_factor W.MAX_CAPACITY f o o' W.LIMIT)
-            (NoItems gave len load_factor W.MAX_CAPACITY f o o' W.LIMIT (GaveOther I.next_gives len iter)) }
+            (NoItems gave len load_factor W.MAX_CAPACITY f o o' W.LIMIT
+            (GaveOther I.next_gives len iter)) }
     {
         let entries = HashedEntries::new(iter);
         ArchivedHashTable::<Entry<K, V>, W>::serialize_by::<

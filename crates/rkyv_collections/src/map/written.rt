@@ -25,6 +25,7 @@ pub fn written_maps_stand<
     ensures { (load_factor : ℕ × ℕ) →
         let hash = hash_at H.hasher K.key_calls in
         let own = hash_of H.hasher A.calls in
-        IsFormat (map_shape W.word K.shape V.shape) (MapStands W.word K.shape V.shape K.stands V.stands hash load_factor)
+        IsFormat (map_shape W.word K.shape V.shape)
+        (MapStands W.word K.shape V.shape K.stands V.stands hash load_factor)
         (map_format W.word K.shape V.shape A.format B.format own load_factor) }
 {}

@@ -50,7 +50,8 @@ impl<K: Element, H, W: Width> Element for HashSetOf<K, H, W> {
         HashMapOf::<K, (), H, W>::check(bytes, pos, range)
     }
 
-    ghost laws = { table_element W.word W.layout.kind (entry_shape K.shape unit_shape) (entry_element K.shape unit_shape K.laws unit_element) };
+    ghost laws = { table_element W.word W.layout.kind (entry_shape K.shape unit_shape)
+        (entry_element K.shape unit_shape K.laws unit_element) };
 }
 
 impl<'a, K: Element, H, W: Width> ArchivedHashSet<'a, K, H, W> {
@@ -101,8 +102,9 @@ impl<'a, K: KeyElement, H: KeyHasher, W: Width> ArchivedHashSet<'a, K, H, W> {
     /// The key that is asked for: in a set that was written the first such one, in the order in
     /// which the keys were handed in.
     ///
-    /// In a set of strangers a key may stand where its hash doesn't lead; then it isn't found. Where
-    /// `misplaced` is 0 none does: the one key that fits is found, and none exactly where none fits.
+    /// In a set of strangers a key may stand where its hash doesn't lead; then it isn't found.
+    /// Where `misplaced` is 0 none does: the one key that fits is found, and none exactly where
+    /// none fits.
     #[inline]
     pub fn get<Q: Query<K>>(self, key: &Q) -> Option<View<'a, K>>
         requires set { IsSet W.word K.shape self }

@@ -74,10 +74,15 @@ impl<'a, K: KeyElement, H: KeyHasher, W: Width> ArchivedHashSet<'a, K, H, W> {
         K: StandsFor<A>,
         requires can { I.can_next iter }
         ensures { let hash = hash_of H.hasher A.calls in
-            let f = written_as (lent_keys BK.lent) (set_format W.word K.shape A.format hash load_factor) in
-            let gave = Drains I.next_gives iter in let o = S.output serializer.old in let o' = S.output serializer.new in MatchResult result
+            let f = written_as (lent_keys BK.lent)
+            (set_format W.word K.shape A.format hash load_factor) in
+            let gave = Drains I.next_gives iter in
+            let o = S.output serializer.old in
+            let o' = S.output serializer.new in
+            MatchResult result
             (WroteItems gave len load_factor W.MAX_CAPACITY f o o' W.LIMIT)
-            (NoItems gave len load_factor W.MAX_CAPACITY f o o' W.LIMIT (GaveOther I.next_gives len iter)) }
+            (NoItems gave len load_factor W.MAX_CAPACITY f o o' W.LIMIT
+            (GaveOther I.next_gives len iter)) }
     {
         ArchivedHashMap::<K, (), H, W>::serialize_from_iter::<S, A, (), BK, (), WithUnits<I>>(
             alloc,

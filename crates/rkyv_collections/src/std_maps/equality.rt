@@ -33,7 +33,8 @@ impl<'a, K: KeyElement, V, H: KeyHasher, W: Width> ArchivedHashMap<'a, K, V, H, 
         requires map { IsMap W.word K.shape V.shape self }
         requires query { A.can_read key.now }
         ensures { let hash = hash_of H.hasher A.calls in
-            IsTrue result ↔ FindsPair W.word K.shape V.shape hash A.fits V.equals (map_bytes self.entry) (map_pos self.entry) (key.now, value.now) }
+            IsTrue result ↔ FindsPair W.word K.shape V.shape hash A.fits V.equals
+            (map_bytes self.entry) (map_pos self.entry) (key.now, value.now) }
     {
         match self.get(key) {
             Some(found) => V::eq_native(found, value),
@@ -50,7 +51,8 @@ impl<'a, K: KeyElement, V, H: KeyHasher, W: Width> ArchivedHashMap<'a, K, V, H, 
         V: MatchesNative<B>,
         requires map { IsMap W.word K.shape V.shape self }
         ensures { let hash = hash_of H.hasher A.calls in
-            IsTrue result ↔ StdMapEquals W.word K.shape V.shape hash A.fits V.equals (map_bytes self.entry) (map_pos self.entry) other.now }
+            IsTrue result ↔ StdMapEquals W.word K.shape V.shape hash A.fits V.equals
+            (map_bytes self.entry) (map_pos self.entry) other.now }
     {
         if self.len() != other.len() {
             return false;
@@ -73,13 +75,15 @@ impl<
     B,
     T: BuildHasher,
 > MatchesNative<HashMap<A, B, T>> for HashMapOf<K, V, H, W> {
-    ghost equals = { StdMapEquals W.word K.shape V.shape (hash_of H.hasher A.calls) A.fits V.equals };
+    ghost equals = { StdMapEquals W.word K.shape V.shape (hash_of H.hasher A.calls) A.fits
+        V.equals };
 
     #[inline]
     fn eq_native(view: View<'_, HashMapOf<K, V, H, W>>, value: &HashMap<A, B, T>) -> bool
         requires { IsView (map_shape W.word K.shape V.shape) view }
         ensures { let hash = hash_of H.hasher A.calls in
-            IsTrue result ↔ StandsAt (StdMapEquals W.word K.shape V.shape hash A.fits V.equals) view.entry value.now }
+            IsTrue result ↔ StandsAt (StdMapEquals W.word K.shape V.shape hash A.fits V.equals)
+            view.entry value.now }
     {
         ArchivedHashMap::of(view).eq_std(value)
     }
@@ -94,13 +98,15 @@ impl<
     B,
     T: BuildHasher,
 > MatchesNative<Hashed<HashMap<A, B, T>, H>> for HashMapOf<K, V, H, W> {
-    ghost equals = { λ b p x. StdMapEquals W.word K.shape V.shape (hash_of H.hasher A.calls) A.fits V.equals b p x.map };
+    ghost equals = { λ b p x. StdMapEquals W.word K.shape V.shape (hash_of H.hasher A.calls) A.fits
+        V.equals b p x.map };
 
     #[inline]
     fn eq_native(view: View<'_, HashMapOf<K, V, H, W>>, value: &Hashed<HashMap<A, B, T>, H>) -> bool
         requires { IsView (map_shape W.word K.shape V.shape) view }
         ensures { let hash = hash_of H.hasher A.calls in
-            IsTrue result ↔ StandsAt (StdMapEquals W.word K.shape V.shape hash A.fits V.equals) view.entry value.now.map }
+            IsTrue result ↔ StandsAt (StdMapEquals W.word K.shape V.shape hash A.fits V.equals)
+            view.entry value.now.map }
     {
         ArchivedHashMap::of(view).eq_std(&value.map)
     }
@@ -118,12 +124,17 @@ where
     B::Archived: MatchesNative<B>,
     A: NativeKey<A::Archived>,
 {
-    ghost equal = { let format = map_format W.word A.Archived.shape B.Archived.shape A.format B.format (hash_of H.hasher A.calls) (7, 8) in
+    ghost equal = { let format = map_format W.word A.Archived.shape B.Archived.shape A.format
+        B.format (hash_of H.hasher A.calls) (7, 8) in
         let shape = map_shape W.word A.Archived.shape B.Archived.shape in
         let whole = listed W.MAX_CAPACITY (7, 8) format in
-        written_as-format (λ x. x.map.entries) shape (EntriesEqual W.word A.Archived.shape B.Archived.shape (hash_of H.hasher A.calls) A.fits B.Archived.equals) (of_entries A.eq whole)
-        (entries_equal H.hasher W.word W.layout.kind A.Archived.laws B.Archived.laws (7, 8) A.query A.native A.Eq.laws A.reads whole
-        (listed_map_sound H.hasher W.word A.Archived.laws B.Archived.laws (7, 8) W.MAX_CAPACITY W.layout.kind
+        written_as-format (λ x. x.map.entries) shape
+        (EntriesEqual W.word A.Archived.shape B.Archived.shape (hash_of H.hasher A.calls) A.fits
+        B.Archived.equals) (of_entries A.eq whole)
+        (entries_equal H.hasher W.word W.layout.kind A.Archived.laws B.Archived.laws (7, 8) A.query
+        A.native A.Eq.laws A.reads whole
+        (listed_map_sound H.hasher W.word A.Archived.laws B.Archived.laws (7, 8) W.MAX_CAPACITY
+        W.layout.kind
         A.query A.native A.Eq.laws.refl A.reads A.Archive.laws B.equal)) };
 }
 
@@ -153,7 +164,9 @@ impl<
 > EqArchived<ArchivedHashMap<'a, K, V, H, W>> for HashMap<A, B, T> {
     ghost can_compare = { IsMap W.word K.shape V.shape };
 
-    ghost equals_archived = { λ other m. StdMapEquals W.word K.shape V.shape (hash_of H.hasher A.calls) A.fits V.equals (map_bytes other) (map_pos other) m };
+    ghost equals_archived = { λ other m.
+        StdMapEquals W.word K.shape V.shape (hash_of H.hasher A.calls) A.fits V.equals
+        (map_bytes other) (map_pos other) m };
 
     #[inline]
     fn eq_archived(&self, other: ArchivedHashMap<'a, K, V, H, W>) -> bool {
@@ -170,7 +183,8 @@ impl<
     B: PartialEq,
     T: BuildHasher,
 > StandsAlone<HashMap<A, B, T>> for HashMapOf<K, V, H, W> {
-    ghost alone = { std_map_alone A.eq A.Eq.laws B.eq K.shape V.shape K.laws V.laws W.word K.stands V.stands K.alone V.alone };
+    ghost alone = { std_map_alone A.eq A.Eq.laws B.eq K.shape V.shape K.laws V.laws W.word K.stands
+        V.stands K.alone V.alone };
 }
 
 impl<
@@ -182,5 +196,6 @@ impl<
     B: PartialEq,
     T: BuildHasher,
 > StandsAlone<Hashed<HashMap<A, B, T>, H>> for HashMapOf<K, V, H, W> {
-    ghost alone = { λ m n. std_map_alone A.eq A.Eq.laws B.eq K.shape V.shape K.laws V.laws W.word K.stands V.stands K.alone V.alone m.map n.map };
+    ghost alone = { λ m n. std_map_alone A.eq A.Eq.laws B.eq K.shape V.shape K.laws V.laws W.word
+        K.stands V.stands K.alone V.alone m.map n.map };
 }

@@ -28,15 +28,18 @@ impl<A: Eq + Hash, B, T: BuildHasher, H, W: Width, K: StandsFor<A>, V: StandsFor
 > for HashMapOf<K, V, H, W> {
     ghost stands = { StdMapStands K.shape V.shape K.stands V.stands W.word A.eq };
 
-    ghost near = { λ m. entries_near K.shape V.shape K.laws V.laws W.word A.eq K.near V.near m.entries };
+    ghost near = { λ m. entries_near K.shape V.shape K.laws V.laws W.word A.eq K.near V.near
+        m.entries };
 }
 
 impl<A: Eq + Hash, B, T: BuildHasher, H, W: Width, K: StandsFor<A>, V: StandsFor<B>> StandsFor<
     Hashed<HashMap<A, B, T>, H>,
 > for HashMapOf<K, V, H, W> {
-    ghost stands = { λ b p x. StdMapStands K.shape V.shape K.stands V.stands W.word A.eq b p x.map };
+    ghost stands = { λ b p x. StdMapStands K.shape V.shape K.stands V.stands W.word A.eq b p
+        x.map };
 
-    ghost near = { λ x. entries_near K.shape V.shape K.laws V.laws W.word A.eq K.near V.near x.map.entries };
+    ghost near = { λ x. entries_near K.shape V.shape K.laws V.laws W.word A.eq K.near V.near
+        x.map.entries };
 }
 
 impl<W: Width, H: KeyHasher, A: Archive<W> + Hash, B: Archive<W>, T: BuildHasher> Archive<W>
@@ -50,7 +53,8 @@ where
     type Resolver = HashMapResolver<W>;
 
     ghost format = { written_as (λ x. x.map.entries) (of_entries A.eq (listed W.MAX_CAPACITY (7, 8)
-        (map_format W.word A.Archived.shape B.Archived.shape A.format B.format (hash_of H.hasher A.calls) (7, 8)))) };
+        (map_format W.word A.Archived.shape B.Archived.shape A.format B.format
+        (hash_of H.hasher A.calls) (7, 8)))) };
 
     fn resolve(
         &self,
@@ -70,13 +74,17 @@ where
     }
 
     ghost laws = { let hash = hash_at H.hasher A.Archived.key_calls in
-        let stands = EntriesStand A.Archived.shape B.Archived.shape A.Archived.stands B.Archived.stands W.word A.eq in
-        let format = map_format W.word A.Archived.shape B.Archived.shape A.format B.format (hash_of H.hasher A.calls) (7, 8) in
+        let stands = EntriesStand A.Archived.shape B.Archived.shape A.Archived.stands
+        B.Archived.stands W.word A.eq in
+        let format = map_format W.word A.Archived.shape B.Archived.shape A.format B.format
+        (hash_of H.hasher A.calls) (7, 8) in
         let shape = map_shape W.word A.Archived.shape B.Archived.shape in
         let whole = listed W.MAX_CAPACITY (7, 8) format in
         written_as-format (λ x. x.map.entries) shape stands (of_entries A.eq whole)
-        (entries_sound A.Archived.shape B.Archived.shape A.Archived.laws B.Archived.laws W.word A.eq A.Eq.laws hash (7, 8) W.layout.kind whole
-        (listed_map_sound H.hasher W.word A.Archived.laws B.Archived.laws (7, 8) W.MAX_CAPACITY W.layout.kind
+        (entries_sound A.Archived.shape B.Archived.shape A.Archived.laws B.Archived.laws W.word A.eq
+        A.Eq.laws hash (7, 8) W.layout.kind whole
+        (listed_map_sound H.hasher W.word A.Archived.laws B.Archived.laws (7, 8) W.MAX_CAPACITY
+        W.layout.kind
         A.query A.native A.Eq.laws.refl A.reads A.Archive.laws B.laws)) };
 }
 

@@ -2,7 +2,8 @@
 
 ghost use Rattle.std.specs.Prelude.{IsTrue, MatchResult, ◌↔◌};
 ghost use Rattle.rkyv_base.specs.View.{IsView, StandsAt, bytes_of, pos_of};
-ghost use Rattle.rkyv_base.specs.Empty.{unit_element, unit_format, unit_is_format, unit_near, unit_shape, unit_stands};
+ghost use Rattle.rkyv_base.specs.Empty.{unit_element, unit_format, unit_is_format, unit_near};
+ghost use Rattle.rkyv_base.specs.Empty.{unit_shape, unit_stands};
 ghost use Rattle.rkyv_base.specs.Pairs.{written_as, written_as-format};
 ghost use Rattle.rkyv_collections.specs.Listed.{listed};
 ghost use Rattle.rkyv_collections.specs.Map.{hash_at};
@@ -15,7 +16,9 @@ ghost use Rattle.rkyv_collections.specs.Lemmas.StdEqualLaws.{entries_equal};
 ghost use Rattle.rkyv_collections.specs.StdEquality.{EntriesEqual};
 ghost use Rattle.rkyv_collections.specs.StdMap.{EntriesStand, of_entries};
 ghost use Rattle.rkyv_collections.specs.Lemmas.StdMapLaws.{entries_near, entries_sound};
-ghost use Rattle.rkyv_collections.specs.StdSet.{InsertsKey, ReadsStdSet, StdSetEquals, StdSetStands, key_refuses, set_equal_written, std_set_refuses};
+ghost use Rattle.rkyv_collections.specs.StdSet.{InsertsKey, ReadsStdSet, StdSetEquals};
+ghost use Rattle.rkyv_collections.specs.StdSet.{StdSetStands, key_refuses, set_equal_written};
+ghost use Rattle.rkyv_collections.specs.StdSet.{std_set_refuses};
 
 use crate::set::writing::HashSetResolver;
 use crate::set::{ArchivedHashSet, HashSetOf};
@@ -40,14 +43,16 @@ impl<A: Eq + Hash, T: BuildHasher, H, W: Width, K: StandsFor<A>> StandsFor<HashS
     for HashSetOf<K, H, W> {
     ghost stands = { StdSetStands K.shape K.stands W.word A.eq };
 
-    ghost near = { λ s. entries_near K.shape unit_shape K.laws unit_element W.word A.eq K.near unit_near (with_units s.keys) };
+    ghost near = { λ s. entries_near K.shape unit_shape K.laws unit_element W.word A.eq K.near
+        unit_near (with_units s.keys) };
 }
 
 impl<A: Eq + Hash, T: BuildHasher, H, W: Width, K: StandsFor<A>> StandsFor<Hashed<HashSet<A, T>, H>>
     for HashSetOf<K, H, W> {
     ghost stands = { λ b p x. StdSetStands K.shape K.stands W.word A.eq b p x.map };
 
-    ghost near = { λ x. entries_near K.shape unit_shape K.laws unit_element W.word A.eq K.near unit_near (with_units x.map.keys) };
+    ghost near = { λ x. entries_near K.shape unit_shape K.laws unit_element W.word A.eq K.near
+        unit_near (with_units x.map.keys) };
 }
 
 impl<W: Width, H: KeyHasher, A: Archive<W> + Hash, T: BuildHasher> Archive<W>
@@ -60,8 +65,10 @@ where
 
     type Resolver = HashSetResolver<W>;
 
-    ghost format = { written_as (λ x. with_units x.map.keys) (of_entries A.eq (listed W.MAX_CAPACITY (7, 8)
-        (map_format W.word A.Archived.shape unit_shape A.format unit_format (hash_of H.hasher A.calls) (7, 8)))) };
+    ghost format = { written_as (λ x. with_units x.map.keys)
+        (of_entries A.eq (listed W.MAX_CAPACITY (7, 8)
+        (map_format W.word A.Archived.shape unit_shape A.format unit_format
+        (hash_of H.hasher A.calls) (7, 8)))) };
 
     fn resolve(
         &self,
@@ -75,13 +82,17 @@ where
     }
 
     ghost laws = { let hash = hash_at H.hasher A.Archived.key_calls in
-        let stands = EntriesStand A.Archived.shape unit_shape A.Archived.stands unit_stands W.word A.eq in
-        let format = map_format W.word A.Archived.shape unit_shape A.format unit_format (hash_of H.hasher A.calls) (7, 8) in
+        let stands = EntriesStand A.Archived.shape unit_shape A.Archived.stands unit_stands W.word
+        A.eq in
+        let format = map_format W.word A.Archived.shape unit_shape A.format unit_format
+        (hash_of H.hasher A.calls) (7, 8) in
         let shape = set_shape W.word A.Archived.shape in
         let whole = listed W.MAX_CAPACITY (7, 8) format in
         written_as-format (λ x. with_units x.map.keys) shape stands (of_entries A.eq whole)
-        (entries_sound A.Archived.shape unit_shape A.Archived.laws unit_element W.word A.eq A.Eq.laws hash (7, 8) W.layout.kind whole
-        (listed_map_sound H.hasher W.word A.Archived.laws unit_element (7, 8) W.MAX_CAPACITY W.layout.kind
+        (entries_sound A.Archived.shape unit_shape A.Archived.laws unit_element W.word A.eq
+        A.Eq.laws hash (7, 8) W.layout.kind whole
+        (listed_map_sound H.hasher W.word A.Archived.laws unit_element (7, 8) W.MAX_CAPACITY
+        W.layout.kind
         A.query A.native A.Eq.laws.refl A.reads A.Archive.laws unit_is_format)) };
 }
 
@@ -161,7 +172,8 @@ impl<'a, K: KeyElement, H: KeyHasher, W: Width> ArchivedHashSet<'a, K, H, W> {
         K: StandsFor<A>,
         requires set { IsSet W.word K.shape self }
         ensures { let hash = hash_of H.hasher A.calls in
-            IsTrue result ↔ StdSetEquals W.word K.shape hash A.fits (set_bytes self.entry) (set_pos self.entry) other.now }
+            IsTrue result ↔ StdSetEquals W.word K.shape hash A.fits (set_bytes self.entry)
+            (set_pos self.entry) other.now }
     {
         if self.len() != other.len() {
             return false;
@@ -188,7 +200,8 @@ impl<
     fn eq_native(view: View<'_, HashSetOf<K, H, W>>, value: &HashSet<A, T>) -> bool
         requires { IsView (set_shape W.word K.shape) view }
         ensures { let hash = hash_of H.hasher A.calls in
-            IsTrue result ↔ StandsAt (StdSetEquals W.word K.shape hash A.fits) view.entry value.now }
+            IsTrue result ↔ StandsAt (StdSetEquals W.word K.shape hash A.fits) view.entry
+            value.now }
     {
         ArchivedHashSet::of(view).eq_std(value)
     }
@@ -201,13 +214,15 @@ impl<
     A: NativeKey<K> + Hash,
     T: BuildHasher,
 > MatchesNative<Hashed<HashSet<A, T>, H>> for HashSetOf<K, H, W> {
-    ghost equals = { λ b p x. StdSetEquals W.word K.shape (hash_of H.hasher A.calls) A.fits b p x.map };
+    ghost equals = { λ b p x. StdSetEquals W.word K.shape (hash_of H.hasher A.calls) A.fits b p
+        x.map };
 
     #[inline]
     fn eq_native(view: View<'_, HashSetOf<K, H, W>>, value: &Hashed<HashSet<A, T>, H>) -> bool
         requires { IsView (set_shape W.word K.shape) view }
         ensures { let hash = hash_of H.hasher A.calls in
-            IsTrue result ↔ StandsAt (StdSetEquals W.word K.shape hash A.fits) view.entry value.now.map }
+            IsTrue result ↔ StandsAt (StdSetEquals W.word K.shape hash A.fits) view.entry
+            value.now.map }
     {
         ArchivedHashSet::of(view).eq_std(&value.map)
     }
@@ -223,7 +238,9 @@ impl<
 > EqArchived<ArchivedHashSet<'a, K, H, W>> for HashSet<A, T> {
     ghost can_compare = { IsSet W.word K.shape };
 
-    ghost equals_archived = { λ other s. StdSetEquals W.word K.shape (hash_of H.hasher A.calls) A.fits (set_bytes other) (set_pos other) s };
+    ghost equals_archived = { λ other s.
+        StdSetEquals W.word K.shape (hash_of H.hasher A.calls) A.fits (set_bytes other)
+        (set_pos other) s };
 
     #[inline]
     fn eq_archived(&self, other: ArchivedHashSet<'a, K, H, W>) -> bool {
@@ -239,13 +256,17 @@ where
 {
     ghost equal = { let own = hash_of H.hasher A.calls in
         let equals = EntriesEqual W.word A.Archived.shape unit_shape own A.fits unit_stands in
-        let format = map_format W.word A.Archived.shape unit_shape A.format unit_format own (7, 8) in
+        let format = map_format W.word A.Archived.shape unit_shape A.format unit_format own
+        (7, 8) in
         let shape = set_shape W.word A.Archived.shape in
         let whole = listed W.MAX_CAPACITY (7, 8) format in
-        set_equal_written W.word A.Archived.shape shape own A.fits (λ x. x.map.keys) (written_as (λ x. with_units x.map.keys) (of_entries A.eq whole))
+        set_equal_written W.word A.Archived.shape shape own A.fits (λ x. x.map.keys)
+        (written_as (λ x. with_units x.map.keys) (of_entries A.eq whole))
         (written_as-format (λ x. with_units x.map.keys) shape equals (of_entries A.eq whole)
-        (entries_equal H.hasher W.word W.layout.kind A.Archived.laws unit_element (7, 8) A.query A.native A.Eq.laws A.reads whole
-        (listed_map_sound H.hasher W.word A.Archived.laws unit_element (7, 8) W.MAX_CAPACITY W.layout.kind
+        (entries_equal H.hasher W.word W.layout.kind A.Archived.laws unit_element (7, 8) A.query
+        A.native A.Eq.laws A.reads whole
+        (listed_map_sound H.hasher W.word A.Archived.laws unit_element (7, 8) W.MAX_CAPACITY
+        W.layout.kind
         A.query A.native A.Eq.laws.refl A.reads A.Archive.laws unit_is_format))) };
 }
 
@@ -296,5 +317,6 @@ impl<K: StandsAlone<A>, H, W: Width, A: Eq + Hash, T: BuildHasher> StandsAlone<H
 impl<K: StandsAlone<A>, H, W: Width, A: Eq + Hash, T: BuildHasher> StandsAlone<
     Hashed<HashSet<A, T>, H>,
 > for HashSetOf<K, H, W> {
-    ghost alone = { λ s t. std_set_alone A.eq A.Eq.laws K.shape K.laws W.word K.stands K.alone s.map t.map };
+    ghost alone = { λ s t. std_set_alone A.eq A.Eq.laws K.shape K.laws W.word K.stands K.alone s.map
+        t.map };
 }

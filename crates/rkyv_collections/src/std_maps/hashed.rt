@@ -45,7 +45,8 @@ impl<M, H> Hashed<M, H> {
 impl<M: PartialEq, H> PartialEq for Hashed<M, H> {
     ghost eq = { λ x y. M.eq x.map y.map };
 
-    ghost laws = { let m = M.laws in record { symm = λ x y. m.symm x.map y.map; trans = λ x y z. m.trans x.map y.map z.map } };
+    ghost laws = { let m = M.laws in
+        record { symm = λ x y. m.symm x.map y.map; trans = λ x y z. m.trans x.map y.map z.map } };
 
     #[inline]
     fn eq(&self, other: &Hashed<M, H>) -> bool {

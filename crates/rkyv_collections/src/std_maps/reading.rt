@@ -5,7 +5,8 @@ ghost use Rattle.rkyv_base.specs.Entry.{value_offset};
 ghost use Rattle.rkyv_base.specs.Pairs.{PairStands};
 ghost use Rattle.rkyv_base.specs.View.{IsAt, IsView, StandsAt, archive_of, bytes_of, pos_of};
 ghost use Rattle.rkyv_collections.specs.Map.{IsMap, map_bytes, map_pos, map_shape};
-ghost use Rattle.rkyv_collections.specs.StdMap.{InsertsPair, ReadsStdMap, StdMapStands, insert_refuses, std_map_refuses};
+ghost use Rattle.rkyv_collections.specs.StdMap.{InsertsPair, ReadsStdMap, StdMapStands};
+ghost use Rattle.rkyv_collections.specs.StdMap.{insert_refuses, std_map_refuses};
 
 use crate::map::{ArchivedHashMap, HashMapOf};
 use crate::std_maps::hashed::Hashed;
@@ -29,9 +30,11 @@ fn insert_read<K: Deserialize<A>, V: Deserialize<B>, A: Eq + Hash + Drop, B: Dro
     requires key { IsView K.shape key }
     requires value { IsView V.shape value }
     requires pair { IsAt value (archive_of key) (pos_of key + value_offset K.shape V.shape) }
-    ensures { let stands = PairStands K.shape V.shape K.stands V.stands (bytes_of key.entry) (pos_of key.entry) in MatchResult result
+    ensures { let stands = PairStands K.shape V.shape K.stands V.stands (bytes_of key.entry)
+        (pos_of key.entry) in MatchResult result
         (λ _. InsertsPair A.eq stands map.old map.new)
-        (insert_refuses K.shape V.shape K.refuses V.refuses (bytes_of key.entry) (pos_of key.entry)) }
+        (insert_refuses K.shape V.shape K.refuses V.refuses (bytes_of key.entry)
+        (pos_of key.entry)) }
 {
     let read = K::deserialize(alloc, key)?;
     let mapped = V::deserialize(alloc, value)?;
@@ -56,9 +59,11 @@ impl<'a, K: Element, V: Element, H, W: Width> ArchivedHashMap<'a, K, V, H, W> {
         K: Deserialize<A>,
         V: Deserialize<B>,
         requires map { IsMap W.word K.shape V.shape self }
-        ensures { let stands = StdMapStands K.shape V.shape K.stands V.stands W.word A.eq in MatchResult result
+        ensures { let stands = StdMapStands K.shape V.shape K.stands V.stands W.word A.eq in
+            MatchResult result
             (ReadsStdMap stands (map_bytes self.entry) (map_pos self.entry) state)
-            (std_map_refuses W.word K.shape V.shape K.refuses V.refuses (map_bytes self.entry) (map_pos self.entry)) }
+            (std_map_refuses W.word K.shape V.shape K.refuses V.refuses (map_bytes self.entry)
+            (map_pos self.entry)) }
     {
         let mut map = HashMap::with_hasher(alloc, state);
         for (key, value) in self.iter() {
@@ -102,7 +107,8 @@ impl<K: Deserialize<A>, V: Deserialize<B>, H, W: Width, A: Eq + Hash + Drop, B: 
     ) -> Result<Hashed<HashMap<A, B>, H>, ReadError>
         requires { IsView (map_shape W.word K.shape V.shape) view }
         ensures { MatchResult result
-            (λ x. StandsAt (StdMapStands K.shape V.shape K.stands V.stands W.word A.eq) view.entry x.map)
+            (λ x. StandsAt (StdMapStands K.shape V.shape K.stands V.stands W.word A.eq) view.entry
+            x.map)
             (StandsAt (std_map_refuses W.word K.shape V.shape K.refuses V.refuses) view.entry) }
     {
         match ArchivedHashMap::of(view).deserialize_std(alloc, BuildHasherDefault::new()) {

@@ -428,7 +428,8 @@ module _ {State : Type 0} (hasher : Hasher State)
       (hash_at hasher key_calls) factor) (index_format w e k v kf vf
       (hash_of hasher calls) factor)
   index_sound {can_read} {calls} {fits} {equal} {R} {Q} {kf} {vf} query native itself reads kw vw =
-      index_is_format w kind e place back word k v kl vl key value kf vf kw vw (hash_of hasher calls) (hash_at hasher key_calls)
+      index_is_format w kind e place back word k v kl vl key value kf vf kw vw
+      (hash_of hasher calls) (hash_at hasher key_calls)
       (λ a b q stands there. ap (hash_of_calls hasher) (hashes_as_written k same
       key_calls can_read calls fits key equal itself query native a b q (reads a) stands there))
       factor

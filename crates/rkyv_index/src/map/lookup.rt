@@ -89,7 +89,8 @@ impl<'a, K: KeyElement, V: Element, H: KeyHasher, W: Width> ArchivedIndexMap<'a,
         requires callable { MayAskKeys W.word K.shape V.shape self (F.pre cmp key) }
         ensures walked { IfSome result (IsFullIn W.word K.shape V.shape self.entry) }
         ensures answer { let hash = hash_of_calls H.hasher (Q.calls key.now) in
-            FindsBy W.word K.shape V.shape self.entry (F.post cmp key.entry) hash (IsFullAt result) }
+            FindsBy W.word K.shape V.shape self.entry (F.post cmp key.entry) hash
+            (IsFullAt result) }
         ensures first { let hash = hash_of_calls H.hasher (Q.calls key.now) in
             let key_hash = hash_at H.hasher K.key_calls in
             FindsFirstBy W.word K.shape V.shape self.entry (F.post cmp key.entry) hash key_hash

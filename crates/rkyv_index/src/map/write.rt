@@ -53,7 +53,8 @@ pub(crate) fn write_index<
     ensures { let shape = entry_shape A.Archived.shape B.Archived.shape in
         let pairs = written_as (pair_of BK.lent BV.lent) (pair_format A.Archived.shape
         B.Archived.shape A.format B.format) in
-        let f = row_format W.word W.Place.encoding shape pairs (λ entry. hash_of H.hasher A.calls (BK.lent entry.key)) load_factor in
+        let f = row_format W.word W.Place.encoding shape pairs (λ entry.
+        hash_of H.hasher A.calls (BK.lent entry.key)) load_factor in
         let o = S.output serializer.old in
         let o' = S.output serializer.new in
         MatchResult result

@@ -1,16 +1,20 @@
 -- Laws of the probe sequence and of written controls.
-use Rattle.std.specs.Prelude.{◌≡◌, ℕ, ◌+◌, ◌*◌, ◌%◌, ◌/◌, ◌<◌, ◌≤◌, ◌^◌, ◌↔◌, List, Bool, true, eqb, length, slice_index}
+use Rattle.std.specs.Prelude.{◌≡◌, ℕ, ◌+◌, ◌*◌, ◌%◌, ◌/◌, ◌<◌, ◌≤◌, ◌^◌, ◌↔◌, List, Bool, true, eqb}
+use Rattle.std.specs.Prelude.{length, slice_index}
 use Rattle.std.specs.List.{All, Contains, IsDistinct, find}
 use Rattle.rkyv_scan.specs.Groups.{Kind, IsKind}
 use Rattle.rkyv_table.specs.Controls.Shown.{IsFullBucket}
 use Rattle.rkyv_table.specs.Controls.Numbers.{start, probe_capacity}
 use Rattle.rkyv_table.specs.Controls.Probe.{strides, shown}
-use Rattle.rkyv_table.specs.Controls.Placing.{Homes, Written, Accepted, walk, homes, written_controls}
+use Rattle.rkyv_table.specs.Controls.Placing.{Homes, Written, Accepted, walk, homes}
+use Rattle.rkyv_table.specs.Controls.Placing.{written_controls}
 use Rattle.rkyv_table.specs.Controls.Finding.{marked, found, end}
 
--- the places are those below the probe capacity that are the start modulo 16, each once, and so many
+-- the places are those below the probe capacity that are the start modulo 16, each once, and so
+-- many
 pub record IsCover (hash cap : ℕ) (places : List ℕ) : Type 0 where
-  pub members : (p : ℕ) → Contains places p ↔ (p < probe_capacity cap) × (p % 16 ≡ start hash cap % 16)
+  pub members : (p : ℕ) → Contains places p
+      ↔ (p < probe_capacity cap) × (p % 16 ≡ start hash cap % 16)
   pub once : IsDistinct eqb places
   pub count : length places ≡ probe_capacity cap / 16
 
@@ -36,32 +40,40 @@ HomesAreOneList = (cap : ℕ) (hashes xs : List ℕ) → Homes cap hashes xs →
 
 -- capacity and hashes determine the written controls
 abbrev pub WrittenAreOneList : Type 0
-WrittenAreOneList = (cap : ℕ) (hashes xs controls : List ℕ) → 0 < cap → Written cap hashes xs controls → controls ≡ written_controls cap hashes
+WrittenAreOneList = (cap : ℕ) (hashes xs controls : List ℕ) → 0 < cap
+    → Written cap hashes xs controls → controls ≡ written_controls cap hashes
 
 -- what is written of fewer items than buckets is accepted
 abbrev pub WrittenAreAccepted : Type 0
-WrittenAreAccepted = (cap : ℕ) (hashes xs controls : List ℕ) → length hashes < cap → AreHashes hashes → Written cap hashes xs controls → Accepted cap (length hashes) controls
+WrittenAreAccepted = (cap : ℕ) (hashes xs controls : List ℕ) → length hashes < cap
+    → AreHashes hashes → Written cap hashes xs controls → Accepted cap (length hashes) controls
 
 -- the walk visits the full buckets, and no other
 abbrev pub WalkedAreFull : Type 0
-WalkedAreFull = (cap bucket : ℕ) (controls : List ℕ) → Contains (walk controls cap) bucket ↔ IsFullBucket cap controls bucket
+WalkedAreFull = (cap bucket : ℕ) (controls : List ℕ) → Contains (walk controls cap) bucket
+    ↔ IsFullBucket cap controls bucket
 
 -- a search reads at most one stride for sixteen buckets, rounded up
 abbrev pub SearchIsBounded : Type 0
-SearchIsBounded = (kind : Kind) (cap len hash : ℕ) (controls : List ℕ) (accept : ℕ → Bool) → (0 < len → Accepted cap len controls)
+SearchIsBounded = (kind : Kind) (cap len hash : ℕ) (controls : List ℕ) (accept : ℕ → Bool)
+    → (0 < len → Accepted cap len controls)
     → end kind controls cap len hash accept ≤ probe_capacity cap / 16
 
 -- a marked place of a stride leads to a full bucket of the walk
 abbrev pub MarkedAreWalked : Type 0
-MarkedAreWalked = (kind : Kind) (cap len hash tag p q : ℕ) (controls : List ℕ) → IsKind kind → Accepted cap len controls → tag < 128
+MarkedAreWalked = (kind : Kind) (cap len hash tag p q : ℕ) (controls : List ℕ) → IsKind kind
+    → Accepted cap len controls → tag < 128
     → Contains (strides hash cap) p → p ≤ q → q < p + 16 → marked kind controls tag p q ≡ true
     → (q < 2 * cap) × Contains (walk controls cap) (q % cap)
 
 -- only items under the hash are accepted
 abbrev pub IsUnderHash : ℕ → List ℕ → List ℕ → (ℕ → Bool) → Type 0
-IsUnderHash hash hashes xs accept = (i : ℕ) → i < length hashes → accept (slice_index xs i) ≡ true → slice_index hashes i ≡ hash
+IsUnderHash hash hashes xs accept = (i : ℕ) → i < length hashes → accept (slice_index xs i) ≡ true
+    → slice_index hashes i ≡ hash
 
 -- a lookup on written controls answers the home of the first item that is accepted
 abbrev pub FoundOnWritten : Type 0
-FoundOnWritten = (kind : Kind) (cap hash : ℕ) (hashes xs controls : List ℕ) (accept : ℕ → Bool) → IsKind kind → hash < 2 ^ 64 → length hashes < cap → AreHashes hashes
-    → Written cap hashes xs controls → IsUnderHash hash hashes xs accept → found kind controls cap (length hashes) hash accept ≡ find accept xs
+FoundOnWritten = (kind : Kind) (cap hash : ℕ) (hashes xs controls : List ℕ) (accept : ℕ → Bool)
+    → IsKind kind → hash < 2 ^ 64 → length hashes < cap → AreHashes hashes
+    → Written cap hashes xs controls → IsUnderHash hash hashes xs accept
+    → found kind controls cap (length hashes) hash accept ≡ find accept xs

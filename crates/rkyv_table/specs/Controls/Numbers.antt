@@ -26,6 +26,8 @@ probe_capacity cap = (cap + 15) / 16 * 16
 abbrev pub control_count : ℕ → ℕ
 control_count cap = probe_capacity cap + 15
 
--- the modulus of the probe sequence: the least power of two that is at least the number of control bytes
+-- the modulus of the probe sequence: the least power of two that is at least the number of control
+-- bytes
 unfoldable pub modulus : ℕ → ℕ
-modulus cap = 2 ^ position_or_len (λ k. leb (control_count cap) (2 ^ k)) (range_with_len 0 (control_count cap))
+modulus cap = 2 ^ position_or_len (λ k. leb (control_count cap) (2 ^ k))
+    (range_with_len 0 (control_count cap))

@@ -1,5 +1,6 @@
 -- The probe sequence of a hash, and the buckets that it shows.
-use Rattle.std.specs.Prelude.{◌≡◌, ℕ, ◌+◌, ◌*◌, ◌-◌, ◌/◌, ◌%◌, ◌<◌, ◌≤◌, ◌^◌, List, map, filter, ltb}
+use Rattle.std.specs.Prelude.{◌≡◌, ℕ, ◌+◌, ◌*◌, ◌-◌, ◌/◌, ◌%◌, ◌<◌, ◌≤◌, ◌^◌, List, map, filter}
+use Rattle.std.specs.Prelude.{ltb}
 use Rattle.std.specs.List.{range_with_len, flat_map}
 use Rattle.rkyv_table.specs.Controls.Numbers.{start, probe_capacity, control_count, modulus}
 
@@ -9,11 +10,13 @@ probe_place s m k = (s + 16 * (k * (k + 1) / 2)) % m
 
 -- the strides begin at the probe places below the probe capacity, in that order
 unfoldable pub strides : ℕ → ℕ → List ℕ
-strides hash cap = filter (λ p. ltb p (probe_capacity cap)) (map (probe_place (start hash cap) (modulus cap)) (range_with_len 0 (modulus cap / 16)))
+strides hash cap = filter (λ p. ltb p (probe_capacity cap))
+    (map (probe_place (start hash cap) (modulus cap)) (range_with_len 0 (modulus cap / 16)))
 
 -- the strides from the k-th place on, where the sequence begins at s
 unfoldable pub strides_from : ℕ → ℕ → ℕ → List ℕ
-strides_from cap s k = filter (λ p. ltb p (probe_capacity cap)) (map (probe_place s (modulus cap)) (range_with_len k (modulus cap / 16 - k)))
+strides_from cap s k = filter (λ p. ltb p (probe_capacity cap))
+    (map (probe_place s (modulus cap)) (range_with_len k (modulus cap / 16 - k)))
 
 -- the buckets of the sixteen places from p on, in order
 unfoldable pub buckets_at : ℕ → ℕ → List ℕ
@@ -23,7 +26,8 @@ buckets_at cap p = map (λ q. q % cap) (filter (λ q. ltb q (2 * cap)) (range_wi
 abbrev pub shown : ℕ → ℕ → List ℕ
 shown hash cap = flat_map (buckets_at cap) (strides hash cap)
 
--- what a `Probe` keeps: the offset is that of the last place that was given, `index` being the number of places looked at
+-- what a `Probe` keeps: the offset is that of the last place that was given, `index` being the
+-- number of places looked at
 pub record IsProbe (cap start offset index : ℕ) : Type 0 where
   pub begun : start < cap
   pub fits : control_count cap ≤ 2 ^ 63

@@ -4,7 +4,8 @@ use Rattle.rkyv_table.specs.Controls.Numbers.{control_count}
 
 -- the control at the place repeats that of its bucket, or is empty from 2 * cap on
 abbrev pub RepeatsAt : ℕ → List ℕ → ℕ → Type 0
-RepeatsAt cap controls q = (q < 2 * cap → slice_index controls q ≡ slice_index controls (q - cap)) × (2 * cap ≤ q → 128 ≤ slice_index controls q)
+RepeatsAt cap controls q = (q < 2 * cap → slice_index controls q ≡ slice_index controls (q - cap))
+    × (2 * cap ≤ q → 128 ≤ slice_index controls q)
 
 -- the least place from cap on at which the controls don't repeat as they must
 pub record FirstUnlike (cap : ℕ) (controls : List ℕ) (place : ℕ) : Type 0 where

@@ -1,5 +1,6 @@
 -- What one stride says of a lookup.
-use Rattle.std.specs.Prelude.{◌≡◌, ℕ, ◌+◌, ◌%◌, ◌<◌, ⊤, List, Bool, true, false, length, slice_index, Some, None}
+use Rattle.std.specs.Prelude.{◌≡◌, ℕ, ◌+◌, ◌%◌, ◌<◌, ⊤, List, Bool, true, false, length}
+use Rattle.std.specs.Prelude.{slice_index, Some, None}
 use Rattle.std.specs.List.{find}
 use Rattle.rkyv_scan.specs.Groups.{Kind}
 use Rattle.rkyv_table.specs.Controls.Finding.{candidates, shows_empty}
@@ -22,9 +23,12 @@ IsShownIfAccepted stride p cap Full = ⊤
 
 -- the first candidate that is accepted; without one, whether an empty control is shown
 abbrev pub IsSeen : Kind → List ℕ → ℕ → ℕ → ℕ → (ℕ → Bool) → Seen → Type 0
-IsSeen kind controls cap t p accept (Accepted b) = find accept (candidates kind controls cap t p) ≡ Some b
-IsSeen kind controls cap t p accept Empty = (find accept (candidates kind controls cap t p) ≡ None) × (shows_empty controls p ≡ true)
-IsSeen kind controls cap t p accept Full = (find accept (candidates kind controls cap t p) ≡ None) × (shows_empty controls p ≡ false)
+IsSeen kind controls cap t p accept (Accepted b) =
+    find accept (candidates kind controls cap t p) ≡ Some b
+IsSeen kind controls cap t p accept Empty =
+    (find accept (candidates kind controls cap t p) ≡ None) × (shows_empty controls p ≡ true)
+IsSeen kind controls cap t p accept Full =
+    (find accept (candidates kind controls cap t p) ≡ None) × (shows_empty controls p ≡ false)
 
 -- an accepted bucket is one of which the comparison answered true
 abbrev pub IsAcceptedBy : (ℕ → Bool → Type 0) → Seen → Type 0

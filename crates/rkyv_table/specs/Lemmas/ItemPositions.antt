@@ -1,5 +1,7 @@
 -- Where the items of a table stand, by where its buckets begin, and what holds there.
-use Rattle.std.proofs.Common.{◌≡◌, ℕ, zero, suc, ◌+◌, ◌-◌, ◌*◌, ◌<◌, ◌≤◌, sym, ap, subst, ◌∙◌, arith, inl, inr, List, ◌∷◌, Bool, true, false, filter, slice_index, slice_range, pos, ◌+ℤ◌}
+use Rattle.std.proofs.Common.{◌≡◌, ℕ, zero, suc, ◌+◌, ◌-◌, ◌*◌, ◌<◌, ◌≤◌, sym, ap, subst, ◌∙◌}
+use Rattle.std.proofs.Common.{arith, inl, inr, List, ◌∷◌, Bool, true, false, filter, slice_index}
+use Rattle.std.proofs.Common.{slice_range, pos, ◌+ℤ◌}
 use Rattle.std.specs.Int.{Width}
 use Rattle.std.specs.List.{range_with_len}
 use Rattle.std.specs.Prelude.{unsigned_abs}
@@ -16,10 +18,12 @@ use Rattle.rkyv_table.specs.Lemmas.PlaceLaws.{all_between}
 use Rattle.rkyv_table.specs.Table.Places.{AllHold}
 use Rattle.rkyv_table.specs.Controls.Placing.{walk}
 use Rattle.rkyv_table.specs.Table.Reading.{IsWalked, controls_pos, item_at, table_controls}
-use Rattle.rkyv_table.specs.Table.Layout.{IsPart, ItemsHold, TableHolds, bucket_at, controls_at, part_size}
+use Rattle.rkyv_table.specs.Table.Layout.{IsPart, ItemsHold, TableHolds, bucket_at, controls_at}
+use Rattle.rkyv_table.specs.Table.Layout.{part_size}
 use Rattle.rkyv_table.specs.Lemmas.TableLaws.{bucket_inside}
 
--- the value at q holds in a range of its own, inside that from lo to hi, and leaves a lower end that is at most l
+-- the value at q holds in a range of its own, inside that from lo to hi, and leaves a lower end
+-- that is at most l
 pub record HoldsWithin (s : Shape) (b : List ℕ) (q lo hi l : ℕ) : Type 0 where
   pub lower : ℕ
   pub rest : ℕ
@@ -30,52 +34,79 @@ pub record HoldsWithin (s : Shape) (b : List ℕ) (q lo hi l : ℕ) : Type 0 whe
 
 module _ (s : Shape) (law : IsElement s) (at : ℕ → ℕ) where
   -- each of the values that hold, one after the other, holds so
-  pub each_holds : (P : ℕ → Bool) (b : List ℕ) (hi a n lo l i : ℕ) → lo ≤ hi → AllHold s at b hi (filter P (range_with_len a n)) lo l → a ≤ i → i < a + n → P i ≡ true
+  pub each_holds : (P : ℕ → Bool) (b : List ℕ) (hi a n lo l i : ℕ) → lo ≤ hi
+      → AllHold s at b hi (filter P (range_with_len a n)) lo l → a ≤ i → i < a + n → P i ≡ true
       → HoldsWithin s b (at i) lo hi l
   each_holds P b hi a zero lo l i o h from to t = absurd (omega arith)
   each_holds P b hi a (suc n) lo l i o h from to t = elim (cases_Bool (P a)) [
     | inl y ↦
         let h' : AllHold s at b hi (a ∷ filter P (range_with_len (a + 1) n)) lo l = rw y at h in
         let k : (lo ≤ h'.0) × (h'.0 ≤ hi) = law.between b (at a) lo hi h'.0 o h'.1 in
-        let after = all_between s law at b hi (filter P (range_with_len (a + 1) n)) h'.0 l k.1 h'.2 in
+        let after = all_between s law at b hi (filter P (range_with_len (a + 1) n)) h'.0 l k.1
+        h'.2 in
         elim (cases_eq a i) [
-          | inl e ↦ subst (λ z. HoldsWithin s b (at z) lo hi l) e (record { lower = lo; rest = h'.0; above = omega arith; below = o; ends = after.0; holds = h'.1 })
+          | inl e ↦ subst (λ z. HoldsWithin s b (at z) lo hi l) e (record {
+            lower = lo;
+            rest =
+                h'.0;
+            above = omega arith;
+            below = o;
+            ends = after.0;
+            holds = h'.1;
+          })
           | inr ne ↦
               let r = each_holds P b hi (a + 1) n h'.0 l i k.1 h'.2 (omega arith) (omega arith) t in
-              record { lower = r.lower; rest = r.rest; above = omega (arith, k.0, r.above); below = r.below; ends = r.ends; holds = r.holds }
+              record {
+                lower = r.lower;
+                rest = r.rest;
+                above = omega (arith, k.0, r.above);
+                below =
+                    r.below;
+                ends = r.ends;
+                holds = r.holds;
+              }
         ]
     | inr y ↦
         let h' : AllHold s at b hi (filter P (range_with_len (a + 1) n)) lo l = rw y at h in
         elim (cases_eq a i) [
-          | inl e ↦ let y' : P i ≡ false = subst (λ z. P z ≡ false) e y in absurd (both_ways (P i) y' t)
+          | inl e ↦ let y' : P i ≡ false = subst (λ z. P z ≡ false) e y in
+              absurd (both_ways (P i) y' t)
           | inr ne ↦ each_holds P b hi (a + 1) n lo l i o h' (omega arith) (omega arith) t
         ]
   ]
 
 -- the item in a full bucket holds in a range of its own
-pub bucket_holds_within : (s : Shape) → IsElement s → (b : List ℕ) (begin cap lo l i : ℕ) → lo ≤ begin → ItemsHold s b begin cap lo l → i < cap
-    → slice_index (controls_at s.size b begin cap) i < 128 → HoldsWithin s b (bucket_at s.size begin cap i) lo begin l
+pub bucket_holds_within : (s : Shape) → IsElement s → (b : List ℕ) (begin cap lo l i : ℕ)
+    → lo ≤ begin → ItemsHold s b begin cap lo l → i < cap
+    → slice_index (controls_at s.size b begin cap) i < 128
+    → HoldsWithin s b (bucket_at s.size begin cap i) lo begin l
 unfolding walk
 bucket_holds_within s law b begin cap lo l i o h below full =
-    each_holds s law (bucket_at s.size begin cap) (λ j. is_full (slice_index (controls_at s.size b begin cap) j)) b begin 0 cap lo l i o h (omega arith) (omega arith)
+    each_holds s law (bucket_at s.size begin cap) (λ j.
+    is_full (slice_index (controls_at s.size b begin cap) j)) b begin 0 cap lo l i o h
+    (omega arith) (omega arith)
     (lt-ltb (slice_index (controls_at s.size b begin cap) i) 128 full)
 
-module _ (w : Width) (size : ℕ) (b : List ℕ) (p begin : ℕ) (told : pos begin ≡ begin_told w size b p) where
+module _ (w : Width) (size : ℕ) (b : List ℕ) (p begin : ℕ) (told : pos begin
+    ≡ begin_told w size b p) where
   -- where the controls stand
   pub told_pos : controls_pos w b p ≡ begin + cap_at w b p * size
   told_pos =
-      let e : pos (begin + cap_at w b p * size) ≡ pos p +ℤ signed_at w b p = omega (arith, ints, told) in
+      let e : pos (begin + cap_at w b p * size) ≡ pos p +ℤ signed_at w b p =
+      omega (arith, ints, told) in
       sym (ap unsigned_abs e)
 
   pub told_controls : table_controls w b p ≡ controls_at size b begin (cap_at w b p)
   told_controls = ap (λ z. slice_range b z (z + control_count (cap_at w b p))) told_pos
 
   -- where an item stands
-  pub told_item : (i : ℕ) → i < cap_at w b p → item_at w size b p i ≡ bucket_at size begin (cap_at w b p) i
+  pub told_item : (i : ℕ) → i < cap_at w b p
+      → item_at w size b p i ≡ bucket_at size begin (cap_at w b p) i
   told_item i h =
       let cap = cap_at w b p in
       let e : cap ≡ (cap - (i + 1)) + (i + 1) = omega arith in
-      let m : cap * size ≡ (cap - (i + 1)) * size + (i + 1) * size = ap (λ x. x * size) e ∙ add-mul (cap - (i + 1)) (i + 1) size in
+      let m : cap * size ≡ (cap - (i + 1)) * size + (i + 1) * size =
+      ap (λ x. x * size) e ∙ add-mul (cap - (i + 1)) (i + 1) size in
       ap (λ z. z - (i + 1) * size) told_pos ∙ omega (arith, m)
 
 -- the buckets and controls of a table that holds, where its header tells of buckets
@@ -85,7 +116,8 @@ pub record HeldPart (w : Width) (s : Shape) (b : List ℕ) (p lo hi l : ℕ) : T
   pub is : IsPart s b (cap_at w b p) (len_at w b p) lo begin
   pub ends : l ≡ begin + part_size s.size (cap_at w b p)
 
-module _ (w : Width) (s : Shape) (law : IsElement s) (b : List ℕ) (p lo hi l : ℕ) (h : TableHolds w s b p lo hi l) where
+module _ (w : Width) (s : Shape) (law : IsElement s) (b : List ℕ) (p lo hi l : ℕ)
+    (h : TableHolds w s b p lo hi l) where
   pub holds_at : 0 < cap_at w b p → HeldPart w s b p lo hi l
   holds_at some = elim h [
     | inl e ↦ absurd (omega (arith, e.1, some))
@@ -94,18 +126,32 @@ module _ (w : Width) (s : Shape) (law : IsElement s) (b : List ℕ) (p lo hi l :
 
   -- the item in a full bucket holds, and stands before the controls
   pub item_holds : (i : ℕ) → IsWalked w b p i → (t : HeldPart w s b p lo hi l)
-      → HoldsWithin s b (item_at w s.size b p i) lo t.begin t.begin × (t.begin ≤ item_at w s.size b p i) × (item_at w s.size b p i + s.size ≤ l)
+      → HoldsWithin s b (item_at w s.size b p i) lo t.begin t.begin
+      × (t.begin ≤ item_at w s.size b p i) × (item_at w s.size b p i + s.size ≤ l)
   item_holds i walked t =
       let cap = cap_at w b p in
       let told = t.part.begins in
-      let full : slice_index (controls_at s.size b t.begin cap) i < 128 = subst (λ (xs : List ℕ). slice_index xs i < 128) (told_controls w s.size b p t.begin told) walked.1 in
+      let full : slice_index (controls_at s.size b t.begin cap) i < 128 =
+      subst (λ (xs : List ℕ). slice_index xs i
+      < 128) (told_controls w s.size b p t.begin told) walked.1 in
       let above = t.part.above in
-      let ends = all_between s law (bucket_at s.size t.begin cap) b t.begin (walk (controls_at s.size b t.begin cap) cap) lo t.is.last above t.is.items in
-      let one = bucket_holds_within s law b t.begin cap lo t.is.last i above t.is.items walked.0 full in
+      let ends = all_between s law (bucket_at s.size t.begin cap) b t.begin
+      (walk (controls_at s.size b t.begin cap) cap) lo t.is.last above t.is.items in
+      let one = bucket_holds_within s law b t.begin cap lo t.is.last i above t.is.items walked.0
+      full in
       let u = bucket_inside s.size t.begin cap i walked.0 in
       let e = t.ends in
-      subst (λ q. HoldsWithin s b q lo t.begin t.begin × (t.begin ≤ q) × (q + s.size ≤ l)) (sym (told_item w s.size b p t.begin told i walked.0)) (
-        record { lower = one.lower; rest = one.rest; above = one.above; below = one.below; ends = omega (arith, one.ends, ends.1); holds = one.holds },
+      subst (λ q. HoldsWithin s b q lo t.begin t.begin × (t.begin ≤ q)
+      × (q + s.size ≤ l)) (sym (told_item w s.size b p t.begin told i walked.0)) (
+        record {
+          lower = one.lower;
+          rest = one.rest;
+          above = one.above;
+          below = one.below;
+          ends =
+              omega (arith, one.ends, ends.1);
+          holds = one.holds;
+        },
         u.0,
         omega (arith, u.1, e),
       )

@@ -24,14 +24,16 @@ pub range_below : (P : ℕ → Bool) (n : ℕ) → AllBelow n (filter P (range_w
 range_below P n = filter_below P 0 n n (omega arith)
 
 module _ (s : Shape) (law : IsElement s) (at : ℕ → ℕ) where
-  pub all_between : (b : List ℕ) (hi : ℕ) (is : List ℕ) (lo l : ℕ) → lo ≤ hi → AllHold s at b hi is lo l → (lo ≤ l) × (l ≤ hi)
+  pub all_between : (b : List ℕ) (hi : ℕ) (is : List ℕ) (lo l : ℕ) → lo ≤ hi
+      → AllHold s at b hi is lo l → (lo ≤ l) × (l ≤ hi)
   all_between b hi [] lo l o h = (omega arith, omega arith)
   all_between b hi (i ∷ is) lo l o h =
       let k : (lo ≤ h.0) × (h.0 ≤ hi) = law.between b (at i) lo hi h.0 o h.1 in
       let r : (h.0 ≤ l) × (l ≤ hi) = all_between b hi is h.0 l k.1 h.2 in
       (omega arith, r.1)
 
-  pub all_clear : (b : List ℕ) (hi : ℕ) (is : List ℕ) (lo l : ℕ) (e : VerifyError) → AllHold s at b hi is lo l → FirstFails s at b hi is lo e → ⊥
+  pub all_clear : (b : List ℕ) (hi : ℕ) (is : List ℕ) (lo l : ℕ) (e : VerifyError)
+      → AllHold s at b hi is lo l → FirstFails s at b hi is lo e → ⊥
   all_clear b hi [] lo l e h f = f
   all_clear b hi (i ∷ is) lo l e h (inl f) = law.clear b (at i) lo hi h.0 e h.1 f
   all_clear b hi (i ∷ is) lo l e h (inr f) =
@@ -39,32 +41,42 @@ module _ (s : Shape) (law : IsElement s) (at : ℕ → ℕ) where
       all_clear b hi is h.0 l e h.2 (subst (λ m. FirstFails s at b hi is m e) q f.2)
 
   -- they fail first by one error alone
-  pub all_one_failure : (b : List ℕ) (hi : ℕ) (is : List ℕ) (lo : ℕ) (e e' : VerifyError) → FirstFails s at b hi is lo e → FirstFails s at b hi is lo e' → e ≡ e'
+  pub all_one_failure : (b : List ℕ) (hi : ℕ) (is : List ℕ) (lo : ℕ) (e e' : VerifyError)
+      → FirstFails s at b hi is lo e → FirstFails s at b hi is lo e' → e ≡ e'
   all_one_failure b hi [] lo e e' f g = absurd f
   all_one_failure b hi (i ∷ is) lo e e' (inl f) (inl g) = law.one_failure b (at i) lo hi e e' f g
-  all_one_failure b hi (i ∷ is) lo e e' (inl f) (inr g) = absurd (law.clear b (at i) lo hi g.0 e g.1 f)
-  all_one_failure b hi (i ∷ is) lo e e' (inr f) (inl g) = absurd (law.clear b (at i) lo hi f.0 e' f.1 g)
+  all_one_failure b hi (i ∷ is) lo e e' (inl f) (inr g) =
+      absurd (law.clear b (at i) lo hi g.0 e g.1 f)
+  all_one_failure b hi (i ∷ is) lo e e' (inr f) (inl g) =
+      absurd (law.clear b (at i) lo hi f.0 e' f.1 g)
   all_one_failure b hi (i ∷ is) lo e e' (inr f) (inr g) =
       let q : g.0 ≡ f.0 = law.one b (at i) lo hi g.0 f.0 g.1 f.1 in
       all_one_failure b hi is f.0 e e' f.2 (subst (λ m. FirstFails s at b hi is m e') q g.2)
 
-  pub all_lower : (b : List ℕ) (hi : ℕ) (is : List ℕ) (lo lo' l : ℕ) → lo' ≤ lo → lo ≤ hi → AllHold s at b hi is lo l
+  pub all_lower : (b : List ℕ) (hi : ℕ) (is : List ℕ) (lo lo' l : ℕ) → lo' ≤ lo → lo ≤ hi
+      → AllHold s at b hi is lo l
       → (l' : ℕ) × AllHold s at b hi is lo' l' × (l' ≤ l)
   all_lower b hi [] lo lo' l o o' h = (lo', refl, omega arith)
   all_lower b hi (i ∷ is) lo lo' l o o' h =
       let k : (lo ≤ h.0) × (h.0 ≤ hi) = law.between b (at i) lo hi h.0 o' h.1 in
-      let d : (m : ℕ) × s.holds b (at i) lo' hi m × (m ≤ h.0) = law.lower b (at i) lo lo' hi h.0 o o' h.1 in
-      let r : (m : ℕ) × AllHold s at b hi is d.0 m × (m ≤ l) = all_lower b hi is h.0 d.0 l d.2 k.1 h.2 in
+      let d : (m : ℕ) × s.holds b (at i) lo' hi m × (m ≤ h.0) =
+      law.lower b (at i) lo lo' hi h.0 o o' h.1 in
+      let r : (m : ℕ) × AllHold s at b hi is d.0 m × (m ≤ l) =
+      all_lower b hi is h.0 d.0 l d.2 k.1 h.2 in
       (r.0, (d.0, d.1, r.1), r.2)
 
   -- they rest on the bytes from x to y alone, where the places below n lie in there
-  pub all_near : (b c : List ℕ) (x y n hi : ℕ) (is : List ℕ) (lo l : ℕ) → Same b c x y → x ≤ lo → lo ≤ hi → hi ≤ y → AllBelow n is
-      → ((i : ℕ) → i < n → (x ≤ at i) × (at i + s.size ≤ y)) → AllHold s at b hi is lo l → AllHold s at c hi is lo l
+  pub all_near : (b c : List ℕ) (x y n hi : ℕ) (is : List ℕ) (lo l : ℕ) → Same b c x y → x ≤ lo
+      → lo ≤ hi → hi ≤ y → AllBelow n is
+      → ((i : ℕ) → i < n → (x ≤ at i) × (at i + s.size ≤ y)) → AllHold s at b hi is lo l
+      → AllHold s at c hi is lo l
   all_near b c x y n hi [] lo l same o o' o'' below inside h = h
   all_near b c x y n hi (i ∷ is) lo l same o o' o'' below inside h =
       let k : (lo ≤ h.0) × (h.0 ≤ hi) = law.between b (at i) lo hi h.0 o' h.1 in
       let u : (x ≤ at i) × (at i + s.size ≤ y) = inside i below.0 in (
         h.0,
-        law.near b c (at i) lo hi h.0 o' (same_part b c x y (at i) (at i + s.size) u.0 u.1 (omega arith) same) (same_part b c x y lo h.0 o (omega arith) k.0 same) h.1,
+        law.near b c (at i) lo hi h.0 o'
+            (same_part b c x y (at i) (at i + s.size) u.0 u.1 (omega arith) same)
+            (same_part b c x y lo h.0 o (omega arith) k.0 same) h.1,
         all_near b c x y n hi is h.0 l same (omega arith) k.1 o'' below.1 inside h.2,
       )

@@ -7,8 +7,11 @@ use Rattle.rkyv_table.specs.Table.Header.{begin_told, cap_at, len_at}
 use Rattle.rkyv_table.specs.Table.Reading.{controls_pos, item_at}
 
 module _ (w : Width) (b c : List ℕ) (p : ℕ) (same : Same b c p (p + 3 * byte_len w)) where
-  number_same : (k : ℕ) → k + byte_len w ≤ 3 * byte_len w → number_at w b (p + k) ≡ number_at w c (p + k)
-  number_same k fits = ap (from_le_bytes w) (same_part b c p (p + 3 * byte_len w) (p + k) (p + k + byte_len w) (omega arith) (omega arith) (omega arith) same)
+  number_same : (k : ℕ) → k + byte_len w ≤ 3 * byte_len w
+      → number_at w b (p + k) ≡ number_at w c (p + k)
+  number_same k fits = ap (from_le_bytes w)
+      (same_part b c p (p + 3 * byte_len w) (p + k) (p + k + byte_len w) (omega arith) (omega arith)
+      (omega arith) same)
 
   pub len_same : len_at w b p ≡ len_at w c p
   len_same = number_same (byte_len w) (omega arith)
@@ -19,7 +22,8 @@ module _ (w : Width) (b c : List ℕ) (p : ℕ) (same : Same b c p (p + 3 * byte
   distance_same : signed_at w b p ≡ signed_at w c p
   distance_same =
       let z : p + 0 ≡ p = omega arith in
-      ap (cast_signed w) (subst (λ n. number_at w b n ≡ number_at w c n) z (number_same 0 (omega arith)))
+      ap (cast_signed w) (subst (λ n. number_at w b n
+      ≡ number_at w c n) z (number_same 0 (omega arith)))
 
   pub begin_same : (size : ℕ) → begin_told w size b p ≡ begin_told w size c p
   begin_same size =

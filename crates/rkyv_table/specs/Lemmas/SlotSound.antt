@@ -1,7 +1,8 @@
 -- The items of a written table hold and stand, by ascending bucket.
 use Rattle.std.proofs.Common.{arith, refl, sym, ◌∙◌, ap, subst, zero, length-append}
 use Rattle.std.proofs.lemmas.Option.{none-some, same_Some}
-use Rattle.std.specs.Prelude.{◌≡◌, ℕ, suc, ◌+◌, ◌-◌, ◌*◌, ◌%◌, ◌≤◌, List, [], ◌∷◌, ◌++◌, drop, length, slice_get, Option, Some, None}
+use Rattle.std.specs.Prelude.{◌≡◌, ℕ, suc, ◌+◌, ◌-◌, ◌*◌, ◌%◌, ◌≤◌, List, [], ◌∷◌, ◌++◌, drop}
+use Rattle.std.specs.Prelude.{length, slice_get, Option, Some, None}
 use Rattle.rkyv_base.specs.Bytes.{Sits, sits_back, sits_front}
 use Rattle.rkyv_base.specs.Format.{Format, IsFormat}
 use Rattle.rkyv_base.specs.Shape.{IsAlign, IsElement, Shape, by_align, sum_multiple}
@@ -28,7 +29,9 @@ zero_multiple : (a : ℕ) → IsAlign a → 0 % a ≡ 0
 zero_multiple a al = by_align (λ v. 0 % v ≡ 0) refl refl refl refl a al
 
 -- a lesser lower end
-all_lower : (s : Shape) → IsElement s → (at : ℕ → ℕ) (b : List ℕ) (hi : ℕ) (is : List ℕ) (lo lo' l : ℕ) → lo' ≤ lo → lo ≤ hi → AllHold s at b hi is lo l
+all_lower : (s : Shape) → IsElement s
+    → (at : ℕ → ℕ) (b : List ℕ) (hi : ℕ) (is : List ℕ) (lo lo' l : ℕ) → lo' ≤ lo → lo ≤ hi
+    → AllHold s at b hi is lo l
     → (l' : ℕ) × AllHold s at b hi is lo' l' × (l' ≤ l)
 all_lower s laws at b hi [] lo lo' l o o' h = (lo', refl, omega (arith, h))
 all_lower s laws at b hi (i ∷ is) lo lo' l o o' h =
@@ -37,10 +40,14 @@ all_lower s laws at b hi (i ∷ is) lo lo' l o o' h =
     let e = all_lower s laws at b hi is h.0 d.0 l d.2 k.1 h.2 in
     (e.0, (d.0, d.1, e.1), e.2)
 
-module _ {X R : Type 0} (s : Shape) (laws : IsElement s) (stands : List ℕ → ℕ → X → Type 0) (f : Format X R) (fl : IsFormat s stands f) (c : List ℕ) (cap begin : ℕ) (aligned : begin % s.align ≡ 0) where
+module _ {X R : Type 0} (s : Shape) (laws : IsElement s) (stands : List ℕ → ℕ → X
+    → Type 0) (f : Format X R) (fl : IsFormat s stands f) (c : List ℕ) (cap begin : ℕ)
+    (aligned : begin % s.align ≡ 0) where
   many : (n : ℕ) → (n * s.size) % s.align ≡ 0
-  many zero = subst (λ k. k % s.align ≡ 0) (sym (zero_times s.size)) (zero_multiple s.align laws.align_is)
-  many (suc n) = subst (λ k. k % s.align ≡ 0) (sym (times_one n s.size)) (sum_multiple (n * s.size) s.size s.align laws.align_is (many n) laws.size_whole)
+  many zero = subst (λ k. k % s.align ≡ 0) (sym (zero_times s.size))
+      (zero_multiple s.align laws.align_is)
+  many (suc n) = subst (λ k. k % s.align ≡ 0) (sym (times_one n s.size))
+      (sum_multiple (n * s.size) s.size s.align laws.align_is (many n) laws.size_whole)
 
   abbrev at : ℕ → ℕ
   at = bucket_at s.size begin cap
@@ -55,26 +62,34 @@ module _ {X R : Type 0} (s : Shape) (laws : IsElement s) (stands : List ℕ → 
       let n : (b + 1) + i ≡ b + suc i = omega arith in
       subst (λ k. stands c (at k) x) n (h i x e)
 
-  more_stand : (b : ℕ) (y : X) (ss : List (Option X)) → stands c (at b) y → SlotsStand (b + 1) ss → SlotsStand b (Some y ∷ ss)
+  more_stand : (b : ℕ) (y : X) (ss : List (Option X)) → stands c (at b) y → SlotsStand (b + 1) ss
+      → SlotsStand b (Some y ∷ ss)
   more_stand b y ss one h zero x e =
       let n : b ≡ b + 0 = omega arith in
-      subst (λ k. stands c (at k) x) n (subst (λ v. stands c (at b) v) (same_Some y x (same_Some (Some y) (Some x) e)) one)
+      subst (λ k. stands c (at k) x) n
+      (subst (λ v. stands c (at b) v) (same_Some y x (same_Some (Some y) (Some x) e)) one)
   more_stand b y ss one h (suc i) x e =
       let n : (b + 1) + i ≡ b + suc i = omega arith in
       subst (λ k. stands c (at k) x) n (h i x e)
 
   -- the buckets from b on hold and stand
-  pub slots_sound : (ss : List (Option X)) (b p z : ℕ) (part out : List ℕ) (rs : List R) → b + length ss ≡ cap → SlotParts f ss p part rs → SlotImages s.size f ss rs z out
+  pub slots_sound : (ss : List (Option X)) (b p z : ℕ) (part out : List ℕ) (rs : List R)
+      → b + length ss ≡ cap → SlotParts f ss p part rs → SlotImages s.size f ss rs z out
       → Sits c p part → Sits c begin out → begin + length ss * s.size ≡ z → p + length part ≤ begin
-      → (l : ℕ) × AllHold s at c begin (filled_from b ss) p l × (l ≤ p + length part) × SlotsStand b ss
-  slots_sound [] b p z part out rs n m i sp so e o = (p, refl, omega arith, λ k x g. absurd (none-some (Some x) g))
+      → (l : ℕ) × AllHold s at c begin (filled_from b ss) p l × (l ≤ p + length part)
+      × SlotsStand b ss
+  slots_sound [] b p z part out rs n m i sp so e o =
+      (p, refl, omega arith, λ k x g. absurd (none-some (Some x) g))
   slots_sound (None ∷ ss) b p z part out rs n m i sp so e o =
-      let e' : begin + length ss * s.size ≡ z - s.size = omega (arith, e, times_one (length ss) s.size) in
+      let e' : begin + length ss * s.size ≡ z - s.size =
+      omega (arith, e, times_one (length ss) s.size) in
       let n' : (b + 1) + length ss ≡ cap = omega (arith, n) in
-      let rec = slots_sound ss (b + 1) p (z - s.size) part i.0 rs n' m i.1 sp (sits_front c begin i.0 (zeros s.size) (subst (Sits c begin) i.2 so)) e' o in
+      let rec = slots_sound ss (b + 1) p (z - s.size) part i.0 rs n' m i.1 sp
+      (sits_front c begin i.0 (zeros s.size) (subst (Sits c begin) i.2 so)) e' o in
       (rec.0, rec.1, rec.2, next_stand b ss rec.3)
   slots_sound (Some x ∷ ss) b p z part out rs n m i sp so e o =
-      let e' : begin + length ss * s.size ≡ z - s.size = omega (arith, e, times_one (length ss) s.size) in
+      let e' : begin + length ss * s.size ≡ z - s.size =
+      omega (arith, e, times_one (length ss) s.size) in
       let n' : (b + 1) + length ss ≡ cap = omega (arith, n) in
       let left : cap - (b + 1) ≡ length ss = omega (arith, n') in
       let here : z - s.size ≡ at b = sym e' ∙ ap (λ k. begin + k * s.size) (sym left) in
@@ -85,14 +100,23 @@ module _ {X R : Type 0} (s : Shape) (laws : IsElement s) (stands : List ℕ → 
       let r2 : m.3 ≡ i.1 = same_tail m.1 i.0 m.3 i.1 same in
       let spq : Sits c p (a ++ q) = subst (Sits c p) m.6 sp in
       let sio : Sits c begin (i.2 ++ i.3) = subst (Sits c begin) i.7 so in
-      let k : length i.2 ≡ length ss * s.size = images_length s.size f (λ v r w o g. fl.whole v r w o g) ss i.1 (z - s.size) i.2 i.6 in
-      let sone : Sits c (at b) i.3 = subst (λ y. Sits c y i.3) (ap (λ y. begin + y) k ∙ e' ∙ here) (sits_back c begin i.2 i.3 sio) in
+      let k : length i.2 ≡ length ss * s.size =
+      images_length s.size f (λ v r w o g. fl.whole v r w o g) ss i.1 (z - s.size) i.2
+      i.6 in
+      let sone : Sits c (at b) i.3 =
+      subst (λ y. Sits c y i.3) (ap (λ y. begin + y) k ∙ e'
+      ∙ here) (sits_back c begin i.2 i.3 sio) in
       let np : length part ≡ length a + length q = ap length m.6 ∙ length-append a q in
-      let al : at b % s.align ≡ 0 = sum_multiple begin ((cap - (b + 1)) * s.size) s.align laws.align_is aligned (many (cap - (b + 1))) in
+      let al : at b % s.align ≡ 0 = sum_multiple begin ((cap - (b + 1)) * s.size) s.align
+      laws.align_is aligned (many (cap - (b + 1))) in
       let im : f.image x i.0 (at b) i.3 = subst (λ y. f.image x i.0 y i.3) here i.5 in
-      let d = fl.sound x i.0 c p (at b) a i.3 (subst (λ r. f.parts x p a r) r1 m.4) im (sits_front c p a q spq) sone (omega arith) al in
+      let d = fl.sound x i.0 c p (at b) a i.3 (subst (λ r. f.parts x p a r) r1 m.4) im
+      (sits_front c p a q spq) sone (omega arith) al in
       let w = laws.between c (at b) p (p + length a) d.0 (omega arith) d.1 in
       let h1 = laws.higher c (at b) p (p + length a) begin d.0 (omega arith) d.1 in
-      let rec = slots_sound ss (b + 1) (p + length a) (z - s.size) q i.2 i.1 n' (subst (λ y. SlotParts f ss (p + length a) q y) r2 m.5) i.6 (sits_back c p a q spq) (sits_front c begin i.2 i.3 sio) e' (omega arith) in
-      let low = all_lower s laws at c begin (filled_from (b + 1) ss) (p + length a) d.0 rec.0 w.1 (omega arith) rec.1 in
+      let rec = slots_sound ss (b + 1) (p + length a) (z - s.size) q i.2 i.1 n'
+      (subst (λ y. SlotParts f ss (p + length a) q y) r2 m.5) i.6 (sits_back c p a q spq)
+      (sits_front c begin i.2 i.3 sio) e' (omega arith) in
+      let low = all_lower s laws at c begin (filled_from (b + 1) ss) (p + length a) d.0 rec.0 w.1
+      (omega arith) rec.1 in
       (low.0, (d.0, h1, low.1), omega (arith, low.2, rec.2, np), more_stand b x ss d.2 rec.3)

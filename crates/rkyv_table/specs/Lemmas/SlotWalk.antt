@@ -6,7 +6,8 @@ use Rattle.std.proofs.lemmas.List.Elements.{All-get_or}
 use Rattle.std.proofs.lemmas.List.Folds.{Any-from_list_any}
 use Rattle.std.proofs.lemmas.Option.{none-some, same_Some, slice_get_within}
 use Rattle.std.specs.List.{list_any, range_with_len}
-use Rattle.std.specs.Prelude.{◌≡◌, ℕ, suc, ◌+◌, ◌^◌, ◌<◌, List, [], ◌∷◌, Bool, true, false, eqb, filter, length, slice_get, slice_index, Option, Some, None}
+use Rattle.std.specs.Prelude.{◌≡◌, ℕ, suc, ◌+◌, ◌^◌, ◌<◌, List, [], ◌∷◌, Bool, true, false, eqb}
+use Rattle.std.specs.Prelude.{filter, length, slice_get, slice_index, Option, Some, None}
 use Rattle.rkyv_scan.specs.Groups.{is_full}
 use Rattle.rkyv_table.specs.Controls.Placing.{is_free, walk}
 use Rattle.rkyv_table.specs.Table.Slots.{filled}
@@ -18,14 +19,16 @@ filled_from b [] = []
 filled_from b (None ∷ ss) = filled_from (b + 1) ss
 filled_from b (Some x ∷ ss) = b ∷ filled_from (b + 1) ss
 
-pub filled_count : {X : Type 0} (b : ℕ) (ss : List (Option X)) → length (filled_from b ss) ≡ filled ss
+pub filled_count : {X : Type 0} (b : ℕ) (ss : List (Option X))
+    → length (filled_from b ss) ≡ filled ss
 filled_count b [] = refl
 filled_count b (None ∷ ss) = filled_count (b + 1) ss
 filled_count b (Some x ∷ ss) = ap suc (filled_count (b + 1) ss)
 
 -- a test that tells whether a slot has an item
 abbrev pub Tells : {X : Type 0} → (ℕ → Bool) → ℕ → List (Option X) → Type 0
-Tells {X = X} full b ss = ((i : ℕ) → slice_get ss i ≡ Some None → full (b + i) ≡ false) × ((i : ℕ) (x : X) → slice_get ss i ≡ Some (Some x) → full (b + i) ≡ true)
+Tells {X = X} full b ss = ((i : ℕ) → slice_get ss i ≡ Some None → full (b + i) ≡ false)
+    × ((i : ℕ) (x : X) → slice_get ss i ≡ Some (Some x) → full (b + i) ≡ true)
 
 next_place : (b i : ℕ) → b + suc i ≡ (b + 1) + i
 next_place b i = omega arith
@@ -33,17 +36,24 @@ next_place b i = omega arith
 first_place : (b : ℕ) → b + 0 ≡ b
 first_place b = omega arith
 
-tells_rest : {X : Type 0} (full : ℕ → Bool) (b : ℕ) (s : Option X) (ss : List (Option X)) → Tells full b (s ∷ ss) → Tells full (b + 1) ss
-tells_rest full b s ss t = (λ i e. ap full (sym (next_place b i)) ∙ t.0 (suc i) e, λ i x e. ap full (sym (next_place b i)) ∙ t.1 (suc i) x e)
+tells_rest : {X : Type 0} (full : ℕ → Bool) (b : ℕ) (s : Option X) (ss : List (Option X))
+    → Tells full b (s ∷ ss) → Tells full (b + 1) ss
+tells_rest full b s ss t = (
+  λ i e. ap full (sym (next_place b i))
+      ∙ t.0 (suc i) e,
+  λ i x e. ap full (sym (next_place b i)) ∙ t.1 (suc i) x e,
+)
 
-filter_filled : {X : Type 0} (full : ℕ → Bool) (b : ℕ) (ss : List (Option X)) → Tells full b ss → filter full (range_with_len b (length ss)) ≡ filled_from b ss
+filter_filled : {X : Type 0} (full : ℕ → Bool) (b : ℕ) (ss : List (Option X)) → Tells full b ss
+    → filter full (range_with_len b (length ss)) ≡ filled_from b ss
 filter_filled full b [] t = refl
 filter_filled full b (None ∷ ss) t =
     let e : full b ≡ false = ap full (sym (first_place b)) ∙ t.0 0 refl in
     rw e (filter_filled full (b + 1) ss (tells_rest full b None ss t))
 filter_filled full b (Some x ∷ ss) t =
     let e : full b ≡ true = ap full (sym (first_place b)) ∙ t.1 0 x refl in
-    rw e (ap (λ (l : List ℕ). b ∷ l) (filter_filled full (b + 1) ss (tells_rest full b (Some x) ss t)))
+    rw e (ap (λ (l : List ℕ). b ∷ l)
+    (filter_filled full (b + 1) ss (tells_rest full b (Some x) ss t)))
 
 item_at : {X : Type 0} (xs : List X) (i : ℕ) → i < length xs → (x : X) × (slice_get xs i ≡ Some x)
 item_at [] i h = absurd (omega (arith, h))
@@ -51,41 +61,48 @@ item_at (x ∷ xs) zero h = (x, refl)
 item_at (x ∷ xs) (suc i) h = item_at xs i (omega (arith, h))
 
 -- a bucket that isn't free is a home
-home_of : (homes : List ℕ) (b : ℕ) → is_free homes b ≡ false → (i : ℕ) × (i < length homes) × (slice_index homes i ≡ b)
+home_of : (homes : List ℕ) (b : ℕ) → is_free homes b ≡ false
+    → (i : ℕ) × (i < length homes) × (slice_index homes i ≡ b)
 home_of homes b h =
     let a = Any-from_list_any (eqb b) homes (not-false (list_any (eqb b) homes) h) in
     let e = eqb-true b a.1 a.4 in
     let d = get_or_default homes a.0 a.1 0 a.2 in
     (a.0, a.2, sym d ∙ a.3 ∙ sym e)
 
-module _ {X : Type 0} (cap : ℕ) (pairs : List (ℕ × X)) (slots : List (Option X)) (controls : List ℕ) (p : Placed cap pairs slots controls) where
+module _ {X : Type 0} (cap : ℕ) (pairs : List (ℕ × X)) (slots : List (Option X)) (controls : List ℕ)
+    (p : Placed cap pairs slots controls) where
   below : (b : ℕ) (s : Option X) → slice_get slots b ≡ Some s → b < cap
   below b s e = let l = slice_get_within slots b s e in let n = p.slotted.count in omega arith
 
   -- the slot of a home has an item
-  home_filled : (i b : ℕ) → i < length p.homes → slice_index p.homes i ≡ b → (x : X) × (slice_get slots b ≡ Some (Some x))
+  home_filled : (i b : ℕ) → i < length p.homes → slice_index p.homes i ≡ b
+      → (x : X) × (slice_get slots b ≡ Some (Some x))
   home_filled i b h e =
       let a = item_at (items_of pairs) i (let n = p.slotted.items_count in omega arith) in
       (a.0, ap (slice_get slots) (sym e) ∙ p.slotted.at i a.0 a.1)
 
   empty_slot : (b : ℕ) → slice_get slots b ≡ Some None → is_full (slice_index controls b) ≡ false
   empty_slot b e = elim (cases_Bool (is_free p.homes b)) [
-    | inl free ↦ let c = p.written.others b (below b None e) free in le-ltb (slice_index controls b) 128 (omega (arith, c))
+    | inl free ↦ let c = p.written.others b (below b None e) free in
+        le-ltb (slice_index controls b) 128 (omega (arith, c))
     | inr taken ↦
         let h = home_of p.homes b taken in
         let a = home_filled h.0 b h.1 h.2 in
         absurd (none-some a.0 (same_Some None (Some a.0) (sym e ∙ a.1)))
   ]
 
-  filled_slot : (b : ℕ) (x : X) → slice_get slots b ≡ Some (Some x) → is_full (slice_index controls b) ≡ true
+  filled_slot : (b : ℕ) (x : X) → slice_get slots b ≡ Some (Some x)
+      → is_full (slice_index controls b) ≡ true
   filled_slot b x e = elim (cases_Bool (is_free p.homes b)) [
-    | inl free ↦ absurd (none-some x (same_Some None (Some x) (sym (p.slotted.others b (below b (Some x) e) free) ∙ e)))
+    | inl free ↦ absurd (none-some x
+        (same_Some None (Some x) (sym (p.slotted.others b (below b (Some x) e) free) ∙ e)))
     | inr taken ↦
         let h = home_of p.homes b taken in
         let n = p.written.placed.count in
         let i : h.0 < length (hashes_of pairs) = omega (arith, h.1, n) in
         let t = p.written.tags h.0 i in
-        let f : get_or (hashes_of pairs) h.0 0 < 2 ^ 64 = All-get_or (λ v. v < 2 ^ 64) (hashes_of pairs) h.0 0 i p.hashes in
+        let f : get_or (hashes_of pairs) h.0 0 < 2 ^ 64 =
+        All-get_or (λ v. v < 2 ^ 64) (hashes_of pairs) h.0 0 i p.hashes in
         let c = ap (slice_index controls) h.2 in
         lt-ltb (slice_index controls b) 128 (omega (arith, t, f, c))
   ]
@@ -97,4 +114,8 @@ module _ {X : Type 0} (cap : ℕ) (pairs : List (ℕ × X)) (slots : List (Optio
       let full : ℕ → Bool = λ b. is_full (slice_index controls b) in
       let zero_place : (i : ℕ) → 0 + i ≡ i = λ i. omega arith in
       ap (λ (n : ℕ). filter full (range_with_len 0 n)) (sym p.slotted.count)
-      ∙ filter_filled full 0 slots (λ i e. ap full (zero_place i) ∙ empty_slot i e, λ i x e. ap full (zero_place i) ∙ filled_slot i x e)
+      ∙ filter_filled full 0 slots (
+        λ i e. ap full (zero_place i)
+            ∙ empty_slot i e,
+        λ i x e. ap full (zero_place i) ∙ filled_slot i x e,
+      )

@@ -15,24 +15,31 @@ use Rattle.rkyv_base.specs.Text.{IsArchiveWord, by_archive_word}
 use Rattle.rkyv_table.specs.Table.Header.{begin_told, cap_at, len_at}
 use Rattle.rkyv_table.specs.Controls.Numbers.{control_count}
 use Rattle.rkyv_table.specs.Table.Places.{AllHold}
-use Rattle.rkyv_table.specs.Lemmas.PlaceLaws.{AllBelow, all_clear, all_lower, all_near, all_one_failure, range_below}
+use Rattle.rkyv_table.specs.Lemmas.PlaceLaws.{AllBelow, all_clear, all_lower, all_near}
+use Rattle.rkyv_table.specs.Lemmas.PlaceLaws.{all_one_failure, range_below}
 use Rattle.rkyv_table.specs.Controls.Placing.{Accepted, Repeats, walk}
 use Rattle.rkyv_table.specs.Controls.Repeating.{FirstUnlike}
 use Rattle.rkyv_table.specs.Lemmas.SameHeader.{begin_same, cap_same, len_same}
-use Rattle.rkyv_table.specs.Table.Layout.{FailsInside, IsPart, ItemsHold, TableAt, TableFailsAt, TableHolds, bucket_at, controls_at, part_size, table_shape}
+use Rattle.rkyv_table.specs.Table.Layout.{FailsInside, IsPart, ItemsHold, TableAt, TableFailsAt}
+use Rattle.rkyv_table.specs.Table.Layout.{TableHolds, bucket_at, controls_at, part_size}
+use Rattle.rkyv_table.specs.Table.Layout.{table_shape}
 
 -- a bucket stands between the begin of the buckets and the controls
-pub bucket_inside : (size begin cap i : ℕ) → i < cap → (begin ≤ bucket_at size begin cap i) × (bucket_at size begin cap i + size ≤ begin + cap * size)
+pub bucket_inside : (size begin cap i : ℕ) → i < cap → (begin ≤ bucket_at size begin cap i)
+    × (bucket_at size begin cap i + size ≤ begin + cap * size)
 bucket_inside size begin cap i h =
     let m : (suc (cap - (i + 1))) * size ≤ cap * size = mul-le-mul_right size (omega arith) in
     (omega arith, omega (arith, m))
 
 -- and is aligned
-pub bucket_aligned : (s : Shape) → IsElement s → (begin cap i : ℕ) → begin % s.align ≡ 0 → bucket_at s.size begin cap i % s.align ≡ 0
+pub bucket_aligned : (s : Shape) → IsElement s → (begin cap i : ℕ) → begin % s.align ≡ 0
+    → bucket_at s.size begin cap i % s.align ≡ 0
 bucket_aligned s law begin cap i h =
-    let z : ((cap - (i + 1)) % s.align * 0) % s.align ≡ 0 = rw mul-zero (by_align (λ a. 0 % a ≡ 0) refl refl refl refl s.align law.align_is) in
+    let z : ((cap - (i + 1)) % s.align * 0) % s.align ≡ 0 =
+    rw mul-zero (by_align (λ a. 0 % a ≡ 0) refl refl refl refl s.align law.align_is) in
     let m : ((cap - (i + 1)) * s.size) % s.align ≡ 0 =
-    mul-mod (cap - (i + 1)) s.size s.align ∙ ap (λ x. ((cap - (i + 1)) % s.align * x) % s.align) law.size_whole ∙ z in
+    mul-mod (cap - (i + 1)) s.size s.align
+    ∙ ap (λ x. ((cap - (i + 1)) % s.align * x) % s.align) law.size_whole ∙ z in
     sum_multiple begin ((cap - (i + 1)) * s.size) s.align law.align_is h m
 
 -- the walked buckets are buckets
@@ -41,11 +48,14 @@ unfolding walk
 walk_below controls cap = range_below (λ b. is_full (slice_index controls b)) cap
 
 -- controls that repeat are nowhere unlike
-repeats_clear : (cap q : ℕ) (controls : List ℕ) → Repeats cap controls → FirstUnlike cap controls q → ⊥
-repeats_clear cap q controls r u = u.unlike ((λ lt. r.repeated q u.from lt u.below), (λ ge. r.past q ge u.below))
+repeats_clear : (cap q : ℕ) (controls : List ℕ) → Repeats cap controls → FirstUnlike cap controls q
+    → ⊥
+repeats_clear cap q controls r u =
+    u.unlike ((λ lt. r.repeated q u.from lt u.below), (λ ge. r.past q ge u.below))
 
 -- the first control that is unlike is one
-unlike_one : (cap q q' : ℕ) (controls : List ℕ) → FirstUnlike cap controls q → FirstUnlike cap controls q' → q ≡ q'
+unlike_one : (cap q q' : ℕ) (controls : List ℕ) → FirstUnlike cap controls q
+    → FirstUnlike cap controls q' → q ≡ q'
 unlike_one cap q q' controls u u' = elim (cases_lt q q') [
   | inl below ↦ absurd (u.unlike (u'.least q u.from below))
   | inr above ↦ elim (cases_lt q' q) [
@@ -56,14 +66,16 @@ unlike_one cap q q' controls u u' = elim (cases_lt q q') [
 
 module _ (s : Shape) where
   -- what holds of some numbers holds of the same numbers
-  pub of_numbers : (b : List ℕ) {told told' : ℤ} {cap cap' len len' lo hi l : ℕ} → told ≡ told' → cap ≡ cap' → len ≡ len'
+  pub of_numbers : (b : List ℕ) {told told' : ℤ} {cap cap' len len' lo hi l : ℕ} → told ≡ told'
+      → cap ≡ cap' → len ≡ len'
       → TableAt s b told cap len lo hi l → TableAt s b told' cap' len' lo hi l
   of_numbers b {told} {told'} {cap} {cap'} {len} {len'} {lo} {hi} {l} e f g h =
       subst (λ x. TableAt s b told' cap' x lo hi l) g
       (subst (λ x. TableAt s b told' x len lo hi l) f
       (subst (λ x. TableAt s b x cap len lo hi l) e h))
 
-  pub fails_of_numbers : (b : List ℕ) {told told' : ℤ} {cap cap' len len' lo hi : ℕ} {x : VerifyError} → told ≡ told' → cap ≡ cap' → len ≡ len'
+  pub fails_of_numbers : (b : List ℕ) {told told' : ℤ} {cap cap' len len' lo hi : ℕ}
+      {x : VerifyError} → told ≡ told' → cap ≡ cap' → len ≡ len'
       → TableFailsAt s b told cap len lo hi x → TableFailsAt s b told' cap' len' lo hi x
   fails_of_numbers b {told} {told'} {cap} {cap'} {len} {len'} {lo} {hi} {x} e f g h =
       subst (λ y. TableFailsAt s b told' cap' y lo hi x) g
@@ -71,113 +83,171 @@ module _ (s : Shape) where
       (subst (λ y. TableFailsAt s b y cap len lo hi x) e h))
 
 module _ (s : Shape) (law : IsElement s) where
-  at_between : (b : List ℕ) (told : ℤ) (cap len lo hi l : ℕ) → lo ≤ hi → TableAt s b told cap len lo hi l → (lo ≤ l) × (l ≤ hi)
+  at_between : (b : List ℕ) (told : ℤ) (cap len lo hi l : ℕ) → lo ≤ hi
+      → TableAt s b told cap len lo hi l → (lo ≤ l) × (l ≤ hi)
   at_between b told cap len lo hi l o (inl h) = (omega (arith, h.2), omega (arith, h.2))
-  at_between b told cap len lo hi l o (inr (n, part, is, e)) = (omega (arith, part.above, e), omega (arith, part.below, e))
+  at_between b told cap len lo hi l o (inr (n, part, is, e)) =
+      (omega (arith, part.above, e), omega (arith, part.below, e))
 
-  at_one : (b : List ℕ) (told : ℤ) (cap len lo hi l l' : ℕ) → TableAt s b told cap len lo hi l → TableAt s b told cap len lo hi l' → l ≡ l'
+  at_one : (b : List ℕ) (told : ℤ) (cap len lo hi l l' : ℕ) → TableAt s b told cap len lo hi l
+      → TableAt s b told cap len lo hi l' → l ≡ l'
   at_one b told cap len lo hi l l' (inl h) (inl k) = h.2 ∙ sym k.2
-  at_one b told cap len lo hi l l' (inl h) (inr (n, part, is, e)) = absurd (omega (arith, h.1, is.controls.room))
-  at_one b told cap len lo hi l l' (inr (n, part, is, e)) (inl k) = absurd (omega (arith, k.1, is.controls.room))
+  at_one b told cap len lo hi l l' (inl h) (inr (n, part, is, e)) =
+      absurd (omega (arith, h.1, is.controls.room))
+  at_one b told cap len lo hi l l' (inr (n, part, is, e)) (inl k) =
+      absurd (omega (arith, k.1, is.controls.room))
   at_one b told cap len lo hi l l' (inr (n, part, is, e)) (inr (n', part', is', e')) =
       let same : n ≡ n' = part_one told (part_size s.size cap) s.align lo hi n n' part part' in
       e ∙ ap (λ x. x + part_size s.size cap) same ∙ sym e'
 
-  inside_clear : (b : List ℕ) (cap len lo begin : ℕ) (e : VerifyError) → IsPart s b cap len lo begin → FailsInside s b cap len lo begin e → ⊥
+  inside_clear : (b : List ℕ) (cap len lo begin : ℕ) (e : VerifyError) → IsPart s b cap len lo begin
+      → FailsInside s b cap len lo begin e → ⊥
   inside_clear b cap len lo begin e is (inl f) =
-      all_clear s law (bucket_at s.size begin cap) b begin (walk (controls_at s.size b begin cap) cap) lo is.last e is.items f
-  inside_clear b cap len lo begin e is (inr (last, items, inl (unequal, x))) = unequal is.controls.full
+      all_clear s law (bucket_at s.size begin cap) b begin
+      (walk (controls_at s.size b begin cap) cap) lo is.last e is.items f
+  inside_clear b cap len lo begin e is (inr (last, items, inl (unequal, x))) =
+      unequal is.controls.full
   inside_clear b cap len lo begin e is (inr (last, items, inr (equal, q, unlike, x))) =
       repeats_clear cap q (controls_at s.size b begin cap) is.controls.repeats unlike
 
-  at_clear : (b : List ℕ) (told : ℤ) (cap len lo hi l : ℕ) (e : VerifyError) → TableAt s b told cap len lo hi l → TableFailsAt s b told cap len lo hi e → ⊥
+  at_clear : (b : List ℕ) (told : ℤ) (cap len lo hi l : ℕ) (e : VerifyError)
+      → TableAt s b told cap len lo hi l → TableFailsAt s b told cap len lo hi e → ⊥
   at_clear b told cap len lo hi l e (inl h) (inl f) = omega (arith, h.0, f.1)
   at_clear b told cap len lo hi l e (inl h) (inr (inl f)) = omega (arith, h.1, f.0)
   at_clear b told cap len lo hi l e (inl h) (inr (inr f)) = omega (arith, h.1, f.0)
-  at_clear b told cap len lo hi l e (inr (n, part, is, x)) (inl f) = omega (arith, f.0, is.controls.room)
-  at_clear b told cap len lo hi l e (inr (n, part, is, x)) (inr (inl f)) = part_clear told (part_size s.size cap) s.align lo hi n e part f.1
+  at_clear b told cap len lo hi l e (inr (n, part, is, x)) (inl f) =
+      omega (arith, f.0, is.controls.room)
+  at_clear b told cap len lo hi l e (inr (n, part, is, x)) (inr (inl f)) =
+      part_clear told (part_size s.size cap) s.align lo hi n e part f.1
   at_clear b told cap len lo hi l e (inr (n, part, is, x)) (inr (inr (room, n', part', f))) =
       let same : n' ≡ n = part_one told (part_size s.size cap) s.align lo hi n' n part' part in
       inside_clear b cap len lo n e is (subst (λ m. FailsInside s b cap len lo m e) same f)
 
-  inside_one_failure : (b : List ℕ) (cap len lo begin : ℕ) (e e' : VerifyError) → FailsInside s b cap len lo begin e → FailsInside s b cap len lo begin e' → e ≡ e'
+  inside_one_failure : (b : List ℕ) (cap len lo begin : ℕ) (e e' : VerifyError)
+      → FailsInside s b cap len lo begin e → FailsInside s b cap len lo begin e' → e ≡ e'
   inside_one_failure b cap len lo begin e e' (inl f) (inl g) =
-      all_one_failure s law (bucket_at s.size begin cap) b begin (walk (controls_at s.size b begin cap) cap) lo e e' f g
+      all_one_failure s law (bucket_at s.size begin cap) b begin
+      (walk (controls_at s.size b begin cap) cap) lo e e' f g
   inside_one_failure b cap len lo begin e e' (inl f) (inr g) =
-      absurd (all_clear s law (bucket_at s.size begin cap) b begin (walk (controls_at s.size b begin cap) cap) lo g.0 e g.1 f)
+      absurd (all_clear s law (bucket_at s.size begin cap) b begin
+      (walk (controls_at s.size b begin cap) cap) lo g.0 e g.1 f)
   inside_one_failure b cap len lo begin e e' (inr f) (inl g) =
-      absurd (all_clear s law (bucket_at s.size begin cap) b begin (walk (controls_at s.size b begin cap) cap) lo f.0 e' f.1 g)
-  inside_one_failure b cap len lo begin e e' (inr (last, items, inl f)) (inr (last', items', inl g)) = f.1 ∙ sym g.1
-  inside_one_failure b cap len lo begin e e' (inr (last, items, inl f)) (inr (last', items', inr g)) = absurd (f.0 g.0)
-  inside_one_failure b cap len lo begin e e' (inr (last, items, inr f)) (inr (last', items', inl g)) = absurd (g.0 f.0)
-  inside_one_failure b cap len lo begin e e' (inr (last, items, inr f)) (inr (last', items', inr g)) =
-      f.3 ∙ ap UnwrappedControlByte (unlike_one cap f.1 g.1 (controls_at s.size b begin cap) f.2 g.2) ∙ sym g.3
+      absurd (all_clear s law (bucket_at s.size begin cap) b begin
+      (walk (controls_at s.size b begin cap) cap) lo f.0 e' f.1 g)
+  inside_one_failure b cap len lo begin e e' (inr (last, items, inl f))
+      (inr (last', items', inl g)) = f.1 ∙ sym g.1
+  inside_one_failure b cap len lo begin e e' (inr (last, items, inl f))
+      (inr (last', items', inr g)) = absurd (f.0 g.0)
+  inside_one_failure b cap len lo begin e e' (inr (last, items, inr f))
+      (inr (last', items', inl g)) = absurd (g.0 f.0)
+  inside_one_failure b cap len lo begin e e' (inr (last, items, inr f))
+      (inr (last', items', inr g)) =
+      f.3 ∙ ap UnwrappedControlByte (unlike_one cap f.1 g.1 (controls_at s.size b begin cap) f.2
+      g.2) ∙ sym g.3
 
-  at_one_failure : (b : List ℕ) (told : ℤ) (cap len lo hi : ℕ) (e e' : VerifyError) → TableFailsAt s b told cap len lo hi e → TableFailsAt s b told cap len lo hi e' → e ≡ e'
+  at_one_failure : (b : List ℕ) (told : ℤ) (cap len lo hi : ℕ) (e e' : VerifyError)
+      → TableFailsAt s b told cap len lo hi e → TableFailsAt s b told cap len lo hi e' → e ≡ e'
   at_one_failure b told cap len lo hi e e' (inl f) (inl g) = f.2 ∙ sym g.2
   at_one_failure b told cap len lo hi e e' (inl f) (inr (inl g)) = absurd (omega (arith, f.0, g.0))
   at_one_failure b told cap len lo hi e e' (inl f) (inr (inr g)) = absurd (omega (arith, f.0, g.0))
   at_one_failure b told cap len lo hi e e' (inr (inl f)) (inl g) = absurd (omega (arith, f.0, g.0))
   at_one_failure b told cap len lo hi e e' (inr (inr f)) (inl g) = absurd (omega (arith, f.0, g.0))
-  at_one_failure b told cap len lo hi e e' (inr (inl f)) (inr (inl g)) = part_one_failure told (part_size s.size cap) s.align lo hi e e' f.1 g.1
-  at_one_failure b told cap len lo hi e e' (inr (inl f)) (inr (inr g)) = absurd (part_clear told (part_size s.size cap) s.align lo hi g.1 e g.2 f.1)
-  at_one_failure b told cap len lo hi e e' (inr (inr f)) (inr (inl g)) = absurd (part_clear told (part_size s.size cap) s.align lo hi f.1 e' f.2 g.1)
+  at_one_failure b told cap len lo hi e e' (inr (inl f)) (inr (inl g)) =
+      part_one_failure told (part_size s.size cap) s.align lo hi e e' f.1 g.1
+  at_one_failure b told cap len lo hi e e' (inr (inl f)) (inr (inr g)) =
+      absurd (part_clear told (part_size s.size cap) s.align lo hi g.1 e g.2 f.1)
+  at_one_failure b told cap len lo hi e e' (inr (inr f)) (inr (inl g)) =
+      absurd (part_clear told (part_size s.size cap) s.align lo hi f.1 e' f.2 g.1)
   at_one_failure b told cap len lo hi e e' (inr (inr f)) (inr (inr g)) =
       let same : g.1 ≡ f.1 = part_one told (part_size s.size cap) s.align lo hi g.1 f.1 g.2 f.2 in
-      inside_one_failure b cap len lo f.1 e e' f.3 (subst (λ m. FailsInside s b cap len lo m e') same g.3)
+      inside_one_failure b cap len lo f.1 e e' f.3
+      (subst (λ m. FailsInside s b cap len lo m e') same g.3)
 
-  is_lower : (b : List ℕ) (cap len lo lo' begin : ℕ) → lo' ≤ lo → lo ≤ begin → IsPart s b cap len lo begin → IsPart s b cap len lo' begin
+  is_lower : (b : List ℕ) (cap len lo lo' begin : ℕ) → lo' ≤ lo → lo ≤ begin
+      → IsPart s b cap len lo begin → IsPart s b cap len lo' begin
   is_lower b cap len lo lo' begin o o' is =
       let d : (l' : ℕ) × ItemsHold s b begin cap lo' l' × (l' ≤ is.last) =
-      all_lower s law (bucket_at s.size begin cap) b begin (walk (controls_at s.size b begin cap) cap) lo lo' is.last o o' is.items in
+      all_lower s law (bucket_at s.size begin cap) b begin
+      (walk (controls_at s.size b begin cap) cap) lo lo' is.last o o' is.items in
       record { controls = is.controls; last = d.0; items = d.1 }
 
-  at_higher : (b : List ℕ) (told : ℤ) (cap len lo hi hi' l : ℕ) → hi ≤ hi' → TableAt s b told cap len lo hi l → TableAt s b told cap len lo hi' l
+  at_higher : (b : List ℕ) (told : ℤ) (cap len lo hi hi' l : ℕ) → hi ≤ hi'
+      → TableAt s b told cap len lo hi l → TableAt s b told cap len lo hi' l
   at_higher b told cap len lo hi hi' l o (inl h) = inl h
   at_higher b told cap len lo hi hi' l o (inr (n, part, is, e)) =
-      inr (n, part_wider told (part_size s.size cap) s.align lo lo hi hi' n (omega arith) o part, is, e)
+      inr (
+        n,
+        part_wider told (part_size s.size cap) s.align lo lo hi hi' n (omega arith) o part,
+        is,
+        e,
+      )
 
-  at_lower : (b : List ℕ) (told : ℤ) (cap len lo lo' hi l : ℕ) → lo' ≤ lo → TableAt s b told cap len lo hi l
+  at_lower : (b : List ℕ) (told : ℤ) (cap len lo lo' hi l : ℕ) → lo' ≤ lo
+      → TableAt s b told cap len lo hi l
       → (l' : ℕ) × TableAt s b told cap len lo' hi l' × (l' ≤ l)
   at_lower b told cap len lo lo' hi l o (inl h) = (lo', inl (h.0, h.1, refl), omega (arith, h.2))
   at_lower b told cap len lo lo' hi l o (inr (n, part, is, e)) = (
     l,
-    inr (n, part_wider told (part_size s.size cap) s.align lo lo' hi hi n o (omega arith) part, is_lower b cap len lo lo' n o part.above is, e),
+    inr (
+      n,
+      part_wider told (part_size s.size cap) s.align lo lo' hi hi n o (omega arith) part,
+      is_lower b cap len lo lo' n o part.above is,
+      e,
+    ),
     omega arith,
   )
 
-  is_near : (b c : List ℕ) (cap len lo begin : ℕ) → lo ≤ begin → Same b c lo (begin + part_size s.size cap) → IsPart s b cap len lo begin → IsPart s c cap len lo begin
+  is_near : (b c : List ℕ) (cap len lo begin : ℕ) → lo ≤ begin
+      → Same b c lo (begin + part_size s.size cap) → IsPart s b cap len lo begin
+      → IsPart s c cap len lo begin
   is_near b c cap len lo begin low same is =
       let e : controls_at s.size b begin cap ≡ controls_at s.size c begin cap =
-      same_part b c lo (begin + part_size s.size cap) (begin + cap * s.size) (begin + cap * s.size + control_count cap) (omega arith) (omega arith) (omega arith) same in
-      let items = all_near s law (bucket_at s.size begin cap) b c lo (begin + part_size s.size cap) cap begin (walk (controls_at s.size b begin cap) cap) lo is.last
+      same_part b c lo (begin + part_size s.size cap) (begin + cap * s.size) (begin + cap * s.size
+      + control_count cap) (omega arith) (omega arith) (omega arith) same in
+      let items = all_near s law (bucket_at s.size begin cap) b c lo (begin + part_size s.size cap)
+      cap begin (walk (controls_at s.size b begin cap) cap) lo is.last
       same (omega arith) low (omega arith) (walk_below (controls_at s.size b begin cap) cap)
-      (λ i h. let u = bucket_inside s.size begin cap i h in (omega (arith, u.0), omega (arith, u.1))) is.items in
+      (λ i h. let u = bucket_inside s.size begin cap i h in
+      (omega (arith, u.0), omega (arith, u.1))) is.items in
       record {
         controls = subst (Accepted cap len) e is.controls;
         last = is.last;
-        items = subst (λ (x : List ℕ). AllHold s (bucket_at s.size begin cap) c begin (walk x cap) lo is.last) e items;
+        items = subst (λ (x : List ℕ).
+            AllHold s (bucket_at s.size begin cap) c begin (walk x cap) lo is.last) e items;
       }
 
-  at_near : (b c : List ℕ) (told : ℤ) (cap len lo hi l : ℕ) → Same b c lo l → TableAt s b told cap len lo hi l → TableAt s c told cap len lo hi l
+  at_near : (b c : List ℕ) (told : ℤ) (cap len lo hi l : ℕ) → Same b c lo l
+      → TableAt s b told cap len lo hi l → TableAt s c told cap len lo hi l
   at_near b c told cap len lo hi l same (inl h) = inl h
-  at_near b c told cap len lo hi l same (inr (n, part, is, e)) = inr (n, part, is_near b c cap len lo n part.above (subst (Same b c lo) e same) is, e)
+  at_near b c told cap len lo hi l same (inr (n, part, is, e)) =
+      inr (n, part, is_near b c cap len lo n part.above (subst (Same b c lo) e same) is, e)
 
-  holds_near : (w : Width) (b c : List ℕ) (p lo hi l : ℕ) → Same b c p (p + 3 * byte_len w) → Same b c lo l → TableHolds w s b p lo hi l → TableHolds w s c p lo hi l
+  holds_near : (w : Width) (b c : List ℕ) (p lo hi l : ℕ) → Same b c p (p + 3 * byte_len w)
+      → Same b c lo l → TableHolds w s b p lo hi l → TableHolds w s c p lo hi l
   holds_near w b c p lo hi l fixed part h =
       at_near b c (begin_told w s.size c p) (cap_at w c p) (len_at w c p) lo hi l part
-      (of_numbers s b (begin_same w b c p fixed s.size) (cap_same w b c p fixed) (len_same w b c p fixed) h)
+      (of_numbers s b (begin_same w b c p fixed s.size) (cap_same w b c p fixed)
+      (len_same w b c p fixed) h)
 
-pub table_element : (w : Width) → IsArchiveWord w → (s : Shape) → IsElement s → IsElement (table_shape w s)
+pub table_element : (w : Width) → IsArchiveWord w → (s : Shape) → IsElement s
+    → IsElement (table_shape w s)
 table_element w kind s law = record {
-  align_is = by_archive_word (λ v. IsAlign (byte_len v)) (inr (inr (inl refl))) (inr (inr (inr refl))) w kind;
+  align_is = by_archive_word (λ v. IsAlign (byte_len v)) (inr (inr (inl refl)))
+      (inr (inr (inr refl))) w kind;
   size_whole = by_archive_word (λ v. (3 * byte_len v) % byte_len v ≡ 0) refl refl w kind;
-  size_small = by_archive_word (λ v. 3 * byte_len v ≤ 1073741824) (omega arith) (omega arith) w kind;
-  between = λ b p lo hi l o h. at_between s law b (begin_told w s.size b p) (cap_at w b p) (len_at w b p) lo hi l o h;
-  one = λ b p lo hi l l' h h'. at_one s law b (begin_told w s.size b p) (cap_at w b p) (len_at w b p) lo hi l l' h h';
-  clear = λ b p lo hi l e h f. at_clear s law b (begin_told w s.size b p) (cap_at w b p) (len_at w b p) lo hi l e h f;
-  one_failure = λ b p lo hi e e' f g. at_one_failure s law b (begin_told w s.size b p) (cap_at w b p) (len_at w b p) lo hi e e' f g;
-  higher = λ b p lo hi hi' l o h. at_higher s law b (begin_told w s.size b p) (cap_at w b p) (len_at w b p) lo hi hi' l o h;
-  lower = λ b p lo lo' hi l o o' h. at_lower s law b (begin_told w s.size b p) (cap_at w b p) (len_at w b p) lo lo' hi l o h;
+  size_small = by_archive_word (λ v. 3 * byte_len v ≤ 1073741824) (omega arith) (omega arith) w
+      kind;
+  between = λ b p lo hi l o h. at_between s law b (begin_told w s.size b p) (cap_at w b p)
+      (len_at w b p) lo hi l o h;
+  one = λ b p lo hi l l' h h'. at_one s law b (begin_told w s.size b p) (cap_at w b p)
+      (len_at w b p) lo hi l l' h h';
+  clear = λ b p lo hi l e h f. at_clear s law b (begin_told w s.size b p) (cap_at w b p)
+      (len_at w b p) lo hi l e h f;
+  one_failure = λ b p lo hi e e' f g.
+      at_one_failure s law b (begin_told w s.size b p) (cap_at w b p) (len_at w b p) lo hi e e' f g;
+  higher = λ b p lo hi hi' l o h.
+      at_higher s law b (begin_told w s.size b p) (cap_at w b p) (len_at w b p) lo hi hi' l o h;
+  lower = λ b p lo lo' hi l o o' h.
+      at_lower s law b (begin_told w s.size b p) (cap_at w b p) (len_at w b p) lo lo' hi l o h;
   near = λ b c p lo hi l o fixed part h. holds_near s law w b c p lo hi l fixed part h;
 }

@@ -5,7 +5,9 @@ use Rattle.std.proofs.lemmas.Bool.{ne_eqb}
 use Rattle.std.proofs.lemmas.Int.{ints}
 use Rattle.std.proofs.lemmas.List.{length-map, length-replicate}
 use Rattle.std.specs.Int.{Width}
-use Rattle.std.specs.Prelude.{◌≡◌, ℕ, suc, ◌+◌, ◌*◌, ◌/◌, ◌%◌, ◌<◌, ◌≤◌, cond, max, pos, ◌+ℤ◌, ◌-ℤ◌, FitsSigned, List, [], ◌++◌, length, slice_get, slice_index, slice_range, Option, Some}
+use Rattle.std.specs.Prelude.{◌≡◌, ℕ, suc, ◌+◌, ◌*◌, ◌/◌, ◌%◌, ◌<◌, ◌≤◌, cond, max, pos, ◌+ℤ◌, ◌-ℤ◌}
+use Rattle.std.specs.Prelude.{FitsSigned, List, [], ◌++◌, length, slice_get, slice_index}
+use Rattle.std.specs.Prelude.{slice_range, Option, Some}
 use Rattle.rkyv_base.specs.Bytes.{Sits, signed_at, sits_back, sits_front}
 use Rattle.rkyv_base.specs.Entry.{round_up, round_up-multiple}
 use Rattle.rkyv_base.specs.Format.{Format, IsFormat}
@@ -21,35 +23,44 @@ use Rattle.rkyv_table.specs.Table.Places.{AllHold}
 use Rattle.rkyv_table.specs.Lemmas.SlotSound.{slots_sound}
 use Rattle.rkyv_table.specs.Lemmas.SlotWalk.{filled_count, filled_from, walk_filled}
 use Rattle.rkyv_table.specs.Table.Slots.{TableBytes}
-use Rattle.rkyv_table.specs.Table.Layout.{IsPart, TableAt, TableHolds, bucket_at, controls_at, part_size, table_shape}
-use Rattle.rkyv_table.specs.Table.TableFormat.{BucketsStand, TableParts, TableResolver, TableStands, resolved_capacity, table_format}
+use Rattle.rkyv_table.specs.Table.Layout.{IsPart, TableAt, TableHolds, bucket_at, controls_at}
+use Rattle.rkyv_table.specs.Table.Layout.{part_size, table_shape}
+use Rattle.rkyv_table.specs.Table.TableFormat.{BucketsStand, TableParts, TableResolver, TableStands}
+use Rattle.rkyv_table.specs.Table.TableFormat.{resolved_capacity, table_format}
 use Rattle.rkyv_table.specs.Table.Taking.{Placed, hashes_of}
 
 -- some bucket stays empty
 pub capacity_above : (len : ℕ) (factor : ℕ × ℕ) → 0 < len → len < capacity len factor
 capacity_above len factor h =
     let m = le-max_right (len * factor.1 / factor.0) (len + 1) in
-    let e : capacity len factor ≡ max (len * factor.1 / factor.0) (len + 1) = ap (λ b. cond b 0 (max (len * factor.1 / factor.0) (len + 1))) (ne_eqb len 0 (λ z. omega (arith, z, h))) in
+    let e : capacity len factor ≡ max (len * factor.1 / factor.0) (len + 1) =
+    ap (λ b. cond b 0 (max (len * factor.1 / factor.0) (len + 1)))
+    (ne_eqb len 0 (λ z. omega (arith, z, h))) in
     omega (arith, m, e)
 
 -- no more items than buckets
 below_capacity : (len : ℕ) (factor : ℕ × ℕ) → len ≤ capacity len factor
 below_capacity zero factor = omega arith
-below_capacity (suc n) factor = let h = capacity_above (suc n) factor (omega arith) in omega (arith, h)
+below_capacity (suc n) factor = let h = capacity_above (suc n) factor (omega arith) in
+    omega (arith, h)
 
-module _ {X R : Type 0} (s : Shape) (laws : IsElement s) (stands : List ℕ → ℕ → X → Type 0) (f : Format X R) (fl : IsFormat s stands f)
-    (c : List ℕ) (p cap : ℕ) (pairs : List (ℕ × X)) (slots : List (Option X)) (controls : List ℕ) (placed : Placed cap pairs slots controls) (room : length pairs < cap) where
+module _ {X R : Type 0} (s : Shape) (laws : IsElement s) (stands : List ℕ → ℕ → X
+    → Type 0) (f : Format X R) (fl : IsFormat s stands f)
+    (c : List ℕ) (p cap : ℕ) (pairs : List (ℕ × X)) (slots : List (Option X)) (controls : List ℕ)
+    (placed : Placed cap pairs slots controls) (room : length pairs < cap) where
   hashes_count : length (hashes_of pairs) ≡ length pairs
   hashes_count = length-map pairs (λ (y : ℕ × X). y.0)
 
   written_accepted : Accepted cap (length pairs) controls
   written_accepted = record {
     room = room;
-    full = ap length (walk_filled cap pairs slots controls placed) ∙ filled_count 0 slots ∙ placed.slotted.full ∙ placed.written.placed.count ∙ hashes_count;
+    full = ap length (walk_filled cap pairs slots controls placed) ∙ filled_count 0 slots
+        ∙ placed.slotted.full ∙ placed.written.placed.count ∙ hashes_count;
     repeats = placed.written.repeats;
   }
 
-  module _ (z : ℕ) (bytes : List ℕ) (t : TableBytes s f slots controls p z bytes) (sits : Sits c p bytes) where
+  module _ (z : ℕ) (bytes : List ℕ) (t : TableBytes s f slots controls p z bytes)
+      (sits : Sits c p bytes) where
     abbrev pub begin : ℕ
     begin = round_up (p + length t.part) s.align
 
@@ -66,13 +77,17 @@ module _ {X R : Type 0} (s : Shape) (laws : IsElement s) (stands : List ℕ → 
     in_order = subst (Sits c p) t.is sits
 
     area : Sits c begin (t.buckets ++ controls)
-    area = subst (λ k. Sits c k (t.buckets ++ controls)) (ap (λ k. (p + length t.part) + k) pad_length) (sits_back c (p + length t.part) pad (t.buckets ++ controls) (sits_back c p t.part (pad ++ (t.buckets ++ controls)) in_order))
+    area = subst (λ k. Sits c k (t.buckets ++ controls))
+        (ap (λ k. (p + length t.part) + k) pad_length)
+        (sits_back c (p + length t.part) pad (t.buckets ++ controls) (sits_back c p t.part (pad
+        ++ (t.buckets ++ controls)) in_order))
 
     slots_size : length slots * s.size ≡ cap * s.size
     slots_size = ap (λ k. k * s.size) placed.slotted.count
 
     pub buckets_size : length t.buckets ≡ cap * s.size
-    buckets_size = images_length s.size f (λ v r q o g. fl.whole v r q o g) slots t.resolvers z t.buckets t.shown ∙ slots_size
+    buckets_size = images_length s.size f (λ v r q o g. fl.whole v r q o g) slots t.resolvers z
+        t.buckets t.shown ∙ slots_size
 
     pub controls_begin : z ≡ begin + cap * s.size
     controls_begin = t.at ∙ ap (λ k. begin + k) slots_size
@@ -87,127 +102,173 @@ module _ {X R : Type 0} (s : Shape) (laws : IsElement s) (stands : List ℕ → 
         omega (arith, a, b, d, e, n, pad_length, buckets_size)
 
     controls_sit : Sits c (begin + cap * s.size) controls
-    controls_sit = subst (λ k. Sits c k controls) (ap (λ k. begin + k) buckets_size) (sits_back c begin t.buckets controls area)
+    controls_sit = subst (λ k. Sits c k controls) (ap (λ k. begin + k) buckets_size)
+        (sits_back c begin t.buckets controls area)
 
     pub controls_there : controls_at s.size c begin cap ≡ controls
-    controls_there = ap (λ k. slice_range c (begin + cap * s.size) (begin + cap * s.size + k)) (sym placed.written.repeats.count) ∙ controls_sit.there
+    controls_there = ap (λ k. slice_range c (begin + cap * s.size) (begin + cap * s.size + k))
+        (sym placed.written.repeats.count) ∙ controls_sit.there
 
-    items : (l : ℕ) × AllHold s (bucket_at s.size begin cap) c begin (filled_from 0 slots) p l × (l ≤ p + length t.part) × ((i : ℕ) (x : X) → slice_get slots i ≡ Some (Some x) → stands c (bucket_at s.size begin cap (0 + i)) x)
+    items : (l : ℕ) × AllHold s (bucket_at s.size begin cap) c begin (filled_from 0 slots) p l
+        × (l ≤ p + length t.part) × ((i : ℕ) (x : X) → slice_get slots i ≡ Some (Some x)
+        → stands c (bucket_at s.size begin cap (0 + i)) x)
     items =
         let at : begin + length slots * s.size ≡ z = sym t.at in
         let n : 0 + length slots ≡ cap = omega (arith, placed.slotted.count) in
-        slots_sound s laws stands f fl c cap begin begin_aligned slots 0 p z t.part t.buckets t.resolvers n t.made t.shown
-        (sits_front c p t.part (pad ++ (t.buckets ++ controls)) in_order) (sits_front c begin t.buckets controls area) at (omega arith)
+        slots_sound s laws stands f fl c cap begin begin_aligned slots 0 p z t.part t.buckets
+        t.resolvers n t.made t.shown
+        (sits_front c p t.part (pad ++ (t.buckets ++ controls)) in_order)
+        (sits_front c begin t.buckets controls area) at (omega arith)
 
     pub part_stands : IsPart s c cap (length pairs) p begin
     part_stands = record {
       controls = subst (Accepted cap (length pairs)) (sym controls_there) written_accepted;
       last = items.0;
-      items = subst (λ is. AllHold s (bucket_at s.size begin cap) c begin is p items.0) (sym (ap (λ (cs : List ℕ). walk cs cap) controls_there ∙ walk_filled cap pairs slots controls placed)) items.1;
+      items = subst (λ is. AllHold s (bucket_at s.size begin cap) c begin is p items.0)
+          (sym (ap (λ (cs : List ℕ). walk cs cap) controls_there
+          ∙ walk_filled cap pairs slots controls placed)) items.1;
     }
 
     pub buckets_stand : BucketsStand s.size stands c cap begin pairs
     buckets_stand = record {
       homes = placed.homes;
       hashes = placed.hashes;
-      controls = subst (Written cap (hashes_of pairs) placed.homes) (sym controls_there) placed.written;
+      controls = subst (Written cap (hashes_of pairs) placed.homes) (sym controls_there)
+          placed.written;
       items = λ i x e.
           let n : 0 + slice_index placed.homes i ≡ slice_index placed.homes i = omega arith in
-          subst (λ k. stands c (bucket_at s.size begin cap k) x) n (items.3 (slice_index placed.homes i) x (placed.slotted.at i x e));
+          subst (λ k. stands c (bucket_at s.size begin cap k) x) n
+          (items.3 (slice_index placed.homes i) x (placed.slotted.at i x e));
     }
 
-module _ {X R : Type 0} (w : Width) (kind : IsArchiveWord w) (s : Shape) (laws : IsElement s) (stands : List ℕ → ℕ → X → Type 0) (f : Format X R) (fl : IsFormat s stands f) (factor : ℕ × ℕ) where
-  abbrev Sound : List (ℕ × X) → List ℕ → ℕ → ℕ → ℕ → Type 0
-  Sound pairs c p p0 hi = (l : ℕ) × TableHolds w s c p p0 hi l × TableStands w s stands factor c p pairs
+module _ {X R : Type 0} (w : Width) (kind : IsArchiveWord w) (s : Shape) (laws : IsElement s)
+    (stands : List ℕ → ℕ → X → Type 0) (f : Format X R) (fl : IsFormat s stands f) (factor : ℕ × ℕ)
+  where
+    abbrev Sound : List (ℕ × X) → List ℕ → ℕ → ℕ → ℕ → Type 0
+    Sound pairs c p p0 hi = (l : ℕ) × TableHolds w s c p p0 hi l
+        × TableStands w s stands factor c p pairs
 
-  module _ (pairs : List (ℕ × X)) (r : TableResolver) (c : List ℕ) (p0 p : ℕ) (part out : List ℕ) (t : TableParts w s f factor pairs p0 part r) (i : IsHeader w r.len (resolved_capacity r) r.pos p out)
-      (sp : Sits c p0 part) (so : Sits c p out) where
-    header : Sits c p (header_bytes w i.distance r.len (resolved_capacity r))
-    header = subst (Sits c p) i.is so
+    module _ (pairs : List (ℕ × X)) (r : TableResolver) (c : List ℕ) (p0 p : ℕ) (part out : List ℕ)
+        (t : TableParts w s f factor pairs p0 part r)
+        (i : IsHeader w r.len (resolved_capacity r) r.pos p out)
+        (sp : Sits c p0 part) (so : Sits c p out) where
+      header : Sits c p (header_bytes w i.distance r.len (resolved_capacity r))
+      header = subst (Sits c p) i.is so
 
-    capacity_is : resolved_capacity r ≡ capacity (length pairs) factor
-    capacity_is = ap (λ n. capacity n r.load_factor) t.len ∙ ap (capacity (length pairs)) t.factor
+      capacity_is : resolved_capacity r ≡ capacity (length pairs) factor
+      capacity_is = ap (λ n. capacity n r.load_factor) t.len ∙ ap (capacity (length pairs)) t.factor
 
-    len_told : len_at w c p ≡ length pairs
-    len_told =
-        let b = below_capacity r.len r.load_factor in
-        len_reads w kind i.distance r.len (resolved_capacity r) c p header (omega (arith, b, t.fits)) ∙ t.len
+      len_told : len_at w c p ≡ length pairs
+      len_told =
+          let b = below_capacity r.len r.load_factor in
+          len_reads w kind i.distance r.len (resolved_capacity r) c p header
+          (omega (arith, b, t.fits)) ∙ t.len
 
-    cap_told : cap_at w c p ≡ capacity (length pairs) factor
-    cap_told = cap_reads w kind i.distance r.len (resolved_capacity r) c p header t.fits ∙ capacity_is
+      cap_told : cap_at w c p ≡ capacity (length pairs) factor
+      cap_told = cap_reads w kind i.distance r.len (resolved_capacity r) c p header t.fits
+          ∙ capacity_is
 
-    distance_told : signed_at w c p ≡ i.distance
-    distance_told = distance_reads w kind i.distance r.len (resolved_capacity r) c p header i.fits
+      distance_told : signed_at w c p ≡ i.distance
+      distance_told = distance_reads w kind i.distance r.len (resolved_capacity r) c p header i.fits
 
-    none_sound : pairs ≡ [] → Sound pairs c p p0 (p0 + length part)
-    none_sound e =
-        let n : length pairs ≡ 0 = ap length e in
-        let z : capacity (length pairs) factor ≡ 0 = ap (λ k. capacity k factor) n in (
-          p0,
-          inl (len_told ∙ n, cap_told ∙ z, refl),
-          record { len = len_told; cap = cap_told; buckets = λ h. absurd (omega (arith, h, n)) },
-        )
-
-    module _ (slots : List (Option X)) (controls : List ℕ) (some : 0 < length pairs) (placed : Placed (capacity (length pairs) factor) pairs slots controls) (b : TableBytes s f slots controls p0 r.pos part) where
-      abbrev C : ℕ
-      C = capacity (length pairs) factor
-
-      room : length pairs < C
-      room = capacity_above (length pairs) factor some
-
-      abbrev B : ℕ
-      B = begin s laws stands f fl c p0 C pairs slots controls placed room r.pos part b sp
-
-      distance_is : i.distance ≡ pos r.pos -ℤ pos p
-      distance_is = elim i.told [
-        | inl h ↦ absurd (omega (arith, h.0, t.len, some))
-        | inr h ↦ h.1
-      ]
-
-      begin_is : begin_told w s.size c p ≡ pos B
-      begin_is =
-          let z = controls_begin s laws stands f fl c p0 C pairs slots controls placed room r.pos part b sp in
-          let e : (pos p +ℤ (pos r.pos -ℤ pos p)) -ℤ pos (C * s.size) ≡ pos B = omega (arith, ints, z) in
-          ap (λ d. (pos p +ℤ d) -ℤ pos (cap_at w c p * s.size)) (distance_told ∙ distance_is)
-          ∙ ap (λ k. (pos p +ℤ (pos r.pos -ℤ pos p)) -ℤ pos (k * s.size)) cap_told ∙ e
-
-      table_at : TableAt s c (pos B) C (length pairs) p0 (p0 + length part) (B + part_size s.size C)
-      table_at =
-          let e = bytes_end s laws stands f fl c p0 C pairs slots controls placed room r.pos part b sp in
-          inr (
-            B,
-            record { begins = refl; above = omega arith; below = omega (arith, e); aligned = begin_aligned s laws stands f fl c p0 C pairs slots controls placed room r.pos part b sp },
-            part_stands s laws stands f fl c p0 C pairs slots controls placed room r.pos part b sp,
-            refl,
+      none_sound : pairs ≡ [] → Sound pairs c p p0 (p0 + length part)
+      none_sound e =
+          let n : length pairs ≡ 0 = ap length e in
+          let z : capacity (length pairs) factor ≡ 0 = ap (λ k. capacity k factor) n in (
+            p0,
+            inl (len_told ∙ n, cap_told ∙ z, refl),
+            record { len = len_told; cap = cap_told; buckets = λ h. absurd (omega (arith, h, n)) },
           )
 
-      some_sound : Sound pairs c p p0 (p0 + length part)
-      some_sound = (
-        B + part_size s.size C,
-        subst (λ k. TableAt s c k (cap_at w c p) (len_at w c p) p0 (p0 + length part) (B + part_size s.size C)) (sym begin_is)
-            (subst (λ k. TableAt s c (pos B) k (len_at w c p) p0 (p0 + length part) (B + part_size s.size C)) (sym cap_told)
-            (subst (λ k. TableAt s c (pos B) C k p0 (p0 + length part) (B + part_size s.size C)) (sym len_told) table_at)),
-        record {
-          len = len_told;
-          cap = cap_told;
-          buckets = λ h. (B, sym begin_is, buckets_stand s laws stands f fl c p0 C pairs slots controls placed room r.pos part b sp);
-        },
-      )
+      module _ (slots : List (Option X)) (controls : List ℕ) (some : 0 < length pairs)
+          (placed : Placed (capacity (length pairs) factor) pairs slots controls)
+          (b : TableBytes s f slots controls p0 r.pos part) where
+        abbrev C : ℕ
+        C = capacity (length pairs) factor
 
-    table_sound : Sound pairs c p p0 (p0 + length part)
-    table_sound = elim t.written [
-      | inl h ↦ none_sound h.0
-      | inr h ↦ some_sound h.0 h.1 h.2.0 h.2.1 h.3
-    ]
+        room : length pairs < C
+        room = capacity_above (length pairs) factor some
 
-  -- In every archive in which what was written of a table sits, and, aligned behind it, its header, the table holds, with
-  -- its parts in their place, and stands.
-  pub table_is_format : IsFormat (table_shape w s) (TableStands w s stands factor) (table_format w s f factor)
-  table_is_format = record {
-    whole = λ pairs r p out i. ap length i.is ∙ header_length w kind i.distance r.len (resolved_capacity r);
-    clear = λ pairs r p out i f. elim i.told [
-      | inl h ↦ omega (arith, h.0, f.0)
-      | inr h ↦ f.1 (subst (FitsSigned w) h.1 i.fits)
-    ];
-    sound = λ pairs r c p0 p part out t i sp so o al. table_sound pairs r c p0 p part out t i sp so;
-  }
+        abbrev B : ℕ
+        B = begin s laws stands f fl c p0 C pairs slots controls placed room r.pos part b sp
+
+        distance_is : i.distance ≡ pos r.pos -ℤ pos p
+        distance_is = elim i.told [
+          | inl h ↦ absurd (omega (arith, h.0, t.len, some))
+          | inr h ↦ h.1
+        ]
+
+        begin_is : begin_told w s.size c p ≡ pos B
+        begin_is =
+            let z = controls_begin s laws stands f fl c p0 C pairs slots controls placed room r.pos
+            part b sp in
+            let e : (pos p +ℤ (pos r.pos -ℤ pos p)) -ℤ pos (C * s.size) ≡ pos B =
+            omega (arith, ints, z) in
+            ap (λ d. (pos p +ℤ d) -ℤ pos (cap_at w c p * s.size)) (distance_told ∙ distance_is)
+            ∙ ap (λ k. (pos p +ℤ (pos r.pos -ℤ pos p)) -ℤ pos (k * s.size)) cap_told ∙ e
+
+        table_at : TableAt s c (pos B) C (length pairs) p0 (p0 + length part)
+            (B + part_size s.size C)
+        table_at =
+            let e = bytes_end s laws stands f fl c p0 C pairs slots controls placed room r.pos part
+            b
+            sp in
+            inr (
+              B,
+              record {
+                begins = refl;
+                above = omega arith;
+                below = omega (arith, e);
+                aligned =
+                    begin_aligned s laws stands f fl c p0 C pairs slots controls placed room r.pos
+                    part
+                    b sp;
+              },
+              part_stands s laws stands f fl c p0 C pairs slots controls placed room r.pos part b
+                  sp,
+              refl,
+            )
+
+        some_sound : Sound pairs c p p0 (p0 + length part)
+        some_sound = (
+          B + part_size s.size C,
+          subst (λ k. TableAt s c k (cap_at w c p) (len_at w c p) p0 (p0 + length part)
+              (B + part_size s.size C)) (sym begin_is)
+              (subst (λ k. TableAt s c (pos B) k (len_at w c p) p0 (p0 + length part)
+              (B + part_size s.size C)) (sym cap_told)
+              (subst (λ k. TableAt s c (pos B) C k p0 (p0 + length part) (B + part_size s.size C))
+              (sym len_told) table_at)),
+          record {
+            len = len_told;
+            cap = cap_told;
+            buckets = λ h. (
+              B,
+              sym begin_is,
+              buckets_stand s laws stands f fl c p0 C pairs slots controls placed room r.pos part b
+                  sp,
+            );
+          },
+        )
+
+      table_sound : Sound pairs c p p0 (p0 + length part)
+      table_sound = elim t.written [
+        | inl h ↦ none_sound h.0
+        | inr h ↦ some_sound h.0 h.1 h.2.0 h.2.1 h.3
+      ]
+
+    -- In every archive in which what was written of a table sits, and, aligned behind it, its
+    -- header,
+    -- the table holds, with
+    -- its parts in their place, and stands.
+    pub table_is_format : IsFormat (table_shape w s) (TableStands w s stands factor)
+        (table_format w s f factor)
+    table_is_format = record {
+      whole = λ pairs r p out i. ap length i.is
+          ∙ header_length w kind i.distance r.len (resolved_capacity r);
+      clear = λ pairs r p out i f. elim i.told [
+        | inl h ↦ omega (arith, h.0, f.0)
+        | inr h ↦ f.1 (subst (FitsSigned w) h.1 i.fits)
+      ];
+      sound = λ pairs r c p0 p part out t i sp so o al. table_sound pairs r c p0 p part out t i sp
+          so;
+    }

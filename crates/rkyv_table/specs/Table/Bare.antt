@@ -61,7 +61,8 @@ WritesFound {R} Writes b found result c =
     MatchOption found ((result ≡ None) × (c ≡ b))
     (λ q. (r : R) × (result ≡ Some r) × Writes r b q c)
 
--- What a lookup answers was lent to a writer, where each write of the item alone that keeps it keeps
+-- What a lookup answers was lent to a writer, where each write of the item alone that keeps it
+-- keeps
 -- the table; where none is found, all is as before.
 pub record LendsFound {T R : Type 0} (post : View T → Bool → Type 0)
     (Writes : R → List ℕ → ℕ → List ℕ → Type 0) (kind : Kind) (w : Width) (s : Shape) (b : List ℕ)

@@ -1,5 +1,6 @@
 -- What a lookup in a written table answers, over the list of the items that were handed in.
-use Rattle.std.specs.Prelude.{◌≡◌, ℕ, ◌^◌, ◌<◌, Bool, true, List, slice_get, Option, Some, None, MatchOption}
+use Rattle.std.specs.Prelude.{◌≡◌, ℕ, ◌^◌, ◌<◌, Bool, true, List, slice_get, Option, Some, None}
+use Rattle.std.specs.Prelude.{MatchOption}
 use Rattle.std.specs.Int.{Width}
 use Rattle.std.specs.List.{All, find}
 use Rattle.rkyv_base.specs.Shape.{Shape}

@@ -1,5 +1,6 @@
 -- The header of a table: a distance, the length and the capacity, each of one word.
-use Rattle.std.specs.Prelude.{◌≡◌, ℕ, ◌+◌, ◌*◌, ◌<◌, ◌⊎◌, ℤ, pos, ◌+ℤ◌, ◌-ℤ◌, FitsSigned, List, ◌++◌}
+use Rattle.std.specs.Prelude.{◌≡◌, ℕ, ◌+◌, ◌*◌, ◌<◌, ◌⊎◌, ℤ, pos, ◌+ℤ◌, ◌-ℤ◌, FitsSigned, List}
+use Rattle.std.specs.Prelude.{◌++◌}
 use Rattle.std.specs.Int.{Width, byte_len, to_le_bytes, cast_unsigned}
 use Rattle.rkyv_base.specs.Bytes.{number_at, signed_at}
 
@@ -17,9 +18,11 @@ begin_told w size b p = (pos p +ℤ signed_at w b p) -ℤ pos (cap_at w b p * si
 
 -- the bytes of a header
 abbrev pub header_bytes : Width → ℤ → ℕ → ℕ → List ℕ
-header_bytes w distance len cap = to_le_bytes w (cast_unsigned w distance) ++ (to_le_bytes w len ++ to_le_bytes w cap)
+header_bytes w distance len cap =
+    to_le_bytes w (cast_unsigned w distance) ++ (to_le_bytes w len ++ to_le_bytes w cap)
 
--- out is the header that stands at p, of a table whose first control stands at z; the distance of an empty table is 1
+-- out is the header that stands at p, of a table whose first control stands at z; the distance of
+-- an empty table is 1
 pub record IsHeader (w : Width) (len cap z p : ℕ) (out : List ℕ) : Type 0 where
   pub distance : ℤ
   pub fits : FitsSigned w distance

@@ -1,8 +1,11 @@
 -- When bytes are a table of items of a shape, and the first point at which they are none.
-use Rattle.std.specs.Prelude.{◌≡◌, ◌≢◌, ℕ, ◌+◌, ◌-◌, ◌*◌, ◌<◌, ◌≤◌, ◌⊎◌, ℤ, List, length, slice_range}
+use Rattle.std.specs.Prelude.{◌≡◌, ◌≢◌, ℕ, ◌+◌, ◌-◌, ◌*◌, ◌<◌, ◌≤◌, ◌⊎◌, ℤ, List, length}
+use Rattle.std.specs.Prelude.{slice_range}
 use Rattle.std.specs.Int.{Width, byte_len}
 use Rattle.rkyv_base.specs.declared.errors.VerifyError.{VerifyError}
-use Rattle.rkyv_base.specs.declared.errors.VerifyError.TheVariants.{InvalidLength, WrongNumberOfElements, UnwrappedControlByte}
+use Rattle.rkyv_base.specs.declared.errors.VerifyError.TheVariants.{InvalidLength}
+use Rattle.rkyv_base.specs.declared.errors.VerifyError.TheVariants.{WrongNumberOfElements}
+use Rattle.rkyv_base.specs.declared.errors.VerifyError.TheVariants.{UnwrappedControlByte}
 use Rattle.rkyv_base.specs.Parts.{PartIn, PartFails}
 use Rattle.rkyv_base.specs.Shape.{Shape}
 use Rattle.rkyv_table.specs.Table.Header.{begin_told, cap_at, len_at}
@@ -17,7 +20,8 @@ part_size size cap = cap * size + control_count cap
 
 -- the controls of a table whose buckets begin at begin
 abbrev pub controls_at : ℕ → List ℕ → ℕ → ℕ → List ℕ
-controls_at size b begin cap = slice_range b (begin + cap * size) (begin + cap * size + control_count cap)
+controls_at size b begin cap =
+    slice_range b (begin + cap * size) (begin + cap * size + control_count cap)
 
 -- where bucket i stands: the buckets stand from the highest to the first
 abbrev pub bucket_at : ℕ → ℕ → ℕ → ℕ → ℕ
@@ -25,42 +29,60 @@ bucket_at size begin cap i = begin + (cap - (i + 1)) * size
 
 -- the items in the full buckets hold, by ascending bucket, with their parts from lo to begin
 abbrev pub ItemsHold : Shape → List ℕ → ℕ → ℕ → ℕ → ℕ → Type 0
-ItemsHold s b begin cap lo l = AllHold s (bucket_at s.size begin cap) b begin (walk (controls_at s.size b begin cap) cap) lo l
+ItemsHold s b begin cap lo l =
+    AllHold s (bucket_at s.size begin cap) b begin (walk (controls_at s.size b begin cap) cap) lo l
 
--- buckets and controls that stand at begin: the controls are those of len items, and each of the items holds
+-- buckets and controls that stand at begin: the controls are those of len items, and each of the
+-- items holds
 pub record IsPart (s : Shape) (b : List ℕ) (cap len lo begin : ℕ) : Type 0 where
   pub controls : Accepted cap len (controls_at s.size b begin cap)
   pub last : ℕ
   pub items : ItemsHold s b begin cap lo last
 
--- the first of it that fails: an item, or else the number of items, or else a control behind the buckets
+-- the first of it that fails: an item, or else the number of items, or else a control behind the
+-- buckets
 abbrev pub FailsInside : Shape → List ℕ → ℕ → ℕ → ℕ → ℕ → VerifyError → Type 0
 FailsInside s b cap len lo begin e =
-    FirstFails s (bucket_at s.size begin cap) b begin (walk (controls_at s.size b begin cap) cap) lo e
+    FirstFails s (bucket_at s.size begin cap) b begin (walk (controls_at s.size b begin cap) cap) lo
+    e
     ⊎ ((last : ℕ) × ItemsHold s b begin cap lo last
-    × (((length (walk (controls_at s.size b begin cap) cap) ≢ len) × (e ≡ WrongNumberOfElements len (length (walk (controls_at s.size b begin cap) cap))))
-    ⊎ ((length (walk (controls_at s.size b begin cap) cap) ≡ len) × (q : ℕ) × FirstUnlike cap (controls_at s.size b begin cap) q × (e ≡ UnwrappedControlByte q))))
+    × (((length (walk (controls_at s.size b begin cap) cap) ≢ len)
+    × (e ≡ WrongNumberOfElements len (length (walk (controls_at s.size b begin cap) cap))))
+    ⊎ ((length (walk (controls_at s.size b begin cap) cap) ≡ len) × (q : ℕ)
+    × FirstUnlike cap (controls_at s.size b begin cap) q × (e ≡ UnwrappedControlByte q))))
 
--- a table of which a header tells where its buckets begin, its capacity and its length. An empty one has no part.
+-- a table of which a header tells where its buckets begin, its capacity and its length. An empty
+-- one has no part.
 abbrev pub TableAt : Shape → List ℕ → ℤ → ℕ → ℕ → ℕ → ℕ → ℕ → Type 0
 TableAt s b told cap len lo hi l =
     ((len ≡ 0) × (cap ≡ 0) × (l ≡ lo))
-    ⊎ ((begin : ℕ) × PartIn told (part_size s.size cap) s.align lo hi begin × IsPart s b cap len lo begin × (l ≡ begin + part_size s.size cap))
+    ⊎ ((begin : ℕ) × PartIn told (part_size s.size cap) s.align lo hi begin
+    × IsPart s b cap len lo begin × (l ≡ begin + part_size s.size cap))
 
--- the length isn't below the capacity, or else the part doesn't lie in the range, or else it fails inside
+-- the length isn't below the capacity, or else the part doesn't lie in the range, or else it fails
+-- inside
 abbrev pub TableFailsAt : Shape → List ℕ → ℤ → ℕ → ℕ → ℕ → ℕ → VerifyError → Type 0
 TableFailsAt s b told cap len lo hi e =
     ((cap ≤ len) × (0 < len) × (e ≡ InvalidLength len cap))
     ⊎ ((len < cap) × PartFails told (part_size s.size cap) s.align lo hi e)
-    ⊎ ((len < cap) × (begin : ℕ) × PartIn told (part_size s.size cap) s.align lo hi begin × FailsInside s b cap len lo begin e)
+    ⊎ ((len < cap) × (begin : ℕ) × PartIn told (part_size s.size cap) s.align lo hi begin
+    × FailsInside s b cap len lo begin e)
 
 -- a header of a table stands at p
 abbrev pub TableHolds : Width → Shape → List ℕ → ℕ → ℕ → ℕ → ℕ → Type 0
-TableHolds w s b p lo hi l = TableAt s b (begin_told w s.size b p) (cap_at w b p) (len_at w b p) lo hi l
+TableHolds w s b p lo hi l = TableAt s b (begin_told w s.size b p) (cap_at w b p) (len_at w b p) lo
+    hi l
 
 abbrev pub TableFails : Width → Shape → List ℕ → ℕ → ℕ → ℕ → VerifyError → Type 0
-TableFails w s b p lo hi e = TableFailsAt s b (begin_told w s.size b p) (cap_at w b p) (len_at w b p) lo hi e
+TableFails w s b p lo hi e = TableFailsAt s b (begin_told w s.size b p) (cap_at w b p)
+    (len_at w b p) lo hi e
 
 -- the header of a table of such items: three words
 abbrev pub table_shape : Width → Shape → Shape
-table_shape w s = record { size = 3 * byte_len w; align = byte_len w; holds = TableHolds w s; fails = TableFails w s }
+table_shape w s = record {
+  size = 3 * byte_len w;
+  align = byte_len w;
+  holds =
+      TableHolds w s;
+  fails = TableFails w s;
+}

@@ -2,5 +2,6 @@
 use Rattle.std.specs.Prelude.{ℕ, List}
 
 -- what lends a value stands where the value does
-abbrev pub lent_stands : {X V : Type 0} → (X → V) → (List ℕ → ℕ → V → Type 0) → List ℕ → ℕ → X → Type 0
+abbrev pub lent_stands : {X V : Type 0} → (X → V) → (List ℕ → ℕ → V → Type 0) → List ℕ → ℕ → X
+    → Type 0
 lent_stands lent stands b p x = stands b p (lent x)

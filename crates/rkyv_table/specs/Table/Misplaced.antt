@@ -1,5 +1,6 @@
 -- Items that a lookup of their own doesn't answer.
-use Rattle.std.specs.Prelude.{◌≡◌, ℕ, ◌<◌, ◌^◌, List, Bool, true, false, not, length, Option, Some, None, filter, take, slice_index, eqb, MatchOption}
+use Rattle.std.specs.Prelude.{◌≡◌, ℕ, ◌<◌, ◌^◌, List, Bool, true, false, not, length, Option, Some}
+use Rattle.std.specs.Prelude.{None, filter, take, slice_index, eqb, MatchOption}
 use Rattle.std.specs.List.{Contains, list_any, range_with_len}
 use Rattle.rkyv_scan.specs.Groups.{Kind, IsKind}
 use Rattle.rkyv_table.specs.Controls.Finding.{found}
@@ -11,13 +12,16 @@ abbrev pub is_answer : ℕ → Option ℕ → Bool
 is_answer bucket None = false
 is_answer bucket (Some answer) = eqb bucket answer
 
--- a lookup under the hash of the bucket's item, which accepts the items that are the same as it, doesn't answer the bucket
+-- a lookup under the hash of the bucket's item, which accepts the items that are the same as it,
+-- doesn't answer the bucket
 abbrev pub is_misplaced : Kind → List ℕ → ℕ → ℕ → (ℕ → ℕ) → (ℕ → ℕ → Bool) → ℕ → Bool
-is_misplaced kind controls cap len hash_at same_at bucket = not (is_answer bucket (found kind controls cap len (hash_at bucket) (same_at bucket)))
+is_misplaced kind controls cap len hash_at same_at bucket =
+    not (is_answer bucket (found kind controls cap len (hash_at bucket) (same_at bucket)))
 
 -- how many walked buckets have such an item
 abbrev pub misplaced : Kind → List ℕ → ℕ → ℕ → (ℕ → ℕ) → (ℕ → ℕ → Bool) → ℕ
-misplaced kind controls cap len hash_at same_at = length (filter (is_misplaced kind controls cap len hash_at same_at) (walk controls cap))
+misplaced kind controls cap len hash_at same_at =
+    length (filter (is_misplaced kind controls cap len hash_at same_at) (walk controls cap))
 
 -- the i-th item is the same as an earlier one
 abbrev pub repeats_earlier : (ℕ → ℕ → Bool) → List ℕ → ℕ → Bool
@@ -25,39 +29,54 @@ repeats_earlier same_at homes i = list_any (same_at (slice_index homes i)) (take
 
 -- how many items are
 abbrev pub repeated : (ℕ → ℕ → Bool) → List ℕ → ℕ
-repeated same_at homes = length (filter (repeats_earlier same_at homes) (range_with_len 0 (length homes)))
+repeated same_at homes = length
+    (filter (repeats_earlier same_at homes) (range_with_len 0 (length homes)))
 
--- the items at the homes have these hashes; to be the same is an equivalence among them, and makes equal hashes
-pub record IsSameness (hash_at : ℕ → ℕ) (same_at : ℕ → ℕ → Bool) (hashes homes : List ℕ) : Type 0 where
-  pub hashed : (i : ℕ) → i < length homes → hash_at (slice_index homes i) ≡ slice_index hashes i
-  pub equal : (b c : ℕ) → Contains homes b → Contains homes c → same_at b c ≡ true → hash_at b ≡ hash_at c
-  pub reflexive : (b : ℕ) → Contains homes b → same_at b b ≡ true
-  pub symmetric : (b c : ℕ) → Contains homes b → Contains homes c → same_at b c ≡ true → same_at c b ≡ true
-  pub transitive : (b c d : ℕ) → Contains homes b → Contains homes c → Contains homes d → same_at b c ≡ true → same_at c d ≡ true → same_at b d ≡ true
+-- the items at the homes have these hashes; to be the same is an equivalence among them, and makes
+-- equal hashes
+pub record IsSameness (hash_at : ℕ → ℕ) (same_at : ℕ → ℕ → Bool) (hashes homes : List ℕ) : Type 0
+  where
+    pub hashed : (i : ℕ) → i < length homes → hash_at (slice_index homes i) ≡ slice_index hashes i
+    pub equal : (b c : ℕ) → Contains homes b → Contains homes c → same_at b c ≡ true
+        → hash_at b ≡ hash_at c
+    pub reflexive : (b : ℕ) → Contains homes b → same_at b b ≡ true
+    pub symmetric : (b c : ℕ) → Contains homes b → Contains homes c → same_at b c ≡ true
+        → same_at c b ≡ true
+    pub transitive : (b c d : ℕ) → Contains homes b → Contains homes c → Contains homes d
+        → same_at b c ≡ true → same_at c d ≡ true → same_at b d ≡ true
 
 -- on written controls those are misplaced that are the same as an earlier one
 abbrev pub RepeatedAreMisplaced : Type 0
-RepeatedAreMisplaced = (kind : Kind) (cap : ℕ) (hashes homes controls : List ℕ) (hash_at : ℕ → ℕ) (same_at : ℕ → ℕ → Bool) → IsKind kind → length hashes < cap → AreHashes hashes
+RepeatedAreMisplaced = (kind : Kind) (cap : ℕ) (hashes homes controls : List ℕ) (hash_at : ℕ → ℕ)
+    (same_at : ℕ → ℕ → Bool) → IsKind kind → length hashes < cap → AreHashes hashes
     → Written cap hashes homes controls → IsSameness hash_at same_at hashes homes
     → misplaced kind controls cap (length hashes) hash_at same_at ≡ repeated same_at homes
 
--- each walked item that the query accepts has the asked hash, and the query accepts those that are the same as it
-pub record AsksForOne (controls : List ℕ) (cap hash : ℕ) (accept : ℕ → Bool) (hash_at : ℕ → ℕ) (same_at : ℕ → ℕ → Bool) : Type 0 where
+-- each walked item that the query accepts has the asked hash, and the query accepts those that are
+-- the same as it
+pub record AsksForOne (controls : List ℕ) (cap hash : ℕ) (accept : ℕ → Bool) (hash_at : ℕ → ℕ)
+    (same_at : ℕ → ℕ → Bool) : Type 0 where
   pub hashed : (b : ℕ) → Contains (walk controls cap) b → accept b ≡ true → hash_at b ≡ hash
-  pub same : (b c : ℕ) → Contains (walk controls cap) b → Contains (walk controls cap) c → accept b ≡ true → accept c ≡ same_at b c
+  pub same : (b c : ℕ) → Contains (walk controls cap) b → Contains (walk controls cap) c
+      → accept b ≡ true → accept c ≡ same_at b c
 
 -- no walked item is accepted
 abbrev pub NoneAccepted : List ℕ → ℕ → (ℕ → Bool) → Type 0
 NoneAccepted controls cap accept = (b : ℕ) → Contains (walk controls cap) b → accept b ≡ false
 
 -- the item in the bucket is accepted, and no other walked one
-pub record AloneAccepted (controls : List ℕ) (cap : ℕ) (accept : ℕ → Bool) (bucket : ℕ) : Type 0 where
-  pub walked : Contains (walk controls cap) bucket
-  pub accepted : accept bucket ≡ true
-  pub alone : (b : ℕ) → Contains (walk controls cap) b → accept b ≡ true → b ≡ bucket
+pub record AloneAccepted (controls : List ℕ) (cap : ℕ) (accept : ℕ → Bool) (bucket : ℕ) : Type 0
+  where
+    pub walked : Contains (walk controls cap) bucket
+    pub accepted : accept bucket ≡ true
+    pub alone : (b : ℕ) → Contains (walk controls cap) b → accept b ≡ true → b ≡ bucket
 
--- where none is misplaced, a lookup finds the one walked item that is accepted, and none exactly where none is
+-- where none is misplaced, a lookup finds the one walked item that is accepted, and none exactly
+-- where none is
 abbrev pub NoneMisplacedIsComplete : Type 0
-NoneMisplacedIsComplete = (kind : Kind) (cap len hash : ℕ) (controls : List ℕ) (accept : ℕ → Bool) (hash_at : ℕ → ℕ) (same_at : ℕ → ℕ → Bool) → IsKind kind → Accepted cap len controls
-    → hash < 2 ^ 64 → misplaced kind controls cap len hash_at same_at ≡ 0 → AsksForOne controls cap hash accept hash_at same_at
-    → MatchOption (found kind controls cap len hash accept) (NoneAccepted controls cap accept) (AloneAccepted controls cap accept)
+NoneMisplacedIsComplete = (kind : Kind) (cap len hash : ℕ) (controls : List ℕ) (accept : ℕ → Bool)
+    (hash_at : ℕ → ℕ) (same_at : ℕ → ℕ → Bool) → IsKind kind → Accepted cap len controls
+    → hash < 2 ^ 64 → misplaced kind controls cap len hash_at same_at ≡ 0
+    → AsksForOne controls cap hash accept hash_at same_at
+    → MatchOption (found kind controls cap len hash accept) (NoneAccepted controls cap accept)
+    (AloneAccepted controls cap accept)

@@ -6,43 +6,64 @@ use Rattle.rkyv_base.specs.declared.view.View.{View}
 use Rattle.rkyv_scan.specs.Groups.{Kind}
 use Rattle.rkyv_table.specs.Table.Header.{cap_at, len_at}
 use Rattle.rkyv_table.specs.Table.Misplaced.{is_misplaced, misplaced}
-use Rattle.rkyv_table.specs.Table.Reading.{IsItem, IsItemIn, bucket_found, item_at, table_bytes, table_controls, table_pos}
+use Rattle.rkyv_table.specs.Table.Reading.{IsItem, IsItemIn, bucket_found, item_at, table_bytes}
+use Rattle.rkyv_table.specs.Table.Reading.{table_controls, table_pos}
 use Rattle.rkyv_table.specs.declared.table.ArchivedHashTable.{ArchivedHashTable}
 
 -- the comparison may be asked of each two items
-abbrev pub MayCompare : {T W : Type 0} → (View T → View T → Type 0) → Width → Shape → ArchivedHashTable T W → Type 0
+abbrev pub MayCompare : {T W : Type 0} → (View T → View T → Type 0) → Width → Shape
+    → ArchivedHashTable T W → Type 0
 MayCompare {T} pre w s t = (x y : View T) → IsItem w s t x → IsItem w s t y → pre x y
 
 -- of each item the hash is what hash_of tells of its position
-abbrev pub HashesAs : {T W : Type 0} → (View T → ℕ → Type 0) → Width → Shape → ArchivedHashTable T W → (ℕ → ℕ) → Type 0
-HashesAs {T} post w s t hash_of = (x : View T) (h : ℕ) → IsItem w s t x → post x h → h ≡ hash_of x.pos
+abbrev pub HashesAs : {T W : Type 0} → (View T → ℕ → Type 0) → Width → Shape → ArchivedHashTable T W
+    → (ℕ → ℕ) → Type 0
+HashesAs {T} post w s t hash_of = (x : View T) (h : ℕ) → IsItem w s t x → post x h
+    → h ≡ hash_of x.pos
 
 -- of each two items the comparison answers what same tells of their positions
-abbrev pub ComparesAs : {T W : Type 0} → (View T → View T → Bool → Type 0) → Width → Shape → ArchivedHashTable T W → (ℕ → ℕ → Bool) → Type 0
-ComparesAs {T} post w s t same = (x y : View T) (r : Bool) → IsItem w s t x → IsItem w s t y → post x y r → r ≡ same x.pos y.pos
+abbrev pub ComparesAs : {T W : Type 0} → (View T → View T → Bool → Type 0) → Width → Shape
+    → ArchivedHashTable T W → (ℕ → ℕ → Bool) → Type 0
+ComparesAs {T} post w s t same = (x y : View T) (r : Bool) → IsItem w s t x → IsItem w s t y
+    → post x y r → r ≡ same x.pos y.pos
 
--- the item in the bucket is misplaced, and how many are, where hash_of and same tell of items by their positions
-abbrev pub bucket_misplaced : {T W : Type 0} → Kind → Width → Shape → ArchivedHashTable T W → (ℕ → ℕ) → (ℕ → ℕ → Bool) → ℕ → Bool
+-- the item in the bucket is misplaced, and how many are, where hash_of and same tell of items by
+-- their positions
+abbrev pub bucket_misplaced : {T W : Type 0} → Kind → Width → Shape → ArchivedHashTable T W
+    → (ℕ → ℕ) → (ℕ → ℕ → Bool) → ℕ → Bool
 bucket_misplaced kind w s t hash_of same =
-    is_misplaced kind (table_controls w (table_bytes t) (table_pos t)) (cap_at w (table_bytes t) (table_pos t)) (len_at w (table_bytes t) (table_pos t))
-    (λ i. hash_of (item_at w s.size (table_bytes t) (table_pos t) i)) (λ i j. same (item_at w s.size (table_bytes t) (table_pos t) i) (item_at w s.size (table_bytes t) (table_pos t) j))
+    is_misplaced kind (table_controls w (table_bytes t) (table_pos t))
+    (cap_at w (table_bytes t) (table_pos t)) (len_at w (table_bytes t) (table_pos t))
+    (λ i. hash_of (item_at w s.size (table_bytes t) (table_pos t) i)) (λ i j.
+    same (item_at w s.size (table_bytes t) (table_pos t) i)
+    (item_at w s.size (table_bytes t) (table_pos t) j))
 
-abbrev pub table_misplaced : {T W : Type 0} → Kind → Width → Shape → ArchivedHashTable T W → (ℕ → ℕ) → (ℕ → ℕ → Bool) → ℕ
+abbrev pub table_misplaced : {T W : Type 0} → Kind → Width → Shape → ArchivedHashTable T W → (ℕ → ℕ)
+    → (ℕ → ℕ → Bool) → ℕ
 table_misplaced kind w s t hash_of same =
-    misplaced kind (table_controls w (table_bytes t) (table_pos t)) (cap_at w (table_bytes t) (table_pos t)) (len_at w (table_bytes t) (table_pos t))
-    (λ i. hash_of (item_at w s.size (table_bytes t) (table_pos t) i)) (λ i j. same (item_at w s.size (table_bytes t) (table_pos t) i) (item_at w s.size (table_bytes t) (table_pos t) j))
+    misplaced kind (table_controls w (table_bytes t) (table_pos t))
+    (cap_at w (table_bytes t) (table_pos t)) (len_at w (table_bytes t) (table_pos t))
+    (λ i. hash_of (item_at w s.size (table_bytes t) (table_pos t) i)) (λ i j.
+    same (item_at w s.size (table_bytes t) (table_pos t) i)
+    (item_at w s.size (table_bytes t) (table_pos t) j))
 
 -- what the comparison answers of the items in two buckets
-abbrev pub AnswersOf : {T W : Type 0} → (View T → View T → Bool → Type 0) → Width → Shape → ArchivedHashTable T W → ℕ → ℕ → Bool → Type 0
-AnswersOf {T} post w s t i j result = (x : View T) × (y : View T) × IsItemIn w s t i x × IsItemIn w s t j y × post x y result
+abbrev pub AnswersOf : {T W : Type 0} → (View T → View T → Bool → Type 0) → Width → Shape
+    → ArchivedHashTable T W → ℕ → ℕ → Bool → Type 0
+AnswersOf {T} post w s t i j result =
+    (x : View T) × (y : View T) × IsItemIn w s t i x × IsItemIn w s t j y × post x y result
 
 -- a lookup of the bucket's own item answers the bucket that is found
-abbrev pub FindsOwn : {T W : Type 0} → (View T → View T → Bool → Type 0) → Kind → Width → Shape → ArchivedHashTable T W → ℕ → ℕ → Option ℕ → Type 0
+abbrev pub FindsOwn : {T W : Type 0} → (View T → View T → Bool → Type 0) → Kind → Width → Shape
+    → ArchivedHashTable T W → ℕ → ℕ → Option ℕ → Type 0
 FindsOwn compares kind w s t hash bucket result =
     (same : ℕ → ℕ → Bool) → ComparesAs compares w s t same
-    → result ≡ bucket_found kind w s.size (table_bytes t) (table_pos t) hash (same (item_at w s.size (table_bytes t) (table_pos t) bucket))
+    → result ≡ bucket_found kind w s.size (table_bytes t) (table_pos t) hash
+    (same (item_at w s.size (table_bytes t) (table_pos t) bucket))
 
 -- the number of the misplaced items, where both functions go by the positions of items
-abbrev pub CountsMisplaced : {T W : Type 0} → (View T → ℕ → Type 0) → (View T → View T → Bool → Type 0) → Kind → Width → Shape → ArchivedHashTable T W → ℕ → Type 0
+abbrev pub CountsMisplaced : {T W : Type 0} → (View T → ℕ → Type 0)
+    → (View T → View T → Bool → Type 0) → Kind → Width → Shape → ArchivedHashTable T W → ℕ → Type 0
 CountsMisplaced hashes compares kind w s t result =
-    (hash_of : ℕ → ℕ) (same : ℕ → ℕ → Bool) → HashesAs hashes w s t hash_of → ComparesAs compares w s t same → result ≡ table_misplaced kind w s t hash_of same
+    (hash_of : ℕ → ℕ) (same : ℕ → ℕ → Bool) → HashesAs hashes w s t hash_of
+    → ComparesAs compares w s t same → result ≡ table_misplaced kind w s t hash_of same

@@ -22,7 +22,8 @@ pos_before place size i = place - (i + 1) * size
 
 -- the full places from the current group's marks on
 unfoldable pub marked_left : List ℕ → ℕ → List ℕ → List ℕ
-marked_left controls base marks = map (λ j. base + j) marks ++ full_from controls (length controls) (base + 8)
+marked_left controls base marks =
+    map (λ j. base + j) marks ++ full_from controls (length controls) (base + 8)
 
 -- the buckets that are left: the first of them
 unfoldable pub buckets_left : ℕ → List ℕ → ℕ → List ℕ → List ℕ
@@ -30,16 +31,19 @@ buckets_left count controls base marks = take count (marked_left controls base m
 
 -- where the buckets that are left stand, by the place of the current group
 abbrev pub places_left : ℕ → ℕ → ℕ → List ℕ → ℕ → List ℕ → List ℕ
-places_left place size count controls base marks = map (pos_before (place + base * size) size) (buckets_left count controls base marks)
+places_left place size count controls base marks =
+    map (pos_before (place + base * size) size) (buckets_left count controls base marks)
 
 -- the group of bucket i lies inside the controls, and the bucket before the first control
 abbrev pub IsAhead : ℕ → ℕ → List ℕ → ℕ → Type 0
 IsAhead place size controls i = (i + 8 ≤ length controls) × ((i + 1) * size ≤ place)
 
 -- what a walk keeps: so many full places are left, each of which stands before the first control
-pub record IsRawIter (place size count : ℕ) (controls : List ℕ) (base : ℕ) (marks : List ℕ) : Type 0 where
-  pub counted : count ≡ length (buckets_left count controls base marks)
-  pub ahead : All (IsAhead (place + base * size) size controls) (buckets_left count controls base marks)
+pub record IsRawIter (place size count : ℕ) (controls : List ℕ) (base : ℕ) (marks : List ℕ) : Type 0
+  where
+    pub counted : count ≡ length (buckets_left count controls base marks)
+    pub ahead : All (IsAhead (place + base * size) size controls)
+        (buckets_left count controls base marks)
 
 -- at each of the places that are left a value stands
 abbrev pub AllStand : Shape → ItemsLeft → Type 0

@@ -1,5 +1,7 @@
--- What an accepted table shows: where its controls and items stand, and what a lookup in it answers.
-use Rattle.std.specs.Prelude.{◌≡◌, ℕ, ◌+◌, ◌-◌, ◌*◌, ◌/◌, ◌<◌, ◌^◌, ◌⊎◌, List, [], Bool, true, Option, pos, ◌+ℤ◌, unsigned_abs, slice_range, length, map}
+-- What an accepted table shows: where its controls and items stand, and what a lookup in it
+-- answers.
+use Rattle.std.specs.Prelude.{◌≡◌, ℕ, ◌+◌, ◌-◌, ◌*◌, ◌/◌, ◌<◌, ◌^◌, ◌⊎◌, List, [], Bool, true}
+use Rattle.std.specs.Prelude.{Option, pos, ◌+ℤ◌, unsigned_abs, slice_range, length, map}
 use Rattle.std.specs.Int.{Width}
 use Rattle.std.specs.List.{find}
 use Rattle.std.specs.Option.{option_map}
@@ -25,7 +27,8 @@ controls_pos w b p = unsigned_abs (pos p +ℤ signed_at w b p)
 
 -- the controls of the table whose header stands at p
 abbrev pub table_controls : Width → List ℕ → ℕ → List ℕ
-table_controls w b p = slice_range b (controls_pos w b p) (controls_pos w b p + control_count (cap_at w b p))
+table_controls w b p = slice_range b (controls_pos w b p) (controls_pos w b p
+    + control_count (cap_at w b p))
 
 -- where the item in bucket i stands
 abbrev pub item_at : Width → ℕ → List ℕ → ℕ → ℕ → ℕ
@@ -39,22 +42,31 @@ IsWalked w b p i = IsFullBucket (cap_at w b p) (table_controls w b p) i
 abbrev pub item_positions : Width → ℕ → List ℕ → ℕ → List ℕ
 item_positions w size b p = map (item_at w size b p) (walk (table_controls w b p) (cap_at w b p))
 
--- the bucket that a lookup answers, and the number of the stride at which it ends, where accept tells of an item by its position
+-- the bucket that a lookup answers, and the number of the stride at which it ends, where accept
+-- tells of an item by its position
 abbrev pub bucket_found : Kind → Width → ℕ → List ℕ → ℕ → ℕ → (ℕ → Bool) → Option ℕ
-bucket_found kind w size b p hash accept = found kind (table_controls w b p) (cap_at w b p) (len_at w b p) hash (λ i. accept (item_at w size b p i))
+bucket_found kind w size b p hash accept =
+    found kind (table_controls w b p) (cap_at w b p) (len_at w b p) hash (λ i.
+    accept (item_at w size b p i))
 
 abbrev pub lookup_end : Kind → Width → ℕ → List ℕ → ℕ → ℕ → (ℕ → Bool) → ℕ
-lookup_end kind w size b p hash accept = end kind (table_controls w b p) (cap_at w b p) (len_at w b p) hash (λ i. accept (item_at w size b p i))
+lookup_end kind w size b p hash accept =
+    end kind (table_controls w b p) (cap_at w b p) (len_at w b p) hash (λ i.
+    accept (item_at w size b p i))
 
 -- the position of the item that a lookup answers
 abbrev pub pos_found : Kind → Width → ℕ → List ℕ → ℕ → ℕ → (ℕ → Bool) → Option ℕ
-pos_found kind w size b p hash accept = option_map (item_at w size b p) (bucket_found kind w size b p hash accept)
+pos_found kind w size b p hash accept =
+    option_map (item_at w size b p) (bucket_found kind w size b p hash accept)
 
--- the table at p was written of items under these hashes, handed in in this order, with their homes: its length is their number, and it is empty or its controls are written ones
+-- the table at p was written of items under these hashes, handed in in this order, with their
+-- homes: its length is their number, and it is empty or its controls are written ones
 pub record WrittenAt (w : Width) (b : List ℕ) (p : ℕ) (hashes homes : List ℕ) : Type 0 where
   pub count : len_at w b p ≡ length hashes
   pub fit : AreHashes hashes
-  pub placed : ((hashes ≡ []) × (homes ≡ [])) ⊎ ((length hashes < cap_at w b p) × Written (cap_at w b p) hashes homes (table_controls w b p))
+  pub placed : ((hashes ≡ []) × (homes ≡ []))
+      ⊎ ((length hashes < cap_at w b p)
+      × Written (cap_at w b p) hashes homes (table_controls w b p))
 
 -- where items with these homes stand, in the order in which they were handed in
 abbrev pub home_positions : Width → ℕ → List ℕ → ℕ → List ℕ → List ℕ
@@ -73,7 +85,8 @@ abbrev pub table_pos : {T W : Type 0} → ArchivedHashTable T W → ℕ
 table_pos t = pos_of t.view
 
 -- the view is that of the item in bucket i of the table
-pub record IsItemIn {T W : Type 0} (w : Width) (s : Shape) (t : ArchivedHashTable T W) (i : ℕ) (v : View T) : Type 0 where
+pub record IsItemIn {T W : Type 0} (w : Width) (s : Shape) (t : ArchivedHashTable T W) (i : ℕ)
+    (v : View T) : Type 0 where
   pub archive : v.archive ≡ t.view.archive
   pub viewed : IsView s v
   pub walked : IsWalked w (table_bytes t) (table_pos t) i
@@ -85,40 +98,54 @@ IsItem w s t v = (i : ℕ) × IsItemIn w s t i v
 
 -- position q is that of an item of the table
 abbrev pub IsItemPos : {T W : Type 0} → Width → Shape → ArchivedHashTable T W → ℕ → Type 0
-IsItemPos w s t q = (i : ℕ) × IsWalked w (table_bytes t) (table_pos t) i × (q ≡ item_at w s.size (table_bytes t) (table_pos t) i)
+IsItemPos w s t q = (i : ℕ) × IsWalked w (table_bytes t) (table_pos t) i
+    × (q ≡ item_at w s.size (table_bytes t) (table_pos t) i)
 
 -- the comparison may be asked of each item
-abbrev pub MayAsk : {T W : Type 0} → (View T → Type 0) → Width → Shape → ArchivedHashTable T W → Type 0
+abbrev pub MayAsk : {T W : Type 0} → (View T → Type 0) → Width → Shape → ArchivedHashTable T W
+    → Type 0
 MayAsk {T} pre w s t = (v : View T) → IsItem w s t v → pre v
 
 -- at position q an item of the table stands of which the comparison answered true
-abbrev pub IsAcceptedAt : {T W : Type 0} → (View T → Bool → Type 0) → Width → Shape → ArchivedHashTable T W → ℕ → Type 0
+abbrev pub IsAcceptedAt : {T W : Type 0} → (View T → Bool → Type 0) → Width → Shape
+    → ArchivedHashTable T W → ℕ → Type 0
 IsAcceptedAt {T} post w s t q = (v : View T) × IsItem w s t v × (v.pos ≡ q) × post v true
 
 -- of each item the comparison answers what accept tells of its position
-abbrev pub Answers : {T W : Type 0} → (View T → Bool → Type 0) → Width → Shape → ArchivedHashTable T W → (ℕ → Bool) → Type 0
-Answers {T} post w s t accept = (v : View T) (r : Bool) → IsItem w s t v → post v r → r ≡ accept v.pos
+abbrev pub Answers : {T W : Type 0} → (View T → Bool → Type 0) → Width → Shape
+    → ArchivedHashTable T W → (ℕ → Bool) → Type 0
+Answers {T} post w s t accept = (v : View T) (r : Bool) → IsItem w s t v → post v r
+    → r ≡ accept v.pos
 
 -- what a lookup answers by position, on any accepted table
-abbrev pub FindsFound : {T W : Type 0} → (View T → Bool → Type 0) → Kind → Width → Shape → ArchivedHashTable T W → ℕ → Option ℕ → Type 0
+abbrev pub FindsFound : {T W : Type 0} → (View T → Bool → Type 0) → Kind → Width → Shape
+    → ArchivedHashTable T W → ℕ → Option ℕ → Type 0
 FindsFound post kind w s t hash result =
-    (accept : ℕ → Bool) → Answers post w s t accept → result ≡ pos_found kind w s.size (table_bytes t) (table_pos t) hash accept
+    (accept : ℕ → Bool) → Answers post w s t accept
+    → result ≡ pos_found kind w s.size (table_bytes t) (table_pos t) hash accept
 
--- and on a written one, where only items under the asked hash are accepted: the first accepted one in the order handed in
-abbrev pub FindsFirst : {T W : Type 0} → (View T → Bool → Type 0) → Width → Shape → ArchivedHashTable T W → ℕ → Option ℕ → Type 0
+-- and on a written one, where only items under the asked hash are accepted: the first accepted one
+-- in the order handed in
+abbrev pub FindsFirst : {T W : Type 0} → (View T → Bool → Type 0) → Width → Shape
+    → ArchivedHashTable T W → ℕ → Option ℕ → Type 0
 FindsFirst post w s t hash result =
-    (hashes homes : List ℕ) (accept : ℕ → Bool) → WrittenAt w (table_bytes t) (table_pos t) hashes homes → Answers post w s t accept
+    (hashes homes : List ℕ) (accept : ℕ → Bool)
+    → WrittenAt w (table_bytes t) (table_pos t) hashes homes → Answers post w s t accept
     → IsUnderHash hash hashes (home_positions w s.size (table_bytes t) (table_pos t) homes) accept
     → result ≡ find accept (home_positions w s.size (table_bytes t) (table_pos t) homes)
 
 -- a lookup raises the count of strides by exactly the number of the one at which it ends
-abbrev pub CountsEnd : {T W : Type 0} → (View T → Bool → Type 0) → Kind → Width → Shape → ArchivedHashTable T W → ℕ → ℕ → ℕ → Type 0
+abbrev pub CountsEnd : {T W : Type 0} → (View T → Bool → Type 0) → Kind → Width → Shape
+    → ArchivedHashTable T W → ℕ → ℕ → ℕ → Type 0
 CountsEnd post kind w s t hash before after =
-    (accept : ℕ → Bool) → Answers post w s t accept → after ≡ before + lookup_end kind w s.size (table_bytes t) (table_pos t) hash accept
+    (accept : ℕ → Bool) → Answers post w s t accept
+    → after ≡ before + lookup_end kind w s.size (table_bytes t) (table_pos t) hash accept
 
 -- by at most one stride for each sixteen buckets, rounded up, whatever the comparison answers
 abbrev pub CountsWithin : {T W : Type 0} → Width → ArchivedHashTable T W → ℕ → ℕ → Type 0
-CountsWithin w t before after = ReadsWithin (len_at w (table_bytes t) (table_pos t)) (probe_capacity (cap_at w (table_bytes t) (table_pos t)) / 16) before after
+CountsWithin w t before after =
+    ReadsWithin (len_at w (table_bytes t) (table_pos t))
+    (probe_capacity (cap_at w (table_bytes t) (table_pos t)) / 16) before after
 
 -- the position of an item that may have been found
 abbrev pub pos_of_found : {T : Type 0} → Option (View T) → Option ℕ
@@ -130,14 +157,18 @@ pub record AreItems {T W : Type 0} (w : Width) (s : Shape) (items : Items T W) :
   pub len : items.len ≡ len_at w (table_bytes items.table) (table_pos items.table)
   pub cap : items.cap ≡ cap_at w (table_bytes items.table) (table_pos items.table)
   pub small : items.cap < 2 ^ 64
-  pub place : 0 < items.cap → items.place ≡ controls_pos w (table_bytes items.table) (table_pos items.table)
-  pub controls : 0 < items.cap → items.controls.now ≡ table_controls w (table_bytes items.table) (table_pos items.table)
+  pub place : 0 < items.cap → items.place
+      ≡ controls_pos w (table_bytes items.table) (table_pos items.table)
+  pub controls : 0 < items.cap → items.controls.now
+      ≡ table_controls w (table_bytes items.table) (table_pos items.table)
 
 -- the bucket of an item that may have been found
 abbrev pub bucket_of_found : {T : Type 0} → Option (FoundItem T) → Option ℕ
 bucket_of_found found = option_map (λ (f : FoundItem _). f.bucket) found
 
 -- the bucket that a lookup answers, on any accepted table
-abbrev pub FindsBucket : {T W : Type 0} → (View T → Bool → Type 0) → Kind → Width → Shape → ArchivedHashTable T W → ℕ → Option ℕ → Type 0
+abbrev pub FindsBucket : {T W : Type 0} → (View T → Bool → Type 0) → Kind → Width → Shape
+    → ArchivedHashTable T W → ℕ → Option ℕ → Type 0
 FindsBucket post kind w s t hash result =
-    (accept : ℕ → Bool) → Answers post w s t accept → result ≡ bucket_found kind w s.size (table_bytes t) (table_pos t) hash accept
+    (accept : ℕ → Bool) → Answers post w s t accept
+    → result ≡ bucket_found kind w s.size (table_bytes t) (table_pos t) hash accept

@@ -26,19 +26,22 @@ items_left r = r.left
 abbrev pub buckets_left : {T : Type 0} → Width → ℕ → RawIterSeal T → List ℕ
 buckets_left w p r = full_from (table_controls w r.archive.now p) r.cap r.next
 
--- a table of such items stands at p in the archive of the cursor, whose numbers are those of the table
-pub record IsSealIter {T : Type 0} (w : Width) (s : Shape) (p : ℕ) (r : RawIterSeal T) : Type 0 where
-  pub table : Viewed (table_shape w s) r.archive.now p
-  pub cap : r.cap ≡ cap_at w r.archive.now p
-  pub place : 0 < r.cap → r.place ≡ controls_pos w r.archive.now p
-  pub left : r.left ≡ length (buckets_left w p r)
+-- a table of such items stands at p in the archive of the cursor, whose numbers are those of the
+-- table
+pub record IsSealIter {T : Type 0} (w : Width) (s : Shape) (p : ℕ) (r : RawIterSeal T) : Type 0
+  where
+    pub table : Viewed (table_shape w s) r.archive.now p
+    pub cap : r.cap ≡ cap_at w r.archive.now p
+    pub place : 0 < r.cap → r.place ≡ controls_pos w r.archive.now p
+    pub left : r.left ≡ length (buckets_left w p r)
 
 -- the cursor lends the same bytes of the same reference
 pub record SameArchive {T : Type 0} (before after : RawIterSeal T) : Type 0 where
   pub reference : after.archive.ghost_name ≡ before.archive.ghost_name
   pub bytes : after.archive.now ≡ before.archive.now
 
--- q is where the item in bucket i of the table at p stands, and each write of the item alone that keeps it keeps the table
+-- q is where the item in bucket i of the table at p stands, and each write of the item alone that
+-- keeps it keeps the table
 pub record IsItemAt (w : Width) (s : Shape) (b : List ℕ) (p i q : ℕ) : Type 0 where
   pub walked : IsWalked w b p i
   pub place : q ≡ item_at w s.size b p i
@@ -46,35 +49,43 @@ pub record IsItemAt (w : Width) (s : Shape) (b : List ℕ) (p i q : ℕ) : Type 
   pub kept : KeptByWrites w s b p i
 
 -- the first of the buckets that are left, and the others after it
-pub record TakesBucket {T : Type 0} (w : Width) (s : Shape) (p : ℕ) (before after : RawIterSeal T) (q : ℕ) : Type 0 where
+pub record TakesBucket {T : Type 0} (w : Width) (s : Shape) (p : ℕ) (before after : RawIterSeal T)
+    (q : ℕ) : Type 0 where
   pub bucket : ℕ
   pub first : buckets_left w p before ≡ bucket ∷ buckets_left w p after
   pub item : IsItemAt w s before.archive.now p bucket q
   pub iter : IsSealIter w s p after
 
--- a step over the positions of a table's items: none is left and the cursor is as before, or the first is taken
+-- a step over the positions of a table's items: none is left and the cursor is as before, or the
+-- first is taken
 abbrev pub TakesPosition : {T : Type 0} → Shape → RawIterSeal T → Option ℕ → RawIterSeal T → Type 0
 TakesPosition s before result after =
     (w : Width) (p : ℕ) → IsSealIter w s p before
-    → MatchOption result ((buckets_left w p before ≡ []) × (buckets_left w p after ≡ []) × IsSealIter w s p after) (TakesBucket w s p before after)
+    → MatchOption result ((buckets_left w p before ≡ []) × (buckets_left w p after ≡ [])
+    × IsSealIter w s p after) (TakesBucket w s p before after)
 
--- the number of items left goes down by one with each that is given, and once none is left none is given
+-- the number of items left goes down by one with each that is given, and once none is left none is
+-- given
 abbrev pub CountsDown : {T : Type 0} → RawIterSeal T → Option ℕ → RawIterSeal T → Type 0
-CountsDown before result after = MatchOption result (after.left ≡ before.left) (λ _. before.left ≡ after.left + 1)
+CountsDown before result after =
+    MatchOption result (after.left ≡ before.left) (λ _. before.left ≡ after.left + 1)
 
--- the seal is at the first item that a cursor over a table has left; none is given where none is left
+-- the seal is at the first item that a cursor over a table has left; none is given where none is
+-- left
 abbrev pub LendsFirst : {T : Type 0} → Shape → RawIterSeal T → Option (Seal T) → Type 0
 LendsFirst s before result =
     (w : Width) (p : ℕ) → IsSealIter w s p before
     → MatchOption result (buckets_left w p before ≡ [])
-    (λ x. (i : ℕ) × (rest : List ℕ) × (buckets_left w p before ≡ i ∷ rest) × IsItemAt w s before.archive.now p i (seal_pos x))
+    (λ x. (i : ℕ) × (rest : List ℕ) × (buckets_left w p before ≡ i ∷ rest)
+    × IsItemAt w s before.archive.now p i (seal_pos x))
 
 -- the first item that a cursor over a table has left, by its bucket and its place
 abbrev pub FindsFirstLeft : {T : Type 0} → Shape → RawIterSeal T → Option Place → Type 0
 FindsFirstLeft s r result =
     (w : Width) (p : ℕ) → IsSealIter w s p r
     → MatchOption result (buckets_left w p r ≡ [])
-    (λ f. (buckets_left w p r ≡ f.bucket ∷ full_from (table_controls w r.archive.now p) r.cap (f.bucket + 1)) × IsItemAt w s r.archive.now p f.bucket f.at)
+    (λ f. (buckets_left w p r ≡ f.bucket ∷ full_from (table_controls w r.archive.now p) r.cap
+    (f.bucket + 1)) × IsItemAt w s r.archive.now p f.bucket f.at)
 
 -- the cursor lends what the seal lent
 pub record LendsArchive {T U : Type 0} (a : ArchiveSeal U) (r : RawIterSeal T) : Type 0 where
@@ -89,38 +100,51 @@ pub record StaysThere {T : Type 0} (before after : RawIterSeal T) : Type 0 where
   pub next : after.next ≡ before.next
   pub left : after.left ≡ before.left
 
--- a cursor over a table of which the item at q was written is one over the table, which is kept, with the same buckets left
+-- a cursor over a table of which the item at q was written is one over the table, which is kept,
+-- with the same buckets left
 abbrev pub KeepsCursor : {T : Type 0} → Shape → RawIterSeal T → ℕ → RawIterSeal T → Type 0
 KeepsCursor s before q after =
     (w : Width) (p i : ℕ) → IsSealIter w s p before → IsItemAt w s before.archive.now p i q
-    → KeepsTable w s before.archive.now after.archive.now p i × IsSealIter w s p after × (buckets_left w p after ≡ buckets_left w p before)
+    → KeepsTable w s before.archive.now after.archive.now p i × IsSealIter w s p after
+    × (buckets_left w p after ≡ buckets_left w p before)
 
 -- a writer may be given the archive, at each place at which an item fits
-abbrev pub MayWriteNext : {F T : Type 0} → (F → MutBor (List ℕ) → ℕ → Type 0) → Shape → RawIterSeal T → F → Type 0
-MayWriteNext pre s before write = (b : MutBor (List ℕ)) (q : ℕ) → b.now ≡ before.archive.now → q + s.size ≤ length b.now → pre write b q
+abbrev pub MayWriteNext : {F T : Type 0} → (F → MutBor (List ℕ) → ℕ → Type 0) → Shape
+    → RawIterSeal T → F → Type 0
+MayWriteNext pre s before write = (b : MutBor (List ℕ)) (q : ℕ) → b.now ≡ before.archive.now
+    → q + s.size ≤ length b.now → pre write b q
 
 -- a writer may be given the archive and this place
-abbrev pub MayWriteAt : {F T : Type 0} → (F → MutBor (List ℕ) → ℕ → Type 0) → RawIterSeal T → ℕ → F → Type 0
+abbrev pub MayWriteAt : {F T : Type 0} → (F → MutBor (List ℕ) → ℕ → Type 0) → RawIterSeal T → ℕ → F
+    → Type 0
 MayWriteAt pre before q write = (b : MutBor (List ℕ)) → b.now ≡ before.archive.now → pre write b q
 
 -- the writer may make the second bytes of the first, at a place
-abbrev pub WrittenBy : {F R : Type 0} → (F → MutBor (List ℕ) → ℕ → R → MutBor (List ℕ) → Type 0) → F → R → List ℕ → ℕ → List ℕ → Type 0
-WrittenBy post write r b q c = (x : MutBor (List ℕ)) × (y : MutBor (List ℕ)) × (x.now ≡ b) × (y.now ≡ c) × post write x q r y
+abbrev pub WrittenBy : {F R : Type 0} → (F → MutBor (List ℕ) → ℕ → R → MutBor (List ℕ) → Type 0) → F
+    → R → List ℕ → ℕ → List ℕ → Type 0
+WrittenBy post write r b q c =
+    (x : MutBor (List ℕ)) × (y : MutBor (List ℕ)) × (x.now ≡ b) × (y.now ≡ c) × post write x q r y
 
--- a step over the positions of a table's items, and what the writer does to the archive where an item was left
-pub record StepsAndWrites {T : Type 0} (s : Shape) (Writes : List ℕ → ℕ → List ℕ → Type 0) (before : RawIterSeal T) (result : Option ℕ) (after : RawIterSeal T) : Type 0 where
+-- a step over the positions of a table's items, and what the writer does to the archive where an
+-- item was left
+pub record StepsAndWrites {T : Type 0} (s : Shape) (Writes : List ℕ → ℕ → List ℕ
+    → Type 0) (before : RawIterSeal T) (result : Option ℕ) (after : RawIterSeal T) : Type 0 where
   pub stepped : RawIterSeal T
   pub archive : SameArchive before stepped
   pub counts : CountsDown before result stepped
   pub takes : TakesPosition s before result stepped
-  pub writes : MatchOption result (after ≡ stepped) (λ q. StaysThere stepped after × Writes stepped.archive.now q after.archive.now)
+  pub writes : MatchOption result (after ≡ stepped) (λ q. StaysThere stepped after
+      × Writes stepped.archive.now q after.archive.now)
 
 -- a writer may be lent the seal of an item at this place of these bytes
 abbrev pub MaySeal : {F T : Type 0} → (F → MutBor (Seal T) → Type 0) → F → List ℕ → ℕ → Type 0
-MaySeal {F} {T} pre write b q = (x : MutBor (Seal T)) → bytes_in x.now ≡ b → seal_pos x.now ≡ q → pre write x
+MaySeal {F} {T} pre write b q = (x : MutBor (Seal T)) → bytes_in x.now ≡ b → seal_pos x.now ≡ q
+    → pre write x
 
--- the writer was lent the seal at this place of these bytes; if it left that seal's reference there, the second bytes are those behind it
-pub record SealedBy {F R T : Type 0} (post : F → MutBor (Seal T) → R → MutBor (Seal T) → Type 0) (write : F) (r : R) (b : List ℕ) (q : ℕ) (c : List ℕ) : Type 0 where
+-- the writer was lent the seal at this place of these bytes; if it left that seal's reference
+-- there, the second bytes are those behind it
+pub record SealedBy {F R T : Type 0} (post : F → MutBor (Seal T) → R → MutBor (Seal T)
+    → Type 0) (write : F) (r : R) (b : List ℕ) (q : ℕ) (c : List ℕ) : Type 0 where
   pub given : MutBor (Seal T)
   pub left : MutBor (Seal T)
   pub bytes : bytes_in given.now ≡ b
@@ -129,10 +153,13 @@ pub record SealedBy {F R T : Type 0} (post : F → MutBor (Seal T) → R → Mut
   pub leaves : left.now.bytes.ghost_name ≡ given.now.bytes.ghost_name → bytes_in left.now ≡ c
 
 -- a writer may be lent the seal of each item that lies in the archive
-abbrev pub MaySealNext : {F T : Type 0} → (F → MutBor (Seal T) → Type 0) → Shape → RawIterSeal T → F → Type 0
-MaySealNext {F} {T} pre s before write = (x : MutBor (Seal T)) → bytes_in x.now ≡ before.archive.now → LiesIn s x.now → pre write x
+abbrev pub MaySealNext : {F T : Type 0} → (F → MutBor (Seal T) → Type 0) → Shape → RawIterSeal T → F
+    → Type 0
+MaySealNext {F} {T} pre s before write = (x : MutBor (Seal T)) → bytes_in x.now ≡ before.archive.now
+    → LiesIn s x.now → pre write x
 
 -- a writer may be lent the seal of each item that lies in the bytes
 abbrev pub MaySealIn : {F T : Type 0} → (F → MutBor (Seal T) → Type 0) → Shape → F → List ℕ
     → Type 0
-MaySealIn {F} {T} pre s write b = (x : MutBor (Seal T)) → bytes_in x.now ≡ b → LiesIn s x.now → pre write x
+MaySealIn {F} {T} pre s write b = (x : MutBor (Seal T)) → bytes_in x.now ≡ b → LiesIn s x.now
+    → pre write x

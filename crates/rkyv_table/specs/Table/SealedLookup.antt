@@ -10,7 +10,8 @@ use Rattle.rkyv_base.specs.declared.seal.Seal.{Seal}
 use Rattle.rkyv_base.specs.declared.view.View.{View}
 use Rattle.rkyv_scan.specs.Groups.{Kind}
 use Rattle.rkyv_table.specs.Controls.Laws.{IsUnderHash}
-use Rattle.rkyv_table.specs.Table.Reading.{Answers, IsWalked, MayAsk, WrittenAt, home_positions, item_at, pos_found, table_bytes, table_pos}
+use Rattle.rkyv_table.specs.Table.Reading.{Answers, IsWalked, MayAsk, WrittenAt, home_positions}
+use Rattle.rkyv_table.specs.Table.Reading.{item_at, pos_found, table_bytes, table_pos}
 use Rattle.rkyv_table.specs.Table.SealedTable.{KeptByWrites}
 use Rattle.rkyv_table.specs.Table.Layout.{table_shape}
 use Rattle.rkyv_table.specs.declared.table.ArchivedHashTable.{ArchivedHashTable}
@@ -25,15 +26,20 @@ abbrev pub IsReadAt : {T W : Type 0} → ArchiveSeal (TableOf T W) → ArchivedH
 IsReadAt a t = (table_bytes t ≡ archive_in a) × (table_pos t ≡ pos_in a)
 
 -- the comparison may be asked of each item
-abbrev pub MayAskAt : {T W : Type 0} → (View T → Type 0) → Width → Shape → ArchiveSeal (TableOf T W) → Type 0
+abbrev pub MayAskAt : {T W : Type 0} → (View T → Type 0) → Width → Shape → ArchiveSeal (TableOf T W)
+    → Type 0
 MayAskAt {T} {W} pre w s a = (t : ArchivedHashTable T W) → IsReadAt a t → MayAsk pre w s t
 
 -- of each item the comparison answers what accept tells of its position
-abbrev pub AnswersAt : {T W : Type 0} → (View T → Bool → Type 0) → Width → Shape → ArchiveSeal (TableOf T W) → (ℕ → Bool) → Type 0
-AnswersAt {T} {W} post w s a accept = (t : ArchivedHashTable T W) → IsReadAt a t → Answers post w s t accept
+abbrev pub AnswersAt : {T W : Type 0} → (View T → Bool → Type 0) → Width → Shape
+    → ArchiveSeal (TableOf T W) → (ℕ → Bool) → Type 0
+AnswersAt {T} {W} post w s a accept = (t : ArchivedHashTable T W) → IsReadAt a t
+    → Answers post w s t accept
 
--- the seal is at an item of the table, and each write through it alone that keeps the item keeps the table
-pub record IsItemSeal {T W : Type 0} (w : Width) (s : Shape) (a : ArchiveSeal (TableOf T W)) (x : Seal T) : Type 0 where
+-- the seal is at an item of the table, and each write through it alone that keeps the item keeps
+-- the table
+pub record IsItemSeal {T W : Type 0} (w : Width) (s : Shape) (a : ArchiveSeal (TableOf T W))
+    (x : Seal T) : Type 0 where
   pub bucket : ℕ
   pub walked : IsWalked w (archive_in a) (pos_in a) bucket
   pub at : SealAt x a.archive (item_at w s.size (archive_in a) (pos_in a) bucket)
@@ -45,13 +51,17 @@ abbrev pub pos_of_seal : {T : Type 0} → Option (Seal T) → Option ℕ
 pos_of_seal seal = option_map seal_pos seal
 
 -- what a lookup answers by position, on any accepted table
-abbrev pub SealsFound : {T W : Type 0} → (View T → Bool → Type 0) → Kind → Width → Shape → ArchiveSeal (TableOf T W) → ℕ → Option ℕ → Type 0
+abbrev pub SealsFound : {T W : Type 0} → (View T → Bool → Type 0) → Kind → Width → Shape
+    → ArchiveSeal (TableOf T W) → ℕ → Option ℕ → Type 0
 SealsFound post kind w s a hash result =
-    (accept : ℕ → Bool) → AnswersAt post w s a accept → result ≡ pos_found kind w s.size (archive_in a) (pos_in a) hash accept
+    (accept : ℕ → Bool) → AnswersAt post w s a accept
+    → result ≡ pos_found kind w s.size (archive_in a) (pos_in a) hash accept
 
 -- by position on a written table, where only items under the asked hash are accepted: the first
-abbrev pub SealsFirst : {T W : Type 0} → (View T → Bool → Type 0) → Width → Shape → ArchiveSeal (TableOf T W) → ℕ → Option ℕ → Type 0
+abbrev pub SealsFirst : {T W : Type 0} → (View T → Bool → Type 0) → Width → Shape
+    → ArchiveSeal (TableOf T W) → ℕ → Option ℕ → Type 0
 SealsFirst post w s a hash result =
-    (hashes homes : List ℕ) (accept : ℕ → Bool) → WrittenAt w (archive_in a) (pos_in a) hashes homes → AnswersAt post w s a accept
+    (hashes homes : List ℕ) (accept : ℕ → Bool) → WrittenAt w (archive_in a) (pos_in a) hashes homes
+    → AnswersAt post w s a accept
     → IsUnderHash hash hashes (home_positions w s.size (archive_in a) (pos_in a) homes) accept
     → result ≡ find accept (home_positions w s.size (archive_in a) (pos_in a) homes)

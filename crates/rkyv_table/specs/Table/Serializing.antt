@@ -1,7 +1,12 @@
 -- What writing a table answers.
 use Rattle.std.specs.Prelude.{◌≡◌, ℕ, ◌<◌, ◌≤◌, ◌⊎◌, ⊤, List, length, Option}
 use Rattle.rkyv_base.specs.declared.errors.WriteError.{WriteError}
-use Rattle.rkyv_base.specs.declared.errors.WriteError.TheVariants.{InvalidLoadFactor, IteratorLengthMismatch, CapacityTooLarge, PositionTooLarge, DistanceTooLarge, TextTooLong, Writer, Memory, Refused}
+use Rattle.rkyv_base.specs.declared.errors.WriteError.TheVariants.{InvalidLoadFactor}
+use Rattle.rkyv_base.specs.declared.errors.WriteError.TheVariants.{IteratorLengthMismatch}
+use Rattle.rkyv_base.specs.declared.errors.WriteError.TheVariants.{CapacityTooLarge}
+use Rattle.rkyv_base.specs.declared.errors.WriteError.TheVariants.{PositionTooLarge}
+use Rattle.rkyv_base.specs.declared.errors.WriteError.TheVariants.{DistanceTooLarge, TextTooLong}
+use Rattle.rkyv_base.specs.declared.errors.WriteError.TheVariants.{Writer, Memory, Refused}
 use Rattle.rkyv_base.specs.Format.{Format, GaveUp, Serialized}
 use Rattle.rkyv_base.specs.Shape.{Shape}
 use Rattle.rkyv_base.specs.Writing.{Appended, Output, Told, end_of}
@@ -15,12 +20,15 @@ abbrev pub HasCapacity : ℕ → ℕ × ℕ → ℕ → Type 0
 HasCapacity len load_factor max = IsLoadFactor load_factor × (capacity len load_factor ≤ max)
 
 module _ (len : ℕ) (load_factor : ℕ × ℕ) (max : ℕ) (other : ℕ → Type 0) where
-  -- the call's own causes, each where none before it stands; `other` says which other number of items came
+  -- the call's own causes, each where none before it stands; `other` says which other number of
+  -- items came
   abbrev pub OwnCause : {F : Type 0} → WriteError F → Type 0
   OwnCause (InvalidLoadFactor n d) = (load_factor ≡ (n, d)) × (IsLoadFactor load_factor → ⊥)
-  OwnCause (CapacityTooLarge l) = (l ≡ len) × IsLoadFactor load_factor × (max < capacity len load_factor)
+  OwnCause (CapacityTooLarge l) =
+      (l ≡ len) × IsLoadFactor load_factor × (max < capacity len load_factor)
   OwnCause Memory = HasCapacity len load_factor max × (0 < len)
-  OwnCause (IteratorLengthMismatch m) = (m.expected ≡ len) × HasCapacity len load_factor max × other m.actual
+  OwnCause (IteratorLengthMismatch m) =
+      (m.expected ≡ len) × HasCapacity len load_factor max × other m.actual
   OwnCause PositionTooLarge = ⊥
   OwnCause DistanceTooLarge = ⊥
   OwnCause TextTooLong = ⊥
@@ -34,20 +42,25 @@ Came gave len pairs = gave pairs × (length pairs ≡ len)
 module _ {X R : Type 0} (gave : List (ℕ × X) → Type 0) (len limit : ℕ) where
   -- the pairs that came were written
   abbrev pub WroteGiven : Format (List (ℕ × X)) R → Output → Output → R → Type 0
-  WroteGiven f o o' r = (pairs : List (ℕ × X)) × Came gave len pairs × Serialized limit f pairs o o' r
+  WroteGiven f o o' r = (pairs : List (ℕ × X)) × Came gave len pairs
+      × Serialized limit f pairs o o' r
 
   -- writing the pairs that came gave up
-  abbrev pub GaveUpGiven : {F : Type 0} → Format (List (ℕ × X)) R → Output → Output → WriteError F → Type 0
+  abbrev pub GaveUpGiven : {F : Type 0} → Format (List (ℕ × X)) R → Output → Output → WriteError F
+      → Type 0
   GaveUpGiven f o o' e = (pairs : List (ℕ × X)) × Came gave len pairs × GaveUp limit f pairs o o' e
 
-module _ {X : Type 0} (gave : List (ℕ × X) → Type 0) (len : ℕ) (load_factor : ℕ × ℕ) (max : ℕ) (f : Format (List (ℕ × X)) TableResolver) (o o' : Output) (limit : ℕ) where
+module _ {X : Type 0} (gave : List (ℕ × X)
+    → Type 0) (len : ℕ) (load_factor : ℕ × ℕ) (max : ℕ) (f : Format (List (ℕ × X)) TableResolver)
+    (o o' : Output) (limit : ℕ) where
   -- the pairs that came were written as a table
   abbrev pub WroteTable : TableResolver → Type 0
   WroteTable r = HasCapacity len load_factor max × WroteGiven gave len limit f o o' r
 
   -- a cause of the call's own, and nothing was written; or else writing the pairs that came gave up
   abbrev pub NoTable : {F : Type 0} → (ℕ → Type 0) → WriteError F → Type 0
-  NoTable other e = (OwnCause len load_factor max other e × (o' ≡ o)) ⊎ (HasCapacity len load_factor max × GaveUpGiven gave len limit f o o' e)
+  NoTable other e = (OwnCause len load_factor max other e × (o' ≡ o))
+      ⊎ (HasCapacity len load_factor max × GaveUpGiven gave len limit f o o' e)
 
 -- the causes for which the items are not placed
 abbrev pub NotPlaced : {F : Type 0} → ℕ → (ℕ → Type 0) → WriteError F → Type 0
@@ -62,7 +75,9 @@ NotPlaced len other (Writer fault) = ⊥
 NotPlaced len other (Refused c) = ⊥
 
 -- the pairs that came, and where they stand
-pub record Taken {X : Type 0} (gave : List (ℕ × X) → Type 0) (len cap : ℕ) (slots : List (Option X)) (controls : List ℕ) (pairs : List (ℕ × X)) : Type 0 where
+pub record Taken {X : Type 0} (gave : List (ℕ × X)
+    → Type 0) (len cap : ℕ) (slots : List (Option X)) (controls : List ℕ)
+    (pairs : List (ℕ × X)) : Type 0 where
   pub came : Came gave len pairs
   pub placed : Placed cap pairs slots controls
 
@@ -70,10 +85,15 @@ module _ {X R : Type 0} (gave : List (ℕ × X) → Type 0) where
   module _ (len cap : ℕ) (s : Shape) (f : Format X R) (o o' : Output) (limit : ℕ) where
     -- the bytes of the table of the pairs that came were appended, with the first control at z
     abbrev pub WroteFilled : ℕ → Type 0
-    WroteFilled z = (pairs : List (ℕ × X)) × (slots : List (Option X)) × (controls : List ℕ) × Taken gave len cap slots controls pairs
-        × (bytes : List ℕ) × Appended limit bytes o o' × TableBytes s f slots controls (end_of o) z bytes
+    WroteFilled z = (pairs : List (ℕ × X)) × (slots : List (Option X)) × (controls : List ℕ)
+        × Taken gave len cap slots controls pairs
+        × (bytes : List ℕ) × Appended limit bytes o o'
+        × TableBytes s f slots controls (end_of o) z bytes
 
-    -- the items were not placed, and nothing was written; or else writing the pairs that came gave up
+    -- the items were not placed, and nothing was written; or else writing the pairs that came gave
+    -- up
     abbrev pub NoFilled : {F : Type 0} → (ℕ → Type 0) → WriteError F → Type 0
-    NoFilled other e = (NotPlaced len other e × (o' ≡ o)) ⊎ ((pairs : List (ℕ × X)) × (slots : List (Option X)) × (controls : List ℕ) × Taken gave len cap slots controls pairs
+    NoFilled other e = (NotPlaced len other e × (o' ≡ o))
+        ⊎ ((pairs : List (ℕ × X)) × (slots : List (Option X)) × (controls : List ℕ)
+        × Taken gave len cap slots controls pairs
         × Told limit (TableNext s f slots controls (end_of o)) o o' e)

@@ -1,9 +1,11 @@
 -- The bytes of a table whose items stand in slots, one for each bucket.
-use Rattle.std.specs.Prelude.{◌≡◌, ℕ, suc, ◌+◌, ◌-◌, ◌*◌, ◌⊎◌, List, [], ◌∷◌, ◌++◌, length, take, drop, Option, Some, None, slice_get}
+use Rattle.std.specs.Prelude.{◌≡◌, ℕ, suc, ◌+◌, ◌-◌, ◌*◌, ◌⊎◌, List, [], ◌∷◌, ◌++◌, length, take}
+use Rattle.std.specs.Prelude.{drop, Option, Some, None, slice_get}
 use Rattle.rkyv_base.specs.Entry.{round_up}
 use Rattle.rkyv_base.specs.Format.{Format}
 use Rattle.rkyv_base.specs.Shape.{Shape}
-use Rattle.rkyv_base.specs.Writing.{Appended, Output, Step, distance, end_of, padding, piece, refusal, zeros}
+use Rattle.rkyv_base.specs.Writing.{Appended, Output, Step, distance, end_of, padding, piece}
+use Rattle.rkyv_base.specs.Writing.{refusal, zeros}
 
 -- how many slots have an item
 abbrev pub filled : {X : Type 0} → List (Option X) → ℕ
@@ -23,15 +25,18 @@ module _ {X R : Type 0} (f : Format X R) where
     -- what serializing the items comes to after front
     abbrev pub PartsNext : List ℕ → Step → Type 0
     PartsNext front step = (i : ℕ) × (x : X) × (a : List ℕ) × (rs : List R) × (rest : List ℕ)
-        × (slice_get slots i ≡ Some (Some x)) × SlotParts (take i slots) p a rs × f.next x (p + length a) rest step × (front ≡ a ++ rest)
+        × (slice_get slots i ≡ Some (Some x)) × SlotParts (take i slots) p a rs
+        × f.next x (p + length a) rest step × (front ≡ a ++ rest)
 
 module _ {X R : Type 0} (size : ℕ) (f : Format X R) where
   -- the buckets before position z, from the highest to the first
   abbrev pub SlotImages : List (Option X) → List R → ℕ → List ℕ → Type 0
   SlotImages [] rs z out = (rs ≡ []) × (out ≡ [])
-  SlotImages (None ∷ ss) rs z out = (rest : List ℕ) × SlotImages ss rs (z - size) rest × (out ≡ rest ++ zeros size)
+  SlotImages (None ∷ ss) rs z out =
+      (rest : List ℕ) × SlotImages ss rs (z - size) rest × (out ≡ rest ++ zeros size)
   SlotImages (Some x ∷ ss) rs z out = (r : R) × (qs : List R) × (rest : List ℕ) × (one : List ℕ)
-      × (rs ≡ r ∷ qs) × f.image x r (z - size) one × SlotImages ss qs (z - size) rest × (out ≡ rest ++ one)
+      × (rs ≡ r ∷ qs) × f.image x r (z - size) one × SlotImages ss qs (z - size) rest
+      × (out ≡ rest ++ one)
 
   -- one bucket at position p: zeros, or the item by the last resolver
   abbrev pub Filled : Option X → List R → List R → ℕ → List ℕ → Type 0
@@ -43,15 +48,18 @@ module _ {X R : Type 0} (size : ℕ) (f : Format X R) where
   TooFar None left p = ⊥
   TooFar (Some x) left p = (r : R) × (more : List R) × (left ≡ more ++ r ∷ []) × f.far x r p
 
-  -- what writing one bucket at position p comes to: its bytes, or that the distance of its item is too large
+  -- what writing one bucket at position p comes to: its bytes, or that the distance of its item is
+  -- too large
   abbrev pub BucketStep : Option X → List R → ℕ → Step → Type 0
   BucketStep s left p step =
-      ((more : List R) × (out : List ℕ) × Filled s left more p out × (step ≡ piece out)) ⊎ (TooFar s left p × (step ≡ refusal distance))
+      ((more : List R) × (out : List ℕ) × Filled s left more p out × (step ≡ piece out))
+      ⊎ (TooFar s left p × (step ≡ refusal distance))
 
   module _ (slots : List (Option X)) (rs : List R) (p : ℕ) where
     -- the buckets above i stand, from p on, and left resolves the items of the others
     abbrev pub Above : ℕ → List R → List ℕ → Type 0
-    Above i left front = (done : List R) × (rs ≡ left ++ done) × SlotImages (drop (i + 1) slots) done (p + length front) front
+    Above i left front = (done : List R) × (rs ≡ left ++ done)
+        × SlotImages (drop (i + 1) slots) done (p + length front) front
 
     -- what writing the buckets comes to after front
     abbrev pub BucketNext : List ℕ → Step → Type 0
@@ -60,10 +68,13 @@ module _ {X R : Type 0} (size : ℕ) (f : Format X R) where
 
   -- the buckets were appended within the limit
   abbrev pub WroteBuckets : ℕ → List (Option X) → List R → Output → Output → Type 0
-  WroteBuckets limit slots rs o o' = (out : List ℕ) × Appended limit out o o' × SlotImages slots rs (end_of o') out
+  WroteBuckets limit slots rs o o' =
+      (out : List ℕ) × Appended limit out o o' × SlotImages slots rs (end_of o') out
 
-module _ {X R : Type 0} (s : Shape) (f : Format X R) (slots : List (Option X)) (controls : List ℕ) (p : ℕ) where
-  -- The bytes of a table that is written from position p on: the items' parts, zeros, the buckets, the controls; z is the
+module _ {X R : Type 0} (s : Shape) (f : Format X R) (slots : List (Option X)) (controls : List ℕ)
+    (p : ℕ) where
+  -- The bytes of a table that is written from position p on: the items' parts, zeros, the buckets,
+  -- the controls; z is the
   -- position of its first control.
   pub record TableBytes (z : ℕ) (bytes : List ℕ) : Type 0 where
     pub part : List ℕ
@@ -76,11 +87,17 @@ module _ {X R : Type 0} (s : Shape) (f : Format X R) (slots : List (Option X)) (
 
   -- what stands before the buckets
   abbrev pub BeforeBuckets : List ℕ → List R → List ℕ → Type 0
-  BeforeBuckets a rs front = SlotParts f slots p a rs × (front ≡ a ++ zeros (padding s.align (p + length a)))
+  BeforeBuckets a rs front = SlotParts f slots p a rs
+      × (front ≡ a ++ zeros (padding s.align (p + length a)))
 
-  -- what writing the table comes to after front: that of a part, the zeros, that of a bucket, or the controls
+  -- what writing the table comes to after front: that of a part, the zeros, that of a bucket, or
+  -- the controls
   abbrev pub TableNext : List ℕ → Step → Type 0
   TableNext front step = PartsNext f slots p front step
-      ⊎ ((rs : List R) × SlotParts f slots p front rs × (step ≡ piece (zeros (padding s.align (p + length front)))))
-      ⊎ ((a : List ℕ) × (rs : List R) × (b : List ℕ) × (g : List ℕ) × BeforeBuckets a rs b × BucketNext s.size f slots rs (p + length b) g step × (front ≡ b ++ g))
-      ⊎ ((a : List ℕ) × (rs : List R) × (b : List ℕ) × (g : List ℕ) × BeforeBuckets a rs b × SlotImages s.size f slots rs (p + length front) g × (front ≡ b ++ g) × (step ≡ piece controls))
+      ⊎ ((rs : List R) × SlotParts f slots p front rs
+      × (step ≡ piece (zeros (padding s.align (p + length front)))))
+      ⊎ ((a : List ℕ) × (rs : List R) × (b : List ℕ) × (g : List ℕ) × BeforeBuckets a rs b
+      × BucketNext s.size f slots rs (p + length b) g step × (front ≡ b ++ g))
+      ⊎ ((a : List ℕ) × (rs : List R) × (b : List ℕ) × (g : List ℕ) × BeforeBuckets a rs b
+      × SlotImages s.size f slots rs (p + length front) g × (front ≡ b ++ g)
+      × (step ≡ piece controls))

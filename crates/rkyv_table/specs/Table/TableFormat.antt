@@ -1,5 +1,6 @@
 -- How a list of hashes and items is written as a table, and that it stands as one.
-use Rattle.std.specs.Prelude.{◌≡◌, ℕ, ◌^◌, ◌<◌, ◌⊎◌, pos, List, [], length, slice_get, slice_index, Option, Some}
+use Rattle.std.specs.Prelude.{◌≡◌, ℕ, ◌^◌, ◌<◌, ◌⊎◌, pos, List, [], length, slice_get, slice_index}
+use Rattle.std.specs.Prelude.{Option, Some}
 use Rattle.std.specs.Int.{Width}
 use mir.Val.{bits}
 use Rattle.rkyv_base.specs.Format.{Format}
@@ -13,7 +14,8 @@ use Rattle.rkyv_table.specs.Table.Slots.{TableBytes, TableNext}
 use Rattle.rkyv_table.specs.Table.Layout.{bucket_at, controls_at}
 use Rattle.rkyv_table.specs.Table.Taking.{Placed, hashes_of, items_of}
 
--- what resolves a table: the position of its first control, 0 of an empty one; its length; its load factor
+-- what resolves a table: the position of its first control, 0 of an empty one; its length; its load
+-- factor
 pub record TableResolver : Type 0 where
   pub pos : ℕ
   pub len : ℕ
@@ -25,13 +27,16 @@ resolved_capacity r = capacity r.len r.load_factor
 
 -- the pairs, placed in as many buckets as they need
 abbrev pub InBuckets : {X : Type 0} → ℕ × ℕ → List (ℕ × X) → List (Option X) → List ℕ → Type 0
-InBuckets load_factor pairs slots controls = (0 < length pairs) × Placed (capacity (length pairs) load_factor) pairs slots controls
+InBuckets load_factor pairs slots controls =
+    (0 < length pairs) × Placed (capacity (length pairs) load_factor) pairs slots controls
 
-module _ {X R : Type 0} (w : Width) (s : Shape) (f : Format X R) (load_factor : ℕ × ℕ) (pairs : List (ℕ × X)) (p : ℕ) where
+module _ {X R : Type 0} (w : Width) (s : Shape) (f : Format X R) (load_factor : ℕ × ℕ)
+    (pairs : List (ℕ × X)) (p : ℕ) where
   -- nothing is written of no pairs; of others the table, each item in the bucket that is its home
   abbrev pub TableWritten : ℕ → List ℕ → Type 0
   TableWritten z part = ((pairs ≡ []) × (part ≡ []) × (z ≡ 0))
-      ⊎ ((slots : List (Option X)) × (controls : List ℕ) × InBuckets load_factor pairs slots controls × TableBytes s f slots controls p z part)
+      ⊎ ((slots : List (Option X)) × (controls : List ℕ)
+      × InBuckets load_factor pairs slots controls × TableBytes s f slots controls p z part)
 
   -- the table was written, and r resolves it
   pub record TableParts (part : List ℕ) (r : TableResolver) : Type 0 where
@@ -42,10 +47,12 @@ module _ {X R : Type 0} (w : Width) (s : Shape) (f : Format X R) (load_factor : 
 
   -- what writing the table comes to after front
   abbrev pub PairsNext : List ℕ → Step → Type 0
-  PairsNext front step = (slots : List (Option X)) × (controls : List ℕ) × InBuckets load_factor pairs slots controls × TableNext s f slots controls p front step
+  PairsNext front step = (slots : List (Option X)) × (controls : List ℕ)
+      × InBuckets load_factor pairs slots controls × TableNext s f slots controls p front step
 
 -- how a list of hashes and items, in the order handed in, is written as a table under a load factor
-abbrev pub table_format : {X R : Type 0} → Width → Shape → Format X R → ℕ × ℕ → Format (List (ℕ × X)) TableResolver
+abbrev pub table_format : {X R : Type 0} → Width → Shape → Format X R → ℕ × ℕ
+    → Format (List (ℕ × X)) TableResolver
 table_format w s f load_factor = record {
   parts = TableParts w s f load_factor;
   next = PairsNext w s f load_factor;
@@ -53,15 +60,20 @@ table_format w s f load_factor = record {
   far = λ pairs r p. HeaderFar w r.len r.pos p;
 }
 
--- the buckets begin at begin; the controls are those of the hashes, and each item stands in the bucket that is its home
-pub record BucketsStand {X : Type 0} (size : ℕ) (stands : List ℕ → ℕ → X → Type 0) (c : List ℕ) (cap begin : ℕ) (pairs : List (ℕ × X)) : Type 0 where
+-- the buckets begin at begin; the controls are those of the hashes, and each item stands in the
+-- bucket that is its home
+pub record BucketsStand {X : Type 0} (size : ℕ) (stands : List ℕ → ℕ → X
+    → Type 0) (c : List ℕ) (cap begin : ℕ) (pairs : List (ℕ × X)) : Type 0 where
   pub homes : List ℕ
   pub hashes : AreHashes (hashes_of pairs)
   pub controls : Written cap (hashes_of pairs) homes (controls_at size c begin cap)
-  pub items : (i : ℕ) (x : X) → slice_get (items_of pairs) i ≡ Some x → stands c (bucket_at size begin cap (slice_index homes i)) x
+  pub items : (i : ℕ) (x : X) → slice_get (items_of pairs) i ≡ Some x
+      → stands c (bucket_at size begin cap (slice_index homes i)) x
 
 -- a header of a table of the pairs stands at p, and the table where it tells
-pub record TableStands {X : Type 0} (w : Width) (s : Shape) (stands : List ℕ → ℕ → X → Type 0) (load_factor : ℕ × ℕ) (c : List ℕ) (p : ℕ) (pairs : List (ℕ × X)) : Type 0 where
+pub record TableStands {X : Type 0} (w : Width) (s : Shape) (stands : List ℕ → ℕ → X
+    → Type 0) (load_factor : ℕ × ℕ) (c : List ℕ) (p : ℕ) (pairs : List (ℕ × X)) : Type 0 where
   pub len : len_at w c p ≡ length pairs
   pub cap : cap_at w c p ≡ capacity (length pairs) load_factor
-  pub buckets : 0 < length pairs → (begin : ℕ) × (pos begin ≡ begin_told w s.size c p) × BucketsStand s.size stands c (capacity (length pairs) load_factor) begin pairs
+  pub buckets : 0 < length pairs → (begin : ℕ) × (pos begin ≡ begin_told w s.size c p)
+      × BucketsStand s.size stands c (capacity (length pairs) load_factor) begin pairs

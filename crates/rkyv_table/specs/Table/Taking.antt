@@ -1,5 +1,6 @@
 -- Which buckets the items of a list of hashes and items are put into.
-use Rattle.std.specs.Prelude.{◌≡◌, ℕ, ◌<◌, List, map, length, true, slice_index, slice_get, Option, Some, None}
+use Rattle.std.specs.Prelude.{◌≡◌, ℕ, ◌<◌, List, map, length, true, slice_index, slice_get, Option}
+use Rattle.std.specs.Prelude.{Some, None}
 use Rattle.rkyv_table.specs.Controls.Laws.{AreHashes}
 use Rattle.rkyv_table.specs.Controls.Placing.{Written, is_free}
 use Rattle.rkyv_table.specs.Table.Slots.{filled}
@@ -11,15 +12,18 @@ abbrev pub items_of : {X : Type 0} → List (ℕ × X) → List X
 items_of pairs = map (λ x. x.1) pairs
 
 -- each item stands in its own home, and every other slot is empty
-pub record Slotted {X : Type 0} (cap : ℕ) (homes : List ℕ) (items : List X) (slots : List (Option X)) : Type 0 where
+pub record Slotted {X : Type 0} (cap : ℕ) (homes : List ℕ) (items : List X)
+    (slots : List (Option X)) : Type 0 where
   pub count : length slots ≡ cap
   pub full : filled slots ≡ length homes
   pub items_count : length items ≡ length homes
-  pub at : (i : ℕ) (x : X) → slice_get items i ≡ Some x → slice_get slots (slice_index homes i) ≡ Some (Some x)
+  pub at : (i : ℕ) (x : X) → slice_get items i ≡ Some x
+      → slice_get slots (slice_index homes i) ≡ Some (Some x)
   pub others : (b : ℕ) → b < cap → is_free homes b ≡ true → slice_get slots b ≡ Some None
 
 -- the items stand in the homes of their hashes, and the controls say so
-pub record Placed {X : Type 0} (cap : ℕ) (pairs : List (ℕ × X)) (slots : List (Option X)) (controls : List ℕ) : Type 0 where
+pub record Placed {X : Type 0} (cap : ℕ) (pairs : List (ℕ × X)) (slots : List (Option X))
+    (controls : List ℕ) : Type 0 where
   pub homes : List ℕ
   pub hashes : AreHashes (hashes_of pairs)
   pub written : Written cap (hashes_of pairs) homes controls

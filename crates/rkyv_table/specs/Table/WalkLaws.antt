@@ -13,4 +13,5 @@ pub record VisitsHomes (cap : ℕ) (homes controls : List ℕ) : Type 0 where
 
 -- on written controls the walk visits each home once, and nothing else
 abbrev pub WalkVisitsHomes : Type 0
-WalkVisitsHomes = (cap : ℕ) (hashes homes controls : List ℕ) → length hashes < cap → AreHashes hashes → Written cap hashes homes controls → VisitsHomes cap homes controls
+WalkVisitsHomes = (cap : ℕ) (hashes homes controls : List ℕ) → length hashes < cap
+    → AreHashes hashes → Written cap hashes homes controls → VisitsHomes cap homes controls

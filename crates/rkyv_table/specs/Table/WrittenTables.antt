@@ -6,13 +6,18 @@ use Rattle.rkyv_table.specs.Table.TableFormat.{TableStands}
 use Rattle.rkyv_base.specs.Shape.{Shape}
 use Rattle.rkyv_table.specs.Table.Taking.{hashes_of, items_of}
 
--- the table at p was written of these items under these hashes, in this order, and each of them stands at its home
-pub record IsWrittenOf {X : Type 0} (w : Width) (size : ℕ) (stands : List ℕ → ℕ → X → Type 0) (c : List ℕ) (p : ℕ) (pairs : List (ℕ × X)) : Type 0 where
+-- the table at p was written of these items under these hashes, in this order, and each of them
+-- stands at its home
+pub record IsWrittenOf {X : Type 0} (w : Width) (size : ℕ) (stands : List ℕ → ℕ → X
+    → Type 0) (c : List ℕ) (p : ℕ) (pairs : List (ℕ × X)) : Type 0 where
   pub homes : List ℕ
   pub written : WrittenAt w c p (hashes_of pairs) homes
-  pub at : (i : ℕ) (x : X) → slice_get (items_of pairs) i ≡ Some x → stands c (slice_index (home_positions w size c p homes) i) x
+  pub at : (i : ℕ) (x : X) → slice_get (items_of pairs) i ≡ Some x
+      → stands c (slice_index (home_positions w size c p homes) i) x
 
 -- where the items of a table stand, it was written of them
-abbrev pub StandingWereWritten : {X : Type 0} → Width → Shape → (List ℕ → ℕ → X → Type 0) → ℕ × ℕ → Type 0
+abbrev pub StandingWereWritten : {X : Type 0} → Width → Shape → (List ℕ → ℕ → X → Type 0) → ℕ × ℕ
+    → Type 0
 StandingWereWritten {X} w s stands factor =
-    (c : List ℕ) (p : ℕ) (pairs : List (ℕ × X)) → TableStands w s stands factor c p pairs → IsWrittenOf w s.size stands c p pairs
+    (c : List ℕ) (p : ℕ) (pairs : List (ℕ × X)) → TableStands w s stands factor c p pairs
+    → IsWrittenOf w s.size stands c p pairs

@@ -1,11 +1,13 @@
 //! Finding an item by the controls.
-ghost use Rattle.std.specs.Prelude.{Bool, IfSome, List, drop, length, map, slice_index, take, true, ℕ, ◌%◌, ◌*◌, ◌+◌, ◌/◌, ◌<◌, ◌^◌, ◌≡◌, ◌≤◌};
+ghost use Rattle.std.specs.Prelude.{Bool, IfSome, List, drop, length, map, slice_index, take, true};
+ghost use Rattle.std.specs.Prelude.{ℕ, ◌%◌, ◌*◌, ◌+◌, ◌/◌, ◌<◌, ◌^◌, ◌≡◌, ◌≤◌};
 ghost use Rattle.std.specs.List.{find};
 ghost use Rattle.rkyv_table.specs.Controls.Shown.{IsFullBucket};
 ghost use Rattle.rkyv_table.specs.Controls.Finding.{AnswersAs, ReadsWithin, end, found};
 ghost use Rattle.rkyv_table.specs.Controls.Numbers.{probe_capacity};
 ghost use Rattle.rkyv_table.specs.Controls.Placing.{Accepted};
-ghost use Rattle.rkyv_table.specs.Controls.Seen.{IsAcceptedBy, IsMarked, IsSeen, IsShown, IsShownIfAccepted};
+ghost use Rattle.rkyv_table.specs.Controls.Seen.{IsAcceptedBy, IsMarked, IsSeen, IsShown};
+ghost use Rattle.rkyv_table.specs.Controls.Seen.{IsShownIfAccepted};
 
 use crate::controls::numbers::{bucket_of, tag};
 use crate::controls::probe::Probe;
@@ -190,8 +192,8 @@ fn scan<G: GroupKind, F: Fn(usize) -> bool>(
 
 /// Finds the bucket of an item under `hash` that the comparison accepts.
 ///
-/// The comparison is asked for buckets whose control is full, and accepted the one that is answered.
-/// Each stride that is read is counted.
+/// The comparison is asked for buckets whose control is full, and accepted the one that is
+/// answered. Each stride that is read is counted.
 #[inline]
 pub fn find<G: GroupKind, F: Fn(usize) -> bool>(
     controls: &[u8],

@@ -1,5 +1,8 @@
 //! Laws of the probe sequence and of written controls, over their definitions alone.
-ghost use Rattle.rkyv_table.specs.Controls.Laws.{BucketsAreShown, FoundOnWritten, HomesAreOneList, HomesExist, MarkedAreWalked, SearchIsBounded, StridesCover, WalkedAreFull, WrittenAreAccepted, WrittenAreOneList};
+ghost use Rattle.rkyv_table.specs.Controls.Laws.{BucketsAreShown, FoundOnWritten, HomesAreOneList};
+ghost use Rattle.rkyv_table.specs.Controls.Laws.{HomesExist, MarkedAreWalked, SearchIsBounded};
+ghost use Rattle.rkyv_table.specs.Controls.Laws.{StridesCover, WalkedAreFull, WrittenAreAccepted};
+ghost use Rattle.rkyv_table.specs.Controls.Laws.{WrittenAreOneList};
 
 /// The strides of a hash begin at each place below the probe capacity that is the start modulo
 /// 16, once each.

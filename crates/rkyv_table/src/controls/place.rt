@@ -1,7 +1,8 @@
 //! Placing items.
 ghost use Rattle.std.specs.Prelude.{IfErr, IfOk, IsOk, Some, [], length, ◌+◌, ◌<◌, ◌≡◌, ◌≤◌};
 ghost use Rattle.std.specs.List.{find};
-ghost use Rattle.rkyv_table.specs.Controls.Shown.{HasRoom, empty_place, fresh_controls, is_empty_at, with_control};
+ghost use Rattle.rkyv_table.specs.Controls.Shown.{HasRoom, empty_place, fresh_controls};
+ghost use Rattle.rkyv_table.specs.Controls.Shown.{is_empty_at, with_control};
 ghost use Rattle.rkyv_table.specs.Controls.Numbers.{tag};
 ghost use Rattle.rkyv_table.specs.Controls.Placing.{Repeats, Written};
 ghost use Rattle.rkyv_table.specs.Controls.Probe.{shown};

@@ -24,7 +24,8 @@ impl<'a, G: GroupKind> Model for Walk<'a, G> {
 
     ghost view = { λ w. left w.controls.now w.cap w.base G.kind.width (G.Mask.places w.marks) };
 
-    ghost invariant = { λ w. IsWalk w.controls.now w.cap w.base G.kind.width (G.Mask.places w.marks) };
+    ghost invariant = { λ w. IsWalk w.controls.now w.cap w.base G.kind.width
+        (G.Mask.places w.marks) };
 }
 
 // A group of controls, all empty.

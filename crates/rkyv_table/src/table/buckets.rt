@@ -40,7 +40,8 @@ fn fill_bucket<W: Width, U: Archive<W>, X: Lend<U>>(
     }
 }
 
-// Writes them by the scratch of one bucket, from the highest to the first, each in one piece, an empty one as zeros.
+// Writes them by the scratch of one bucket, from the highest to the first, each in one piece, an
+// empty one as zeros.
 #[inline]
 fn write_by<W: Width, S: Writer, U: Archive<W>, X: Lend<U>>(
     slots: &[Option<X>],
@@ -52,7 +53,11 @@ fn write_by<W: Width, S: Writer, U: Archive<W>, X: Lend<U>>(
     requires room { length bucket.old ≡ U.Archived.shape.size }
     requires within { end_of (S.output serializer.old) ≤ W.LIMIT }
     ensures kept { length bucket.new ≡ U.Archived.shape.size }
-    ensures answer { let f = written_as X.lent U.format in let size = U.Archived.shape.size in let o = S.output serializer.old in let o' = S.output serializer.new in MatchResult result
+    ensures answer { let f = written_as X.lent U.format in
+        let size = U.Archived.shape.size in
+        let o = S.output serializer.old in
+        let o' = S.output serializer.new in
+        MatchResult result
         (λ _. WroteBuckets size f W.LIMIT slots.now resolvers.items o o')
         (Told W.LIMIT (BucketNext size f slots.now resolvers.items (end_of o)) o o') }
 {
@@ -83,7 +88,11 @@ pub(crate) fn write_buckets<W: Width, S: Writer, U: Archive<W>, X: Lend<U>>(
     requires room { length bucket.old ≡ U.Archived.shape.size }
     requires within { end_of (S.output serializer.old) ≤ W.LIMIT }
     ensures kept { length bucket.new ≡ U.Archived.shape.size }
-    ensures answer { let f = written_as X.lent U.format in let size = U.Archived.shape.size in let o = S.output serializer.old in let o' = S.output serializer.new in MatchResult result
+    ensures answer { let f = written_as X.lent U.format in
+        let size = U.Archived.shape.size in
+        let o = S.output serializer.old in
+        let o' = S.output serializer.new in
+        MatchResult result
         (λ _. WroteBuckets size f W.LIMIT slots.now resolvers.items o o')
         (Told W.LIMIT (BucketNext size f slots.now resolvers.items (end_of o)) o o') }
 {

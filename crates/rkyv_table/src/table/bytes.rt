@@ -27,8 +27,13 @@ pub(crate) fn write_table<W: Width, S: Writer, U: Serialize<S, W>, X: Lend<U>>(
     requires empty { resolvers.items ≡ [] }
     requires places { filled slots.now ≤ vec_capacity resolvers }
     requires room { length bucket.old ≡ U.Archived.shape.size }
-    ensures { let s = U.Archived.shape in let f = written_as X.lent U.format in let o = S.output serializer.old in let o' = S.output serializer.new in MatchResult result
-        (λ z. (bytes : List ℕ) × Appended W.LIMIT bytes o o' × TableBytes s f slots.now controls.now (end_of o) z bytes)
+    ensures { let s = U.Archived.shape in
+        let f = written_as X.lent U.format in
+        let o = S.output serializer.old in
+        let o' = S.output serializer.new in
+        MatchResult result
+        (λ z. (bytes : List ℕ) × Appended W.LIMIT bytes o o'
+        × TableBytes s f slots.now controls.now (end_of o) z bytes)
         (Told W.LIMIT (TableNext s f slots.now controls.now (end_of o)) o o') }
 {
     let mut kept = resolvers;

@@ -35,7 +35,8 @@ pub(crate) trait HandsIn<X>: Drop {
         requires fresh { controls.old ≡ fresh_controls cap }
         requires empty { slots.old ≡ replicate cap None }
         ensures { MatchResult result
-            (λ _. (xs : List (ℕ × X)) × gave self xs × (length xs ≡ len) × Placed cap xs slots.new controls.new)
+            (λ _. (xs : List (ℕ × X)) × gave self xs × (length xs ≡ len)
+            × Placed cap xs slots.new controls.new)
             (gave_other len self) };
 
     // Takes none. An `Err` has how many came.

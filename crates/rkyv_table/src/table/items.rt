@@ -2,7 +2,8 @@
 ghost use Rattle.std.specs.Prelude.{◌≡◌};
 ghost use Rattle.rkyv_table.specs.Table.Header.{cap_at};
 ghost use Rattle.rkyv_table.specs.Controls.Placing.{walk};
-ghost use Rattle.rkyv_table.specs.Table.Reading.{AreItems, IsItemIn, IsTable, IsWalked, table_bytes, table_controls, table_pos};
+ghost use Rattle.rkyv_table.specs.Table.Reading.{AreItems, IsItemIn, IsTable, IsWalked};
+ghost use Rattle.rkyv_table.specs.Table.Reading.{table_bytes, table_controls, table_pos};
 
 use crate::controls::walk::Walk;
 use crate::table::ArchivedHashTable;

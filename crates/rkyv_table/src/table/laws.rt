@@ -21,7 +21,8 @@ pub fn walk_visits_homes()
 {}
 
 /// In a table that was written, where each item that is accepted is under the asked hash, a lookup
-/// answers where the first accepted item of the list stands, and none exactly where none is accepted.
+/// answers where the first accepted item of the list stands, and none exactly where none is
+/// accepted.
 pub fn lookups_answer_the_first<W: Width, U: Archive<W>, X: Lend<U>>()
     ensures { (load_factor : ℕ × ℕ) →
         AnswersFirst W.word U.Archived.shape (lent_stands X.lent U.Archived.stands) load_factor }
@@ -31,7 +32,8 @@ pub fn lookups_answer_the_first<W: Width, U: Archive<W>, X: Lend<U>>()
 /// written of a list of them: no matter by which kind of group they were placed.
 pub fn tables_are_written_one_way<W: Width, U: Archive<W>, X: Lend<U>>()
     ensures { (load_factor : ℕ × ℕ) → WritesOneWay U.format
-        → WritesOneWay (table_format W.word U.Archived.shape (written_as X.lent U.format) load_factor) }
+        → WritesOneWay (table_format W.word U.Archived.shape (written_as X.lent U.format)
+        load_factor) }
 {}
 
 /// So the ready elements are: scalars, text, the unit value, and pairs of such.

@@ -1,9 +1,12 @@
 //! Finding an item.
 ghost use Rattle.std.specs.Prelude.{IfSome, true, ◌≡◌, ◌≤◌, ◌^◌};
 ghost use Rattle.rkyv_scan.specs.Groups.{generic_kind};
-ghost use Rattle.rkyv_table.specs.Table.Reading.{AreItems, CountsEnd, CountsWithin, FindsBucket, FindsFirst, FindsFound};
-ghost use Rattle.rkyv_table.specs.Table.Reading.{IsAcceptedAt, IsItem, IsItemIn, IsItemPos, IsTable};
-ghost use Rattle.rkyv_table.specs.Table.Reading.{IsWalked, MayAsk, bucket_of_found, pos_of_found, table_bytes, table_pos};
+ghost use Rattle.rkyv_table.specs.Table.Reading.{AreItems, CountsEnd, CountsWithin, FindsBucket};
+ghost use Rattle.rkyv_table.specs.Table.Reading.{FindsFirst, FindsFound};
+ghost use Rattle.rkyv_table.specs.Table.Reading.{IsAcceptedAt, IsItem, IsItemIn, IsItemPos};
+ghost use Rattle.rkyv_table.specs.Table.Reading.{IsTable};
+ghost use Rattle.rkyv_table.specs.Table.Reading.{IsWalked, MayAsk, bucket_of_found, pos_of_found};
+ghost use Rattle.rkyv_table.specs.Table.Reading.{table_bytes, table_pos};
 ghost use Rattle.rkyv_base.specs.View.{IsView};
 
 use crate::controls::find::{Strides, find};
@@ -29,11 +32,14 @@ impl<'a, T: Element, W: Width> ArchivedHashTable<'a, T, W> {
         requires table { IsTable W.word T.shape self }
         requires room { strides.old ≤ 2 ^ 63 }
         requires callable { MayAsk (F.pre cmp) W.word T.shape self }
-        ensures walked { IfSome result (λ found. IsItemIn W.word T.shape self.entry found.bucket found.item) }
+        ensures walked { IfSome result (λ found.
+            IsItemIn W.word T.shape self.entry found.bucket found.item) }
         ensures accepted { IfSome result (λ found. F.post cmp found.item true) }
-        ensures answer { FindsBucket (F.post cmp) G.kind W.word T.shape self.entry hash (bucket_of_found result) }
+        ensures answer { FindsBucket (F.post cmp) G.kind W.word T.shape self.entry hash
+            (bucket_of_found result) }
         ensures bounded { CountsWithin W.word self.entry strides.old strides.new }
-        ensures counted { CountsEnd (F.post cmp) G.kind W.word T.shape self.entry hash strides.old strides.new }
+        ensures counted { CountsEnd (F.post cmp) G.kind W.word T.shape self.entry hash strides.old
+            strides.new }
     {
         let items = Items::of(self);
         let bucket = find::<G, _>(
@@ -43,9 +49,11 @@ impl<'a, T: Element, W: Width> ArchivedHashTable<'a, T, W> {
             hash,
             |bucket|
                 requires items { AreItems W.word T.shape items }
-                requires walked { IsWalked W.word (table_bytes items.table) (table_pos items.table) bucket }
+                requires walked { IsWalked W.word (table_bytes items.table) (table_pos items.table)
+                    bucket }
                 requires callable { MayAsk (F.pre cmp) W.word T.shape items.table }
-                ensures { (v : View T) × IsItemIn W.word T.shape items.entry.table bucket v × F.post cmp v result }
+                ensures { (v : View T) × IsItemIn W.word T.shape items.entry.table bucket v
+                    × F.post cmp v result }
             { cmp(items.item(bucket)) },
             strides,
         );
@@ -70,8 +78,10 @@ impl<'a, T: Element, W: Width> ArchivedHashTable<'a, T, W> {
         requires callable { MayAsk (F.pre cmp) W.word T.shape self }
         ensures walked { IfSome result (IsItem W.word T.shape self.entry) }
         ensures accepted { IfSome result (λ v. F.post cmp v true) }
-        ensures answer { FindsFound (F.post cmp) generic_kind W.word T.shape self.entry hash (pos_of_found result) }
-        ensures first { FindsFirst (F.post cmp) W.word T.shape self.entry hash (pos_of_found result) }
+        ensures answer { FindsFound (F.post cmp) generic_kind W.word T.shape self.entry hash
+            (pos_of_found result) }
+        ensures first { FindsFirst (F.post cmp) W.word T.shape self.entry hash
+            (pos_of_found result) }
     {
         self.get_by::<Group, F>(hash, cmp)
     }
@@ -87,8 +97,10 @@ impl<'a, T: Element, W: Width> ArchivedHashTable<'a, T, W> {
         requires callable { MayAsk (F.pre cmp) W.word T.shape self }
         ensures walked { IfSome result (IsItem W.word T.shape self.entry) }
         ensures accepted { IfSome result (λ v. F.post cmp v true) }
-        ensures answer { FindsFound (F.post cmp) G.kind W.word T.shape self.entry hash (pos_of_found result) }
-        ensures first { FindsFirst (F.post cmp) W.word T.shape self.entry hash (pos_of_found result) }
+        ensures answer { FindsFound (F.post cmp) G.kind W.word T.shape self.entry hash
+            (pos_of_found result) }
+        ensures first { FindsFirst (F.post cmp) W.word T.shape self.entry hash
+            (pos_of_found result) }
     {
         match self.find::<G, F>(hash, cmp, &mut Strides::new()) {
             Some(found) => Some(found.item),
@@ -103,7 +115,8 @@ impl<'a, T: Element, W: Width> ArchivedHashTable<'a, T, W> {
         requires callable { MayAsk (F.pre cmp) W.word T.shape self }
         ensures walked { IfSome result (IsItemPos W.word T.shape self.entry) }
         ensures accepted { IfSome result (IsAcceptedAt (F.post cmp) W.word T.shape self.entry) }
-        ensures answer { FindsFound (F.post cmp) generic_kind W.word T.shape self.entry hash result }
+        ensures answer { FindsFound (F.post cmp) generic_kind W.word T.shape self.entry hash
+            result }
         ensures first { FindsFirst (F.post cmp) W.word T.shape self.entry hash result }
     {
         match self.get_with(hash, cmp) {
@@ -128,10 +141,13 @@ impl<'a, T: Element, W: Width> ArchivedHashTable<'a, T, W> {
         requires callable { MayAsk (F.pre cmp) W.word T.shape self }
         ensures walked { IfSome result (IsItem W.word T.shape self.entry) }
         ensures accepted { IfSome result (λ v. F.post cmp v true) }
-        ensures answer { FindsFound (F.post cmp) generic_kind W.word T.shape self.entry hash (pos_of_found result) }
-        ensures first { FindsFirst (F.post cmp) W.word T.shape self.entry hash (pos_of_found result) }
+        ensures answer { FindsFound (F.post cmp) generic_kind W.word T.shape self.entry hash
+            (pos_of_found result) }
+        ensures first { FindsFirst (F.post cmp) W.word T.shape self.entry hash
+            (pos_of_found result) }
         ensures bounded { CountsWithin W.word self.entry strides.old strides.new }
-        ensures counted { CountsEnd (F.post cmp) generic_kind W.word T.shape self.entry hash strides.old strides.new }
+        ensures counted { CountsEnd (F.post cmp) generic_kind W.word T.shape self.entry hash
+            strides.old strides.new }
     {
         match self.find::<Group, F>(hash, cmp, strides) {
             Some(found) => Some(found.item),

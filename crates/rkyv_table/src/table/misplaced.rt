@@ -1,9 +1,12 @@
 //! Counting the items that a lookup of their own doesn't answer.
 ghost use Rattle.std.specs.Prelude.{not, ◌≡◌};
 ghost use Rattle.rkyv_scan.specs.Groups.{generic_kind};
-ghost use Rattle.rkyv_table.specs.Table.Misplaced.{is_answer, NoneMisplacedIsComplete, RepeatedAreMisplaced};
-ghost use Rattle.rkyv_table.specs.Table.MisplacedIn.{AnswersOf, CountsMisplaced, FindsOwn, MayCompare};
-ghost use Rattle.rkyv_table.specs.Table.Reading.{AreItems, IsTable, IsWalked, MayAsk, table_bytes, table_pos};
+ghost use Rattle.rkyv_table.specs.Table.Misplaced.{is_answer, NoneMisplacedIsComplete};
+ghost use Rattle.rkyv_table.specs.Table.Misplaced.{RepeatedAreMisplaced};
+ghost use Rattle.rkyv_table.specs.Table.MisplacedIn.{AnswersOf, CountsMisplaced, FindsOwn};
+ghost use Rattle.rkyv_table.specs.Table.MisplacedIn.{MayCompare};
+ghost use Rattle.rkyv_table.specs.Table.Reading.{AreItems, IsTable, IsWalked, MayAsk, table_bytes};
+ghost use Rattle.rkyv_table.specs.Table.Reading.{table_pos};
 
 use crate::controls::find::{Strides, find};
 use crate::table::ArchivedHashTable;
@@ -36,7 +39,8 @@ impl<'a, T: Element, W: Width> ArchivedHashTable<'a, T, W> {
         requires items { AreItems W.word T.shape items }
         requires walked { IsWalked W.word (table_bytes items.table) (table_pos items.table) bucket }
         requires comparable { MayCompare (S.pre same.now) W.word T.shape items.table }
-        ensures { FindsOwn (S.post same.now) generic_kind W.word T.shape items.entry.table hash bucket result }
+        ensures { FindsOwn (S.post same.now) generic_kind W.word T.shape items.entry.table hash
+            bucket result }
     {
         find::<Group, _>(
             items.controls,
@@ -45,10 +49,13 @@ impl<'a, T: Element, W: Width> ArchivedHashTable<'a, T, W> {
             hash,
             |other|
                 requires items { AreItems W.word T.shape items }
-                requires walked { IsWalked W.word (table_bytes items.table) (table_pos items.table) bucket }
-                requires other { IsWalked W.word (table_bytes items.table) (table_pos items.table) other }
+                requires walked { IsWalked W.word (table_bytes items.table) (table_pos items.table)
+                    bucket }
+                requires other { IsWalked W.word (table_bytes items.table) (table_pos items.table)
+                    other }
                 requires comparable { MayCompare (S.pre same.now) W.word T.shape items.table }
-                ensures { AnswersOf (S.post same.entry.now) W.word T.shape items.entry.table bucket other result }
+                ensures { AnswersOf (S.post same.entry.now) W.word T.shape items.entry.table bucket
+                    other result }
             { same(items.item(bucket), items.item(other)) },
             &mut Strides::new(),
         )
@@ -68,7 +75,8 @@ impl<'a, T: Element, W: Width> ArchivedHashTable<'a, T, W> {
         requires table { IsTable W.word T.shape self }
         requires hashable { MayAsk (H.pre hash_of) W.word T.shape self }
         requires comparable { MayCompare (S.pre same) W.word T.shape self }
-        ensures { CountsMisplaced (H.post hash_of) (S.post same) generic_kind W.word T.shape self.entry result }
+        ensures { CountsMisplaced (H.post hash_of) (S.post same) generic_kind W.word T.shape
+            self.entry result }
     {
         let items = Items::of(self);
         let mut count = 0;

@@ -21,8 +21,12 @@ pub(crate) fn serialize_slots<W: Width, S: Writer, U: Serialize<S, W>, X: Lend<U
 ) -> Result<(), WriteError<S::Fault>>
     requires empty { resolvers.old.items ≡ [] }
     requires room { filled slots.now ≤ vec_capacity resolvers.old }
-    ensures { let f = written_as X.lent U.format in let o = S.output serializer.old in let o' = S.output serializer.new in MatchResult result
-        (λ _. (part : List ℕ) × Appends o o' part × SlotParts f slots.now (end_of o) part resolvers.new.items × Within W.LIMIT o' part)
+    ensures { let f = written_as X.lent U.format in
+        let o = S.output serializer.old in
+        let o' = S.output serializer.new in
+        MatchResult result
+        (λ _. (part : List ℕ) × Appends o o' part
+        × SlotParts f slots.now (end_of o) part resolvers.new.items × Within W.LIMIT o' part)
         (Told W.LIMIT (PartsNext f slots.now (end_of o)) o o') }
 {
     for slot in slots {

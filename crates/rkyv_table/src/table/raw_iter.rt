@@ -1,5 +1,6 @@
 //! Walking over the items of a table.
-ghost use Rattle.std.specs.Prelude.{[], IfSome, MatchOption, Some, length, slice_index, take, ◌<◌, ◌≤◌, ◌∷◌, ◌≡◌};
+ghost use Rattle.std.specs.Prelude.{[], IfSome, MatchOption, Some, length, slice_index, take, ◌<◌};
+ghost use Rattle.std.specs.Prelude.{◌≤◌, ◌∷◌, ◌≡◌};
 ghost use Rattle.rkyv_scan.specs.Groups.{is_full, mask_places, places_where};
 ghost use Rattle.std.specs.Iterator.{UpTo, at_most};
 ghost use Rattle.std.specs.Iterator.SizeHint.{IsWithinCount};
@@ -42,9 +43,15 @@ impl<'a, T> Model for RawIter<'a, T> {
 
     ghost Value = { ItemsLeft };
 
-    ghost view = { λ r. record { archive = r.archive; places = places_left r.place r.size r.count r.controls.now r.base (mask_places 8 7 8 r.marks.bits) } };
+    ghost view = { λ r. record {
+      archive = r.archive;
+      places =
+          places_left r.place r.size r.count r.controls.now r.base
+          (mask_places 8 7 8 r.marks.bits);
+    } };
 
-    ghost invariant = { λ r. IsRawIter r.place r.size r.count r.controls.now r.base (mask_places 8 7 8 r.marks.bits) };
+    ghost invariant = { λ r. IsRawIter r.place r.size r.count r.controls.now r.base
+        (mask_places 8 7 8 r.marks.bits) };
 }
 
 /// The full places of the first group of controls, where there are items.
@@ -89,7 +96,8 @@ impl<'a, T: Element> RawIter<'a, T> {
         ensures archive { self.new.archive ≡ self.old.archive }
         ensures takes { MatchOption result
             ((self.old.places ≡ []) × (self.new.places ≡ []))
-            (λ v. (self.old.places ≡ pos_of v ∷ self.new.places) × (archive_of v ≡ self.old.archive)) }
+            (λ v. (self.old.places ≡ pos_of v ∷ self.new.places)
+            × (archive_of v ≡ self.old.archive)) }
         ensures viewed { IfSome result (IsView T.shape) }
         ensures stand { AllStand T.shape self.new }
     {
@@ -124,7 +132,8 @@ impl<'a, T> Iterator for RawIter<'a, T> {
     fn size_hint(&self) -> (usize, Option<usize>)
         ensures lower { IsWithinCount result.0 (at_most (length self.now.places)) }
         ensures upper { IfSome result.1 (UpTo (at_most (length self.now.places))) }
-        ensures exact { (result.0 ≡ length self.now.places) × (result.1 ≡ Some (length self.now.places)) }
+        ensures exact { (result.0 ≡ length self.now.places)
+            × (result.1 ≡ Some (length self.now.places)) }
     {
         (self.count, Some(self.count))
     }
@@ -143,8 +152,10 @@ impl<'a, T: Element, W: Width> ArchivedHashTable<'a, T, W> {
     pub fn raw_iter(self) -> RawIter<'a, T>
         requires { IsTable W.word T.shape self }
         ensures archive { result.archive ≡ archive_of self.entry.view }
-        ensures places { result.places ≡ item_positions W.word T.shape.size (table_bytes self.entry) (table_pos self.entry) }
-        ensures count { length result.places ≡ len_at W.word (table_bytes self.entry) (table_pos self.entry) }
+        ensures places { result.places
+            ≡ item_positions W.word T.shape.size (table_bytes self.entry) (table_pos self.entry) }
+        ensures count { length result.places
+            ≡ len_at W.word (table_bytes self.entry) (table_pos self.entry) }
         ensures stand { AllStand T.shape result }
     {
         let items = Items::of(self);

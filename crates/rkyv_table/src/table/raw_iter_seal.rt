@@ -1,5 +1,6 @@
 //! Walking over the items of a table to write them.
-ghost use Rattle.std.specs.Prelude.{IfSome, MatchOption, [], length, slice_index, slice_range, ◌*◌, ◌+◌, ◌-◌, ◌<◌, ◌∷◌, ◌≡◌, ◌≤◌};
+ghost use Rattle.std.specs.Prelude.{IfSome, MatchOption, [], length, slice_index, slice_range, ◌*◌};
+ghost use Rattle.std.specs.Prelude.{◌+◌, ◌-◌, ◌<◌, ◌∷◌, ◌≡◌, ◌≤◌};
 ghost use Rattle.std.specs.Int.{byte_len};
 ghost use Rattle.rkyv_base.specs.Scalar.{scalar_shape};
 ghost use Rattle.rkyv_base.specs.Seal.{LiesIn, SealStays, archive_in, bytes_in, seal_pos, pos_in};
@@ -8,9 +9,12 @@ ghost use Rattle.rkyv_table.specs.Table.Header.{cap_at, len_at};
 ghost use Rattle.rkyv_table.specs.Controls.Placing.{walk};
 ghost use Rattle.rkyv_table.specs.Table.Reading.{table_controls};
 ghost use Rattle.rkyv_table.specs.Table.SealedItems.{CountsDown, FindsFirstLeft, IsSealIter};
-ghost use Rattle.rkyv_table.specs.Table.SealedItems.{KeepsCursor, LendsArchive, LendsFirst, MaySeal};
-ghost use Rattle.rkyv_table.specs.Table.SealedItems.{MaySealIn, MaySealNext, MayWriteAt, MayWriteNext};
-ghost use Rattle.rkyv_table.specs.Table.SealedItems.{SameArchive, SealedBy, StaysThere, StepsAndWrites};
+ghost use Rattle.rkyv_table.specs.Table.SealedItems.{KeepsCursor, LendsArchive, LendsFirst};
+ghost use Rattle.rkyv_table.specs.Table.SealedItems.{MaySeal};
+ghost use Rattle.rkyv_table.specs.Table.SealedItems.{MaySealIn, MaySealNext, MayWriteAt};
+ghost use Rattle.rkyv_table.specs.Table.SealedItems.{MayWriteNext};
+ghost use Rattle.rkyv_table.specs.Table.SealedItems.{SameArchive, SealedBy, StaysThere};
+ghost use Rattle.rkyv_table.specs.Table.SealedItems.{StepsAndWrites};
 ghost use Rattle.rkyv_table.specs.Table.SealedItems.{TakesPosition, WrittenBy, buckets_left};
 ghost use Rattle.rkyv_table.specs.Table.SealedItems.{cursor_bytes, items_left};
 ghost use Rattle.rkyv_scan.specs.Groups.{generic_kind};
@@ -35,7 +39,8 @@ use std::marker::PhantomData;
 fn next_full(controls: &[u8], cap: usize, from: usize) -> Option<usize>
     requires { cap ≤ length controls.now }
     ensures { MatchOption result (full_from controls.now cap from ≡ [])
-        (λ b. (b < cap) × (slice_index controls.now b < 128) × (full_from controls.now cap from ≡ b ∷ full_from controls.now cap (b + 1))) }
+        (λ b. (b < cap) × (slice_index controls.now b < 128)
+        × (full_from controls.now cap from ≡ b ∷ full_from controls.now cap (b + 1))) }
 {
     for bucket in from..cap {
         if controls[bucket] < 0x80 {
@@ -49,7 +54,8 @@ fn next_full(controls: &[u8], cap: usize, from: usize) -> Option<usize>
 #[inline]
 fn part(bytes: &[u8], place: usize, count: usize) -> Option<&[u8]>
     ensures { MatchOption result (length bytes.now < place + count)
-        (λ part. (place + count ≤ length bytes.now) × (part.now ≡ slice_range bytes.now place (place + count))) }
+        (λ part. (place + count ≤ length bytes.now)
+        × (part.now ≡ slice_range bytes.now place (place + count))) }
 {
     if bytes.len() < place || bytes.len() - place < count {
         return None;
@@ -171,7 +177,8 @@ impl<'a, T: Element> RawIterSeal<'a, T> {
     pub fn next_with<F: FnOnce(&mut [u8], u64)>(&mut self, write: F) -> Option<u64>
         requires { MayWriteNext F.pre T.shape self.old write }
         ensures reference { self.new.archive.ghost_name ≡ self.old.archive.ghost_name }
-        ensures steps { StepsAndWrites T.shape (WrittenBy F.post write tt) self.old result self.new }
+        ensures steps { StepsAndWrites T.shape (WrittenBy F.post write tt) self.old result
+            self.new }
     {
         let next = self.next_pos();
         if let Some(pos) = next {
@@ -215,7 +222,8 @@ impl<'a, T> RawIterSeal<'a, T> {
     pub fn write_with<F: FnOnce(&mut [u8], u64)>(&mut self, pos: u64, write: F)
         requires { MayWriteAt F.pre self.old pos write }
         ensures stays { StaysThere self.old self.new }
-        ensures written { WrittenBy F.post write tt (cursor_bytes self.old) pos (cursor_bytes self.new) }
+        ensures written { WrittenBy F.post write tt (cursor_bytes self.old) pos
+            (cursor_bytes self.new) }
     {
         let bytes = &mut *self.archive;
         write(bytes, pos)
@@ -242,9 +250,12 @@ impl<'a, T> RawIterSeal<'a, T> {
     pub fn write_at<N: Scalar>(&mut self, pos: u64, offset: usize, value: N)
         requires { pos + offset + byte_len N.encoding.word ≤ length (cursor_bytes self.old) }
         ensures stays { StaysThere self.old self.new }
-        ensures written { cursor_bytes self.new ≡ with_value N.encoding (cursor_bytes self.old) (pos + offset) value }
-        ensures sealed { Sealed (cursor_bytes self.old) (pos + offset) (byte_len N.encoding.word) (cursor_bytes self.new) }
-        ensures holds { Keeps (scalar_shape N.encoding) (cursor_bytes self.old) (cursor_bytes self.new) (pos + offset) }
+        ensures written { cursor_bytes self.new
+            ≡ with_value N.encoding (cursor_bytes self.old) (pos + offset) value }
+        ensures sealed { Sealed (cursor_bytes self.old) (pos + offset) (byte_len N.encoding.word)
+            (cursor_bytes self.new) }
+        ensures holds { Keeps (scalar_shape N.encoding) (cursor_bytes self.old)
+            (cursor_bytes self.new) (pos + offset) }
     {
         let bytes = &mut *self.archive;
         set_at(bytes, pos as usize + offset, value);
@@ -257,7 +268,8 @@ impl<'a, N: Scalar> RawIterSeal<'a, N> {
     pub fn set_at(&mut self, pos: u64, value: N)
         requires { pos + byte_len N.encoding.word ≤ length (cursor_bytes self.old) }
         ensures stays { StaysThere self.old self.new }
-        ensures written { cursor_bytes self.new ≡ with_value N.encoding (cursor_bytes self.old) pos value }
+        ensures written { cursor_bytes self.new
+            ≡ with_value N.encoding (cursor_bytes self.old) pos value }
         ensures kept { KeepsCursor (scalar_shape N.encoding) self.old pos self.new }
     {
         let bytes = &mut *self.archive;
@@ -273,21 +285,25 @@ impl<'a, T: Element, W: Width> ArchivedHashTable<'a, T, W> {
         ensures archive { LendsArchive this.entry result }
         ensures iter { IsSealIter W.word T.shape (pos_in this.entry) result }
         ensures buckets { buckets_left W.word (pos_in this.entry) result
-            ≡ walk (table_controls W.word (archive_in this.entry) (pos_in this.entry)) (cap_at W.word (archive_in this.entry) (pos_in this.entry)) }
-        ensures count { items_left result ≡ len_at W.word (archive_in this.entry) (pos_in this.entry) }
+            ≡ walk (table_controls W.word (archive_in this.entry) (pos_in this.entry))
+            (cap_at W.word (archive_in this.entry) (pos_in this.entry)) }
+        ensures count { items_left result
+            ≡ len_at W.word (archive_in this.entry) (pos_in this.entry) }
     {
         let (archive, pos) = this.into_parts();
         Self::raw_iter_over(archive, pos)
     }
 
-    /// The items of the table that stands at a position of an archive, by ascending bucket, to be written.
+    /// The items of the table that stands at a position of an archive, by ascending bucket, to be
+    /// written.
     #[inline]
     pub fn raw_iter_over(archive: &'a mut [u8], pos: u64) -> RawIterSeal<'a, T>
         requires table { Viewed (table_shape W.word T.shape) archive.old pos }
         ensures reference { result.archive.ghost_name ≡ archive.entry.ghost_name }
         ensures bytes { cursor_bytes result ≡ archive.old }
         ensures iter { IsSealIter W.word T.shape pos result }
-        ensures buckets { buckets_left W.word pos result ≡ walk (table_controls W.word archive.old pos) (cap_at W.word archive.old pos) }
+        ensures buckets { buckets_left W.word pos result
+            ≡ walk (table_controls W.word archive.old pos) (cap_at W.word archive.old pos) }
         ensures count { items_left result ≡ len_at W.word archive.old pos }
     {
         let items = Items::of(ArchivedHashTable::<T, W>::of(View::new(&*archive, pos)));
@@ -319,7 +335,8 @@ impl<'a, T: Element, W: Width> ArchivedHashTable<'a, T, W> {
         requires table { Viewed (table_shape W.word T.shape) archive.old pos }
         requires callable { MayAskOf (F.pre cmp) W.word T.shape archive.old pos }
         requires writable { MaySealIn G.pre T.shape write archive.old }
-        ensures { LendsFound (F.post cmp) (SealedBy G.post write) generic_kind W.word T.shape archive.old pos hash result archive.new }
+        ensures { LendsFound (F.post cmp) (SealedBy G.post write) generic_kind W.word T.shape
+            archive.old pos hash result archive.new }
     {
         let table = ArchivedHashTable::<T, W>::of(View::new(&*archive, pos));
         match table.get_pos_with(hash, cmp) {
@@ -351,8 +368,10 @@ pub fn set_all_by_seals<N: Scalar, W: Width>(archive: &mut [u8], pos: u64, value
             |seal: &mut Seal<'_, N>|
                 requires { LiesIn (scalar_shape N.encoding) seal.old }
                 ensures stays { SealStays seal.old seal.new }
-                ensures sealed { Sealed (bytes_in seal.old) (seal_pos seal.old) (byte_len N.encoding.word) (bytes_in seal.new) }
-                ensures holds { Keeps (scalar_shape N.encoding) (bytes_in seal.old) (bytes_in seal.new) (seal_pos seal.old) }
+                ensures sealed { Sealed (bytes_in seal.old) (seal_pos seal.old)
+                    (byte_len N.encoding.word) (bytes_in seal.new) }
+                ensures holds { Keeps (scalar_shape N.encoding) (bytes_in seal.old)
+                    (bytes_in seal.new) (seal_pos seal.old) }
             {
                 seal.set(value);
             },

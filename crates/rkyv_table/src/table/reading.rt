@@ -44,7 +44,8 @@ impl<'a, T: Element, W: Width> ArchivedHashTable<'a, T, W> {
     #[inline]
     pub fn of(view: View<'a, TableOf<T, W>>) -> ArchivedHashTable<'a, T, W>
         ensures view { result.view ≡ view.entry }
-        ensures table { IsView (table_shape W.word T.shape) view.entry → IsTable W.word T.shape result }
+        ensures table { IsView (table_shape W.word T.shape) view.entry
+            → IsTable W.word T.shape result }
     {
         ArchivedHashTable { view }
     }
@@ -53,7 +54,8 @@ impl<'a, T: Element, W: Width> ArchivedHashTable<'a, T, W> {
     #[inline]
     pub fn is_empty(self) -> bool
         requires { IsTable W.word T.shape self }
-        ensures { IsTrue result ↔ (len_at W.word (table_bytes self.entry) (table_pos self.entry) ≡ 0) }
+        ensures { IsTrue result ↔ (len_at W.word (table_bytes self.entry) (table_pos self.entry)
+            ≡ 0) }
     {
         self.len() == 0
     }

@@ -26,7 +26,8 @@ impl<W: Width> Model for HashTableResolver<W> {
 
     ghost view = { λ r. record { pos = r.pos; len = r.len; load_factor = r.load_factor } };
 
-    ghost invariant = { λ r. IsLoadFactor r.load_factor × (capacity r.len r.load_factor ≤ W.MAX_CAPACITY) };
+    ghost invariant = { λ r. IsLoadFactor r.load_factor
+        × (capacity r.len r.load_factor ≤ W.MAX_CAPACITY) };
 }
 
 impl<W: Width> HashTableResolver<W> {

@@ -1,6 +1,7 @@
 //! Writing tables from iterators of items and hashes.
 
-ghost use Rattle.std.specs.Prelude.{◌≡◌, ◌+◌, ◌^◌, ◌⊎◌, ◌<◌, ◌≤◌, [], IfOk, MatchResult, None, length, replicate, vec_capacity, List, ℕ};
+ghost use Rattle.std.specs.Prelude.{◌≡◌, ◌+◌, ◌^◌, ◌⊎◌, ◌<◌, ◌≤◌, [], IfOk, MatchResult, None};
+ghost use Rattle.std.specs.Prelude.{length, replicate, vec_capacity, List, ℕ};
 ghost use Rattle.rkyv_base.specs.Pairs.{written_as};
 ghost use Rattle.rkyv_base.specs.Writing.{Appends, Told, end_of};
 ghost use Rattle.rkyv_table.specs.Controls.Capacity.{IsCapacity};
@@ -52,8 +53,10 @@ impl<X: Drop, R: Drop> Room<X, R> {
         requires fits { cap < 2 ^ 63 }
         requires small { size ≤ 1073741824 }
         ensures slots { IfOk result (λ r. r.slots.items ≡ replicate cap None) }
-        ensures scratch { IfOk result (λ r. r.scratch.items ≡ replicate (control_count cap + size) 255) }
-        ensures resolvers { IfOk result (λ r. (r.resolvers.items ≡ []) × (len ≤ vec_capacity r.resolvers)) }
+        ensures scratch { IfOk result (λ r. r.scratch.items
+            ≡ replicate (control_count cap + size) 255) }
+        ensures resolvers { IfOk result (λ r. (r.resolvers.items ≡ [])
+            × (len ≤ vec_capacity r.resolvers)) }
     {
         let slots = empty_slots(alloc, cap)?;
         let scratch = vec![in alloc; 0xffu8; control_count(cap) + size]?;
@@ -85,9 +88,14 @@ fn fill_and_write<
     requires can { H.can given }
     requires below { len < cap }
     requires slots { room.slots.items ≡ replicate cap None }
-    requires scratch { room.scratch.items ≡ replicate (control_count cap + U.Archived.shape.size) 255 }
+    requires scratch { room.scratch.items
+        ≡ replicate (control_count cap + U.Archived.shape.size) 255 }
     requires resolvers { (room.resolvers.items ≡ []) × (len ≤ vec_capacity room.resolvers) }
-    ensures { let s = U.Archived.shape in let f = written_as X.lent U.format in let o = S.output serializer.old in let o' = S.output serializer.new in MatchResult result
+    ensures { let s = U.Archived.shape in
+        let f = written_as X.lent U.format in
+        let o = S.output serializer.old in
+        let o' = S.output serializer.new in
+        MatchResult result
         (WroteFilled (H.gave given) len cap s f o o' W.LIMIT)
         (NoFilled (H.gave given) len cap s f o o' W.LIMIT (H.gave_other len given)) }
 {
@@ -129,7 +137,11 @@ fn serialize_filled<
     requires can { H.can given }
     requires below { len < cap }
     requires fits { cap ≤ W.MAX_CAPACITY }
-    ensures { let s = U.Archived.shape in let f = written_as X.lent U.format in let o = S.output serializer.old in let o' = S.output serializer.new in MatchResult result
+    ensures { let s = U.Archived.shape in
+        let f = written_as X.lent U.format in
+        let o = S.output serializer.old in
+        let o' = S.output serializer.new in
+        MatchResult result
         (WroteFilled (H.gave given) len cap s f o o' W.LIMIT)
         (NoFilled (H.gave given) len cap s f o o' W.LIMIT (H.gave_other len given)) }
 {
@@ -155,9 +167,14 @@ fn serialize_given<
     serializer: &mut S,
 ) -> Result<HashTableResolver<W>, WriteError<S::Fault>>
     requires { H.can given }
-    ensures { let f = table_format W.word U.Archived.shape (written_as X.lent U.format) load_factor in let o = S.output serializer.old in let o' = S.output serializer.new in MatchResult result
+    ensures { let f = table_format W.word U.Archived.shape (written_as X.lent U.format)
+        load_factor in
+        let o = S.output serializer.old in
+        let o' = S.output serializer.new in
+        MatchResult result
         (WroteTable (H.gave given) len load_factor W.MAX_CAPACITY f o o' W.LIMIT)
-        (NoTable (H.gave given) len load_factor W.MAX_CAPACITY f o o' W.LIMIT (H.gave_other len given)) }
+        (NoTable (H.gave given) len load_factor W.MAX_CAPACITY f o o' W.LIMIT
+        (H.gave_other len given)) }
 {
     let cap = match capacity(len, load_factor, W::MAX_CAPACITY) {
         Ok(cap) => cap,
@@ -225,10 +242,13 @@ impl<'a, T, W: Width> ArchivedHashTable<'a, T, W> {
         serializer: &mut S,
     ) -> Result<HashTableResolver<W>, WriteError<S::Fault>>
         requires { I.can_next items × J.can_next hashes }
-        ensures { let f = table_format W.word T.shape (written_as X.lent U.format) load_factor in let gave = GaveBoth I.next_gives J.next_gives items hashes in
-            let o = S.output serializer.old in let o' = S.output serializer.new in MatchResult result
+        ensures { let f = table_format W.word T.shape (written_as X.lent U.format) load_factor in
+            let gave = GaveBoth I.next_gives J.next_gives items hashes in
+            let o = S.output serializer.old in let o' = S.output serializer.new in
+            MatchResult result
             (WroteTable gave len load_factor W.MAX_CAPACITY f o o' W.LIMIT)
-            (NoTable gave len load_factor W.MAX_CAPACITY f o o' W.LIMIT (Uneven I.next_gives J.next_gives len items hashes)) }
+            (NoTable gave len load_factor W.MAX_CAPACITY f o o' W.LIMIT
+            (Uneven I.next_gives J.next_gives len items hashes)) }
     {
         let given = ItemsAndHashes { items, hashes };
         serialize_given::<W, Group, S, U, X, ItemsAndHashes<I, J>>(
@@ -258,10 +278,13 @@ impl<'a, T, W: Width> ArchivedHashTable<'a, T, W> {
         serializer: &mut S,
     ) -> Result<HashTableResolver<W>, WriteError<S::Fault>>
         requires { I.can_next pairs }
-        ensures { let f = table_format W.word T.shape (written_as X.lent U.format) load_factor in let gave = Drains I.next_gives pairs in
-            let o = S.output serializer.old in let o' = S.output serializer.new in MatchResult result
+        ensures { let f = table_format W.word T.shape (written_as X.lent U.format) load_factor in
+            let gave = Drains I.next_gives pairs in
+            let o = S.output serializer.old in let o' = S.output serializer.new in
+            MatchResult result
             (WroteTable gave len load_factor W.MAX_CAPACITY f o o' W.LIMIT)
-            (NoTable gave len load_factor W.MAX_CAPACITY f o o' W.LIMIT (GaveOther I.next_gives len pairs)) }
+            (NoTable gave len load_factor W.MAX_CAPACITY f o o' W.LIMIT
+            (GaveOther I.next_gives len pairs)) }
     {
         serialize_given::<W, G, S, U, X, Pairs<I>>(
             alloc,

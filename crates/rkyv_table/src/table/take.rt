@@ -1,6 +1,7 @@
 //! Taking items from one iterator of pairs, each into the bucket that is its home.
 
-ghost use Rattle.std.specs.Prelude.{◌≡◌, ℕ, ◌+◌, ◌<◌, ◌≤◌, ◌^◌, List, [], MatchResult, None, Some, replicate, IfSome, length, slice_set};
+ghost use Rattle.std.specs.Prelude.{◌≡◌, ℕ, ◌+◌, ◌<◌, ◌≤◌, ◌^◌, List, [], MatchResult, None, Some};
+ghost use Rattle.std.specs.Prelude.{replicate, IfSome, length, slice_set};
 ghost use Rattle.std.specs.Iterator.{Drains};
 ghost use Rattle.rkyv_table.specs.Controls.Shown.{fresh_controls};
 ghost use Rattle.rkyv_table.specs.Table.Counting.{GaveOther};
@@ -42,7 +43,8 @@ pub(crate) fn take_pairs<G: GroupKind, X: Drop, I: Iterator<Item = (u64, X)>>(
     requires fresh { controls.old ≡ fresh_controls cap }
     requires empty { slots.old ≡ replicate cap None }
     ensures { MatchResult result
-        (λ _. (xs : List (ℕ × X)) × Drains I.next_gives pairs xs × (length xs ≡ len) × Placed cap xs slots.new controls.new)
+        (λ _. (xs : List (ℕ × X)) × Drains I.next_gives pairs xs × (length xs ≡ len)
+        × Placed cap xs slots.new controls.new)
         (GaveOther I.next_gives len pairs) }
 {
     let mut rest = pairs;
@@ -66,7 +68,8 @@ pub(crate) fn take_none<I: Iterator>(items: I) -> Result<(), usize>
 where
     I::Item: Drop,
     requires { I.can_next items }
-    ensures { MatchResult result (λ _. Drains I.next_gives items []) (GaveOther I.next_gives 0 items) }
+    ensures { MatchResult result (λ _. Drains I.next_gives items [])
+        (GaveOther I.next_gives 0 items) }
 {
     let mut rest = items;
     match next_item(&mut rest) {

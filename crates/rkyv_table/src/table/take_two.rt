@@ -1,6 +1,7 @@
 //! Taking items and their hashes from two iterators, each item into the bucket that is its home.
 
-ghost use Rattle.std.specs.Prelude.{◌≡◌, ℕ, ◌+◌, ◌<◌, ◌≤◌, ◌^◌, List, MatchResult, None, replicate, length};
+ghost use Rattle.std.specs.Prelude.{◌≡◌, ℕ, ◌+◌, ◌<◌, ◌≤◌, ◌^◌, List, MatchResult, None, replicate};
+ghost use Rattle.std.specs.Prelude.{length};
 ghost use Rattle.rkyv_table.specs.Controls.Shown.{fresh_controls};
 ghost use Rattle.rkyv_table.specs.Table.Counting.{CountedOn, GaveBoth, Uneven};
 ghost use Rattle.rkyv_table.specs.Table.Taking.{Placed};
@@ -43,7 +44,8 @@ pub(crate) fn take_two<G: GroupKind, X: Drop, I: Iterator<Item = X>, J: Iterator
     requires fresh { controls.old ≡ fresh_controls cap }
     requires empty { slots.old ≡ replicate cap None }
     ensures { MatchResult result
-        (λ _. (xs : List (ℕ × X)) × GaveBoth I.next_gives J.next_gives items hashes xs × (length xs ≡ len) × Placed cap xs slots.new controls.new)
+        (λ _. (xs : List (ℕ × X)) × GaveBoth I.next_gives J.next_gives items hashes xs
+        × (length xs ≡ len) × Placed cap xs slots.new controls.new)
         (Uneven I.next_gives J.next_gives len items hashes) }
 {
     let mut rest = items;

@@ -5,7 +5,8 @@ ghost use Rattle.rkyv_base.specs.Checking.{Fails, Passes};
 ghost use Rattle.rkyv_table.specs.Controls.Numbers.{control_count};
 ghost use Rattle.rkyv_table.specs.Table.Places.{FirstFails, SomeHold};
 ghost use Rattle.rkyv_table.specs.Controls.Placing.{walk};
-ghost use Rattle.rkyv_table.specs.Table.Layout.{FailsInside, IsPart, bucket_at, part_size, table_shape};
+ghost use Rattle.rkyv_table.specs.Table.Layout.{FailsInside, IsPart, bucket_at, part_size};
+ghost use Rattle.rkyv_table.specs.Table.Layout.{table_shape};
 
 use crate::controls::numbers::control_count;
 use crate::controls::repeats::check_repeats;
@@ -54,9 +55,12 @@ fn check_items<G: GroupKind, T: Element>(
     requires inside { begin + cap * T.shape.size ≤ length bytes.now }
     requires aligned { begin % T.shape.align ≡ 0 }
     requires ordered { lo ≤ begin }
-    ensures hold { IfOk result (λ _. SomeHold T.shape (bucket_at T.shape.size begin cap) bytes.now begin (walk controls.now cap) lo) }
+    ensures hold { IfOk result (λ _.
+        SomeHold T.shape (bucket_at T.shape.size begin cap) bytes.now begin (walk controls.now cap)
+        lo) }
     ensures count { IfOk result (λ n. n ≡ length (walk controls.now cap)) }
-    ensures fails { IfErr result (FirstFails T.shape (bucket_at T.shape.size begin cap) bytes.now begin (walk controls.now cap) lo) }
+    ensures fails { IfErr result (FirstFails T.shape (bucket_at T.shape.size begin cap) bytes.now
+        begin (walk controls.now cap) lo) }
 {
     let mut low = lo;
     let mut count = 0;

@@ -18,7 +18,9 @@ use rkyv_base::width::Width;
 /// hashes, and each item stands in the bucket that is its home.
 pub fn written_tables_stand<W: Width, U: Archive<W>, X: Lend<U>>()
     ensures { (load_factor : ℕ × ℕ) → let s = U.Archived.shape in
-        IsFormat (table_shape W.word s) (TableStands W.word s (lent_stands X.lent U.Archived.stands) load_factor) (table_format W.word s (written_as X.lent U.format) load_factor) }
+        IsFormat (table_shape W.word s)
+        (TableStands W.word s (lent_stands X.lent U.Archived.stands) load_factor)
+        (table_format W.word s (written_as X.lent U.format) load_factor) }
 {}
 
 /// And it passes the check in each range from where the write began, or before, to where it ended,
@@ -31,12 +33,14 @@ pub fn written_tables_pass<W: Width, U: Archive<W>, X: Lend<U>>()
 /// That the items of a table stand rests on its header, and on the bytes up to its new lower end.
 pub fn tables_stand_nearby<W: Width, U: Archive<W>, X: Lend<U>>()
     ensures { (load_factor : ℕ × ℕ) → let s = U.Archived.shape in
-        StandsNear (table_shape W.word s) (TableStands W.word s (lent_stands X.lent U.Archived.stands) load_factor) }
+        StandsNear (table_shape W.word s)
+        (TableStands W.word s (lent_stands X.lent U.Archived.stands) load_factor) }
 {}
 
-/// A table whose items stand was written of them in their order, under their hashes, and each stands
-/// at its home: so a lookup answers the first that is accepted.
+/// A table whose items stand was written of them in their order, under their hashes, and each
+/// stands at its home: so a lookup answers the first that is accepted.
 pub fn standing_tables_were_written<W: Width, U: Archive<W>, X: Lend<U>>()
     ensures { (load_factor : ℕ × ℕ) →
-        StandingWereWritten W.word U.Archived.shape (lent_stands X.lent U.Archived.stands) load_factor }
+        StandingWereWritten W.word U.Archived.shape (lent_stands X.lent U.Archived.stands)
+        load_factor }
 {}
