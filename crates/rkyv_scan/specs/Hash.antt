@@ -41,9 +41,9 @@ pub data HasherCall : Type 0 where
 
 -- a hasher over its states: that of a new one, that after one call, and what it answers
 pub record Hasher (State : Type 0) : Type 0 where
-  initial : State
-  feed : State → HasherCall → State
-  finish : State → ℕ
+  pub initial : State
+  pub feed : State → HasherCall → State
+  pub finish : State → ℕ
 
 -- the number after a list of calls, which are fed in order from the initial state on
 abbrev pub hash_of_calls : {State : Type 0} → Hasher State → List HasherCall → ℕ
