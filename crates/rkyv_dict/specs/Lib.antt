@@ -3,7 +3,6 @@ pub mod Parts
 pub mod Archives
 pub mod Built
 pub mod First
-pub mod Listed
 pub mod Hex
 pub mod Script
 pub mod Errors

@@ -18,7 +18,6 @@ ghost use Rattle.rkyv_dict.specs.Forms.{Pairs, key_seen, pairs_seen};
 ghost use Rattle.rkyv_dict.specs.Parts.{parts_by};
 
 use crate::form::{Bits, Form, Key, Kind, PairList};
-use crate::listed::Listed;
 use crate::parts::Part;
 use rkyv_base::access::{access_in, access_unchecked};
 use rkyv_base::archive::Serialize;
@@ -29,7 +28,7 @@ use rkyv_base::view::View;
 use rkyv_base::width::{Narrow, Wide, Width};
 use rkyv_base::writer::{NoMemory, VecWriter};
 use rkyv_collections::map::{ArchivedHashMap, HashMapOf};
-use rkyv_collections::{FxHasher64, NativeKey, Query};
+use rkyv_collections::{FxHasher64, MapPairs, NativeKey, Query};
 use std::alloc::{AllocError, Global};
 
 /// Appends a line.
@@ -176,8 +175,8 @@ where
         v.items)
         (NoArchiveOf m load_factor W.MAX_CAPACITY A.format A.calls pairs.now) }
 {
-    let list = Listed { pairs, load_factor };
-    to_bytes_in::<W, Listed<'_, A>>(alloc, &list)
+    let list = MapPairs::<'_, A, A>::with_load_factor(pairs, load_factor);
+    to_bytes_in::<W, MapPairs<'_, A, A>>(alloc, &list)
 }
 
 /// Whether the bytes are an archive of the form: the length of its map.

@@ -7,7 +7,6 @@ pub mod errors;
 pub mod form;
 pub mod hex;
 pub mod laws;
-mod listed;
 pub mod pairs;
 pub mod parts;
 pub mod run;

@@ -5,7 +5,7 @@ ghost use Rattle.std.specs.Iterator.{YieldsFirstBy, at_most};
 ghost use Rattle.std.specs.Slice.Iter.{iter_rest};
 ghost use Rattle.rkyv_base.specs.Entry.{entry_shape};
 ghost use Rattle.rkyv_base.specs.Pairs.{written_as, written_as-format};
-ghost use Rattle.rkyv_scan.specs.Hash.{fx_feed, low_halves};
+ghost use Rattle.rkyv_scan.specs.Hash.{fx_hasher, low_halves};
 ghost use Rattle.rkyv_index.specs.IndexFormat.{hash_of};
 ghost use Rattle.rkyv_index.specs.Index.{hash_at};
 ghost use Rattle.rkyv_index.specs.IndexFormat.{IndexStands, index_format};
@@ -62,10 +62,10 @@ impl<W: Width, A, B, K: KeyElement + StandsFor<A>, V: StandsFor<B>> StandsFor<Or
     for IndexMapOf<K, V, FxHasher64, W> {
     ghost stands = { λ b p x.
         IndexStands W.word K.shape V.shape K.stands V.stands
-        (hash_at 0 (fx_feed low_halves) (λ held. held) K.key_calls) (7, 8) b p x.0.items };
+        (hash_at (fx_hasher low_halves) K.key_calls) (7, 8) b p x.0.items };
 
     ghost near = { λ x.
-        index_stands_near 0 (fx_feed low_halves) (λ held. held) W.word W.layout.kind K.laws V.laws
+        index_stands_near (fx_hasher low_halves) W.word W.layout.kind K.laws V.laws
         (7, 8)
         K.key K.near V.near x.0.items };
 }
@@ -81,7 +81,7 @@ where
 
     ghost format = { written_as (λ x. x.0.items) (listed W.MAX_CAPACITY (7, 8)
         (index_format W.word W.Place.encoding A.Archived.shape B.Archived.shape A.format B.format
-        (hash_of 0 (fx_feed low_halves) (λ held. held) A.calls) (7, 8))) };
+        (hash_of (fx_hasher low_halves) A.calls) (7, 8))) };
 
     fn resolve(
         &self,
@@ -102,14 +102,14 @@ where
 
     ghost laws = { let stands = IndexStands W.word A.Archived.shape B.Archived.shape
         A.Archived.stands B.Archived.stands
-        (hash_at 0 (fx_feed low_halves) (λ held. held) A.Archived.key_calls) (7, 8) in
+        (hash_at (fx_hasher low_halves) A.Archived.key_calls) (7, 8) in
         let format = index_format W.word W.Place.encoding A.Archived.shape B.Archived.shape A.format
         B.format
-        (hash_of 0 (fx_feed low_halves) (λ held. held) A.calls) (7, 8) in
+        (hash_of (fx_hasher low_halves) A.calls) (7, 8) in
         let shape = index_shape W.word (entry_shape A.Archived.shape B.Archived.shape) in
         written_as-format (λ x. x.0.items) shape stands (listed W.MAX_CAPACITY (7, 8) format)
         (listed_format W.MAX_CAPACITY (7, 8) shape stands format
-        (index_sound 0 (fx_feed low_halves) (λ held. held) W.word W.layout.kind W.Place.encoding
+        (index_sound (fx_hasher low_halves) W.word W.layout.kind W.Place.encoding
         W.place W.reads_back W.Place.word
         A.Archived.laws B.Archived.laws (7, 8) A.query A.native A.Eq.laws.refl A.reads
         A.Archive.laws B.laws)) };
@@ -166,11 +166,11 @@ impl<'a, A> Iterator for Keys<'a, A> {
 impl<W: Width, A, K: KeyElement + StandsFor<A>> StandsFor<OrderedItems<A>>
     for IndexSetOf<K, FxHasher64, W> {
     ghost stands = { λ b p x.
-        IndexSetStands W.word K.shape K.stands (hash_at 0 (fx_feed low_halves) (λ held. held)
+        IndexSetStands W.word K.shape K.stands (hash_at (fx_hasher low_halves)
         K.key_calls) (7, 8) b p x.0.items };
 
     ghost near = { λ x.
-        index_set_near 0 (fx_feed low_halves) (λ held. held) W.word W.layout.kind K.laws (7, 8)
+        index_set_near (fx_hasher low_halves) W.word W.layout.kind K.laws (7, 8)
         K.key K.near x.0.items };
 }
 
@@ -185,7 +185,7 @@ where
 
     ghost format = { written_as (λ x. x.0.items) (listed W.MAX_CAPACITY (7, 8)
         (index_set_format W.word W.Place.encoding A.Archived.shape A.format
-        (hash_of 0 (fx_feed low_halves) (λ held. held) A.calls) (7, 8))) };
+        (hash_of (fx_hasher low_halves) A.calls) (7, 8))) };
 
     fn resolve(
         &self,
@@ -205,13 +205,13 @@ where
     }
 
     ghost laws = { let stands = IndexSetStands W.word A.Archived.shape A.Archived.stands
-        (hash_at 0 (fx_feed low_halves) (λ held. held) A.Archived.key_calls) (7, 8) in
+        (hash_at (fx_hasher low_halves) A.Archived.key_calls) (7, 8) in
         let format = index_set_format W.word W.Place.encoding A.Archived.shape A.format
-        (hash_of 0 (fx_feed low_halves) (λ held. held) A.calls) (7, 8) in
+        (hash_of (fx_hasher low_halves) A.calls) (7, 8) in
         let shape = index_set_shape W.word A.Archived.shape in
         written_as-format (λ x. x.0.items) shape stands (listed W.MAX_CAPACITY (7, 8) format)
         (listed_format W.MAX_CAPACITY (7, 8) shape stands format
-        (index_set_sound 0 (fx_feed low_halves) (λ held. held) W.word W.layout.kind A.Archived.laws
+        (index_set_sound (fx_hasher low_halves) W.word W.layout.kind A.Archived.laws
         (7, 8) W.Place.encoding W.place W.reads_back W.Place.word
         A.query A.native A.Eq.laws.refl A.reads A.Archive.laws)) };
 }

@@ -3,4 +3,5 @@ use Rattle.rkyv_dict.proofs.archives.build_map.Goals as goal
 
 pub returns : goal.returns
 unfolding IsArchiveOf NoArchiveOf
-returns g c = c.to_bytes_in.ensures
+returns g c =
+    rw c.with_load_factor.ensures.load_factor at (rw c.with_load_factor.ensures.pairs at c.to_bytes_in.ensures)

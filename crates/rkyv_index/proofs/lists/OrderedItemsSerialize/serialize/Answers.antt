@@ -3,7 +3,7 @@ use Rattle.std.specs.Borrow.{Bor}
 use Rattle.std.specs.Iterator.{Drains, YieldsFirstBy}
 use Rattle.std.specs.Slice.Iter.{iter_rest}
 use Rattle.rkyv_table.specs.Table.Counting.{GaveOther}
-use Rattle.rkyv_scan.specs.Hash.{fx_feed, low_halves}
+use Rattle.rkyv_scan.specs.Hash.{fx_hasher, low_halves}
 use Rattle.rkyv_index.specs.IndexFormat.{hash_of}
 use Rattle.rkyv_index.specs.SetFormat.{index_set_format, lent_keys}
 use Rattle.rkyv_index.specs.declared.lists.Keys.{Keys}
@@ -17,7 +17,7 @@ returns g c =
     let view : Bor g.row.A.Denot → g.row.A.Denot = λ key. key.now in
     let rest : Keys g.row.A.Denot → List g.row.A.Denot = λ s. iter_rest s.keys in
     let steps = YieldsFirstBy view rest in
-    let hash = hash_of 0 (fx_feed low_halves) (λ held. held) g.A.KeyHash.calls in
+    let hash = hash_of (fx_hasher low_halves) g.A.KeyHash.calls in
     let f = index_set_format g.W.Width.word g.W.Place.Scalar.encoding g.A.Archived.Element.shape g.A.Archive.format hash (7, 8) in
     let all : iter_rest c.iter.result ≡ values = search rules in
     let count : c.len.result ≡ length values = search rules in

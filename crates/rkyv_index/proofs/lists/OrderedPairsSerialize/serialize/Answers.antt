@@ -3,7 +3,7 @@ use Rattle.std.specs.Borrow.{Bor}
 use Rattle.std.specs.Iterator.{Drains, YieldsFirstBy}
 use Rattle.std.specs.Slice.Iter.{iter_rest}
 use Rattle.rkyv_table.specs.Table.Counting.{GaveOther}
-use Rattle.rkyv_scan.specs.Hash.{fx_feed, low_halves}
+use Rattle.rkyv_scan.specs.Hash.{fx_hasher, low_halves}
 use Rattle.rkyv_index.specs.Handing.{lent_pairs}
 use Rattle.rkyv_index.specs.IndexFormat.{hash_of}
 use Rattle.rkyv_index.specs.IndexFormat.{index_format}
@@ -18,7 +18,7 @@ returns g c =
     let view : Bor g.row.A.Denot × Bor g.row.B.Denot → g.row.A.Denot × g.row.B.Denot = λ halves. (halves.0.now, halves.1.now) in
     let rest : Halves g.row.A.Denot g.row.B.Denot → List (g.row.A.Denot × g.row.B.Denot) = λ s. iter_rest s.pairs in
     let steps = YieldsFirstBy view rest in
-    let hash = hash_of 0 (fx_feed low_halves) (λ held. held) g.A.KeyHash.calls in
+    let hash = hash_of (fx_hasher low_halves) g.A.KeyHash.calls in
     let f = index_format g.W.Width.word g.W.Place.Scalar.encoding g.A.Archived.Element.shape g.B.Archived.Element.shape g.A.Archive.format g.B.Archive.format hash (7, 8) in
     let all : iter_rest c.iter.result ≡ values = search rules in
     let count : c.len.result ≡ length values = search rules in
