@@ -10,7 +10,7 @@ use Rattle.std.specs.List.{All, slice_index_or, sum, sum_by}
 use Rattle.std.specs.Slice.Iter.{iter_rest, iter_steps}
 use Rattle.std.specs.declared.slice.Iter.{Iter}
 use Rattle.rkyv_base.specs.Shape.{Shape, Viewed}
-use Rattle.rkyv_collections.specs.Walking.{TakesFirst}
+use Rattle.rkyv_table.specs.Table.PairWalks.{TakesFirst}
 use Rattle.rkyv_table.specs.Table.RawItems.{AllStand, ItemsLeft}
 use Rattle.rkyv_bench_calls.specs.Totals.{total}
 

@@ -10,7 +10,7 @@ use Rattle.rkyv_base.specs.Root.{ArchiveOf}
 use Rattle.rkyv_base.specs.Scalar.{ScalarStands, scalar_format}
 use Rattle.rkyv_base.specs.Text.{TextReads, text_at}
 use Rattle.rkyv_base.specs.TextWriting.{text_format}
-use Rattle.rkyv_collections.specs.Listed.{listed}
+use Rattle.rkyv_table.specs.Table.Listed.{listed}
 use Rattle.rkyv_collections.specs.MapFormat.{MapStands, map_format}
 use Rattle.rkyv_bench_calls.specs.Archives.{map_of, number_shape, short_text}
 use Rattle.rkyv_bench_calls.specs.Totals.{number_hash, text_hash}

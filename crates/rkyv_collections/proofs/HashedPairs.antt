@@ -12,11 +12,13 @@ use Rattle.rkyv_base.specs.Writing.{Output}
 use Rattle.rkyv_base.specs.declared.adapter.EntryAdapter.{EntryAdapter}
 use Rattle.rkyv_base.specs.declared.errors.WriteError.{WriteError}
 use Rattle.rkyv_table.specs.Table.Counting.{GaveOther}
-use Rattle.rkyv_table.specs.Table.Serializing.{NoTable, WroteTable}
+use Rattle.rkyv_table.specs.Table.Serializing.{NoItems, WroteItems}
 use Rattle.rkyv_table.specs.Table.TableFormat.{TableResolver, table_format}
-use Rattle.rkyv_collections.specs.Handing.{HashedStep, NoItems, WroteItems, lent_pairs}
+use Rattle.rkyv_collections.specs.Handing.{HashedStep}
+use Rattle.rkyv_table.specs.Table.Serializing.{NoItems, WroteItems}
+use Rattle.rkyv_table.specs.Table.Lent.{lent_pairs}
 use Rattle.rkyv_collections.specs.MapFormat.{keyed, map_format}
-use Rattle.rkyv_collections.proofs.Through.{drains_through, other_through, own_counted}
+use Rattle.rkyv_table.proofs.Through.{drains_through, other_through, own_counted}
 use Rattle.rkyv_collections.proofs.SeenItems.{seen_gave_up, seen_pairs, seen_serialized}
 
 module _ {T S BK BV A B : Type 0} (inner : T → S) (steps : S → Option (BK × BV) → S → Type 0) (hash : BK → ℕ) where
@@ -66,36 +68,36 @@ module _ {T S BK BV A B : Type 0} (inner : T → S) (steps : S → Option (BK ×
     abbrev Given : T → Option (ℕ × EntryAdapter BK BV A B) → T → Type 0
     Given = Steps inner steps (λ q. hash (key q))
 
-    wrote_map : (r : TableResolver) → WroteTable (Drains Given s) len factor max TableOf o o' limit r → WroteItems (Drains steps (inner s)) len factor max MapOf o o' limit r
+    wrote_map : (r : TableResolver) → WroteItems (Drains Given s) len factor max TableOf o o' limit r → WroteItems (Drains steps (inner s)) len factor max MapOf o o' limit r
     wrote_map r h =
-        let xs = h.1.0 in
-        let d = drained inner steps (λ q. hash (key q)) xs s h.1.1.0 in (
+        let xs = h.1 in
+        let d = drained inner steps (λ q. hash (key q)) xs s h.2.0 in (
           h.0,
           items_in inner steps (λ q. hash (key q)) xs,
-          (d.0, count xs h.1.1.1),
+          (d.0, count xs h.2.1),
           subst (λ ps. Serialized limit (table_format w (entry_shape k v) (pair_format k v kf vf) factor) ps o o' r) (seen_keyed xs d.1)
-              (seen_serialized (pair_of key value) (pair_format k v kf vf) w (entry_shape k v) factor xs o o' limit r h.1.2),
+              (seen_serialized (pair_of key value) (pair_format k v kf vf) w (entry_shape k v) factor xs o o' limit r h.3),
         )
 
     module _ {F : Type 0} where
-      no_map : (e : WriteError F) → NoTable (Drains Given s) len factor max TableOf o o' limit (GaveOther Given len s) e
+      no_map : (e : WriteError F) → NoItems (Drains Given s) len factor max TableOf o o' limit (GaveOther Given len s) e
           → NoItems (Drains steps (inner s)) len factor max MapOf o o' limit (GaveOther steps len (inner s)) e
       no_map e (inl h) =
           inl (own_counted len factor max (GaveOther Given len s) (GaveOther steps len (inner s)) (gave_other inner steps (λ q. hash (key q)) len s) e h.0, h.1)
       no_map e (inr h) =
-          let xs = h.1.0 in
-          let d = drained inner steps (λ q. hash (key q)) xs s h.1.1.0 in
+          let xs = h.1 in
+          let d = drained inner steps (λ q. hash (key q)) xs s h.2.0 in
           inr (
             h.0,
             items_in inner steps (λ q. hash (key q)) xs,
-            (d.0, count xs h.1.1.1),
+            (d.0, count xs h.2.1),
             subst (λ ps. GaveUp limit (table_format w (entry_shape k v) (pair_format k v kf vf) factor) ps o o' e) (seen_keyed xs d.1)
-                (seen_gave_up (pair_of key value) (pair_format k v kf vf) w (entry_shape k v) factor xs o o' limit e h.1.2),
+                (seen_gave_up (pair_of key value) (pair_format k v kf vf) w (entry_shape k v) factor xs o o' limit e h.3),
           )
 
       -- what writing the table of the hashed pairs answers, as what writing the map does
       pub answers_map : (result : Result TableResolver (WriteError F))
-          → MatchResult result (WroteTable (Drains Given s) len factor max TableOf o o' limit) (NoTable (Drains Given s) len factor max TableOf o o' limit (GaveOther Given len s))
+          → MatchResult result (WroteItems (Drains Given s) len factor max TableOf o o' limit) (NoItems (Drains Given s) len factor max TableOf o o' limit (GaveOther Given len s))
           → MatchResult result (WroteItems (Drains steps (inner s)) len factor max MapOf o o' limit) (NoItems (Drains steps (inner s)) len factor max MapOf o o' limit (GaveOther steps len (inner s)))
       answers_map (Ok r) h = wrote_map r h
       answers_map (Err e) h = no_map e h

@@ -1,8 +1,5 @@
 pub mod SeenItems
-pub mod Through
 pub mod HashedPairs
-pub mod UnitItems
-pub mod Listing
 pub mod Lookups
 pub mod Matching
 pub mod WrittenPairs

@@ -14,7 +14,7 @@ use Rattle.rkyv_table.specs.Controls.Placing.{walk}
 use Rattle.rkyv_table.specs.Table.Reading.{IsWalked, item_at, item_positions, table_controls}
 use Rattle.rkyv_table.proofs.RawWalks.{walked_all}
 use Rattle.rkyv_collections.specs.Map.{IsKeyPosAt}
-use Rattle.rkyv_collections.specs.SetFormat.{with_units}
+use Rattle.rkyv_table.specs.Table.Lent.{with_units}
 use Rattle.rkyv_collections.specs.StdMap.{ArePairsAt}
 
 -- at each place of the walk a key of the map stands

@@ -11,11 +11,11 @@ use Rattle.rkyv_base.specs.Writing.{Output}
 use Rattle.rkyv_base.specs.declared.errors.WriteError.{WriteError}
 use Rattle.rkyv_table.specs.Table.Counting.{GaveOther}
 use Rattle.rkyv_table.specs.Table.TableFormat.{TableResolver}
-use Rattle.rkyv_collections.specs.Handing.{NoItems, WroteItems}
-use Rattle.rkyv_collections.specs.Listed.{listed}
-use Rattle.rkyv_collections.specs.SetFormat.{lent_keys, with_units}
+use Rattle.rkyv_table.specs.Table.Serializing.{NoItems, WroteItems}
+use Rattle.rkyv_table.specs.Table.Listed.{listed}
+use Rattle.rkyv_table.specs.Table.Lent.{lent_keys, with_units}
 use Rattle.rkyv_collections.specs.StdMap.{of_entries}
-use Rattle.rkyv_collections.proofs.Listing.{all_came, answers_listed, no_other_came}
+use Rattle.rkyv_table.proofs.Listing.{all_came, answers_listed, no_other_came}
 
 -- an iterator that shows the items of the list, of which exactly these were claimed
 module _ {A V F : Type 0} (shows : A → V) (lent : List A → List V) (seen : (xs : List A) → lent xs ≡ map shows xs) (items from : List V) (rest : from ≡ items) (len : ℕ) (count : len ≡ length items)

@@ -1,5 +1,4 @@
 pub mod Map
-pub mod Walking
 pub mod Equality
 pub mod Misplaced
 pub mod MapFormat
@@ -7,7 +6,6 @@ pub mod Handing
 pub mod Lemmas
 pub mod SetFormat
 pub mod Set
-pub mod Listed
 pub mod SealedMap
 pub mod SealedPairs
 pub mod ValueWrites

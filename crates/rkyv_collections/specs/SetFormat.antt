@@ -1,16 +1,13 @@
 -- How the items of a set are written: as the keys of a map, each with the unit value.
-use Rattle.std.specs.Prelude.{ℕ, List, map, MatchOption, Option, Some, None}
+use Rattle.std.specs.Prelude.{ℕ, List}
 use Rattle.std.specs.Int.{Width}
 use Rattle.rkyv_base.specs.Empty.{unit_format, unit_shape, unit_stands}
 use Rattle.rkyv_base.specs.Format.{Format}
 use Rattle.rkyv_base.specs.Pairs.{written_as}
 use Rattle.rkyv_base.specs.Shape.{Shape}
+use Rattle.rkyv_table.specs.Table.Lent.{with_units}
 use Rattle.rkyv_table.specs.Table.TableFormat.{TableResolver}
 use Rattle.rkyv_collections.specs.MapFormat.{MapStands, map_format}
-
--- the keys, each with the unit value
-abbrev pub with_units : {A : Type 0} → List A → List (A × Unit {0})
-with_units keys = map (λ key. (key, tt)) keys
 
 -- how a list of keys, in the order handed in, is written as a set under a load factor
 abbrev pub set_format : {A R : Type 0} → Width → Shape → Format A R → (A → ℕ) → ℕ × ℕ
@@ -23,12 +20,3 @@ abbrev pub SetStands : {A : Type 0} → Width → Shape → (List ℕ → ℕ �
     → ℕ × ℕ → List ℕ → ℕ → List A → Type 0
 SetStands w k key hash load_factor b p keys =
     MapStands w k unit_shape key unit_stands hash load_factor b p (with_units keys)
-
--- the keys that items lend
-abbrev pub lent_keys : {BK A : Type 0} → (BK → A) → List BK → List A
-lent_keys key items = map key items
-
--- one step of an iterator of keys, with the unit value
-abbrev pub UnitStep : {S BK : Type 0} → (S → Option BK → S → Type 0) → S → Option (BK × Unit {0})
-    → S → Type 0
-UnitStep steps s r t = MatchOption r (steps s None t) (λ x. steps s (Some x.0) t)

@@ -14,7 +14,7 @@ use Rattle.rkyv_base.specs.declared.errors.ReadError.TheVariants.{Memory}
 use Rattle.rkyv_keys.specs.Reading.{Refusals}
 use Rattle.rkyv_table.specs.Table.Header.{len_at}
 use Rattle.rkyv_collections.specs.Map.{IsKeyPosAt}
-use Rattle.rkyv_collections.specs.SetFormat.{with_units}
+use Rattle.rkyv_table.specs.Table.Lent.{with_units}
 use Rattle.rkyv_collections.specs.StdEquality.{EntriesEqual, FindsPair}
 use Rattle.rkyv_collections.specs.StdMap.{EntriesStand}
 

@@ -4,7 +4,7 @@ use Rattle.std.proofs.lemmas.List.Elements.{All-tail}
 use Rattle.std.specs.List.{All}
 use Rattle.rkyv_base.specs.Shape.{Shape, Viewed}
 use Rattle.rkyv_table.specs.Table.RawItems.{AllStand, ItemsLeft}
-use Rattle.rkyv_collections.specs.Walking.{IsAtEnd, TakesFirst}
+use Rattle.rkyv_table.specs.Table.PairWalks.{IsAtEnd, TakesFirst}
 
 pub stand_after : {s : Shape} {before after : ItemsLeft} {place : ℕ} → TakesFirst before place after → AllStand s before → AllStand s after
 stand_after {s} {before} {after} {place} t all =

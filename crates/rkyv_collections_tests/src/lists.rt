@@ -5,7 +5,7 @@ ghost use Rattle.std.specs.Iterator.{YieldsFirstBy, at_most};
 ghost use Rattle.std.specs.Prelude.{length};
 ghost use Rattle.std.specs.Slice.Iter.{iter_rest};
 ghost use Rattle.rkyv_base.specs.Pairs.{written_as, written_as-format};
-ghost use Rattle.rkyv_collections.specs.Listed.{listed, listed_format};
+ghost use Rattle.rkyv_table.specs.Table.Listed.{listed, listed_format};
 ghost use Rattle.rkyv_collections.specs.Map.{hash_at, map_shape};
 ghost use Rattle.rkyv_collections.specs.MapFormat.{MapStands, hash_of, map_format};
 ghost use Rattle.rkyv_collections.specs.Lemmas.MapSound.{map_near, map_sound};

@@ -9,7 +9,7 @@ use Rattle.rkyv_base.specs.Shape.{Shape, Viewed}
 use Rattle.rkyv_base.specs.declared.view.View.{View}
 use Rattle.rkyv_keys.specs.Places.{at_view}
 use Rattle.rkyv_table.specs.Table.RawItems.{AllStand, ItemsLeft}
-use Rattle.rkyv_collections.specs.Walking.{TakesFirst, ViewsAt}
+use Rattle.rkyv_table.specs.Table.PairWalks.{TakesFirst, ViewsAt}
 use Rattle.rkyv_dict.specs.Archives.{line, line_at}
 
 pub ok_map : {T E P Q : Type 0} (r : Result T E) → (P → Q) → OnOk r P → OnOk r Q

@@ -12,7 +12,7 @@ use Rattle.rkyv_base.specs.Text.{IsArchiveWord, TextReads, text_element}
 use Rattle.rkyv_base.specs.TextWriting.{text_format}
 use Rattle.rkyv_base.specs.Writing.{padding, zeros}
 use Rattle.rkyv_base.specs.declared.errors.VerifyError.{VerifyError}
-use Rattle.rkyv_collections.specs.Listed.{listed}
+use Rattle.rkyv_table.specs.Table.Listed.{listed}
 use Rattle.rkyv_collections.specs.MapFormat.{keyed, map_format}
 use Rattle.rkyv_dict.specs.Archives.{IsArchive, IsMapArchive, IsRefused, MapArchiveFails, hash, header_shape, pair_shape}
 use Rattle.rkyv_dict.specs.Built.{IsArchiveOf, PairsStandAt, built_in, pairs_format}

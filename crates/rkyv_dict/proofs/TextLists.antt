@@ -18,7 +18,7 @@ use Rattle.rkyv_table.specs.Controls.Numbers.{capacity}
 use Rattle.rkyv_table.specs.Table.Serializing.{HasCapacity}
 use Rattle.rkyv_table.specs.Table.Reading.{home_positions}
 use Rattle.rkyv_table.specs.Table.TableFormat.{PairsNext, TableParts, TableResolver}
-use Rattle.rkyv_collections.specs.Listed.{ListRefuses}
+use Rattle.rkyv_table.specs.Table.Listed.{ListRefuses}
 use Rattle.rkyv_collections.specs.MapFormat.{keyed}
 use Rattle.rkyv_collections.proofs.SeenItems.{seen_pairs, seen_pairs_next, seen_table, was_seen}
 use Rattle.rkyv_dict.specs.Archives.{hash, header_shape, pair_shape, root}

@@ -11,7 +11,7 @@ use Rattle.rkyv_base.specs.TextWriting.{text_format}
 use Rattle.rkyv_base.specs.declared.errors.WriteError.{WriteError}
 use Rattle.rkyv_keys.specs.Calls.{text_calls}
 use Rattle.rkyv_table.specs.Table.TableFormat.{TableResolver}
-use Rattle.rkyv_collections.specs.Listed.{listed}
+use Rattle.rkyv_table.specs.Table.Listed.{listed}
 use Rattle.rkyv_collections.specs.MapFormat.{MapStands, map_format}
 use Rattle.rkyv_dict.specs.declared.form.Bits.{Bits}
 use Rattle.rkyv_dict.specs.declared.form.Form.{Form}

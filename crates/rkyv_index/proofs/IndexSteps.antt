@@ -9,12 +9,12 @@ use Rattle.rkyv_base.specs.Shape.{Shape}
 use Rattle.rkyv_base.specs.Writing.{Appends, Only, Output, Step, Told, Within, end_of, padding, piece, zeros}
 use Rattle.rkyv_base.proofs.GivingUp.{appends_after, end-appends, grows, told_after, told_as, within_after}
 use Rattle.rkyv_table.specs.Table.Counting.{GaveOther}
-use Rattle.rkyv_table.specs.Table.Serializing.{NoTable, WroteTable}
+use Rattle.rkyv_table.specs.Table.Serializing.{NoItems, WroteItems}
 use Rattle.rkyv_table.specs.Table.TableFormat.{PairsNext, TableResolver, table_format}
 use Rattle.rkyv_index.specs.Handing.{NoOther, OwnOrGaveUp}
 use Rattle.rkyv_index.specs.IndexFormat.{BeforeRow, BeforeZeros, IndexNext, places_from, row_format}
 use Rattle.rkyv_index.specs.Row.{RowNext, RowParts, RowPartsNext, WroteRow}
-use Rattle.rkyv_index.proofs.Through.{own_counted}
+use Rattle.rkyv_table.proofs.Through.{own_counted}
 
 -- an iterator whose state shows the list of what is left
 module _ {S A : Type 0} (rest : S → List A) where
@@ -61,15 +61,15 @@ module _ (F : Type 0) {P X R : Type 0} (w : Width) (e : Encoding P) (s : Shape) 
     abbrev Gave : List (ℕ × P) → Type 0
     Gave = Drains (YieldsFirst rest) state
 
-    pub wrote_places : (r : TableResolver) → WroteTable Gave (length xs) factor max TableOf o o1 limit r → Serialized limit TableOf Places o o1 r
-    wrote_places r h = subst (λ ps. Serialized limit TableOf ps o o1 r) (drained rest h.1.0 state h.1.1.0 ∙ there) h.1.2
+    pub wrote_places : (r : TableResolver) → WroteItems Gave (length xs) factor max TableOf o o1 limit r → Serialized limit TableOf Places o o1 r
+    wrote_places r h = subst (λ ps. Serialized limit TableOf ps o o1 r) (drained rest h.1 state h.2.0 ∙ there) h.3
 
-    pub no_places : (err : WriteError F) → NoTable Gave (length xs) factor max TableOf o o1 limit (GaveOther (YieldsFirst rest) (length xs) state) err
+    pub no_places : (err : WriteError F) → NoItems Gave (length xs) factor max TableOf o o1 limit (GaveOther (YieldsFirst rest) (length xs) state) err
         → OwnOrGaveUp (length xs) factor max NoOther limit (row_format w e s f hash factor) xs o o1 err
     no_places err (inl h) =
         let n : length (rest state) ≡ length xs = ap length there ∙ places_count hash e.value 0 xs in
         inl (own_counted (length xs) factor max (GaveOther (YieldsFirst rest) (length xs) state) NoOther (λ k g. no_other_drained rest (length xs) state n k g) err h.0, h.1)
-    no_places err (inr h) = inr (stopped_table o1 err (subst (λ ps. GaveUp limit TableOf ps o o1 err) (drained rest h.1.0 state h.1.1.0 ∙ there) h.1.2))
+    no_places err (inr h) = inr (stopped_table o1 err (subst (λ ps. GaveUp limit TableOf ps o o1 err) (drained rest h.1 state h.2.0 ∙ there) h.3))
 
   module _ (o1 : Output) (t : TableResolver) (wrote : Serialized limit TableOf Places o o1 t) where
     abbrev table : List ℕ

@@ -10,7 +10,4 @@ pub mod RowSteps
 pub mod IndexSteps
 pub mod SeenRow
 pub mod Taking
-pub mod Listing
-pub mod Through
-pub mod SetItems
 pub mod Repeats

@@ -18,11 +18,13 @@ use Rattle.rkyv_base.specs.Writing.{Output, Step, end_of}
 use Rattle.rkyv_base.proofs.GivingUp.{told_as}
 use Rattle.rkyv_table.specs.Table.Serializing.{HasCapacity, OwnCause}
 use Rattle.rkyv_table.specs.Table.TableFormat.{PairsNext, TableParts, TableResolver}
-use Rattle.rkyv_index.specs.Handing.{NoItems, NoOther, OwnOrGaveUp, WroteItems, lent_pairs, made_of}
+use Rattle.rkyv_index.specs.Handing.{NoOther, OwnOrGaveUp, made_of}
+use Rattle.rkyv_table.specs.Table.Serializing.{NoItems, WroteItems}
+use Rattle.rkyv_table.specs.Table.Lent.{lent_pairs}
 use Rattle.rkyv_index.specs.IndexFormat.{BeforeRow, BeforeZeros, IndexNext, IndexParts, index_format, places_from, row_format}
 use Rattle.rkyv_index.specs.IndexHeader.{IndexResolver}
 use Rattle.rkyv_index.specs.Row.{Before, RowImages, RowNext, RowParts, RowPartsNext}
-use Rattle.rkyv_index.proofs.Through.{own_counted}
+use Rattle.rkyv_table.proofs.Through.{own_counted}
 
 module _ {X Y R : Type 0} (seen : X → Y) (f : Format Y R) where
   abbrev F : Format X R

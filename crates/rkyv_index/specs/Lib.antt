@@ -9,5 +9,4 @@ pub mod IndexSet
 pub mod SetFormat
 pub mod Complete
 pub mod Handing
-pub mod Listed
 pub mod Lemmas

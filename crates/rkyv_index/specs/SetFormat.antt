@@ -1,17 +1,14 @@
 -- How the items of an index set are written: as the keys of an index map, each with the unit value.
-use Rattle.std.specs.Prelude.{ℕ, List, map, MatchOption, Option, Some, None}
+use Rattle.std.specs.Prelude.{ℕ, List}
 use Rattle.std.specs.Int.{Width}
 use Rattle.rkyv_base.specs.Empty.{unit_format, unit_shape, unit_stands}
 use Rattle.rkyv_base.specs.Format.{Format}
 use Rattle.rkyv_base.specs.Pairs.{written_as}
 use Rattle.rkyv_base.specs.Scalar.{Encoding}
 use Rattle.rkyv_base.specs.Shape.{Shape}
+use Rattle.rkyv_table.specs.Table.Lent.{with_units}
 use Rattle.rkyv_index.specs.IndexFormat.{IndexStands, index_format}
 use Rattle.rkyv_index.specs.IndexHeader.{IndexResolver}
-
--- the keys, each with the unit value
-abbrev pub with_units : {A : Type 0} → List A → List (A × Unit {0})
-with_units keys = map (λ key. (key, tt)) keys
 
 -- how a list of keys, in the order handed in, is written as an index set under a load factor
 abbrev pub index_set_format : {P A R : Type 0} → Width → Encoding P → Shape → Format A R → (A → ℕ)
@@ -24,12 +21,3 @@ abbrev pub IndexSetStands : {A : Type 0} → Width → Shape → (List ℕ → �
     → (List ℕ → ℕ → ℕ) → ℕ × ℕ → List ℕ → ℕ → List A → Type 0
 IndexSetStands w k key hash load_factor b p keys = IndexStands w k unit_shape key unit_stands hash
     load_factor b p (with_units keys)
-
--- the keys that items lend
-abbrev pub lent_keys : {BK A : Type 0} → (BK → A) → List BK → List A
-lent_keys key items = map key items
-
--- one step of an iterator of keys, with the unit value
-abbrev pub UnitStep : {S BK : Type 0} → (S → Option BK → S → Type 0) → S → Option (BK × Unit {0})
-    → S → Type 0
-UnitStep steps s r t = MatchOption r (steps s None t) (λ x. steps s (Some x.0) t)

@@ -12,7 +12,7 @@ ghost use Rattle.rkyv_index.specs.IndexFormat.{IndexStands, index_format};
 ghost use Rattle.rkyv_index.specs.IndexLayout.{index_shape};
 ghost use Rattle.rkyv_index.specs.Lemmas.IndexNear.{index_stands_near};
 ghost use Rattle.rkyv_index.specs.Lemmas.IndexSound.{index_sound};
-ghost use Rattle.rkyv_index.specs.Listed.{listed, listed_format};
+ghost use Rattle.rkyv_table.specs.Table.Listed.{listed, listed_format};
 ghost use Rattle.rkyv_index.specs.SetFormat.{IndexSetStands, index_set_format};
 ghost use Rattle.rkyv_index.specs.IndexSet.{index_set_shape};
 ghost use Rattle.rkyv_index.specs.Lemmas.SetSound.{index_set_near, index_set_sound};

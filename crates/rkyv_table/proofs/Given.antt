@@ -10,7 +10,7 @@ use Rattle.rkyv_base.specs.Format.{Format}
 use Rattle.rkyv_base.specs.Shape.{Shape}
 use Rattle.rkyv_base.specs.Writing.{Output, end_of}
 use Rattle.rkyv_table.specs.Controls.Numbers.{capacity}
-use Rattle.rkyv_table.specs.Table.Serializing.{HasCapacity, NoFilled, NoTable, NotPlaced, OwnCause, WroteFilled, WroteTable}
+use Rattle.rkyv_table.specs.Table.Serializing.{HasCapacity, NoFilled, NoItems, NotPlaced, OwnCause, WroteFilled, WroteItems}
 use Rattle.rkyv_table.specs.Table.Slots.{TableNext}
 use Rattle.rkyv_table.specs.Table.TableFormat.{InBuckets, PairsNext, table_format}
 use Rattle.rkyv_table.specs.Table.Taking.{Placed}
@@ -22,28 +22,24 @@ no_pairs (x ∷ xs) e = absurd (omega (arith, e))
 module _ {X R : Type 0} (gave : List (ℕ × X) → Type 0) (len : ℕ) (load_factor : ℕ × ℕ) (max : ℕ) (w : Width) (s : Shape) (f : Format X R) (o o' : Output) (limit : ℕ)
     (has : HasCapacity len load_factor max) where
   -- nothing was written of no pairs
-  pub wrote_none : len ≡ 0 → gave [] → o' ≡ o → capacity len load_factor < 2 ^ bits w → WroteTable gave len load_factor max (table_format w s f load_factor) o o' limit (record { pos = 0; len = len; load_factor = load_factor })
+  pub wrote_none : len ≡ 0 → gave [] → o' ≡ o → capacity len load_factor < 2 ^ bits w → WroteItems gave len load_factor max (table_format w s f load_factor) o o' limit (record { pos = 0; len = len; load_factor = load_factor })
   wrote_none none g same fits = (
     has,
-    (
-      [],
-      (g, sym none),
-      ([], rw same (none_appended o), record { len = none; factor = refl; fits = fits; written = inl (refl, refl, refl) }, inl refl),
-    ),
+    [],
+    (g, sym none),
+    ([], rw same (none_appended o), record { len = none; factor = refl; fits = fits; written = inl (refl, refl, refl) }, inl refl),
   )
 
   module _ (some : 0 < len) where
     pub wrote_some : (z : ℕ) → capacity len load_factor < 2 ^ bits w → WroteFilled gave len (capacity len load_factor) s f o o' limit z
-        → WroteTable gave len load_factor max (table_format w s f load_factor) o o' limit (record { pos = z; len = len; load_factor = load_factor })
+        → WroteItems gave len load_factor max (table_format w s f load_factor) o o' limit (record { pos = z; len = len; load_factor = load_factor })
     wrote_some z fits (pairs, slots, controls, taken, bytes, appended, is) =
         let n : length pairs ≡ len = taken.came.1 in
         let placed : Placed (capacity (length pairs) load_factor) pairs slots controls = rw n taken.placed in (
           has,
-          (
-            pairs,
-            taken.came,
-            (bytes, appended.0, record { len = sym n; factor = refl; fits = fits; written = inr (slots, controls, (omega (arith, n, some), placed), is) }, inr appended.1),
-          ),
+          pairs,
+          taken.came,
+          (bytes, appended.0, record { len = sym n; factor = refl; fits = fits; written = inr (slots, controls, (omega (arith, n, some), placed), is) }, inr appended.1),
         )
 
     module _ {F : Type 0} (other : ℕ → Type 0) where
@@ -59,7 +55,7 @@ module _ {X R : Type 0} (gave : List (ℕ × X) → Type 0) (len : ℕ) (load_fa
       own_of (Refused c) h = absurd h
 
       pub gave_up_some : (e : WriteError F) → NoFilled gave len (capacity len load_factor) s f o o' limit other e
-          → NoTable gave len load_factor max (table_format w s f load_factor) o o' limit other e
+          → NoItems gave len load_factor max (table_format w s f load_factor) o o' limit other e
       gave_up_some e (inl h) = inl (own_of e h.0, h.1)
       gave_up_some e (inr (pairs, slots, controls, taken, told)) =
           let n : length pairs ≡ len = taken.came.1 in
@@ -67,9 +63,7 @@ module _ {X R : Type 0} (gave : List (ℕ × X) → Type 0) (len : ℕ) (load_fa
           let inside : InBuckets load_factor pairs slots controls = (omega (arith, n, some), placed) in
           inr (
             has,
-            (
-              pairs,
-              taken.came,
-              told_as limit (PairsNext w s f load_factor pairs (end_of o)) (TableNext s f slots controls (end_of o)) o o' e (λ g step h. (slots, controls, inside, h)) told,
-            ),
+            pairs,
+            taken.came,
+            told_as limit (PairsNext w s f load_factor pairs (end_of o)) (TableNext s f slots controls (end_of o)) o o' e (λ g step h. (slots, controls, inside, h)) told,
           )

@@ -40,3 +40,6 @@ pub mod RawSteps
 pub mod ItemSteps
 pub mod WholeStride
 pub mod HalvesFound
+pub mod Listing
+pub mod Through
+pub mod UnitItems

@@ -9,8 +9,11 @@ pub mod Taking
 pub mod Counting
 pub mod TableFormat
 pub mod Serializing
+pub mod Listed
+pub mod Lent
 pub mod Buckets
 pub mod RawItems
+pub mod PairWalks
 pub mod WalkLaws
 pub mod SealedTable
 pub mod SealedLookup

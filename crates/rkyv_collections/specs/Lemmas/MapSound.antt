@@ -12,7 +12,7 @@ use Rattle.rkyv_keys.specs.Keys.{FitsItsEqual, IsKey, IsQuery}
 use Rattle.rkyv_collections.specs.Map.{hash_at, map_shape}
 use Rattle.rkyv_collections.specs.MapFormat.{MapStands, hash_of, map_format}
 use Rattle.rkyv_collections.specs.Lemmas.MapLaws.{map_is_format, stands_again}
-use Rattle.rkyv_collections.specs.Listed.{listed, listed_format}
+use Rattle.rkyv_table.specs.Table.Listed.{listed, listed_format}
 
 module _ {State : Type 0} (hasher : Hasher State) (w : Width) {k v : Shape} (kl : IsElement k)
     (vl : IsElement v)

@@ -13,9 +13,10 @@ use Rattle.rkyv_keys.specs.Keys.{FitsItsEqual, IsKey, IsQuery}
 use Rattle.rkyv_collections.specs.Map.{hash_at}
 use Rattle.rkyv_collections.specs.MapFormat.{MapStands, hash_of, map_format}
 use Rattle.rkyv_collections.specs.Lemmas.MapSound.{map_near, map_sound}
-use Rattle.rkyv_collections.specs.Listed.{listed, listed_format}
+use Rattle.rkyv_table.specs.Table.Listed.{listed, listed_format}
 use Rattle.rkyv_collections.specs.Set.{set_shape}
-use Rattle.rkyv_collections.specs.SetFormat.{SetStands, set_format, with_units}
+use Rattle.rkyv_collections.specs.SetFormat.{SetStands, set_format}
+use Rattle.rkyv_table.specs.Table.Lent.{with_units}
 
 module _ {State : Type 0} (hasher : Hasher State) (w : Width) {k : Shape} (kl : IsElement k)
     {A : Type 0} {key : List ℕ → ℕ → A → Type 0} {same : Comparison} {key_calls : List ℕ → ℕ

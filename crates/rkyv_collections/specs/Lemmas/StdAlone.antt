@@ -24,7 +24,7 @@ use Rattle.rkyv_table.specs.Table.Reading.{IsWalked, item_at, item_positions, ta
 use Rattle.rkyv_table.proofs.RawWalks.{walked_all}
 use Rattle.rkyv_collections.specs.Map.{map_shape}
 use Rattle.rkyv_collections.specs.Set.{set_shape}
-use Rattle.rkyv_collections.specs.SetFormat.{with_units}
+use Rattle.rkyv_table.specs.Table.Lent.{with_units}
 use Rattle.rkyv_collections.specs.StdMap.{ArePairsAt, EntriesStand, StdMapStands}
 use Rattle.rkyv_collections.specs.StdSet.{StdSetStands}
 

@@ -3,7 +3,7 @@
 ghost use Rattle.std.specs.Iterator.{YieldsFirstBy, at_most};
 ghost use Rattle.std.specs.Prelude.{length, ◌≡◌};
 ghost use Rattle.std.specs.Slice.Iter.{iter_rest};
-ghost use Rattle.rkyv_collections.specs.Listed.{listed, written_under, written_under-format};
+ghost use Rattle.rkyv_table.specs.Table.Listed.{listed, written_under, written_under-format};
 ghost use Rattle.rkyv_collections.specs.Map.{hash_at};
 ghost use Rattle.rkyv_collections.specs.MapFormat.{hash_of};
 ghost use Rattle.rkyv_collections.specs.Set.{set_shape};

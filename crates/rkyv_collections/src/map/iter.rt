@@ -5,7 +5,7 @@ ghost use Rattle.std.specs.Iterator.SizeHint.{IsWithinCount};
 ghost use Rattle.rkyv_base.specs.Entry.{entry_shape};
 ghost use Rattle.rkyv_table.specs.Table.RawItems.{AllStand};
 ghost use Rattle.rkyv_collections.specs.Map.{IsMap, key_positions, map_archive, map_len};
-ghost use Rattle.rkyv_collections.specs.Walking.{TakesKey, TakesPair, TakesValue};
+ghost use Rattle.rkyv_table.specs.Table.PairWalks.{TakesKey, TakesPair, TakesValue};
 
 use crate::map::ArchivedHashMap;
 use rkyv_base::element::Element;

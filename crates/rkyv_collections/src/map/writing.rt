@@ -6,7 +6,8 @@ ghost use Rattle.rkyv_base.specs.Pairs.{written_as};
 ghost use Rattle.rkyv_table.specs.Table.Counting.{GaveOther};
 ghost use Rattle.rkyv_table.specs.Table.Header.{HeaderFar, IsHeader};
 ghost use Rattle.rkyv_table.specs.Controls.Numbers.{capacity};
-ghost use Rattle.rkyv_collections.specs.Handing.{NoItems, WroteItems, lent_pairs};
+ghost use Rattle.rkyv_table.specs.Table.Serializing.{NoItems, WroteItems};
+ghost use Rattle.rkyv_table.specs.Table.Lent.{lent_pairs};
 ghost use Rattle.rkyv_collections.specs.MapFormat.{hash_of, map_format};
 
 use crate::map::ArchivedHashMap;

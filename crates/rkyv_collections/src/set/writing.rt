@@ -6,9 +6,10 @@ ghost use Rattle.rkyv_base.specs.Pairs.{written_as};
 ghost use Rattle.rkyv_table.specs.Table.Counting.{GaveOther};
 ghost use Rattle.rkyv_table.specs.Table.Header.{HeaderFar, IsHeader};
 ghost use Rattle.rkyv_table.specs.Controls.Numbers.{capacity};
-ghost use Rattle.rkyv_collections.specs.Handing.{NoItems, WroteItems};
+ghost use Rattle.rkyv_table.specs.Table.Serializing.{NoItems, WroteItems};
 ghost use Rattle.rkyv_collections.specs.MapFormat.{hash_of};
-ghost use Rattle.rkyv_collections.specs.SetFormat.{UnitStep, lent_keys, set_format};
+ghost use Rattle.rkyv_collections.specs.SetFormat.{set_format};
+ghost use Rattle.rkyv_table.specs.Table.Lent.{UnitStep, lent_keys};
 
 use crate::map::ArchivedHashMap;
 use crate::map::writing::HashMapResolver;

@@ -3,7 +3,7 @@
 ghost use Rattle.std.specs.Prelude.{IsTrue, ◌↔◌};
 ghost use Rattle.rkyv_base.specs.Pairs.{written_as-format};
 ghost use Rattle.rkyv_base.specs.View.{IsView, StandsAt};
-ghost use Rattle.rkyv_collections.specs.Listed.{listed};
+ghost use Rattle.rkyv_table.specs.Table.Listed.{listed};
 ghost use Rattle.rkyv_collections.specs.Map.{IsMap, map_bytes, map_pos, map_shape};
 ghost use Rattle.rkyv_collections.specs.MapFormat.{hash_of, map_format};
 ghost use Rattle.rkyv_collections.specs.Lemmas.MapSound.{listed_map_sound};

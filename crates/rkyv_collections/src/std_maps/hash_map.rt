@@ -1,7 +1,7 @@
 //! Std's hash maps as what stands in archives.
 
 ghost use Rattle.rkyv_base.specs.Pairs.{written_as, written_as-format};
-ghost use Rattle.rkyv_collections.specs.Listed.{listed};
+ghost use Rattle.rkyv_table.specs.Table.Listed.{listed};
 ghost use Rattle.rkyv_collections.specs.Map.{hash_at, map_shape};
 ghost use Rattle.rkyv_collections.specs.MapFormat.{hash_of, map_format};
 ghost use Rattle.rkyv_collections.specs.Lemmas.MapSound.{listed_map_sound};

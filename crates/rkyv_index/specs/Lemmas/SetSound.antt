@@ -18,7 +18,8 @@ use Rattle.rkyv_index.specs.IndexFormat.{CodesReadBack, IndexStands, index_forma
 use Rattle.rkyv_index.specs.Lemmas.IndexNear.{index_stands_near}
 use Rattle.rkyv_index.specs.Lemmas.IndexSound.{index_sound}
 use Rattle.rkyv_index.specs.IndexSet.{index_set_shape}
-use Rattle.rkyv_index.specs.SetFormat.{IndexSetStands, index_set_format, with_units}
+use Rattle.rkyv_index.specs.SetFormat.{IndexSetStands, index_set_format}
+use Rattle.rkyv_table.specs.Table.Lent.{with_units}
 
 module _ {State : Type 0} (hasher : Hasher State)
     (w : Width) (kind : IsArchiveWord w) {k : Shape} (kl : IsElement k)

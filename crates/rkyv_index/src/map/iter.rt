@@ -5,7 +5,7 @@ ghost use Rattle.std.specs.Iterator.SizeHint.{IsWithinCount};
 ghost use Rattle.rkyv_base.specs.Entry.{entry_shape};
 ghost use Rattle.rkyv_table.specs.Table.RawItems.{AllStand};
 ghost use Rattle.rkyv_index.specs.Index.{IsIndexMap, index_archive, index_len, key_positions};
-ghost use Rattle.rkyv_index.specs.Walking.{TakesKey, TakesPair, TakesValue};
+ghost use Rattle.rkyv_table.specs.Table.PairWalks.{TakesKey, TakesPair, TakesValue};
 
 use crate::map::ArchivedIndexMap;
 use rkyv_base::element::Element;

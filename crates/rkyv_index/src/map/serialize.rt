@@ -4,7 +4,8 @@ ghost use Rattle.std.specs.Prelude.{MatchResult};
 ghost use Rattle.std.specs.Iterator.{Drains};
 ghost use Rattle.rkyv_base.specs.Pairs.{written_as};
 ghost use Rattle.rkyv_table.specs.Table.Counting.{GaveOther};
-ghost use Rattle.rkyv_index.specs.Handing.{NoItems, WroteItems, lent_pairs};
+ghost use Rattle.rkyv_table.specs.Table.Serializing.{NoItems, WroteItems};
+ghost use Rattle.rkyv_table.specs.Table.Lent.{lent_pairs};
 ghost use Rattle.rkyv_index.specs.IndexFormat.{hash_of};
 ghost use Rattle.rkyv_index.specs.IndexFormat.{index_format};
 

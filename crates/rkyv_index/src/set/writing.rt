@@ -5,10 +5,11 @@ ghost use Rattle.std.specs.Iterator.{Drains};
 ghost use Rattle.rkyv_base.specs.Pairs.{written_as};
 ghost use Rattle.rkyv_table.specs.Controls.Numbers.{capacity};
 ghost use Rattle.rkyv_table.specs.Table.Counting.{GaveOther};
-ghost use Rattle.rkyv_index.specs.Handing.{NoItems, WroteItems};
+ghost use Rattle.rkyv_table.specs.Table.Serializing.{NoItems, WroteItems};
 ghost use Rattle.rkyv_index.specs.IndexFormat.{hash_of};
 ghost use Rattle.rkyv_index.specs.IndexHeader.{IndexFar, IsIndexHeader};
-ghost use Rattle.rkyv_index.specs.SetFormat.{UnitStep, index_set_format, lent_keys};
+ghost use Rattle.rkyv_index.specs.SetFormat.{index_set_format};
+ghost use Rattle.rkyv_table.specs.Table.Lent.{UnitStep, lent_keys};
 
 use crate::map::ArchivedIndexMap;
 use crate::map::resolve::IndexMapResolver;

@@ -12,7 +12,6 @@ use Rattle.rkyv_base.specs.Shape.{Shape}
 use Rattle.rkyv_base.specs.Writing.{Appended, Output, Told, end_of}
 use Rattle.rkyv_table.specs.Controls.Numbers.{IsLoadFactor, capacity}
 use Rattle.rkyv_table.specs.Table.Slots.{TableBytes, TableNext}
-use Rattle.rkyv_table.specs.Table.TableFormat.{TableResolver}
 use Rattle.rkyv_table.specs.Table.Taking.{Placed}
 
 -- so many items have a capacity within the limit
@@ -35,32 +34,22 @@ module _ (len : ℕ) (load_factor : ℕ × ℕ) (max : ℕ) (other : ℕ → Typ
   OwnCause (Writer fault) = ⊥
   OwnCause (Refused c) = ⊥
 
--- so many pairs came, and these
-abbrev pub Came : {X : Type 0} → (List (ℕ × X) → Type 0) → ℕ → List (ℕ × X) → Type 0
-Came gave len pairs = gave pairs × (length pairs ≡ len)
+-- so many items came, and these
+abbrev pub Came : {X : Type 0} → (List X → Type 0) → ℕ → List X → Type 0
+Came gave len items = gave items × (length items ≡ len)
 
-module _ {X R : Type 0} (gave : List (ℕ × X) → Type 0) (len limit : ℕ) where
-  -- the pairs that came were written
-  abbrev pub WroteGiven : Format (List (ℕ × X)) R → Output → Output → R → Type 0
-  WroteGiven f o o' r = (pairs : List (ℕ × X)) × Came gave len pairs
-      × Serialized limit f pairs o o' r
+module _ {X R : Type 0} (gave : List X → Type 0) (len : ℕ) (load_factor : ℕ × ℕ) (max : ℕ)
+    (f : Format (List X) R) (o o' : Output) (limit : ℕ) where
+  -- the items that came were written
+  abbrev pub WroteItems : R → Type 0
+  WroteItems r = HasCapacity len load_factor max × (items : List X) × Came gave len items
+      × Serialized limit f items o o' r
 
-  -- writing the pairs that came gave up
-  abbrev pub GaveUpGiven : {F : Type 0} → Format (List (ℕ × X)) R → Output → Output → WriteError F
-      → Type 0
-  GaveUpGiven f o o' e = (pairs : List (ℕ × X)) × Came gave len pairs × GaveUp limit f pairs o o' e
-
-module _ {X : Type 0} (gave : List (ℕ × X)
-    → Type 0) (len : ℕ) (load_factor : ℕ × ℕ) (max : ℕ) (f : Format (List (ℕ × X)) TableResolver)
-    (o o' : Output) (limit : ℕ) where
-  -- the pairs that came were written as a table
-  abbrev pub WroteTable : TableResolver → Type 0
-  WroteTable r = HasCapacity len load_factor max × WroteGiven gave len limit f o o' r
-
-  -- a cause of the call's own, and nothing was written; or else writing the pairs that came gave up
-  abbrev pub NoTable : {F : Type 0} → (ℕ → Type 0) → WriteError F → Type 0
-  NoTable other e = (OwnCause len load_factor max other e × (o' ≡ o))
-      ⊎ (HasCapacity len load_factor max × GaveUpGiven gave len limit f o o' e)
+  -- a cause of the call's own, and nothing was written; or else writing the items that came gave up
+  abbrev pub NoItems : {F : Type 0} → (ℕ → Type 0) → WriteError F → Type 0
+  NoItems other e = (OwnCause len load_factor max other e × (o' ≡ o))
+      ⊎ (HasCapacity len load_factor max × (items : List X) × Came gave len items
+      × GaveUp limit f items o o' e)
 
 -- the causes for which the items are not placed
 abbrev pub NotPlaced : {F : Type 0} → ℕ → (ℕ → Type 0) → WriteError F → Type 0

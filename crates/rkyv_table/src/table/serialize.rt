@@ -8,7 +8,7 @@ ghost use Rattle.rkyv_table.specs.Controls.Capacity.{IsCapacity};
 ghost use Rattle.rkyv_table.specs.Controls.Shown.{fresh_controls};
 ghost use Rattle.rkyv_table.specs.Table.Counting.{GaveBoth, GaveOther, Uneven};
 ghost use Rattle.rkyv_table.specs.Controls.Numbers.{capacity, control_count};
-ghost use Rattle.rkyv_table.specs.Table.Serializing.{NoFilled, NoTable, WroteFilled, WroteTable};
+ghost use Rattle.rkyv_table.specs.Table.Serializing.{NoFilled, NoItems, WroteFilled, WroteItems};
 ghost use Rattle.rkyv_table.specs.Table.TableFormat.{table_format};
 ghost use Rattle.std.specs.Iterator.{Drains};
 
@@ -172,8 +172,8 @@ fn serialize_given<
         let o = S.output serializer.old in
         let o' = S.output serializer.new in
         MatchResult result
-        (WroteTable (H.gave given) len load_factor W.MAX_CAPACITY f o o' W.LIMIT)
-        (NoTable (H.gave given) len load_factor W.MAX_CAPACITY f o o' W.LIMIT
+        (WroteItems (H.gave given) len load_factor W.MAX_CAPACITY f o o' W.LIMIT)
+        (NoItems (H.gave given) len load_factor W.MAX_CAPACITY f o o' W.LIMIT
         (H.gave_other len given)) }
 {
     let cap = match capacity(len, load_factor, W::MAX_CAPACITY) {
@@ -246,8 +246,8 @@ impl<'a, T, W: Width> ArchivedHashTable<'a, T, W> {
             let gave = GaveBoth I.next_gives J.next_gives items hashes in
             let o = S.output serializer.old in let o' = S.output serializer.new in
             MatchResult result
-            (WroteTable gave len load_factor W.MAX_CAPACITY f o o' W.LIMIT)
-            (NoTable gave len load_factor W.MAX_CAPACITY f o o' W.LIMIT
+            (WroteItems gave len load_factor W.MAX_CAPACITY f o o' W.LIMIT)
+            (NoItems gave len load_factor W.MAX_CAPACITY f o o' W.LIMIT
             (Uneven I.next_gives J.next_gives len items hashes)) }
     {
         let given = ItemsAndHashes { items, hashes };
@@ -282,8 +282,8 @@ impl<'a, T, W: Width> ArchivedHashTable<'a, T, W> {
             let gave = Drains I.next_gives pairs in
             let o = S.output serializer.old in let o' = S.output serializer.new in
             MatchResult result
-            (WroteTable gave len load_factor W.MAX_CAPACITY f o o' W.LIMIT)
-            (NoTable gave len load_factor W.MAX_CAPACITY f o o' W.LIMIT
+            (WroteItems gave len load_factor W.MAX_CAPACITY f o o' W.LIMIT)
+            (NoItems gave len load_factor W.MAX_CAPACITY f o o' W.LIMIT
             (GaveOther I.next_gives len pairs)) }
     {
         serialize_given::<W, G, S, U, X, Pairs<I>>(

@@ -3,8 +3,8 @@ use Rattle.std.proofs.lemmas.Slice.Zip.{length-zip}
 use Rattle.std.specs.Iterator.{Drains, YieldsFirstBy}
 use Rattle.std.specs.List.{zip}
 use Rattle.std.specs.Slice.Iter.{iter_rest}
-use Rattle.rkyv_collections.proofs.Listing.{all_came, answers_listed, no_other_came}
-use Rattle.rkyv_collections.specs.Handing.{lent_pairs}
+use Rattle.rkyv_table.proofs.Listing.{all_came, answers_listed, no_other_came}
+use Rattle.rkyv_table.specs.Table.Lent.{lent_pairs}
 use Rattle.rkyv_collections.specs.MapFormat.{hash_of, map_format}
 use Rattle.rkyv_table.specs.Table.Counting.{GaveOther}
 use Rattle.rkyv_bench_calls.proofs.building.PairsSerialize.serialize.Goals as goal

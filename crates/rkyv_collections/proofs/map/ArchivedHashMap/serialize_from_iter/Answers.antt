@@ -2,7 +2,8 @@ use Rattle.std.proofs.Common.{MatchResult, subst}
 use Rattle.std.specs.Iterator.{Drains}
 use Rattle.rkyv_base.specs.Pairs.{written_as}
 use Rattle.rkyv_table.specs.Table.Counting.{GaveOther}
-use Rattle.rkyv_collections.specs.Handing.{NoItems, WroteItems, lent_pairs}
+use Rattle.rkyv_table.specs.Table.Serializing.{NoItems, WroteItems}
+use Rattle.rkyv_table.specs.Table.Lent.{lent_pairs}
 use Rattle.rkyv_collections.specs.MapFormat.{hash_of, map_format}
 use Rattle.rkyv_collections.proofs.HashedPairs.{answers_map}
 use Rattle.rkyv_collections.proofs.map.ArchivedHashMap.serialize_from_iter.Goals as goal

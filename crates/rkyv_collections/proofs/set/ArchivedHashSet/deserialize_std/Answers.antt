@@ -9,7 +9,7 @@ use Rattle.rkyv_base.specs.Shape.{Viewed}
 use Rattle.rkyv_table.specs.Table.RawItems.{AllStand, ItemsLeft}
 use Rattle.rkyv_collections.specs.Map.{IsKeyPosAt}
 use Rattle.rkyv_collections.specs.Set.{member_positions, set_bytes, set_pos}
-use Rattle.rkyv_collections.specs.SetFormat.{with_units}
+use Rattle.rkyv_table.specs.Table.Lent.{with_units}
 use Rattle.rkyv_collections.specs.StdSet.{keys_with_units}
 use Rattle.rkyv_collections.proofs.StdReading.{LeadsOn, key_inserted, keys_walked, leads_first, leads_last, leads_next}
 use Rattle.rkyv_collections.proofs.set.ArchivedHashSet.deserialize_std.Goals as goal

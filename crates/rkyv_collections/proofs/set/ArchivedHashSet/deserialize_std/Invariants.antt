@@ -7,7 +7,7 @@ use Rattle.rkyv_base.specs.Entry.{entry_shape}
 use Rattle.rkyv_table.specs.Table.RawItems.{AllStand}
 use Rattle.rkyv_collections.specs.Map.{IsKeyPosAt}
 use Rattle.rkyv_collections.specs.Set.{member_positions, set_archive, set_bytes, set_pos}
-use Rattle.rkyv_collections.specs.SetFormat.{with_units}
+use Rattle.rkyv_table.specs.Table.Lent.{with_units}
 use Rattle.rkyv_collections.proofs.StdReading.{LeadsOn}
 use Rattle.rkyv_collections.proofs.set.ArchivedHashSet.deserialize_std.Given as goal
 

@@ -5,9 +5,10 @@ use Rattle.std.specs.Slice.Iter.{iter_rest}
 use Rattle.rkyv_table.specs.Table.Counting.{GaveOther}
 use Rattle.rkyv_scan.specs.Hash.{fx_hasher, low_halves}
 use Rattle.rkyv_index.specs.IndexFormat.{hash_of}
-use Rattle.rkyv_index.specs.SetFormat.{index_set_format, lent_keys}
+use Rattle.rkyv_index.specs.SetFormat.{index_set_format}
+use Rattle.rkyv_table.specs.Table.Lent.{lent_keys}
 use Rattle.rkyv_index.specs.declared.lists.Keys.{Keys}
-use Rattle.rkyv_index.proofs.Listing.{all_came, answers_listed, no_other_came}
+use Rattle.rkyv_table.proofs.Listing.{all_came, answers_listed, no_other_came}
 use Rattle.rkyv_index.proofs.lists.OrderedItemsSerialize.serialize.Goals as goal
 
 pub returns : goal.returns

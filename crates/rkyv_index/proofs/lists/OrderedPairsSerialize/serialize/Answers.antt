@@ -4,11 +4,11 @@ use Rattle.std.specs.Iterator.{Drains, YieldsFirstBy}
 use Rattle.std.specs.Slice.Iter.{iter_rest}
 use Rattle.rkyv_table.specs.Table.Counting.{GaveOther}
 use Rattle.rkyv_scan.specs.Hash.{fx_hasher, low_halves}
-use Rattle.rkyv_index.specs.Handing.{lent_pairs}
+use Rattle.rkyv_table.specs.Table.Lent.{lent_pairs}
 use Rattle.rkyv_index.specs.IndexFormat.{hash_of}
 use Rattle.rkyv_index.specs.IndexFormat.{index_format}
 use Rattle.rkyv_index.specs.declared.lists.Halves.{Halves}
-use Rattle.rkyv_index.proofs.Listing.{all_came, answers_listed, no_other_came}
+use Rattle.rkyv_table.proofs.Listing.{all_came, answers_listed, no_other_came}
 use Rattle.rkyv_index.proofs.lists.OrderedPairsSerialize.serialize.Goals as goal
 
 pub returns : goal.returns

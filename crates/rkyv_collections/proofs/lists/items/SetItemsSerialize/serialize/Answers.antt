@@ -4,9 +4,10 @@ use Rattle.std.specs.Iterator.{Drains, YieldsFirstBy}
 use Rattle.std.specs.Slice.Iter.{iter_rest}
 use Rattle.rkyv_table.specs.Table.Counting.{GaveOther}
 use Rattle.rkyv_collections.specs.MapFormat.{hash_of}
-use Rattle.rkyv_collections.specs.SetFormat.{lent_keys, set_format}
+use Rattle.rkyv_collections.specs.SetFormat.{set_format}
+use Rattle.rkyv_table.specs.Table.Lent.{lent_keys}
 use Rattle.rkyv_collections.specs.declared.lists.items.Rest.{Rest}
-use Rattle.rkyv_collections.proofs.Listing.{all_came, answers_listed, no_other_came}
+use Rattle.rkyv_table.proofs.Listing.{all_came, answers_listed, no_other_came}
 use Rattle.rkyv_collections.proofs.lists.items.SetItemsSerialize.serialize.Goals as goal
 
 pub returns : goal.returns

@@ -3,10 +3,10 @@ use Rattle.std.specs.Borrow.{Bor}
 use Rattle.std.specs.Iterator.{Drains, YieldsFirstBy}
 use Rattle.std.specs.Slice.Iter.{iter_rest}
 use Rattle.rkyv_table.specs.Table.Counting.{GaveOther}
-use Rattle.rkyv_collections.specs.Handing.{lent_pairs}
+use Rattle.rkyv_table.specs.Table.Lent.{lent_pairs}
 use Rattle.rkyv_collections.specs.MapFormat.{hash_of, map_format}
 use Rattle.rkyv_collections.specs.declared.lists.pairs.Halves.{Halves}
-use Rattle.rkyv_collections.proofs.Listing.{all_came, answers_listed, no_other_came}
+use Rattle.rkyv_table.proofs.Listing.{all_came, answers_listed, no_other_came}
 use Rattle.rkyv_collections.proofs.lists.pairs.MapPairsSerialize.serialize.Goals as goal
 
 pub returns : goal.returns

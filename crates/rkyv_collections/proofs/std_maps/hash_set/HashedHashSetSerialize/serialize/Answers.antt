@@ -1,9 +1,9 @@
 use Rattle.std.proofs.Common.{subst, sym, List}
 use Rattle.std.specs.List.{IsDistinct}
 use Rattle.rkyv_base.specs.Empty.{unit_format, unit_shape}
-use Rattle.rkyv_collections.specs.Listed.{listed}
+use Rattle.rkyv_table.specs.Table.Listed.{listed}
 use Rattle.rkyv_collections.specs.MapFormat.{hash_of, map_format}
-use Rattle.rkyv_collections.specs.SetFormat.{with_units}
+use Rattle.rkyv_table.specs.Table.Lent.{with_units}
 use Rattle.rkyv_collections.specs.StdSet.{keys_with_units}
 use Rattle.rkyv_collections.proofs.StdWriting.{answers_distinct, answers_keys}
 use Rattle.rkyv_collections.proofs.std_maps.hash_set.HashedHashSetSerialize.serialize.Goals as goal

@@ -1,19 +1,14 @@
--- What is written of keys, each with the unit value, is the set of the keys.
+-- What is written of keys, each with the unit value, is what a set of the keys writes.
 use Rattle.std.proofs.Common.{◌≡◌, ℕ, refl, ap, List, [], ◌∷◌, map, Option, Result, MatchResult}
-use Rattle.std.specs.Int.{Width}
 use Rattle.std.specs.Iterator.{Drains}
-use Rattle.rkyv_base.specs.Empty.{unit_format, unit_shape}
 use Rattle.rkyv_base.specs.Format.{Format}
 use Rattle.rkyv_base.specs.Pairs.{written_as}
-use Rattle.rkyv_base.specs.Shape.{Shape}
 use Rattle.rkyv_base.specs.Writing.{Output}
 use Rattle.rkyv_base.specs.declared.errors.WriteError.{WriteError}
 use Rattle.rkyv_table.specs.Table.Counting.{GaveOther}
-use Rattle.rkyv_table.specs.Table.TableFormat.{TableResolver}
-use Rattle.rkyv_collections.specs.Handing.{NoItems, WroteItems, lent_pairs}
-use Rattle.rkyv_collections.specs.MapFormat.{map_format}
-use Rattle.rkyv_collections.specs.SetFormat.{UnitStep, lent_keys, set_format, with_units}
-use Rattle.rkyv_collections.proofs.Through.{answers_through, drains_through, other_through}
+use Rattle.rkyv_table.specs.Table.Lent.{UnitStep, lent_keys, lent_pairs, with_units}
+use Rattle.rkyv_table.specs.Table.Serializing.{NoItems, WroteItems}
+use Rattle.rkyv_table.proofs.Through.{answers_through, drains_through, other_through}
 
 same_keys : {BK A : Type 0} (key : BK → A) (xs : List (BK × Unit {0})) → lent_pairs key (λ u. u) xs ≡ with_units (lent_keys key (map (λ x. x.0) xs))
 same_keys key [] = refl
@@ -23,19 +18,19 @@ module _ {T S BK : Type 0} (inner : T → S) (steps : S → Option BK → S → 
   abbrev pub UnitSteps : T → Option (BK × Unit {0}) → T → Type 0
   UnitSteps s r t = UnitStep steps (inner s) r (inner t)
 
-  module _ {A R : Type 0} (key : BK → A) (hash : A → ℕ) (len : ℕ) (factor : ℕ × ℕ) (max : ℕ) (w : Width) (k : Shape) (f : Format A R) (o o' : Output) (s : T) where
-    abbrev AsPairs : Format (List (BK × Unit {0})) TableResolver
-    AsPairs = written_as (lent_pairs key (λ u. u)) (map_format w k unit_shape f unit_format hash factor)
+  module _ {A R : Type 0} (key : BK → A) (base : Format (List (A × Unit {0})) R) (len : ℕ) (factor : ℕ × ℕ) (max : ℕ) (o o' : Output) (s : T) where
+    abbrev AsPairs : Format (List (BK × Unit {0})) R
+    AsPairs = written_as (lent_pairs key (λ u. u)) base
 
-    abbrev AsKeys : Format (List BK) TableResolver
-    AsKeys = written_as (lent_keys key) (set_format w k f hash factor)
+    abbrev AsKeys : Format (List BK) R
+    AsKeys = written_as (lent_keys key) (written_as with_units base)
 
     -- what writing the map of the keys answers, as what writing the set does
-    pub answers_set : {F : Type 0} (limit : ℕ) (result : Result TableResolver (WriteError F))
+    pub answers_set : {F : Type 0} (limit : ℕ) (result : Result R (WriteError F))
         → MatchResult result (WroteItems (Drains UnitSteps s) len factor max AsPairs o o' limit) (NoItems (Drains UnitSteps s) len factor max AsPairs o o' limit (GaveOther UnitSteps len s))
         → MatchResult result (WroteItems (Drains steps (inner s)) len factor max AsKeys o o' limit) (NoItems (Drains steps (inner s)) len factor max AsKeys o o' limit (GaveOther steps len (inner s)))
     answers_set limit result =
         answers_through (λ x. x.0) (Drains UnitSteps s) (Drains steps (inner s)) (GaveOther UnitSteps len s) (GaveOther steps len (inner s))
         (λ xs d. drains_through inner UnitSteps steps (λ x. x.0) (λ s' t' h. h) (λ s' t' x h. h) xs s d)
         (λ n h. other_through inner UnitSteps steps (λ x. x.0) (λ s' t' h'. h') (λ s' t' x h'. h') len s n h)
-        (lent_pairs key (λ u. u)) (λ keys. with_units (lent_keys key keys)) (same_keys key) (map_format w k unit_shape f unit_format hash factor) len factor max limit o o' result
+        (lent_pairs key (λ u. u)) (λ keys. with_units (lent_keys key keys)) (same_keys key) base len factor max limit o o' result

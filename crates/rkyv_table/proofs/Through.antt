@@ -8,9 +8,7 @@ use Rattle.rkyv_base.specs.Writing.{Output}
 use Rattle.rkyv_base.specs.declared.errors.WriteError.{WriteError}
 use Rattle.rkyv_base.specs.declared.errors.WriteError.TheVariants.{InvalidLoadFactor, IteratorLengthMismatch, CapacityTooLarge, PositionTooLarge, DistanceTooLarge, TextTooLong, Writer, Memory, Refused}
 use Rattle.rkyv_table.specs.Table.Counting.{GaveOther}
-use Rattle.rkyv_table.specs.Table.Serializing.{OwnCause}
-use Rattle.rkyv_table.specs.Table.TableFormat.{TableResolver}
-use Rattle.rkyv_collections.specs.Handing.{NoItems, WroteItems}
+use Rattle.rkyv_table.specs.Table.Serializing.{NoItems, OwnCause, WroteItems}
 
 -- a state of the outer iterator has one of the inner; each step of it is one of that, which gives what is seen in the item
 module _ {T S X Y : Type 0} (inner : T → S) (outer : T → Option X → T → Type 0) (steps : S → Option Y → S → Type 0) (seen : X → Y)
@@ -50,10 +48,10 @@ own_counted len factor max other other' f (Writer fault) h = h
 own_counted len factor max other other' f (Refused c) h = h
 
 -- what writing the outer items answers, as what writing the inner ones does
-module _ {F X Y V : Type 0} (seen : X → Y) (gave : List X → Type 0) (gave' : List Y → Type 0) (other other' : ℕ → Type 0) (came : (xs : List X) → gave xs → gave' (map seen xs))
+module _ {F X Y V R : Type 0} (seen : X → Y) (gave : List X → Type 0) (gave' : List Y → Type 0) (other other' : ℕ → Type 0) (came : (xs : List X) → gave xs → gave' (map seen xs))
     (counted : (n : ℕ) → other n → other' n) (of_outer : List X → V) (of_inner : List Y → V) (same : (xs : List X) → of_outer xs ≡ of_inner (map seen xs))
-    (base : Format V TableResolver) (len : ℕ) (factor : ℕ × ℕ) (max limit : ℕ) (o o' : Output) where
-  pub answers_through : (result : Result TableResolver (WriteError F))
+    (base : Format V R) (len : ℕ) (factor : ℕ × ℕ) (max limit : ℕ) (o o' : Output) where
+  pub answers_through : (result : Result R (WriteError F))
       → MatchResult result (WroteItems gave len factor max (written_as of_outer base) o o' limit) (NoItems gave len factor max (written_as of_outer base) o o' limit other)
       → MatchResult result (WroteItems gave' len factor max (written_as of_inner base) o o' limit) (NoItems gave' len factor max (written_as of_inner base) o o' limit other')
   answers_through (Ok r) h =

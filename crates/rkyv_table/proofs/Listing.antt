@@ -10,10 +10,8 @@ use Rattle.rkyv_base.specs.declared.errors.WriteError.{WriteError}
 use Rattle.rkyv_base.specs.declared.errors.WriteError.TheVariants.{InvalidLoadFactor, IteratorLengthMismatch, CapacityTooLarge, PositionTooLarge, DistanceTooLarge, TextTooLong, Writer, Memory, Refused}
 use Rattle.rkyv_table.specs.Table.Counting.{GaveOther}
 use Rattle.rkyv_table.specs.Controls.Numbers.{capacity}
-use Rattle.rkyv_table.specs.Table.Serializing.{HasCapacity, OwnCause}
-use Rattle.rkyv_index.specs.IndexHeader.{IndexResolver}
-use Rattle.rkyv_index.specs.Handing.{NoItems, WroteItems}
-use Rattle.rkyv_index.specs.Listed.{listed}
+use Rattle.rkyv_table.specs.Table.Listed.{listed}
+use Rattle.rkyv_table.specs.Table.Serializing.{HasCapacity, NoItems, OwnCause, WroteItems}
 
 -- an iterator whose state shows the list of what is left
 module _ {S A B : Type 0} (view : A → B) (rest : S → List B) where
@@ -38,9 +36,9 @@ module _ {S A B : Type 0} (view : A → B) (rest : S → List B) where
       ]
 
 -- the items that come are those of the list, and as many as claimed
-module _ {X V : Type 0} (gave : List X → Type 0) (other : ℕ → Type 0) (seen : List X → List V) (values : List V) (all : (items : List X) → gave items → seen items ≡ values)
-    (none : (n : ℕ) → other n → ⊥) (len : ℕ) (count : len ≡ length values) (factor : ℕ × ℕ) (max limit : ℕ) (f : Format (List V) IndexResolver) (o o' : Output) where
-  abbrev Whole : Format (List V) IndexResolver
+module _ {X V R : Type 0} (gave : List X → Type 0) (other : ℕ → Type 0) (seen : List X → List V) (values : List V) (all : (items : List X) → gave items → seen items ≡ values)
+    (none : (n : ℕ) → other n → ⊥) (len : ℕ) (count : len ≡ length values) (factor : ℕ × ℕ) (max limit : ℕ) (f : Format (List V) R) (o o' : Output) where
+  abbrev Whole : Format (List V) R
   Whole = listed max factor f
 
   has : HasCapacity len factor max → HasCapacity (length values) factor max
@@ -57,7 +55,7 @@ module _ {X V : Type 0} (gave : List X → Type 0) (other : ℕ → Type 0) (see
   own_stands (Writer fault) h = absurd h
   own_stands (Refused c) h = absurd h
 
-  pub answers_listed : {F : Type 0} (result : Result IndexResolver (WriteError F))
+  pub answers_listed : {F : Type 0} (result : Result R (WriteError F))
       → MatchResult result (WroteItems gave len factor max (written_as seen f) o o' limit) (NoItems gave len factor max (written_as seen f) o o' limit other)
       → MatchResult result (Serialized limit Whole values o o') (GaveUp limit Whole values o o')
   answers_listed (Ok r) h =
