@@ -1,10 +1,19 @@
-use Rattle.std.proofs.Common.{arith, ◌<◌, ◌^◌}
+use Rattle.std.proofs.Common.{arith, refl, ◌<◌, ◌^◌}
 use mir.Val.{bits}
 use Rattle.rkyv_base.specs.Pairs.{written_as}
-use Rattle.rkyv_table.proofs.Given.{gave_up_some, wrote_some}
+use Rattle.rkyv_table.proofs.Given.{gave_up_some, wrote_none, wrote_some}
 use Rattle.rkyv_table.specs.Controls.Numbers.{capacity}
 use Rattle.rkyv_table.specs.Table.Serializing.{HasCapacity}
 use Rattle.rkyv_table.proofs.table.serialize.serialize_given.Goals as goal
+
+pub returns-in-Ok-take_none : goal.returns-in-Ok-take_none
+returns-in-Ok-take_none g c =
+    let cap = c.in-Ok.ensures in
+    let has : HasCapacity c.args.len c.args.load_factor g.W.Width.MAX_CAPACITY = (cap.0, rw (cap.1, c.MAX_CAPACITY.ensures) at cap.2) in
+    let l = g.met.W.Width.layout in
+    let fits : capacity c.args.len c.args.load_factor < 2 ^ bits g.W.Width.word = omega (arith, has.1, l.capacity_small, l.limit_fits) in
+    let o = g.S.Writer.output c.args.serializer.now in
+    wrote_none (g.H.HandsIn.gave c.args.given) c.args.len c.args.load_factor g.W.Width.MAX_CAPACITY g.W.Width.word g.U.Archived.Element.shape (written_as g.X.Lend.lent g.U.Archive.format) o o g.W.Width.LIMIT has c.if-len-eq0.true c.in-Ok-take_none.ensures refl fits
 
 pub returns-in-Ok-serialize_filled : goal.returns-in-Ok-serialize_filled
 returns-in-Ok-serialize_filled g c =
