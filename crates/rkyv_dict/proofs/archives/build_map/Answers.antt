@@ -4,4 +4,4 @@ use Rattle.rkyv_dict.proofs.archives.build_map.Goals as goal
 pub returns : goal.returns
 unfolding IsArchiveOf NoArchiveOf
 returns g c =
-    rw c.with_load_factor.ensures.load_factor at (rw c.with_load_factor.ensures.pairs at c.to_bytes_in.ensures)
+    rw c.with_load_factor-list.ensures.load_factor at (rw c.with_load_factor-list.ensures.pairs at c.to_bytes_in.ensures)
