@@ -1,0 +1,77 @@
+-- Steps of looking over a table.
+use Rattle.std.proofs.Common.{◌≡◌, ℕ, ◌+◌, ◌*◌, ◌/◌, ◌%◌, ◌≤◌, ◌∙◌, sym, ap, subst, arith, Bool, List, length, map, Option, Some, None}
+use Rattle.std.specs.Prelude.{IfSome}
+use Rattle.std.specs.Int.{Width, byte_len}
+use Rattle.std.specs.List.{All, Contains}
+use Rattle.std.proofs.lemmas.List.{get_or-map, length-map}
+use Rattle.rkyv_base.specs.Checking.{Passes}
+use Rattle.rkyv_base.specs.Shape.{IsElement, Shape, Viewed, standing}
+use Rattle.rkyv_base.specs.Text.{IsArchiveWord}
+use Rattle.rkyv_base.specs.declared.element.PartRange.{PartRange}
+use Rattle.rkyv_base.specs.declared.view.View.{View}
+use Rattle.rkyv_scan.specs.Groups.{generic_kind}
+use Rattle.rkyv_table.specs.Controls.Finding.{ReadsWithin}
+use Rattle.rkyv_table.specs.Controls.Numbers.{probe_capacity}
+use Rattle.rkyv_table.specs.Controls.Placing.{walk}
+use Rattle.rkyv_table.specs.Lemmas.TableLaws.{table_element}
+use Rattle.rkyv_table.specs.Table.Bare.{AcceptedOf, LooksUp, ReadsExactly}
+use Rattle.rkyv_table.specs.Table.Header.{cap_at, len_at}
+use Rattle.rkyv_table.specs.Table.Layout.{table_shape}
+use Rattle.rkyv_table.specs.Table.Reading.{CountsWithin, item_at, item_positions, table_controls}
+use Rattle.rkyv_table.specs.declared.table.ArchivedHashTable.{ArchivedHashTable}
+use Rattle.rkyv_table.proofs.RawWalks.{places_count, places_viewed}
+use Rattle.rkyv_table.proofs.Walks.{full_walked}
+use Rattle.rkyv_headline.specs.Seeing.{ReadsFew, SeesTable}
+use Rattle.rkyv_headline.specs.declared.looking.Seen.{Seen}
+
+-- where the check accepts the bytes, a table stands
+pub accepted_viewed : (w : Width) → IsArchiveWord w → (s : Shape) → IsElement s → (b : List ℕ) (p : ℕ) (range rest : PartRange)
+    → p + 3 * byte_len w ≤ length b → p % byte_len w ≡ 0 → range.lo ≤ range.hi → range.hi ≤ p → Passes (table_shape w s) b p range rest → Viewed (table_shape w s) b p
+accepted_viewed w kind s law b p range rest inside aligned ordered before passes = record {
+  inside = inside;
+  aligned = aligned;
+  stands = standing (table_shape w s) (table_element w kind s law) b p range.lo range.hi rest.lo ordered before passes.1;
+}
+
+contains_map : (f : ℕ → ℕ) (xs : List ℕ) (x : ℕ) → Contains xs x → Contains (map f xs) (f x)
+contains_map f xs x c = (c.0, omega (arith, c.1, length-map xs f), get_or-map f xs c.0 x (f x) c.1 ∙ ap f c.2)
+
+module _ {T : Type 0} (post : View T → Bool → Type 0) (w : Width) (s : Shape) (b : List ℕ) (p : ℕ) where
+  -- an item that is accepted is one of the walked
+  accepted_walked : (q : ℕ) → AcceptedOf post w s b p q → Contains (item_positions w s.size b p) q
+  accepted_walked q is =
+      let one = is.1 in
+      let at : ℕ → ℕ = item_at w s.size b p in
+      let there = contains_map at (walk (table_controls w b p) (cap_at w b p)) one.bucket (full_walked (cap_at w b p) (table_controls w b p) one.bucket one.walked) in
+      subst (Contains (item_positions w s.size b p)) (sym one.place ∙ is.2) there
+
+  found_walked : (found : Option ℕ) → IfSome found (AcceptedOf post w s b p) → IfSome found (Contains (item_positions w s.size b p))
+  found_walked None is = tt
+  found_walked (Some q) is = accepted_walked q is
+
+  -- what is seen of a table that stands
+  pub table_seen : IsElement s → Viewed (table_shape w s) b p → (hash : ℕ) (seen : Seen) → seen.walked.items ≡ item_positions w s.size b p
+      → LooksUp post generic_kind w s b p hash seen.found → ReadsFew w b p seen.strides → ReadsExactly post generic_kind w s b p hash seen.strides
+      → SeesTable post w s b p hash seen
+  table_seen law stands hash seen walks looks reads exact = record {
+    walks = walks;
+    count = ap length walks ∙ places_count w s law b p stands;
+    checked = subst (All (Viewed s b)) (sym walks) (places_viewed w s law b p stands);
+    among = subst (λ (xs : List ℕ). IfSome seen.found (Contains xs)) (sym walks) (found_walked seen.found looks.accepted);
+    looks = looks;
+    reads = reads;
+    exact = exact;
+  }
+
+-- what a lookup reads of the table it reads of the bytes
+pub few_read : {T W : Type 0} (w : Width) (b : List ℕ) (p : ℕ) (t : ArchivedHashTable T W) → t.view.archive.now ≡ b → t.view.pos ≡ p
+    → (before after : ℕ) → before ≡ 0 → CountsWithin w t before after → ReadsFew w b p after
+few_read w b p t bytes place before after none within =
+    let P = λ (c : List ℕ) (q : ℕ). ReadsWithin (len_at w c q) (probe_capacity (cap_at w c q) / 16) before after in
+    let there : P b p = subst (P b) place (subst (λ (c : List ℕ). P c t.view.pos) bytes within) in
+    let most = there.most in
+    record {
+      none = λ h. there.none h ∙ none;
+      some = λ h. let less = there.some h in omega arith;
+      most = omega arith;
+    }

@@ -1,0 +1,27 @@
+use Rattle.rkyv_headline.proofs.Seeing.{accepted_viewed, table_seen}
+use Rattle.rkyv_headline.specs.declared.looking.Seen.{Seen}
+use Rattle.rkyv_headline.proofs.looking.look_over.Goals as goal
+
+pub walk-requires : goal.walk-requires
+walk-requires g c =
+    accepted_viewed g.W.Width.word g.met.W.Width.layout.kind g.T.Element.shape g.met.T.Element.laws c.args.bytes.now c.args.pos c.args.range c.in-Ok.field-0
+    c.requires.inside c.requires.aligned c.requires.ordered.0 c.requires.ordered.1 c.in-Ok.ensures
+
+pub look_up-answer-requires-clause-table : goal.look_up-answer-requires-clause-table
+look_up-answer-requires-clause-table g c =
+    accepted_viewed g.W.Width.word g.met.W.Width.layout.kind g.T.Element.shape g.met.T.Element.laws c.args.bytes.now c.args.pos c.args.range c.in-Ok.field-0
+    c.requires.inside c.requires.aligned c.requires.ordered.0 c.requires.ordered.1 c.in-Ok.ensures
+
+pub returns : goal.returns
+returns g c =
+    let w = g.W.Width.word in
+    let s = g.T.Element.shape in
+    let law = g.met.T.Element.laws in
+    let stands = accepted_viewed w g.met.W.Width.layout.kind s law c.args.bytes.now c.args.pos c.args.range c.in-Ok.field-0
+    c.requires.inside c.requires.aligned c.requires.ordered.0 c.requires.ordered.1 c.in-Ok.ensures in
+    let answer = c.look_up-answer in
+    let seen : Seen = record { walked = c.in-Ok-walk.walked; found = answer.result.found; strides = answer.result.strides } in (
+      c.in-Ok.field-0,
+      c.in-Ok.ensures,
+      table_seen (goal.F-post g c.args.cmp) w s c.args.bytes.now c.args.pos law stands c.args.hash seen c.in-Ok-walk.ensures answer.ensures.looks answer.ensures.reads answer.ensures.exact,
+    )

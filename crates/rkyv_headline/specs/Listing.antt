@@ -1,0 +1,127 @@
+-- What a list is that was written as a table with its header behind it, and what is seen of it.
+use Rattle.std.specs.Prelude.{◌≡◌, ℕ, ◌+◌, ◌*◌, ◌%◌, ◌≤◌, ◌⊎◌, Bool, List, ◌++◌, length, slice_get, slice_index, Some}
+use Rattle.std.specs.Int.{Width, byte_len}
+use Rattle.rkyv_base.specs.Bytes.{Sits}
+use Rattle.rkyv_base.specs.Entry.{round_up}
+use Rattle.rkyv_base.specs.Format.{Format}
+use Rattle.rkyv_base.specs.Root.{RootGaveUp}
+use Rattle.rkyv_base.specs.Shape.{Shape}
+use Rattle.rkyv_base.specs.View.{IsView}
+use Rattle.rkyv_base.specs.Writing.{Appended, Appends, Output, end_of, padding, zeros}
+use Rattle.rkyv_base.specs.declared.errors.WriteError.{WriteError}
+use Rattle.rkyv_base.specs.declared.view.View.{View}
+use Rattle.rkyv_table.specs.Table.Bare.{AnswersOf}
+use Rattle.rkyv_table.specs.Table.FirstItem.{AreUnder, IsFirstOf, TellsOf}
+use Rattle.rkyv_table.specs.Table.Header.{cap_at}
+use Rattle.rkyv_table.specs.Table.Layout.{table_shape}
+use Rattle.rkyv_table.specs.Table.Passing.{HoldsAround}
+use Rattle.rkyv_table.specs.Table.Reading.{WrittenAt, home_positions, table_controls}
+use Rattle.rkyv_table.specs.Table.Serializing.{Came, HasCapacity, OwnCause}
+use Rattle.rkyv_table.specs.Table.TableFormat.{TableResolver, TableStands, table_format}
+use Rattle.rkyv_table.specs.Table.Taking.{hashes_of, items_of}
+use Rattle.rkyv_table.specs.Table.WalkLaws.{VisitsHomes}
+use Rattle.rkyv_headline.specs.Seeing.{SeesTable}
+use Rattle.rkyv_headline.specs.declared.looking.Seen.{Seen}
+use Rattle.rkyv_headline.specs.declared.looking.Unseen.TheVariants.{Memory, Verify}
+use Rattle.rkyv_headline.specs.declared.whole.Lost.{Lost}
+use Rattle.rkyv_headline.specs.declared.whole.Lost.TheVariants.{Look, Write}
+
+-- the comparison may be asked of each item, wherever one stands
+abbrev pub MayAskAny : {T : Type 0} → (View T → Type 0) → Shape → Type 0
+MayAskAny {T} pre s = (v : View T) → IsView s v → pre v
+
+-- The bytes of a table with its header behind it, written from `begin` on: the table, which ends at
+-- `end`; zeros up to the header's alignment; the header, at p.
+pub record ListBytes {X : Type 0} (align : ℕ) (f : Format (List (ℕ × X)) TableResolver)
+    (pairs : List (ℕ × X)) (begin end p : ℕ) (bytes : List ℕ) : Type 0 where
+  pub part : List ℕ
+  pub resolver : TableResolver
+  pub header : List ℕ
+  pub parts : f.parts pairs begin part resolver
+  pub image : f.image pairs resolver p header
+  pub ends : end ≡ begin + length part
+  pub at : p ≡ round_up end align
+  pub is : bytes ≡ part ++ (zeros (padding align end) ++ header)
+
+module _ {X : Type 0} (gave : List (ℕ × X) → Type 0) (len : ℕ) (load_factor : ℕ × ℕ)
+    (max limit align : ℕ) (f : Format (List (ℕ × X)) TableResolver) (o o' : Output) where
+  -- the pairs that came were written as a table, and its header behind it
+  abbrev pub WroteList : ℕ → ℕ → Type 0
+  WroteList end p = HasCapacity len load_factor max × (pairs : List (ℕ × X)) × Came gave len pairs
+      × (bytes : List ℕ) × Appended limit bytes o o' × ListBytes align f pairs (end_of o) end p bytes
+
+  -- a cause of the call's own, and nothing was written; or else writing the pairs that came, the
+  -- zeros or the header gave up
+  abbrev pub NoList : {F : Type 0} → (ℕ → Type 0) → WriteError F → Type 0
+  NoList other e = (OwnCause len load_factor max other e × (o' ≡ o))
+      ⊎ (HasCapacity len load_factor max × (pairs : List (ℕ × X)) × Came gave len pairs
+      × RootGaveUp limit align f pairs o o' e)
+
+-- The walk over the table at p visits the home of each of the items once, ascending, and nothing
+-- else; there each stands, whose home is the first bucket that its hash shows and no earlier item
+-- has.
+pub record VisitsItems {X : Type 0} (w : Width) (size : ℕ) (stands : List ℕ → ℕ → X → Type 0)
+    (c : List ℕ) (p : ℕ) (pairs : List (ℕ × X)) : Type 0 where
+  pub homes : List ℕ
+  pub written : WrittenAt w c p (hashes_of pairs) homes
+  pub at : (i : ℕ) (x : X) → slice_get (items_of pairs) i ≡ Some x
+      → stands c (slice_index (home_positions w size c p homes) i) x
+  pub visits : VisitsHomes (cap_at w c p) homes (table_controls w c p)
+
+-- A list that was written as a table from `begin` to `end`, and its header at p: it passes the
+-- check in each range from `begin`, or before, to `end`, or behind; each item stands at its home;
+-- and the walk visits those alone.
+pub record StandsList {X : Type 0} (w : Width) (s : Shape) (stands : List ℕ → ℕ → X → Type 0)
+    (load_factor : ℕ × ℕ) (c : List ℕ) (begin end p : ℕ) (pairs : List (ℕ × X)) : Type 0 where
+  pub behind : (begin ≤ end) × (end ≤ p)
+  pub aligned : p % byte_len w ≡ 0
+  pub passes : HoldsAround (table_shape w s) c p begin end
+  pub stand : TableStands w s stands load_factor c p pairs
+  pub items : VisitsItems w s.size stands c p pairs
+
+-- so does each list, wherever its bytes sit
+abbrev pub ListsStand : {X R : Type 0} → Width → Shape → (List ℕ → ℕ → X → Type 0) → Format X R
+    → ℕ × ℕ → Type 0
+ListsStand {X} w s stands f load_factor =
+    (pairs : List (ℕ × X)) (begin end p : ℕ) (bytes c : List ℕ)
+    → ListBytes (byte_len w) (table_format w s f load_factor) pairs begin end p bytes
+    → Sits c begin bytes
+    → StandsList w s stands load_factor c begin end p pairs
+    × (p + 3 * byte_len w ≡ begin + length bytes)
+
+-- Where the comparison's answers are a function of the position, and on each item of the list the
+-- answer that `accept` gives of it, and each accepted item was handed in under the hash: what is
+-- answered is where the first accepted item stands, and none exactly where none is accepted.
+abbrev pub AnswersFirstItem : {T X : Type 0} → (View T → Bool → Type 0) → Width → Shape
+    → (List ℕ → ℕ → X → Type 0) → List ℕ → ℕ → ℕ → List (ℕ × X) → Seen → Type 0
+AnswersFirstItem {X = X} post w s stands c p hash pairs seen =
+    (accept : X → Bool) (told : ℕ → Bool) → AnswersOf post w s c p told
+    → TellsOf stands c accept (items_of pairs) told → AreUnder hash accept pairs
+    → IsFirstOf stands c accept (items_of pairs) seen.found
+
+-- A list that was written and then looked over: what stood before is kept; the table ends at `end`,
+-- and its header stands behind it, at p, and ends what the writer holds; the list stands, so that it
+-- passes the check; the walk gives exactly its items; and a lookup answers the first of them that
+-- the comparison accepts, within the bound.
+pub record SeesList {T X : Type 0} (post : View T → Bool → Type 0) (w : Width) (s : Shape)
+    (stands : List ℕ → ℕ → X → Type 0) (load_factor : ℕ × ℕ) (o o' : Output) (hash : ℕ)
+    (pairs : List (ℕ × X)) (seen : Seen) : Type 0 where
+  pub bytes : List ℕ
+  pub appends : Appends o o' bytes
+  pub end : ℕ
+  pub p : ℕ
+  pub ends : p + 3 * byte_len w ≡ end_of o'
+  pub list : StandsList w s stands load_factor o'.bytes (end_of o) end p pairs
+  pub first : AnswersFirstItem post w s stands o'.bytes p hash pairs seen
+  pub sees : SeesTable post w s o'.bytes p hash seen
+
+-- why a list wasn't written and looked over: a cause of writing it; or there is no memory for what
+-- is seen of it. Never that the check refuses what was written.
+module _ {X : Type 0} (gave : List (ℕ × X) → Type 0) (len : ℕ) (load_factor : ℕ × ℕ)
+    (max limit align : ℕ) (f : Format (List (ℕ × X)) TableResolver) (o o' : Output)
+    (other : ℕ → Type 0) where
+  abbrev pub ListLost : Lost → Type 0
+  ListLost (Write e) = NoList gave len load_factor max limit align f o o' other e
+  ListLost (Look (Verify e)) = ⊥
+  ListLost (Look Memory) =
+      (end : ℕ) × (p : ℕ) × WroteList gave len load_factor max limit align f o o' end p

@@ -1,0 +1,116 @@
+//! A list from its items to what is seen of it.
+
+ghost use Rattle.std.specs.Prelude.{List, MatchResult, ℕ};
+ghost use Rattle.std.specs.Int.{byte_len};
+ghost use Rattle.rkyv_base.specs.Pairs.{written_as};
+ghost use Rattle.rkyv_base.specs.Writing.{held};
+ghost use Rattle.rkyv_table.specs.Table.Counting.{GaveBoth, Uneven};
+ghost use Rattle.rkyv_table.specs.Table.Lending.{lent_stands};
+ghost use Rattle.rkyv_table.specs.Table.Serializing.{Came, HasCapacity};
+ghost use Rattle.rkyv_table.specs.Table.TableFormat.{table_format};
+ghost use Rattle.rkyv_headline.specs.Listing.{ListLost, ListsStand, MayAskAny, SeesList};
+
+use crate::looking::{Seen, Unseen, look_over};
+use crate::writing::write_list;
+use rkyv_base::archive::{Archive, Serialize};
+use rkyv_base::element::PartRange;
+use rkyv_base::errors::WriteError;
+use rkyv_base::lend::Lend;
+use rkyv_base::view::View;
+use rkyv_base::width::Width;
+use rkyv_base::writer::{NoMemory, VecWriter, Writer};
+use rkyv_table::table::laws::{lookups_answer_the_first, walk_visits_homes};
+use rkyv_table::table::written::{
+    standing_tables_were_written, written_tables_pass, written_tables_stand,
+};
+use std::alloc::Global;
+use thiserror::Error;
+
+/// Why a list wasn't written and looked over.
+#[derive(Debug, Drop, Error)]
+pub enum Lost {
+    /// It can't be written.
+    #[error("{0}")]
+    Write(WriteError<NoMemory>),
+    /// It was written, and nothing was seen of it; never since the check refuses it.
+    #[error("{0}")]
+    Look(Unseen),
+}
+
+/// Wherever the bytes of a list that was written as a table sit, with its header behind it: it
+/// passes the check in each range around the table, each item stands at its home, and the walk
+/// visits those alone.
+pub fn written_lists_stand<W: Width, U: Archive<W>, X: Lend<U>>()
+    ensures { (load_factor : ℕ × ℕ) → ListsStand W.word U.Archived.shape
+        (lent_stands X.lent U.Archived.stands) (written_as X.lent U.format) load_factor }
+{
+    written_tables_stand::<W, U, X>();
+    written_tables_pass::<W, U, X>();
+    standing_tables_were_written::<W, U, X>();
+    walk_visits_homes();
+}
+
+/// Writes a list of `len` items, of which each has the next of the hashes, as a table behind what the
+/// writer holds, and behind the table its header; checks it where it stands, walks over its items,
+/// and looks up `hash`.
+///
+/// What was written passes the check; the walk gives exactly the items; the lookup answers the
+/// first item handed in that the comparison accepts, where it goes by the item and accepts only
+/// items under `hash`; and reads at most one stride of sixteen control bytes for each sixteen
+/// buckets, rounded up.
+///
+/// # Errors
+/// `Write` with the cause, where the list can't be written; `Look(Unseen::Memory)` where a growth
+/// for the positions is refused.
+pub fn write_and_look_over<
+    W: Width,
+    U: Serialize<VecWriter, W>,
+    X: Lend<U> + Drop,
+    I: Iterator<Item = X>,
+    J: Iterator<Item = u64>,
+    F: Fn(View<'_, U::Archived>) -> bool,
+>(
+    alloc: Global,
+    items: I,
+    hashes: J,
+    len: usize,
+    load_factor: (usize, usize),
+    serializer: &mut VecWriter,
+    hash: u64,
+    cmp: F,
+) -> Result<Seen, Lost>
+    requires can { I.can_next items × J.can_next hashes }
+    requires callable { MayAskAny (F.pre cmp) U.Archived.shape }
+    ensures { let s = U.Archived.shape in let stands = lent_stands X.lent U.Archived.stands in
+        let f = table_format W.word s (written_as X.lent U.format) load_factor in
+        let gave = GaveBoth I.next_gives J.next_gives items hashes in
+        let o = held serializer.old in let o' = held serializer.new in MatchResult result
+        (λ seen. HasCapacity len load_factor W.MAX_CAPACITY
+        × (pairs : List (ℕ × X)) × Came gave len pairs
+        × SeesList (F.post cmp) W.word s stands load_factor o o' hash pairs seen)
+        (ListLost gave len load_factor W.MAX_CAPACITY W.LIMIT (byte_len W.word) f o o'
+        (Uneven I.next_gives J.next_gives len items hashes)) }
+{
+    let begin = serializer.pos();
+    let at = match write_list::<W, VecWriter, U, X, I, J>(
+        alloc,
+        items,
+        hashes,
+        len,
+        load_factor,
+        serializer,
+    ) {
+        Ok(at) => at,
+        Err(e) => return Err(Lost::Write(e)),
+    };
+    written_lists_stand::<W, U, X>();
+    lookups_answer_the_first::<W, U, X>();
+    let range = PartRange {
+        lo: begin,
+        hi: at.end,
+    };
+    match look_over::<W, U::Archived, F>(alloc, serializer.bytes(), at.pos, range, hash, cmp) {
+        Ok(seen) => Ok(seen),
+        Err(e) => Err(Lost::Look(e)),
+    }
+}

@@ -1,0 +1,87 @@
+//! A list in both widths, and archives that were not written here.
+
+use rkyv_base::element::PartRange;
+use rkyv_base::entry::Entry;
+use rkyv_base::errors::VerifyError;
+use rkyv_base::width::{Narrow, Wide, Width};
+use rkyv_base::writer::{VecWriter, Writer};
+use rkyv_headline::{Seen, Unseen, look_over, write_and_look_over, written_lists_stand};
+use std::alloc::Global;
+
+// Whether the items stand at these positions, and the lookup answers so, after so many strides.
+fn is_seen(seen: &Seen, walked: &[u64], found: Option<u64>, strides: u64) -> bool {
+    seen.walked.as_slice() == walked && seen.found == found && seen.strides == strides
+}
+
+// Whether 10, 20 and 30, written behind a zero, the first two under the hash 2 and the last under 5,
+// are walked as they stand in four buckets, a lookup under 2 of a number above 10 answers 20, and
+// the header ends there.
+fn is_looked_over<W: Width>(alloc: Global, end: u64) -> bool {
+    let mut writer = VecWriter::new(alloc);
+    if writer.write(&[0]).is_err() {
+        return false;
+    }
+    let items = [10u8, 20, 30];
+    let hashes = [2u64, 2, 5];
+    match write_and_look_over::<W, u8, &u8, _, _, _>(
+        alloc,
+        items.iter(),
+        hashes.iter().copied(),
+        3,
+        (1, 1),
+        &mut writer,
+        2,
+        |item| item.to_native() > 10,
+    ) {
+        Ok(seen) => is_seen(&seen, &[3, 2, 1], Some(1), 1) && writer.pos() == end,
+        Err(_) => false,
+    }
+}
+
+#[test]
+fn a_list_is_seen_as_it_was_written(rt: HostRuntime) {
+    written_lists_stand::<Narrow, u8, &u8>();
+    let alloc = rt.alloc();
+    let seen = [
+        is_looked_over::<Narrow>(alloc, 48),
+        is_looked_over::<Wide>(alloc, 64),
+    ];
+    assert_eq!(rt; seen, [true; 2]);
+}
+
+// The archive of a table of one pair of numbers, in the second of two buckets.
+const ONE_PAIR: [u8; 60] = [
+    0x01, 0x00, 0x00, 0x00, 0x02, 0x00, 0x00, 0x00, 0x00, 0x00, 0x00, 0x00, 0x00, 0x00, 0x00, 0x00,
+    0xff, 0x28, 0xff, 0x28, 0xff, 0xff, 0xff, 0xff, 0xff, 0xff, 0xff, 0xff, 0xff, 0xff, 0xff, 0xff,
+    0xff, 0xff, 0xff, 0xff, 0xff, 0xff, 0xff, 0xff, 0xff, 0xff, 0xff, 0xff, 0xff, 0xff, 0xff, 0x00,
+    0xe0, 0xff, 0xff, 0xff, 0x01, 0x00, 0x00, 0x00, 0x02, 0x00, 0x00, 0x00,
+];
+
+// What is seen of it under a hash, where all are accepted.
+fn look(alloc: Global, bytes: &[u8; 60], hash: u64) -> Result<Seen, Unseen> {
+    let range = PartRange { lo: 0, hi: 48 };
+    look_over::<Narrow, Entry<u32, u32>, _>(alloc, bytes, 48, range, hash, |_| true)
+}
+
+#[test]
+fn bytes_of_a_stranger_are_seen_or_refused(rt: HostRuntime) {
+    let alloc = rt.alloc();
+    let found = match look(alloc, &ONE_PAIR, 0x5000_0000_0000_0001) {
+        Ok(seen) => is_seen(&seen, &[0], Some(0), 1),
+        Err(_) => false,
+    };
+    let none = match look(alloc, &ONE_PAIR, 1) {
+        Ok(seen) => is_seen(&seen, &[0], None, 1),
+        Err(_) => false,
+    };
+    let mut bytes = ONE_PAIR;
+    bytes[52] = 0;
+    let refused = matches!(
+        look(alloc, &bytes, 1),
+        Err(Unseen::Verify(VerifyError::WrongNumberOfElements {
+            expected: 0,
+            actual: 1,
+        }))
+    );
+    assert_eq!(rt; [found, none, refused], [true; 3]);
+}
