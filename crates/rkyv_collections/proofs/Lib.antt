@@ -11,6 +11,7 @@ pub mod MisplacedKeys
 pub mod StdWriting
 pub mod StdReading
 pub mod StdComparing
+pub mod StdFinding
 pub mod Headline
 pub mod FoundPairs
 pub mod Alike

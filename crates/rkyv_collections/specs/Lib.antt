@@ -12,6 +12,7 @@ pub mod ValueWrites
 pub mod StdMap
 pub mod StdEquality
 pub mod StdSet
+pub mod StdLookups
 pub mod ListedLookups
 pub mod BothHashers
 pub mod InPlace

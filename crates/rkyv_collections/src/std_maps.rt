@@ -4,5 +4,6 @@ pub mod equality;
 mod hash_map;
 mod hash_set;
 pub mod hashed;
+pub mod laws;
 mod reading;
 pub mod round_trip;

@@ -10,6 +10,7 @@ ghost use Rattle.rkyv_collections.specs.Lemmas.MapSound.{listed_map_sound};
 ghost use Rattle.rkyv_collections.specs.Lemmas.StdAlone.{std_map_alone};
 ghost use Rattle.rkyv_collections.specs.Lemmas.StdEqualLaws.{entries_equal};
 ghost use Rattle.rkyv_collections.specs.StdEquality.{EntriesEqual, FindsPair, StdMapEquals};
+ghost use Rattle.rkyv_collections.specs.StdLookups.{FindsAsked};
 ghost use Rattle.rkyv_collections.specs.StdMap.{of_entries};
 
 use crate::map::{ArchivedHashMap, HashMapOf};
@@ -39,6 +40,28 @@ impl<'a, K: KeyElement, V, H: KeyHasher, W: Width> ArchivedHashMap<'a, K, V, H, 
         match self.get(key) {
             Some(found) => V::eq_native(found, value),
             None => false,
+        }
+    }
+
+    /// Whether a lookup of the key answers as in the map of std's: a value that equals the one
+    /// there, or none where there is none.
+    #[inline]
+    pub(crate) fn answers_as<A: NativeKey<K> + Hash, B, T: BuildHasher>(
+        self,
+        other: &HashMap<A, B, T>,
+        key: &A,
+    ) -> bool
+    where
+        K: StandsFor<A>,
+        V: MatchesNative<B>,
+        requires map { IsMap W.word K.shape V.shape self }
+        ensures { let hash = hash_of H.hasher A.calls in
+            IsTrue result ↔ FindsAsked W.word K.shape hash A.fits V.shape V.equals
+            (map_bytes self.entry) (map_pos self.entry) key.now (A.eq key.now) other.now.entries }
+    {
+        match other.get(key) {
+            Some(value) => self.finds_equal(key, value),
+            None => !self.contains_key(key),
         }
     }
 

@@ -3,6 +3,7 @@
 ghost use Rattle.std.specs.Prelude.{◌≡◌};
 
 use rkyv_scan::hash::FxHasher64;
+use std::fmt::{self, Debug, Formatter, Write};
 use std::marker::PhantomData;
 
 /// A map or set of std's that is archived as a map or set under the hasher H, with the load factor
@@ -38,7 +39,8 @@ impl<M, H> Hashed<M, H> {
     pub fn into_inner(self) -> M
         ensures { result ≡ self.map }
     {
-        self.map
+        let Hashed { map, .. } = self;
+        map
     }
 }
 
@@ -51,5 +53,23 @@ impl<M: PartialEq, H> PartialEq for Hashed<M, H> {
     #[inline]
     fn eq(&self, other: &Hashed<M, H>) -> bool {
         self.map == other.map
+    }
+}
+
+impl<M: Eq, H> Eq for Hashed<M, H> {
+    ghost laws = { let m = M.Eq.laws in
+        record {
+          refl = λ x. m.refl x.map;
+          symm = λ x y. m.symm x.map y.map;
+          congr = λ x y z. m.congr x.map y.map z.map;
+        } };
+}
+
+/// It is printed as the map or set itself.
+impl<M: Debug, H> Debug for Hashed<M, H> {
+    ghost debug_output = { λ x. M.debug_output x.map };
+
+    fn fmt<U: Write>(&self, f: &mut Formatter<U>) -> fmt::Result {
+        self.map.fmt(f)
     }
 }

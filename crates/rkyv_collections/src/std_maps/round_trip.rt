@@ -2,6 +2,8 @@
 
 ghost use Rattle.std.specs.Prelude.{◌≡◌, IfOk, true};
 
+use crate::map::{ArchivedHashMap, HashMapOf};
+use crate::std_maps::hashed::Hashed;
 use rkyv_base::access::access_in;
 use rkyv_base::archive::Serialize;
 use rkyv_base::errors::{ReadError, WriteError};
@@ -9,8 +11,12 @@ use rkyv_base::root::to_bytes_in;
 use rkyv_base::width::Width;
 use rkyv_base::writer::{NoMemory, VecWriter};
 use rkyv_keys::equality::{EqualsWritten, MatchesNative, StandsAlone};
+use rkyv_keys::keys::{KeyElement, NativeKey};
 use rkyv_keys::reading::Deserialize;
+use rkyv_scan::hash::KeyHasher;
 use std::alloc::Global;
+use std::collections::HashMap;
+use std::hash::{BuildHasher, Hash};
 
 /// Why a value didn't come back.
 #[derive(Debug, Drop)]
@@ -44,4 +50,30 @@ where
         Ok(back) => Ok(back == *value),
         Err(e) => Err(Lost::Read(e)),
     }
+}
+
+/// Whether a lookup of the key in the archive of a map of std's answers as that map does: with a
+/// value that equals the map's, and none where the map has none: wherever it can be written.
+pub fn lookups_agree<
+    W: Width,
+    H: KeyHasher,
+    A: Serialize<VecWriter, W> + Hash,
+    B: Serialize<VecWriter, W> + EqualsWritten<W>,
+    T: BuildHasher,
+>(alloc: Global, map: &Hashed<HashMap<A, B, T>, H>, key: &A) -> Result<bool, Lost>
+where
+    A::Archived: KeyElement,
+    A: NativeKey<A::Archived>,
+    B::Archived: MatchesNative<B>,
+    ensures { IfOk result (λ same. same ≡ true) }
+{
+    let bytes = match to_bytes_in::<W, Hashed<HashMap<A, B, T>, H>>(alloc, map) {
+        Ok(bytes) => bytes,
+        Err(e) => return Err(Lost::Write(e)),
+    };
+    let root = match access_in::<W, HashMapOf<A::Archived, B::Archived, H, W>>(bytes.as_slice()) {
+        Ok(root) => root,
+        Err(_) => return Ok(false),
+    };
+    Ok(ArchivedHashMap::of(root).answers_as(&map.map, key))
 }

@@ -1,0 +1,134 @@
+-- What a lookup finds in an archive that was written of a map of std's.
+use Rattle.std.proofs.Common.{◌≡◌, ℕ, ◌+◌, refl, sym, ap, subst, ◌∙◌, arith, cond, inl, inr, ◌↔◌, Bool, true, false, List, [], ◌∷◌, length, None, Option, Some}
+use Rattle.std.specs.Int.{Width}
+use Rattle.std.specs.List.{find, list_any}
+use Rattle.std.specs.Map.{lookup}
+use Rattle.std.specs.Option.{is_some, option_map}
+use Rattle.std.proofs.lemmas.Bool.{cases_Bool, true≢false}
+use Rattle.std.proofs.lemmas.Option.{none-some, same_Some}
+use Rattle.std.specs.Prelude.{IsSome, IsSomeAnd, IsTrue, not}
+use Rattle.rkyv_scan.specs.Groups.{generic_kind}
+use Rattle.rkyv_scan.specs.Hash.{Hasher, HasherCall, NumbersFit, hash_of_calls}
+use Rattle.rkyv_base.specs.Empty.{unit_shape, unit_stands}
+use Rattle.rkyv_base.specs.Entry.{entry_element, entry_shape, value_offset}
+use Rattle.rkyv_base.specs.Format.{Format, IsFormat}
+use Rattle.rkyv_base.specs.Shape.{IsElement, Shape, Viewed, standing}
+use Rattle.rkyv_base.specs.Text.{IsArchiveWord}
+use Rattle.rkyv_keys.specs.Equality.{Comparison}
+use Rattle.rkyv_keys.specs.Keys.{IsQuery}
+use Rattle.rkyv_keys.specs.OfEntries.{standing_key}
+use Rattle.rkyv_table.specs.Lemmas.TableLaws.{table_element}
+use Rattle.rkyv_table.specs.Table.Reading.{home_positions, pos_found}
+use Rattle.rkyv_collections.specs.Equality.{pair_at}
+use Rattle.rkyv_collections.specs.ListedLookups.{IsPairOf, first_pair}
+use Rattle.rkyv_collections.specs.Map.{hash_at, map_shape}
+use Rattle.rkyv_collections.specs.MapFormat.{MapStands, hash_of}
+use Rattle.rkyv_collections.specs.SetFormat.{with_units}
+use Rattle.rkyv_collections.specs.StdLookups.{FindsEntries, FindsMembers, IsValueBehind}
+use Rattle.rkyv_collections.specs.StdMap.{of_entries}
+use Rattle.rkyv_collections.proofs.FoundPairs.{first_listed}
+use Rattle.rkyv_collections.proofs.StdReading.{unit_lookup}
+use Rattle.rkyv_collections.proofs.WrittenPairs.{first_accepted, pair_stands}
+
+-- the value of the first pair that is asked for
+first_looked_up : {A B : Type 0} (asks : A → Bool) (entries : List (A × B)) → option_map (λ pair. pair.1) (first_pair asks entries) ≡ lookup asks entries
+first_looked_up asks [] = refl
+first_looked_up asks (e ∷ es) = elim (cases_Bool (asks e.0)) [
+  | inl here ↦ rw here refl
+  | inr other ↦ rw other (first_looked_up asks es)
+]
+
+-- what was found of a value that is looked up, by whether it was found with an equal one
+pub as_value : {B : Type 0} (value : List ℕ → ℕ → B → Type 0) (b : List ℕ) (offset : ℕ) (place : Option ℕ) (o : Option B) (x : B) (r : Bool) → Some x ≡ o
+    → IsTrue r ↔ IsSomeAnd place (λ q. value b (q + offset) x) → IsTrue r ↔ IsValueBehind value b offset place o
+as_value value b offset place None x r e h = absurd (none-some x (sym e))
+as_value value b offset None (Some y) x r e h = h
+as_value value b offset (Some q) (Some y) x r e h =
+    (λ t. subst (value b (q + offset)) (same_Some x y e) (h.0 t), λ v. h.1 (subst (value b (q + offset)) (sym (same_Some x y e)) v))
+
+-- and where there is none to be found
+pub as_none : {B : Type 0} (value : List ℕ → ℕ → B → Type 0) (b : List ℕ) (offset : ℕ) (place : Option ℕ) (o : Option B) (found r : Bool) → None ≡ o
+    → IsTrue found ↔ IsSome place → r ≡ not found → IsTrue r ↔ IsValueBehind value b offset place o
+as_none value b offset place (Some x) found r e h n = absurd (none-some x e)
+as_none value b offset None None true r e h n = absurd (true≢false (sym (h.0 refl)))
+as_none value b offset None None false r e h n = (λ t. tt, λ t. n)
+as_none value b offset (Some q) None true r e h n = (λ t. absurd (true≢false (sym t ∙ n)), λ t. absurd t)
+as_none value b offset (Some q) None false r e h n = absurd (true≢false (sym (h.1 refl)))
+
+-- where a pair stands its value stands behind the key
+value_behind : {A B : Type 0} (k v : Shape) (key : List ℕ → ℕ → A → Type 0) (value : List ℕ → ℕ → B → Type 0) (b : List ℕ) (place : Option ℕ) (o : Option (A × B))
+    → IsPairOf k v key value b place o → IsValueBehind value b (value_offset k v) place (option_map (λ pair. pair.1) o)
+value_behind k v key value b None None h = tt
+value_behind k v key value b (Some q) (Some pair) h = h.1
+value_behind k v key value b None (Some pair) h = absurd h
+value_behind k v key value b (Some q) None h = absurd h
+
+-- what is found or not is so in both
+both_or_none : {B : Type 0} (value : List ℕ → ℕ → B → Type 0) (b : List ℕ) (offset : ℕ) (place : Option ℕ) (o : Option B) → IsValueBehind value b offset place o → is_some place ≡ is_some o
+both_or_none value b offset None None h = refl
+both_or_none value b offset (Some q) (Some x) h = refl
+both_or_none value b offset None (Some x) h = absurd h
+both_or_none value b offset (Some q) None h = absurd h
+
+some_either : {X : Type 0} (x : X) (t : Bool) → is_some (cond t (Some x) None) ≡ t
+some_either x t = elim (cases_Bool t) [
+  | inl yes' ↦ rw yes' refl
+  | inr no' ↦ rw no' refl
+]
+
+module _ {State : Type 0} (hasher : Hasher State) (small : NumbersFit hasher) (w : Width) {k v : Shape} (kl : IsElement k) (vl : IsElement v)
+    {A B Q : Type 0} {key : List ℕ → ℕ → A → Type 0} {value : List ℕ → ℕ → B → Type 0} {same : Comparison} {key_calls : List ℕ → ℕ → List HasherCall}
+    {can_read : Q → Type 0} {calls : Q → List HasherCall} {fits : Q → List ℕ → ℕ → Bool} (query : IsQuery k same key_calls can_read calls fits) (factor : ℕ × ℕ) where
+  -- in a map that stands for these entries
+  entries_found : (b : List ℕ) (p : ℕ) → Viewed (map_shape w k v) b p → (entries : List (A × B))
+      → MapStands w k v key value (hash_at hasher key_calls) factor b p entries
+      → FindsEntries w k (hash_of hasher calls) fits key can_read v value b p entries
+  entries_found b p view entries st q asks can alike =
+      let hash = hash_at hasher key_calls in
+      let accept = fits q b in
+      let places = home_positions w (entry_shape k v).size b p st.homes in
+      let found = first_accepted w k v kl vl hash b p st.homes view st.written (hash_of hasher calls q) accept (small (calls q))
+      (λ i h accepted.
+      ap (hash_of_calls hasher)
+      (sym (query.alike q b (pair_at w k v b p st.homes i) can (standing_key kl vl b (pair_at w k v b p st.homes i) (pair_stands w k v kl vl hash b p st.homes view st.written i h)) accepted))) in
+      let listed = first_listed w k v kl vl key value hash factor b p entries view accept asks alike st in
+      let behind = value_behind k v key value b (find accept places) (first_pair asks entries) listed in
+      subst (λ (place : Option ℕ). IsValueBehind value b (value_offset k v) place (lookup asks entries)) (sym found)
+      (subst (λ (o : Option B). IsValueBehind value b (value_offset k v) (find accept places) o) (first_looked_up asks entries) behind)
+
+  -- in every archive in which what was written of a map of std's sits
+  pub looked_up : IsArchiveWord w → (equal : A → A → Bool) {R : Type 0} (f : Format (List (A × B)) R)
+      → IsFormat (map_shape w k v) (MapStands w k v key value (hash_at hasher key_calls) factor) f
+      → IsFormat (map_shape w k v) (FindsEntries w k (hash_of hasher calls) fits key can_read v value) (of_entries equal f)
+  looked_up kind equal {R} f base = record {
+    whole = λ es. base.whole es;
+    clear = λ es. base.clear es;
+    sound = λ es r c p0 p part out h i s t o al.
+        let d = base.sound es r c p0 p part out h.1 i s t o al in
+        let whole = base.whole es r p out i in
+        let inside = t.inside in
+        let view : Viewed (map_shape w k v) c p = record {
+          inside = omega (arith, inside, whole);
+          aligned = al;
+          stands = standing (map_shape w k v) (table_element w kind (entry_shape k v) (entry_element k v kl vl)) c p p0 (p0 + length part) d.0 (omega arith) o d.1;
+        } in
+        (d.0, d.1, entries_found c p view es d.2);
+  }
+
+-- and of a set
+pub members_looked_up : {X A Q R : Type 0} (w : Width) (k s : Shape) (key : List ℕ → ℕ → A → Type 0) (can_read : Q → Type 0) (hash : Q → ℕ) (fits : Q → List ℕ → ℕ → Bool) (seen : X → List A) (f : Format X R)
+    → IsFormat s (λ b p x. FindsEntries w k hash fits key can_read unit_shape unit_stands b p (with_units (seen x))) f
+    → IsFormat s (λ b p x. FindsMembers w k hash fits key can_read b p (seen x)) f
+members_looked_up w k s key can_read hash fits seen f law = record {
+  whole = law.whole;
+  clear = law.clear;
+  sound = λ x r c p0 p part out h i t o q al.
+      let d = law.sound x r c p0 p part out h i t o q al in (
+        d.0,
+        d.1,
+        λ query asks can alike.
+            let place = pos_found generic_kind w (entry_shape k unit_shape).size c p (hash query) (fits query c) in
+            both_or_none unit_stands c (value_offset k unit_shape) place (lookup asks (with_units (seen x))) (d.2 query asks can alike)
+            ∙ ap is_some (unit_lookup asks (seen x)) ∙ some_either {X = Unit {0}} tt (list_any asks (seen x)),
+      );
+}

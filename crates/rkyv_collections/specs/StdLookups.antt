@@ -1,0 +1,46 @@
+-- What a lookup answers in an archive that was written of a map or a set of std's.
+use Rattle.std.specs.Prelude.{◌≡◌, ℕ, ◌+◌, Bool, List, None, Option, Some}
+use Rattle.std.specs.Int.{Width}
+use Rattle.std.specs.List.{list_any}
+use Rattle.std.specs.Map.{lookup}
+use Rattle.std.specs.Option.{is_some}
+use Rattle.rkyv_scan.specs.Groups.{generic_kind}
+use Rattle.rkyv_base.specs.Empty.{unit_shape}
+use Rattle.rkyv_base.specs.Entry.{entry_shape, value_offset}
+use Rattle.rkyv_base.specs.Shape.{Shape}
+use Rattle.rkyv_table.specs.Table.Reading.{pos_found}
+use Rattle.rkyv_collections.specs.ListedLookups.{AsksFor}
+
+-- the value stands so far behind the place, or there is neither
+abbrev pub IsValueBehind : {B : Type 0} → (List ℕ → ℕ → B → Type 0) → List ℕ → ℕ → Option ℕ
+    → Option B → Type 0
+IsValueBehind value b offset None None = Unit {0}
+IsValueBehind value b offset (Some q) (Some x) = value b (q + offset) x
+IsValueBehind value b offset None (Some x) = ⊥
+IsValueBehind value b offset (Some q) None = ⊥
+
+module _ {Q A : Type 0} (w : Width) (k : Shape) (hash : Q → ℕ) (fits : Q → List ℕ → ℕ → Bool)
+  where
+    -- What the query finds in the map at p is what these entries have: the value of the first key
+    -- that is asked for, and none exactly where they have none.
+    abbrev pub FindsAsked : {B : Type 0} → Shape → (List ℕ → ℕ → B → Type 0) → List ℕ → ℕ → Q
+        → (A → Bool) → List (A × B) → Type 0
+    FindsAsked v value b p q asks entries =
+        IsValueBehind value b (value_offset k v)
+        (pos_found generic_kind w (entry_shape k v).size b p (hash q) (fits q b))
+        (lookup asks entries)
+
+    module _ (key : List ℕ → ℕ → A → Type 0) (can_read : Q → Type 0) where
+      -- each query that can be read finds in the map at p what these entries have
+      abbrev pub FindsEntries : {B : Type 0} → Shape → (List ℕ → ℕ → B → Type 0) → List ℕ → ℕ
+          → List (A × B) → Type 0
+      FindsEntries v value b p entries = (q : Q) (asks : A → Bool) → can_read q
+          → AsksFor k key b (fits q b) asks → FindsAsked v value b p q asks entries
+
+      -- each query that can be read is found in the set at p exactly where a key is asked for
+      abbrev pub FindsMembers : List ℕ → ℕ → List A → Type 0
+      FindsMembers b p keys = (q : Q) (asks : A → Bool) → can_read q
+          → AsksFor k key b (fits q b) asks
+          → is_some
+          (pos_found generic_kind w (entry_shape k unit_shape).size b p (hash q) (fits q b))
+          ≡ list_any asks keys
