@@ -54,8 +54,7 @@ fn an_accepted_root_is_written(rt: HostRuntime) {
         archive.fill(7);
         pos
     });
-    assert_eq!(rt; told.ok(), Some(0));
-    assert_eq!(rt; bytes, [7; 4]);
+    assert_eq!(rt; (told.ok(), bytes), (Some(0), [7; 4]));
 }
 
 #[test]
@@ -64,8 +63,7 @@ fn a_refused_archive_is_as_before(rt: HostRuntime) {
     let told = access_mut_with::<u32, (), _>(&mut bytes, |archive: &mut [u8], _pos: u64| {
         archive.fill(7);
     });
-    assert!(rt; told.is_err());
-    assert_eq!(rt; bytes, [1, 0, 0]);
+    assert_eq!(rt; (told.is_err(), bytes), (true, [1, 0, 0]));
 }
 
 #[test]
@@ -73,9 +71,12 @@ fn callers_write_exact_bytes(rt: HostRuntime) {
     let mut bytes = [9; 6];
     value_written(&mut bytes, 1, 16_909_060u32);
     let refused = root_written::<Narrow, u32>(&mut bytes, 7).is_err();
-    assert_eq!(rt; (refused, bytes), (true, [9, 4, 3, 2, 1, 9]));
+    let refused_bytes = bytes;
     let written = root_written::<Wide, u16>(&mut bytes, 7).is_ok();
-    assert_eq!(rt; (written, bytes), (true, [9, 4, 3, 2, 7, 0]));
+    assert_eq!(rt;
+        (refused, refused_bytes, written, bytes),
+        (true, [9, 4, 3, 2, 1, 9], true, [9, 4, 3, 2, 7, 0])
+    );
 }
 
 #[test]

@@ -5,6 +5,8 @@ ghost use Rattle.std.proofs.Common.{inl, inr, lit≤, refl};
 ghost use Rattle.rkyv_base.specs.Lemmas.AnyBytes.{any_bytes, any_bytes-element};
 ghost use Rattle.rkyv_base.specs.Format.{nothing_far, nothing_next};
 
+use crate::refusals::{Refusal, refused};
+use crate::roots::is_archived_as;
 use rkyv_base::access::access;
 use rkyv_base::archive::{Archive, Serialize};
 use rkyv_base::element::{Element, PartRange, StandsFor};
@@ -12,10 +14,9 @@ use rkyv_base::entry::{Entry, whole_size};
 use rkyv_base::errors::{DistanceTooLarge, VerifyError, WriteError};
 use rkyv_base::root::to_bytes;
 use rkyv_base::scalars::Scalar;
-use rkyv_base::width::Width;
-use rkyv_base::writer::Writer;
+use rkyv_base::width::{Narrow, Width};
+use rkyv_base::writer::{VecWriter, Writer};
 use std::alloc::Global;
-use std::test::Fail;
 
 // A scalar of one's own.
 #[derive(Clone, Copy, Debug, PartialEq, Eq)]
@@ -105,46 +106,48 @@ impl<S: Writer, W: Width> Serialize<S, W> for Huge {
     }
 }
 
+// The value of an entry of a bool and such a scalar.
+fn grams_of(bytes: &[u8]) -> Result<Grams, VerifyError> {
+    Ok(access::<Entry<bool, Grams>>(bytes)?.value().to_native())
+}
+
 #[test]
-fn an_own_scalar_is_archived(rt: HostRuntime) -> Result<(), Fail> {
-    let bytes = to_bytes(rt.alloc(), &(true, Grams(258)))?;
-    assert_eq!(rt; bytes.as_slice(), [1, 0, 0, 0, 2, 1, 0, 0].as_slice());
-    let root = access::<Entry<bool, Grams>>(bytes.as_slice())?;
-    assert_eq!(rt; root.value().to_native(), Grams(258));
-    Ok(())
+fn an_own_scalar_is_archived(rt: HostRuntime) {
+    let bytes = [1, 0, 0, 0, 2, 1, 0, 0];
+    let archived = is_archived_as(rt.alloc(), &(true, Grams(258)), &bytes);
+    assert_eq!(rt; (archived, grams_of(&bytes).ok()), (true, Some(Grams(258))));
+}
+
+// Whether a value is refused with 0 where it is archived.
+fn is_refused<V: Serialize<VecWriter, Narrow>>(alloc: Global, value: &V) -> bool {
+    matches!(to_bytes(alloc, value), Err(WriteError::Refused(0)))
 }
 
 #[test]
 fn an_entry_too_large_is_refused(rt: HostRuntime) {
-    assert_eq!(rt; <Entry<Huge, ()> as Element>::size(), 1_073_741_824);
-    assert!(rt;
-        matches!(
-            access::<Entry<Huge, ()>>(&[]),
-            Err(VerifyError::OutOfRange {
-                pos: -1_073_741_824,
-                size: 1_073_741_824,
-            })
-        )
-    );
-    assert_eq!(rt; whole_size::<Huge, u16>(), 1_073_741_826);
-    assert_eq!(rt; <Entry<Huge, u16> as Element>::size(), 0);
-    assert_eq!(rt; <Entry<Huge, u16> as Element>::align(), 2);
-    assert!(rt;
-        matches!(
-            access::<Entry<Huge, u16>>(&[]),
-            Err(VerifyError::Refused(0))
-        )
-    );
-    assert!(rt;
-        matches!(
-            to_bytes(rt.alloc(), &(Huge, 7u16)),
-            Err(WriteError::Refused(0))
-        )
-    );
-    assert!(rt;
-        matches!(
-            to_bytes(rt.alloc(), &(1u8, (7u16, Huge))),
-            Err(WriteError::Refused(0))
+    let sizes = [
+        <Entry<Huge, ()> as Element>::size(),
+        whole_size::<Huge, u16>(),
+        <Entry<Huge, u16> as Element>::size(),
+        <Entry<Huge, u16> as Element>::align(),
+    ];
+    let refusals = [
+        refused::<Narrow, Entry<Huge, ()>>(&[]),
+        refused::<Narrow, Entry<Huge, u16>>(&[]),
+    ];
+    let refused = [
+        is_refused(rt.alloc(), &(Huge, 7u16)),
+        is_refused(rt.alloc(), &(1u8, (7u16, Huge))),
+    ];
+    assert_eq!(rt;
+        (sizes, refusals, refused),
+        (
+            [1_073_741_824, 1_073_741_826, 0, 2],
+            [
+                Some(Refusal::OutOfRange(-1_073_741_824, 1_073_741_824)),
+                Some(Refusal::Refused(0))
+            ],
+            [true; 2]
         )
     );
 }

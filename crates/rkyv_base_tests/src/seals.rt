@@ -9,14 +9,16 @@ ghost use Rattle.rkyv_base.specs.Scalar.{scalar_shape};
 ghost use Rattle.rkyv_base.specs.Sealing.{with_value};
 ghost use Rattle.rkyv_base.specs.Shape.{Viewed};
 
+use crate::refusals::{Refusal, refused_to_write};
+use crate::roots::is_archived_as;
 use rkyv_base::access::{access, access_mut, access_mut_in};
 use rkyv_base::entry::Entry;
 use rkyv_base::errors::VerifyError;
-use rkyv_base::root::{to_bytes, to_bytes_in};
+use rkyv_base::root::to_bytes;
 use rkyv_base::seal::{ArchiveSeal, Seal, halves, set_at, set_value};
 use rkyv_base::text::Text;
 use rkyv_base::view::View;
-use rkyv_base::width::Wide;
+use rkyv_base::width::{Narrow, Wide, Width};
 use std::test::Fail;
 
 // A caller of `Seal::over` knows all bytes after the write.
@@ -49,63 +51,89 @@ fn sets_behind_key(archive: &mut [u8], entry_pos: u64, value: u32) -> u32
 fn numbers_are_written_over_bytes(rt: HostRuntime) {
     let mut bytes = [1, 2, 3];
     let mut seal = Seal::<u8>::over(&mut bytes, 1);
-    assert_eq!(rt; seal.to_native(), 2);
+    let before = seal.to_native();
     seal.set(255);
-    assert_eq!(rt; seal.to_native(), 255);
+    let after = seal.to_native();
     drop(seal);
-    assert_eq!(rt; bytes, [1, 255, 3]);
-    let mut bytes = [9; 10];
-    sets_over(&mut bytes, 1, -2);
-    assert_eq!(rt; bytes, [9, 254, 255, 255, 255, 255, 255, 255, 255, 9]);
-    set_at(&mut bytes, 4, 16_909_060u32);
-    assert_eq!(rt; bytes, [9, 254, 255, 255, 4, 3, 2, 1, 255, 9]);
+    let mut others = [9; 10];
+    sets_over(&mut others, 1, -2);
+    let signed = others;
+    set_at(&mut others, 4, 16_909_060u32);
+    assert_eq!(rt;
+        (before, after, bytes, signed, others),
+        (
+            2,
+            255,
+            [1, 255, 3],
+            [9, 254, 255, 255, 255, 255, 255, 255, 255, 9],
+            [9, 254, 255, 255, 4, 3, 2, 1, 255, 9]
+        )
+    );
 }
 
-#[test]
-fn roots_are_written_in_place(rt: HostRuntime) -> Result<(), Fail> {
-    let mut bytes = to_bytes(rt.alloc(), &true)?;
-    let whole = access_mut::<bool>(bytes.as_mut_slice())?;
+// Writes a bool over the root of an archive: where it stands, what a view shows, what stood there,
+// and what stands there then.
+fn root_replaced(bytes: &mut [u8], value: bool) -> Result<(u64, bool, bool, bool), VerifyError> {
+    let whole = access_mut::<bool>(bytes)?;
     let (root, viewed) = (whole.pos(), whole.as_view().to_native());
     let mut seal = whole.seal_at::<bool>(root);
     let before = seal.to_native();
-    seal.set(false);
-    let after = seal.to_native();
-    drop(seal);
-    assert_eq!(rt; (root, viewed, before, after), (0, true, true, false));
-    assert_eq!(rt; bytes.as_slice(), [0].as_slice());
-    Ok(())
+    seal.set(value);
+    Ok((root, viewed, before, seal.to_native()))
 }
 
 #[test]
-fn wide_roots_are_written_in_place(rt: HostRuntime) -> Result<(), Fail> {
-    let mut bytes = to_bytes(rt.alloc(), &'a')?;
-    let whole = access_mut_in::<Wide, char>(bytes.as_mut_slice())?;
+fn roots_are_written_in_place(rt: HostRuntime) {
+    let mut bytes = [1];
+    let replaced = root_replaced(&mut bytes, false).ok();
+    let written = is_archived_as(rt.alloc(), &true, &[1]);
+    assert_eq!(rt;
+        (replaced, bytes, written),
+        (Some((0, true, true, false)), [0], true)
+    );
+}
+
+// The same of a character in a wide archive: what stood there, and what stands there then.
+fn wide_root_replaced(bytes: &mut [u8], value: char) -> Result<(char, char), VerifyError> {
+    let whole = access_mut_in::<Wide, char>(bytes)?;
     let root = whole.pos();
     let mut seal = whole.seal_at::<char>(root);
     let before = seal.to_native();
-    seal.set('€');
-    let after = seal.to_native();
-    drop(seal);
-    assert_eq!(rt; (before, after), ('a', '€'));
-    assert_eq!(rt; bytes.as_slice(), [0xac, 0x20, 0, 0].as_slice());
-    Ok(())
+    seal.set(value);
+    Ok((before, seal.to_native()))
 }
 
 #[test]
-fn values_of_entries_are_written_in_place(rt: HostRuntime) -> Result<(), Fail> {
-    let mut bytes = to_bytes(rt.alloc(), &(1u8, 2u32))?;
-    let whole = access_mut::<Entry<u8, u32>>(bytes.as_mut_slice())?;
+fn wide_roots_are_written_in_place(rt: HostRuntime) {
+    let mut bytes = [0x61, 0, 0, 0];
+    let replaced = wide_root_replaced(&mut bytes, '€').ok();
+    assert_eq!(rt; (replaced, bytes), (Some(('a', '€')), [0xac, 0x20, 0, 0]));
+}
+
+// Writes a number over the value of an entry: the key and what stood there.
+fn value_replaced(bytes: &mut [u8], value: u32) -> Result<(u8, u32), VerifyError> {
+    let whole = access_mut::<Entry<u8, u32>>(bytes)?;
     let (key, mut seal) = whole.split_value::<u8, u32>(0);
     let before = (key.to_native(), seal.to_native());
-    seal.set(16_909_060);
-    drop(seal);
-    let after = access::<Entry<u8, u32>>(bytes.as_slice())?
-        .value()
-        .to_native();
-    assert_eq!(rt; (before, after), ((1, 2), 16_909_060));
-    set_value::<u8, u32>(bytes.as_mut_slice(), 0, 7);
-    assert_eq!(rt; bytes.as_slice(), [1, 0, 0, 0, 7, 0, 0, 0].as_slice());
-    Ok(())
+    seal.set(value);
+    Ok(before)
+}
+
+// The value of an entry.
+fn value_of(bytes: &[u8]) -> Result<u32, VerifyError> {
+    Ok(access::<Entry<u8, u32>>(bytes)?.value().to_native())
+}
+
+#[test]
+fn values_of_entries_are_written_in_place(rt: HostRuntime) {
+    let mut bytes = [1, 0, 0, 0, 2, 0, 0, 0];
+    let before = value_replaced(&mut bytes, 16_909_060).ok();
+    let after = value_of(&bytes).ok();
+    set_value::<u8, u32>(&mut bytes, 0, 7);
+    assert_eq!(rt;
+        (before, after, bytes),
+        (Some((1, 2)), Some(16_909_060), [1, 0, 0, 0, 7, 0, 0, 0])
+    );
 }
 
 #[test]
@@ -123,89 +151,102 @@ fn a_value_is_written_behind_its_key(rt: HostRuntime) -> Result<(), Fail> {
 fn an_archive_is_lent_and_given_back(rt: HostRuntime) {
     let mut bytes = [1, 2];
     let mut whole = ArchiveSeal::<u8>::new(&mut bytes, 1);
-    assert_eq!(rt; whole.pos(), 1);
+    let begun = whole.pos();
     let mut seal = whole.as_mut().seal_at::<u8>(0);
     seal.set(7);
     drop(seal);
     let (archive, pos) = whole.into_parts();
-    assert_eq!(rt; pos, 1);
-    assert_eq!(rt; &*archive, [7, 2].as_slice());
+    assert_eq!(rt; (begun, pos, &*archive), (1, 1, [7, 2].as_slice()));
 }
 
 #[test]
 fn what_is_refused_to_readers_is_refused_to_writers(rt: HostRuntime) {
-    let mut bytes = [2];
-    assert!(rt;
-        matches!(
-            access_mut::<bool>(&mut bytes),
-            Err(VerifyError::InvalidValue { pos: 0 })
-        )
-    );
-    assert_eq!(rt; bytes, [2]);
-    let mut bytes = [0, 0, 0, 0, 0];
-    assert!(rt;
-        matches!(
-            access_mut::<u32>(&mut bytes),
-            Err(VerifyError::Unaligned { pos: 1, align: 4 })
-        )
-    );
-    assert!(rt;
-        matches!(
-            access_mut_in::<Wide, u64>(&mut bytes),
-            Err(VerifyError::OutOfRange { pos: -3, size: 8 })
+    let (mut bytes, mut zeros) = ([2], [0, 0, 0, 0, 0]);
+    let refused = [
+        refused_to_write::<Narrow, bool>(&mut bytes),
+        refused_to_write::<Narrow, u32>(&mut zeros),
+        refused_to_write::<Wide, u64>(&mut zeros),
+    ];
+    assert_eq!(rt;
+        (refused, bytes),
+        (
+            [
+                Some(Refusal::InvalidValue(0)),
+                Some(Refusal::Unaligned(1, 4)),
+                Some(Refusal::OutOfRange(-3, 8))
+            ],
+            [2]
         )
     );
 }
 
-#[test]
+// Whether a seal of the text at the root shows this.
 #[tactic(auto, using(rkyv_base::proofs::SealedText::viewed_sealed))]
-fn inline_text_is_read_in_place(rt: HostRuntime) -> Result<(), Fail> {
-    let mut bytes = to_bytes(rt.alloc(), &"hello")?;
-    let whole = access_mut::<Text>(bytes.as_mut_slice())?;
+fn shows_in_place<W: Width>(bytes: &mut [u8], text: &str) -> Result<bool, VerifyError> {
+    let whole = access_mut_in::<W, Text<W>>(bytes)?;
     let root = whole.pos();
-    let seal = whole.seal_at::<Text>(root);
-    assert!(rt; seal.as_str() == Some("hello"));
-    Ok(())
+    let seal = whole.seal_at::<Text<W>>(root);
+    Ok(seal.as_str() == Some(text))
+}
+
+#[test]
+fn inline_text_is_read_in_place(rt: HostRuntime) {
+    let mut bytes = *b"hello\xff\xff\xff";
+    assert_eq!(rt;
+        shows_in_place::<Narrow>(&mut bytes, "hello").ok(),
+        Some(true)
+    );
 }
 
 #[test]
 fn inline_text_is_raised_in_place(rt: HostRuntime) {
     let mut bytes = [0x68, 0x65, 0x6c, 0x6c, 0x6f, 255, 255, 255, 97];
+    let mut full = [0x7a; 8];
     let mut seal = Seal::<Text>::over(&mut bytes, 0);
-    assert!(rt; seal.make_ascii_uppercase());
+    let raised = seal.make_ascii_uppercase();
     drop(seal);
-    assert_eq!(rt; bytes, [0x48, 0x45, 0x4c, 0x4c, 0x4f, 255, 255, 255, 97]);
-    let mut bytes = [0x7a; 8];
-    let mut seal = Seal::<Text>::over(&mut bytes, 0);
-    assert!(rt; seal.make_ascii_uppercase());
+    let mut seal = Seal::<Text>::over(&mut full, 0);
+    let full_raised = seal.make_ascii_uppercase();
     drop(seal);
-    assert_eq!(rt; bytes, [0x5a; 8]);
+    assert_eq!(rt;
+        (raised, bytes, full_raised, full),
+        (
+            true,
+            [0x48, 0x45, 0x4c, 0x4c, 0x4f, 255, 255, 255, 97],
+            true,
+            [0x5a; 8]
+        )
+    );
+}
+
+// Whether a seal of the text at the root shows none, and whether it raises it.
+#[tactic(auto, using(rkyv_base::proofs::SealedText::viewed_sealed))]
+fn raises_elsewhere<W: Width>(bytes: &mut [u8]) -> Result<(bool, bool), VerifyError> {
+    let whole = access_mut_in::<W, Text<W>>(bytes)?;
+    let root = whole.pos();
+    let mut seal = whole.seal_at::<Text<W>>(root);
+    Ok((seal.as_str().is_none(), seal.make_ascii_uppercase()))
 }
 
 #[test]
-#[tactic(auto, using(rkyv_base::proofs::SealedText::viewed_sealed))]
-fn text_elsewhere_stays(rt: HostRuntime) -> Result<(), Fail> {
-    let mut bytes = to_bytes(rt.alloc(), &"wonderful")?;
-    let whole = access_mut::<Text>(bytes.as_mut_slice())?;
-    let root = whole.pos();
-    let mut seal = whole.seal_at::<Text>(root);
-    assert!(rt; seal.as_str().is_none());
-    assert!(rt; !seal.make_ascii_uppercase());
-    drop(seal);
-    let same = to_bytes(rt.alloc(), &"wonderful")?;
-    assert_eq!(rt; bytes.as_slice(), same.as_slice());
-    Ok(())
+fn text_elsewhere_stays(rt: HostRuntime) {
+    let wonderful = *b"wonderful\0\0\0\x89\0\0\0\xf4\xff\xff\xff";
+    let mut bytes = wonderful;
+    let raised = raises_elsewhere::<Narrow>(&mut bytes).ok();
+    let same = is_archived_as(rt.alloc(), &"wonderful", &bytes);
+    assert_eq!(rt;
+        (raised, bytes, same),
+        (Some((true, false)), wonderful, true)
+    );
 }
 
 #[test]
-#[tactic(auto, using(rkyv_base::proofs::SealedText::viewed_sealed))]
-fn wide_text_is_read_in_place(rt: HostRuntime) -> Result<(), Fail> {
-    let mut bytes = to_bytes_in::<Wide, &str>(rt.alloc(), &"wonderful")?;
-    let whole = access_mut_in::<Wide, Text<Wide>>(bytes.as_mut_slice())?;
-    let root = whole.pos();
-    let seal = whole.seal_at::<Text<Wide>>(root);
-    assert!(rt; seal.as_str() == Some("wonderful"));
-    Ok(())
+fn wide_text_is_read_in_place(rt: HostRuntime) {
+    let mut bytes = *b"wonderful\xff\xff\xff\xff\xff\xff\xff";
+    assert_eq!(rt;
+        shows_in_place::<Wide>(&mut bytes, "wonderful").ok(),
+        Some(true)
+    );
 }
 
 #[test]
@@ -214,22 +255,21 @@ fn wide_text_is_raised_in_place(rt: HostRuntime) {
         0x77, 0x6f, 0x6e, 0x64, 0x65, 0x72, 0x66, 0x75, 0x6c, 255, 97, 97, 97, 97, 97, 97,
     ];
     let mut seal = Seal::<Text<Wide>>::over(&mut bytes, 0);
-    assert!(rt; seal.make_ascii_uppercase());
+    let is_raised = seal.make_ascii_uppercase();
     drop(seal);
     let raised = [
         0x57, 0x4f, 0x4e, 0x44, 0x45, 0x52, 0x46, 0x55, 0x4c, 255, 97, 97, 97, 97, 97, 97,
     ];
-    assert_eq!(rt; bytes, raised);
+    assert_eq!(rt; (is_raised, bytes), (true, raised));
 }
 
 #[test]
-#[tactic(auto, using(rkyv_base::proofs::SealedText::viewed_sealed))]
-fn wide_text_elsewhere_stays(rt: HostRuntime) -> Result<(), Fail> {
-    let mut bytes = to_bytes_in::<Wide, &str>(rt.alloc(), &"most wonderful text")?;
-    let whole = access_mut_in::<Wide, Text<Wide>>(bytes.as_mut_slice())?;
-    let root = whole.pos();
-    let mut seal = whole.seal_at::<Text<Wide>>(root);
-    assert!(rt; seal.as_str().is_none());
-    assert!(rt; !seal.make_ascii_uppercase());
-    Ok(())
+fn wide_text_elsewhere_stays(rt: HostRuntime) {
+    // the text, five zeros, its length, and how far back it begins
+    let mut bytes =
+        *b"most wonderful text\0\0\0\0\0\x93\0\0\0\0\0\0\0\xe8\xff\xff\xff\xff\xff\xff\xff";
+    assert_eq!(rt;
+        raises_elsewhere::<Wide>(&mut bytes).ok(),
+        Some((true, false))
+    );
 }
