@@ -1,5 +1,6 @@
 //! Values that stand in archives: read back, compared, hashed and printed.
 use rkyv_base::access::access;
+use rkyv_base::errors::VerifyError;
 use rkyv_base::root::to_bytes;
 use rkyv_keys::debug::Shown;
 use rkyv_keys::equality::{ElementEq, MatchesNative};
@@ -10,57 +11,96 @@ use rkyv_keys::scalars::ScalarKey;
 use rkyv_scan::hash::{FxHasher64, KeyHasher};
 use std::alloc::Global;
 use std::fmt::Debug;
-use std::process::Abort;
-use std::test::Fail;
 
-// Each call on the one value of an archive, and on that of another.
-fn stands_for<N: ScalarKey + Debug>(
-    rt: &impl Abort,
-    alloc: Global,
+// What each comparison answers of the value of an archive, and of that of another.
+fn compared<N: ScalarKey>(
+    bytes: &[u8],
+    others: &[u8],
     value: N,
     other: N,
-    text: &str,
-) -> Result<(), Fail> {
-    let bytes = to_bytes(alloc, &value)?;
-    let others = to_bytes(alloc, &other)?;
-    let view = access::<N>(bytes.as_slice())?;
-    let stranger = access::<N>(others.as_slice())?;
-    let same = [
+) -> Result<[bool; 6], VerifyError> {
+    let view = access::<N>(bytes)?;
+    let stranger = access::<N>(others)?;
+    Ok([
         <N as ElementEq>::same(view, view),
         <N as ElementEq>::same(view, stranger),
         N::eq_native(view, &value),
         N::eq_native(view, &other),
         Query::same(&value, view),
         Query::same(&value, stranger),
-        N::deserialize(alloc, view)? == value,
-    ];
+    ])
+}
+
+// Whether the value of an archive hashes as it does natively.
+fn hashes_alike<N: ScalarKey>(bytes: &[u8], value: N) -> Result<bool, VerifyError> {
+    let view = access::<N>(bytes)?;
     let mut state = FxHasher64::default();
     N::hash_view(view, &mut state);
-    let hashes = [state.finish(), hash_value::<N, FxHasher64>(&value)];
-    let shown = format!(in alloc; "{:?}", Shown::new(view))?;
-    assert_eq!(rt;
-        (same, hashes[0], shown.as_str()),
-        (
-            [true, false, true, false, true, false, true],
-            hashes[1],
-            text
-        )
-    );
-    Ok(())
+    Ok(state.finish() == hash_value::<N, FxHasher64>(&value))
+}
+
+// Whether it is read back.
+fn is_read_back<N: ScalarKey>(alloc: Global, bytes: &[u8], value: N) -> bool {
+    match access::<N>(bytes) {
+        Ok(view) => matches!(N::deserialize(alloc, view), Ok(read) if read == value),
+        Err(_) => false,
+    }
+}
+
+// Whether it is shown as this text.
+fn is_shown<N: ScalarKey + Debug>(alloc: Global, bytes: &[u8], text: &str) -> bool {
+    match access::<N>(bytes) {
+        Ok(view) => {
+            let shown = format!(in alloc; "{:?}", Shown::new(view));
+            matches!(shown, Ok(shown) if shown.as_str() == text)
+        }
+        Err(_) => false,
+    }
+}
+
+// All of these, of the archives of a value and of another.
+fn stands_in<N: ScalarKey + Debug>(
+    alloc: Global,
+    bytes: &[u8],
+    others: &[u8],
+    value: N,
+    other: N,
+    text: &str,
+) -> bool {
+    compared(bytes, others, value, other).ok() == Some([true, false, true, false, true, false])
+        && hashes_alike(bytes, value).ok() == Some(true)
+        && is_read_back(alloc, bytes, value)
+        && is_shown::<N>(alloc, bytes, text)
+}
+
+// Each call on the one value of an archive, and on that of another.
+fn stands_for<N: ScalarKey + Debug>(alloc: Global, value: N, other: N, text: &str) -> Option<bool> {
+    let bytes = to_bytes(alloc, &value).ok()?;
+    let others = to_bytes(alloc, &other).ok()?;
+    Some(stands_in(
+        alloc,
+        bytes.as_slice(),
+        others.as_slice(),
+        value,
+        other,
+        text,
+    ))
 }
 
 #[test]
-fn scalars_stand_for_themselves(rt: HostRuntime) -> Result<(), Fail> {
+fn scalars_stand_for_themselves(rt: HostRuntime) {
     let alloc = rt.alloc();
-    stands_for(&rt, alloc, 7u8, 8, "7")?;
-    stands_for(&rt, alloc, 7u16, 263, "7")?;
-    stands_for(&rt, alloc, 7u32, 65543, "7")?;
-    stands_for(&rt, alloc, 7u64, 4_294_967_303, "7")?;
-    stands_for(&rt, alloc, -7i8, 7, "-7")?;
-    stands_for(&rt, alloc, -7i16, 7, "-7")?;
-    stands_for(&rt, alloc, -7i32, 7, "-7")?;
-    stands_for(&rt, alloc, -7i64, 7, "-7")?;
-    stands_for(&rt, alloc, true, false, "true")?;
-    stands_for(&rt, alloc, 'x', 'y', "'x'")?;
-    Ok(())
+    let right = [
+        stands_for(alloc, 7u8, 8, "7"),
+        stands_for(alloc, 7u16, 263, "7"),
+        stands_for(alloc, 7u32, 65543, "7"),
+        stands_for(alloc, 7u64, 4_294_967_303, "7"),
+        stands_for(alloc, -7i8, 7, "-7"),
+        stands_for(alloc, -7i16, 7, "-7"),
+        stands_for(alloc, -7i32, 7, "-7"),
+        stands_for(alloc, -7i64, 7, "-7"),
+        stands_for(alloc, true, false, "true"),
+        stands_for(alloc, 'x', 'y', "'x'"),
+    ];
+    assert_eq!(rt; right, [Some(true); 10]);
 }

@@ -1,7 +1,7 @@
 //! Keys that stand in archives, asked for by native values and by keys of other archives.
 use rkyv_base::access::access;
 use rkyv_base::entry::Entry;
-use rkyv_base::errors::VerifyError;
+use rkyv_base::errors::{ReadError, VerifyError};
 use rkyv_base::text::Text;
 use rkyv_base::view::View;
 use rkyv_base::width::Wide;
@@ -12,7 +12,6 @@ use rkyv_keys::keys::{KeyElement, Query};
 use rkyv_keys::reading::Deserialize;
 use rkyv_scan::hash::{FxHasher64, KeyHasher};
 use std::alloc::Global;
-use std::test::Fail;
 
 // "hello" in its fixed bytes.
 const HELLO: [u8; 8] = [0x68, 0x65, 0x6c, 0x6c, 0x6f, 0xff, 0xff, 0xff];
@@ -64,105 +63,158 @@ fn hash_of<K: KeyElement>(bytes: &[u8]) -> Result<u64, VerifyError> {
     Ok(state.finish())
 }
 
-fn reads<V, T: Deserialize<V>>(alloc: Global, bytes: &[u8]) -> Result<V, Fail> {
-    Ok(T::deserialize(alloc, access::<T>(bytes)?)?)
+// The text that is read back.
+fn reads_text(alloc: Global, bytes: &[u8], text: &str) -> bool {
+    match access::<Text>(bytes) {
+        Ok(view) => matches!(Text::deserialize(alloc, view), Ok(read) if is(&read, text)),
+        Err(_) => false,
+    }
 }
 
-fn shows<T: ElementDebug>(alloc: Global, bytes: &[u8]) -> Result<String, Fail> {
-    let view = access::<T>(bytes)?;
-    Ok(format!(in alloc; "{:?}", Shown::new(view))?)
+// Whether an owned text is this one.
+fn is(text: &String, wanted: &str) -> bool {
+    text.as_str() == wanted
+}
+
+// The same of a text and a number.
+fn reads_pair(alloc: Global, bytes: &[u8], pair: (&str, u32)) -> Result<bool, VerifyError> {
+    let view = access::<Entry<Text, u32>>(bytes)?;
+    let read: Result<(String, u32), ReadError> = Entry::deserialize(alloc, view);
+    match read {
+        Ok((text, number)) => Ok((text.as_str(), number) == pair),
+        Err(_) => Ok(false),
+    }
+}
+
+// The same of the unit value.
+fn reads_unit(alloc: Global, bytes: &[u8]) -> Result<bool, VerifyError> {
+    let view = access::<()>(bytes)?;
+    let read: Result<(), ReadError> = <()>::deserialize(alloc, view);
+    Ok(read.is_ok())
+}
+
+// Whether the root of an archive is shown as this text.
+fn shows<T: ElementDebug>(alloc: Global, bytes: &[u8], text: &str) -> bool {
+    match access::<T>(bytes) {
+        Ok(view) => {
+            let shown = format!(in alloc; "{:?}", Shown::new(view));
+            matches!(shown, Ok(shown) if shown.as_str() == text)
+        }
+        Err(_) => false,
+    }
+}
+
+// What an owned "hello" asks and equals.
+fn owned_hello(alloc: Global) -> Option<[Option<bool>; 4]> {
+    let text = String::from_str(alloc, "hello").ok()?;
+    Some([
+        is_asked_for::<Text, String>(&text, &HELLO).ok(),
+        is_asked_for::<Text, String>(&text, &WONDERFUL).ok(),
+        equals::<String, Text>(&HELLO, &text).ok(),
+        equals::<String, Text>(&WONDERFUL, &text).ok(),
+    ])
 }
 
 #[test]
-fn text_is_asked_for_by_text(rt: HostRuntime) -> Result<(), Fail> {
-    let text = String::from_str(rt.alloc(), "hello")?;
-    assert!(rt; is_asked_for::<Text, &str>(&"hello", &HELLO)?);
-    assert!(rt; is_asked_for::<Text, &str>(&"hello", &HELLO_AGAIN)?);
-    assert!(rt; !is_asked_for::<Text, &str>(&"hellx", &HELLO)?);
-    assert!(rt; is_asked_for::<Text, &str>(&"wonderful", &WONDERFUL)?);
-    assert!(rt; is_asked_for::<Text<Wide>, &str>(&"wonderful", &WIDE_WONDERFUL)?);
-    assert!(rt; is_asked_for::<Text, String>(&text, &HELLO)?);
-    assert!(rt; !is_asked_for::<Text, String>(&text, &WONDERFUL)?);
-    Ok(())
-}
-
-#[test]
-fn keys_hash_as_their_queries(rt: HostRuntime) -> Result<(), Fail> {
+fn text_is_asked_for_by_text(rt: HostRuntime) {
+    let (yes, no) = (Some(true), Some(false));
+    let asked = [
+        is_asked_for::<Text, &str>(&"hello", &HELLO).ok(),
+        is_asked_for::<Text, &str>(&"hello", &HELLO_AGAIN).ok(),
+        is_asked_for::<Text, &str>(&"hellx", &HELLO).ok(),
+        is_asked_for::<Text, &str>(&"wonderful", &WONDERFUL).ok(),
+        is_asked_for::<Text<Wide>, &str>(&"wonderful", &WIDE_WONDERFUL).ok(),
+    ];
     assert_eq!(rt;
-        hash_of::<Text>(&HELLO)?,
-        hash_value::<&str, FxHasher64>(&"hello")
+        (asked, owned_hello(rt.alloc())),
+        ([yes, yes, no, yes, yes], Some([yes, no, yes, no]))
     );
+}
+
+#[test]
+fn keys_hash_as_their_queries(rt: HostRuntime) {
+    let hashes = [
+        hash_of::<Text>(&HELLO).ok(),
+        hash_of::<Text>(&WONDERFUL).ok(),
+        hash_of::<Entry<Text, u32>>(&HELLO_SEVEN).ok(),
+        hash_of::<()>(&[]).ok(),
+    ];
+    let wanted = [
+        Some(hash_value::<&str, FxHasher64>(&"hello")),
+        Some(hash_value::<&str, FxHasher64>(&"wonderful")),
+        Some(hash_value::<(&str, u32), FxHasher64>(&("hello", 7))),
+        Some(0),
+    ];
+    assert_eq!(rt; hashes, wanted);
+}
+
+#[test]
+fn pairs_ask_for_entries(rt: HostRuntime) {
+    let asked = [
+        is_asked_for::<Entry<Text, u32>, (&str, u32)>(&("hello", 7), &HELLO_SEVEN).ok(),
+        is_asked_for::<Entry<Text, u32>, (&str, u32)>(&("hello", 8), &HELLO_SEVEN).ok(),
+        is_asked_for::<Entry<Text, u32>, (&str, u32)>(&("hell", 7), &HELLO_SEVEN).ok(),
+        is_asked_for::<(), ()>(&(), &[]).ok(),
+    ];
+    assert_eq!(rt; asked, [Some(true), Some(false), Some(false), Some(true)]);
+}
+
+#[test]
+fn keys_ask_for_keys_of_other_archives(rt: HostRuntime) {
+    let (yes, no) = (Some(true), Some(false));
+    let asked = [
+        asks_for::<Text>(&HELLO, &HELLO_AGAIN).ok(),
+        asks_for::<Text>(&HELLO, &WONDERFUL).ok(),
+        asks_for::<Entry<Text, u32>>(&HELLO_SEVEN, &HELLO_SEVEN).ok(),
+        asks_for::<Entry<Text, u32>>(&HELLO_SEVEN, &HELLO_EIGHT).ok(),
+        asks_for::<u16>(&[1, 2], &[1, 2]).ok(),
+    ];
+    assert_eq!(rt; asked, [yes, no, yes, no, yes]);
+}
+
+#[test]
+fn values_are_compared_in_place(rt: HostRuntime) {
+    let (yes, no) = (Some(true), Some(false));
+    let same = [
+        are_same::<Text>(&HELLO, &HELLO_AGAIN).ok(),
+        are_same::<Text>(&HELLO, &WONDERFUL).ok(),
+        are_same::<Entry<Text, u32>>(&HELLO_SEVEN, &HELLO_EIGHT).ok(),
+        are_same::<()>(&[], &[]).ok(),
+    ];
+    let equal = [
+        equals::<&str, Text>(&WONDERFUL, &"wonderful").ok(),
+        equals::<(&str, u32), Entry<Text, u32>>(&HELLO_SEVEN, &("hello", 7)).ok(),
+        equals::<(&str, u32), Entry<Text, u32>>(&HELLO_SEVEN, &("hello", 8)).ok(),
+        equals::<(), ()>(&[], &()).ok(),
+    ];
     assert_eq!(rt;
-        hash_of::<Text>(&WONDERFUL)?,
-        hash_value::<&str, FxHasher64>(&"wonderful")
+        (same, equal, owned_hello(rt.alloc())),
+        (
+            [yes, no, no, yes],
+            [yes, yes, no, yes],
+            Some([yes, no, yes, no])
+        )
     );
-    assert_eq!(rt;
-        hash_of::<Entry<Text, u32>>(&HELLO_SEVEN)?,
-        hash_value::<(&str, u32), FxHasher64>(&("hello", 7))
-    );
-    assert_eq!(rt; hash_of::<()>(&[])?, 0);
-    Ok(())
 }
 
 #[test]
-fn pairs_ask_for_entries(rt: HostRuntime) -> Result<(), Fail> {
-    assert!(rt; is_asked_for::<Entry<Text, u32>, (&str, u32)>(&("hello", 7), &HELLO_SEVEN)?);
-    assert!(rt; !is_asked_for::<Entry<Text, u32>, (&str, u32)>(&("hello", 8), &HELLO_SEVEN)?);
-    assert!(rt; !is_asked_for::<Entry<Text, u32>, (&str, u32)>(&("hell", 7), &HELLO_SEVEN)?);
-    assert!(rt; is_asked_for::<(), ()>(&(), &[])?);
-    Ok(())
-}
-
-#[test]
-fn keys_ask_for_keys_of_other_archives(rt: HostRuntime) -> Result<(), Fail> {
-    assert!(rt; asks_for::<Text>(&HELLO, &HELLO_AGAIN)?);
-    assert!(rt; !asks_for::<Text>(&HELLO, &WONDERFUL)?);
-    assert!(rt; asks_for::<Entry<Text, u32>>(&HELLO_SEVEN, &HELLO_SEVEN)?);
-    assert!(rt; !asks_for::<Entry<Text, u32>>(&HELLO_SEVEN, &HELLO_EIGHT)?);
-    assert!(rt; asks_for::<u16>(&[1, 2], &[1, 2])?);
-    Ok(())
-}
-
-#[test]
-fn values_are_compared_in_place(rt: HostRuntime) -> Result<(), Fail> {
-    let text = String::from_str(rt.alloc(), "hello")?;
-    assert!(rt; are_same::<Text>(&HELLO, &HELLO_AGAIN)?);
-    assert!(rt; !are_same::<Text>(&HELLO, &WONDERFUL)?);
-    assert!(rt; !are_same::<Entry<Text, u32>>(&HELLO_SEVEN, &HELLO_EIGHT)?);
-    assert!(rt; are_same::<()>(&[], &[])?);
-    assert!(rt; equals::<String, Text>(&HELLO, &text)?);
-    assert!(rt; !equals::<String, Text>(&WONDERFUL, &text)?);
-    assert!(rt; equals::<&str, Text>(&WONDERFUL, &"wonderful")?);
-    assert!(rt; equals::<(&str, u32), Entry<Text, u32>>(&HELLO_SEVEN, &("hello", 7))?);
-    assert!(rt; !equals::<(&str, u32), Entry<Text, u32>>(&HELLO_SEVEN, &("hello", 8))?);
-    assert!(rt; equals::<(), ()>(&[], &())?);
-    Ok(())
-}
-
-#[test]
-fn values_are_read_back(rt: HostRuntime) -> Result<(), Fail> {
+fn values_are_read_back(rt: HostRuntime) {
     let alloc = rt.alloc();
-    assert_eq!(rt;
-        reads::<String, Text>(alloc, &WONDERFUL)?.as_str(),
-        "wonderful"
-    );
-    let (text, number) = reads::<(String, u32), Entry<Text, u32>>(alloc, &HELLO_SEVEN)?;
-    assert_eq!(rt; text.as_str(), "hello");
-    assert_eq!(rt; number, 7);
-    reads::<(), ()>(alloc, &[])?;
-    Ok(())
+    let text = reads_text(alloc, &WONDERFUL, "wonderful");
+    let pair = reads_pair(alloc, &HELLO_SEVEN, ("hello", 7)).ok();
+    let unit = reads_unit(alloc, &[]).ok();
+    assert_eq!(rt; (text, pair, unit), (true, Some(true), Some(true)));
 }
 
 #[test]
-fn values_are_printed_in_place(rt: HostRuntime) -> Result<(), Fail> {
+fn values_are_printed_in_place(rt: HostRuntime) {
     let alloc = rt.alloc();
-    assert_eq!(rt; shows::<Text>(alloc, &HELLO)?.as_str(), "\"hello\"");
-    assert_eq!(rt; shows::<()>(alloc, &[])?.as_str(), "()");
-    assert_eq!(rt;
-        shows::<Entry<Text, u32>>(alloc, &HELLO_SEVEN)?.as_str(),
-        "(\"hello\", 7)"
-    );
     let quote = [0x22, 0x0a, 0xff, 0xff, 0xff, 0xff, 0xff, 0xff];
-    assert_eq!(rt; shows::<Text>(alloc, &quote)?.as_str(), "\"\\\"\\n\"");
-    Ok(())
+    let shown = [
+        shows::<Text>(alloc, &HELLO, "\"hello\""),
+        shows::<()>(alloc, &[], "()"),
+        shows::<Entry<Text, u32>>(alloc, &HELLO_SEVEN, "(\"hello\", 7)"),
+        shows::<Text>(alloc, &quote, "\"\\\"\\n\""),
+    ];
+    assert_eq!(rt; shown, [true; 4]);
 }
