@@ -107,29 +107,28 @@ fn most_asks(items: usize, len: usize) -> usize {
     }
 }
 
+// What should come of a claimed length where so many items and so many hashes were counted.
+fn wanted(items: usize, hashes: usize, len: usize) -> Answer {
+    if items != len {
+        Answer::Mismatch(len, items)
+    } else if hashes != len {
+        Answer::Mismatch(len, hashes)
+    } else {
+        Answer::Written
+    }
+}
+
 // Whether a table of these numbers is answered as it should be, and no iterator is asked too often.
 fn is_right_of_both(alloc: Global, items: usize, hashes: usize, len: usize) -> bool {
     let (answer, of_items, of_hashes) = asks_of_both(alloc, items, hashes, len);
-    let (came, marked) = (counted(items, len), counted(hashes, len));
-    let wanted = if came != len {
-        Answer::Mismatch(len, came)
-    } else if marked != len {
-        Answer::Mismatch(len, marked)
-    } else {
-        Answer::Written
-    };
-    answer == wanted && of_items <= most_asks(items, len) && of_hashes <= most_asks(hashes, len)
+    let wanted = wanted(counted(items, len), counted(hashes, len), len);
+    let few = of_items <= most_asks(items, len) && of_hashes <= most_asks(hashes, len);
+    answer == wanted && few
 }
 
 fn is_right_of_pairs(alloc: Global, pairs: usize, len: usize) -> bool {
     let (answer, asks) = asks_of_pairs(alloc, pairs, len);
-    let came = counted(pairs, len);
-    let wanted = if came != len {
-        Answer::Mismatch(len, came)
-    } else {
-        Answer::Written
-    };
-    answer == wanted && asks <= most_asks(pairs, len)
+    answer == wanted(counted(pairs, len), len, len) && asks <= most_asks(pairs, len)
 }
 
 // How many of the tables of up to five items and five hashes, claimed to be up to three, are right.
@@ -165,14 +164,20 @@ fn iterators_are_asked_once_more_than_is_claimed_at_most(rt: HostRuntime) {
     assert_eq!(rt; right, (4 * 6 * 6, 4 * 6));
 }
 
+// The answer, and how often the iterator of items was asked.
+fn asks_of_items(alloc: Global, items: usize, hashes: usize, len: usize) -> (Answer, usize) {
+    let (answer, of_items, _) = asks_of_both(alloc, items, hashes, len);
+    (answer, of_items)
+}
+
 #[test]
 fn an_end_or_a_surplus_is_the_last_answer(rt: HostRuntime) {
     let (all, alloc) = (usize::MAX, rt.alloc());
     let both = [
-        asks_of_both(alloc, all, all, 2),
-        asks_of_both(alloc, 2, all, 5),
-        asks_of_both(alloc, all, all, 0),
-        asks_of_both(alloc, 0, 0, 0),
+        asks_of_items(alloc, all, all, 2),
+        asks_of_items(alloc, 2, all, 5),
+        asks_of_items(alloc, all, all, 0),
+        asks_of_items(alloc, 0, 0, 0),
     ];
     let pairs = [
         asks_of_pairs(alloc, all, 2),
@@ -180,20 +185,13 @@ fn an_end_or_a_surplus_is_the_last_answer(rt: HostRuntime) {
         asks_of_pairs(alloc, all, 0),
         asks_of_pairs(alloc, 0, 0),
     ];
-    let answers = [
-        Answer::Mismatch(2, 3),
-        Answer::Mismatch(5, 2),
-        Answer::Mismatch(0, 1),
-        Answer::Written,
+    let wanted = [
+        (Answer::Mismatch(2, 3), 3),
+        (Answer::Mismatch(5, 2), 3),
+        (Answer::Mismatch(0, 1), 1),
+        (Answer::Written, 1),
     ];
-    let of_both = [both[0].0, both[1].0, both[2].0, both[3].0];
-    let of_pairs = [pairs[0].0, pairs[1].0, pairs[2].0, pairs[3].0];
-    let items_asked = [both[0].1, both[1].1, both[2].1, both[3].1];
-    let pairs_asked = [pairs[0].1, pairs[1].1, pairs[2].1, pairs[3].1];
-    assert_eq!(rt;
-        (of_both, of_pairs, items_asked, pairs_asked),
-        (answers, answers, [3, 3, 1, 1], [3, 3, 1, 1])
-    );
+    assert_eq!(rt; (both, pairs), (wanted, wanted));
 }
 
 // Where a growth is refused, no item was taken and nothing was written. A run in which the N-th

@@ -1,9 +1,11 @@
 //! Lookups: which item is found, and how many strides and items are looked at.
 
 use crate::archives::{
-    FOUR_PAIRS, ONE_PAIR, SIXTEEN, archived, hash_of_i8, hash_of_u32, hash_of_usize,
+    EVEN_TAG, FIFTEEN_ARCHIVED, FOUR_ARCHIVED, NONE_ARCHIVED, ONE_PAIR, SIXTEEN_ARCHIVED,
+    TAGS_ARCHIVED, TWICE_ARCHIVED, TWO_ARCHIVED, UNIT_ARCHIVED, archived, hash_of_i8, hash_of_u32,
+    hash_of_usize,
 };
-use crate::reading::{counts, pos_of, value_of};
+use crate::reading::{answers_of, counts, first_pos, value_of, value_of_small};
 use rkyv_base::access::access;
 use rkyv_base::element::Element;
 use rkyv_base::entry::Entry;
@@ -13,74 +15,61 @@ use rkyv_scan::hash::{FxHasher64, FxHasher64Wide};
 use rkyv_scan::simd::{GroupKind, bytewise, generic, lanes};
 use rkyv_table::controls::find::Strides;
 use rkyv_table::table::{ArchivedHashTable, TableOf};
+use std::alloc::Global;
 use std::cell::Cell;
-use std::test::Fail;
 
-// Two hashes with one start, whose tags differ in their lowest bit.
-const EVEN_TAG: u64 = 0x5000_0000_0000_0001;
+// Whether a number is accepted: the one that is wanted, or each where none is.
+fn is_accepted(number: u8, wanted: Option<u8>) -> bool {
+    match wanted {
+        Some(wanted) => number == wanted,
+        None => true,
+    }
+}
 
-const ODD_TAG: u64 = 0x5200_0000_0000_0000;
-
-// The number that is found under a hash where this one is accepted, and the strides that are read.
-fn counted(bytes: &[u8], hash: u64, wanted: u8) -> Result<(Option<u8>, u64), VerifyError> {
+// The number that is found under a hash where this one is accepted, or each where it is none, and
+// the strides that are read.
+fn counted_or_refused(
+    bytes: &[u8],
+    hash: u64,
+    wanted: Option<u8>,
+) -> Result<(Option<u8>, u64), VerifyError> {
     let table = ArchivedHashTable::of(access::<TableOf<u8>>(bytes)?);
     let mut strides = Strides::new();
-    let found = table.get_counted(hash, |item| item.to_native() == wanted, &mut strides);
+    let found = table.get_counted(
+        hash,
+        |item| is_accepted(item.to_native(), wanted),
+        &mut strides,
+    );
     match found {
         Some(item) => Ok((Some(item.to_native()), strides.count())),
         None => Ok((None, strides.count())),
     }
 }
 
-// The number that is found under a hash where all are accepted, and the strides that are read.
-fn first_counted(bytes: &[u8], hash: u64) -> Result<(Option<u8>, u64), VerifyError> {
-    let table = ArchivedHashTable::of(access::<TableOf<u8>>(bytes)?);
-    let mut strides = Strides::new();
-    match table.get_counted(hash, |_| true, &mut strides) {
-        Some(item) => Ok((Some(item.to_native()), strides.count())),
-        None => Ok((None, strides.count())),
-    }
+fn counted(bytes: &[u8], hash: u64, wanted: Option<u8>) -> Option<(Option<u8>, u64)> {
+    counted_or_refused(bytes, hash, wanted).ok()
 }
 
-// The number that is found under a hash where all are accepted, by groups of this kind.
-fn first_by<G: GroupKind>(bytes: &[u8], hash: u64) -> Result<Option<u8>, VerifyError> {
+// The same number by groups of this kind.
+fn found_by<G: GroupKind>(
+    bytes: &[u8],
+    hash: u64,
+    wanted: Option<u8>,
+) -> Result<Option<u8>, VerifyError> {
     let table = ArchivedHashTable::of(access::<TableOf<u8>>(bytes)?);
-    match table.get_by::<G, _>(hash, |_| true) {
+    match table.get_by::<G, _>(hash, |item| is_accepted(item.to_native(), wanted)) {
         Some(item) => Ok(Some(item.to_native())),
         None => Ok(None),
     }
 }
 
 // By groups of each kind.
-fn firsts(bytes: &[u8], hash: u64) -> [Option<Option<u8>>; 3] {
-    [
-        first_by::<bytewise::Group>(bytes, hash).ok(),
-        first_by::<generic::Group>(bytes, hash).ok(),
-        first_by::<lanes::Group>(bytes, hash).ok(),
-    ]
-}
-
-// The number that is found under a hash where this one is accepted, by groups of this kind.
-fn found_by<G: GroupKind>(bytes: &[u8], hash: u64, wanted: u8) -> Result<Option<u8>, VerifyError> {
-    let table = ArchivedHashTable::of(access::<TableOf<u8>>(bytes)?);
-    match table.get_by::<G, _>(hash, |item| item.to_native() == wanted) {
-        Some(item) => Ok(Some(item.to_native())),
-        None => Ok(None),
-    }
-}
-
-// By groups of each kind.
-fn all_found(bytes: &[u8], hash: u64, wanted: u8) -> [Option<Option<u8>>; 3] {
+fn found(bytes: &[u8], hash: u64, wanted: Option<u8>) -> [Option<Option<u8>>; 3] {
     [
         found_by::<bytewise::Group>(bytes, hash, wanted).ok(),
         found_by::<generic::Group>(bytes, hash, wanted).ok(),
         found_by::<lanes::Group>(bytes, hash, wanted).ok(),
     ]
-}
-
-// The value that is found by a key of eight bits, and the strides that are read.
-fn value_of_small(bytes: &[u8], key: i8) -> Option<(Option<i8>, u64)> {
-    value_of::<i8, i8, Narrow>(bytes, hash_of_i8(key), key).ok()
 }
 
 // Whether a copy of a table is empty.
@@ -92,11 +81,12 @@ fn is_empty_copied<T: Element>(bytes: &[u8]) -> Option<bool> {
 
 #[test]
 fn a_pair_is_found_in_one_stride(rt: HostRuntime) {
-    let empty = is_empty_copied::<Entry<u32, u32>>(&ONE_PAIR);
-    let counts = counts::<Entry<u32, u32>, Narrow>(&ONE_PAIR).ok();
+    let bytes: &[u8] = &ONE_PAIR;
+    let empty = is_empty_copied::<Entry<u32, u32>>(bytes);
+    let counts = counts::<Entry<u32, u32>, Narrow>(bytes).ok();
     let found = [
-        value_of::<u32, u32, Narrow>(&ONE_PAIR, hash_of_u32(1), 1).ok(),
-        value_of::<u32, u32, Narrow>(&ONE_PAIR, hash_of_u32(2), 2).ok(),
+        value_of::<Narrow>(bytes, hash_of_u32(1), 1).ok(),
+        value_of::<Narrow>(bytes, hash_of_u32(2), 2).ok(),
     ];
     assert_eq!(rt;
         (empty, counts, found),
@@ -108,60 +98,50 @@ fn a_pair_is_found_in_one_stride(rt: HostRuntime) {
     );
 }
 
-#[test]
-fn a_pair_is_found_in_another_bucket_than_its_start(rt: HostRuntime) -> Result<(), Fail> {
-    let hashes = [hash_of_i8(1), hash_of_i8(3), hash_of_i8(5), hash_of_i8(7)];
-    let bytes = archived(rt.alloc(), &FOUR_PAIRS, &hashes, (7, 8))?;
-    let bytes = bytes.as_slice();
-    let counts = counts::<Entry<i8, i8>, Narrow>(bytes).ok();
-    // bucket 0 is the last one before the controls, which begin at 10
-    let pos = pos_of::<i8, i8, Narrow>(bytes, hash_of_i8(5), 5).ok();
-    let found = [
-        value_of_small(bytes, 0),
-        value_of_small(bytes, 1),
-        value_of_small(bytes, 2),
-        value_of_small(bytes, 3),
-        value_of_small(bytes, 4),
-        value_of_small(bytes, 5),
-        value_of_small(bytes, 6),
-        value_of_small(bytes, 7),
-        value_of_small(bytes, 8),
-    ];
-    let none = Some((None, 1));
-    assert_eq!(rt;
-        (counts, hash_of_i8(5) % 5, pos, found),
-        (
-            Some((4, 5)),
-            4,
-            Some(Some(8)),
-            [
-                none,
-                Some((Some(2), 1)),
-                none,
-                Some((Some(4), 1)),
-                none,
-                Some((Some(6), 1)),
-                none,
-                Some((Some(8), 1)),
-                none
-            ]
-        )
-    );
-    Ok(())
+// Whether each key leads to its value, or to none, in one stride.
+fn leads(bytes: &[u8], pairs: &[(i8, Option<i8>)]) -> bool {
+    for (key, value) in pairs {
+        if value_of_small(bytes, hash_of_i8(*key), *key).ok() != Some((*value, 1)) {
+            return false;
+        }
+    }
+    true
 }
 
 #[test]
-fn the_first_of_two_under_one_hash_is_found(rt: HostRuntime) -> Result<(), Fail> {
-    let bytes = archived(rt.alloc(), &[10u8, 20], &[2, 2], (1, 1))?;
-    let bytes = bytes.as_slice();
-    let counted = [
-        first_counted(bytes, 2).ok(),
-        counted(bytes, 2, 10).ok(),
-        counted(bytes, 2, 20).ok(),
-        counted(bytes, 2, 30).ok(),
+fn a_pair_is_found_in_another_bucket_than_its_start(rt: HostRuntime) {
+    let bytes: &[u8] = &FOUR_ARCHIVED;
+    let counts = counts::<Entry<i8, i8>, Narrow>(bytes).ok();
+    // bucket 0 is the last one before the controls, which begin at 10
+    let pos = first_pos::<Entry<i8, i8>, Narrow>(bytes, hash_of_i8(5)).ok();
+    let pairs = [
+        (0, None),
+        (1, Some(2)),
+        (2, None),
+        (3, Some(4)),
+        (4, None),
+        (5, Some(6)),
+        (6, None),
+        (7, Some(8)),
+        (8, None),
     ];
     assert_eq!(rt;
-        (firsts(bytes, 2), counted),
+        (counts, hash_of_i8(5) % 5, pos, leads(bytes, &pairs)),
+        (Some((4, 5)), 4, Some(Some(8)), true)
+    );
+}
+
+#[test]
+fn the_first_of_two_under_one_hash_is_found(rt: HostRuntime) {
+    let bytes: &[u8] = &TWO_ARCHIVED;
+    let counted = [
+        counted(bytes, 2, None),
+        counted(bytes, 2, Some(10)),
+        counted(bytes, 2, Some(20)),
+        counted(bytes, 2, Some(30)),
+    ];
+    assert_eq!(rt;
+        (found(bytes, 2, None), counted),
         (
             [Some(Some(10)); 3],
             [
@@ -172,7 +152,6 @@ fn the_first_of_two_under_one_hash_is_found(rt: HostRuntime) -> Result<(), Fail>
             ]
         )
     );
-    Ok(())
 }
 
 // How often a comparison that accepts none is asked.
@@ -190,41 +169,31 @@ fn asks_under<T: Element>(bytes: &[u8], hash: u64) -> Result<usize, VerifyError>
 }
 
 #[test]
-fn the_first_of_a_repeated_key_is_found(rt: HostRuntime) -> Result<(), Fail> {
-    let hashes = [hash_of_i8(1), hash_of_i8(1)];
-    let bytes = archived(rt.alloc(), &[(1i8, 2i8), (1, 9)], &hashes, (7, 8))?;
-    let bytes = bytes.as_slice();
+fn the_first_of_a_repeated_key_is_found(rt: HostRuntime) {
+    let (bytes, hash): (&[u8], u64) = (&TWICE_ARCHIVED, hash_of_i8(1));
     // in a small table each control stands twice, and each item is asked of twice
-    let asks = asks_under::<Entry<i8, i8>>(bytes, hash_of_i8(1)).ok();
+    let asks = asks_under::<Entry<i8, i8>>(bytes, hash).ok();
     assert_eq!(rt;
-        (value_of_small(bytes, 1), asks),
+        (value_of_small(bytes, hash, 1).ok(), asks),
         (Some((Some(2), 1)), Some(4))
     );
-    Ok(())
-}
-
-// Where the item stands that is found under a hash where all are accepted.
-fn first_pos<T: Element>(bytes: &[u8], hash: u64) -> Result<Option<u64>, VerifyError> {
-    let table = ArchivedHashTable::of(access::<TableOf<T>>(bytes)?);
-    Ok(table.get_pos_with(hash, |_| true))
 }
 
 #[test]
-fn an_item_of_no_bytes_is_found(rt: HostRuntime) -> Result<(), Fail> {
-    let bytes = archived(rt.alloc(), &[()], &[0], (7, 8))?;
+fn an_item_of_no_bytes_is_found(rt: HostRuntime) {
+    let bytes: &[u8] = &UNIT_ARCHIVED;
     let found = [
-        first_pos::<()>(bytes.as_slice(), 0).ok(),
-        first_pos::<()>(bytes.as_slice(), 1 << 57).ok(),
+        first_pos::<(), Narrow>(bytes, 0).ok(),
+        first_pos::<(), Narrow>(bytes, 1 << 57).ok(),
     ];
     assert_eq!(rt; found, [Some(Some(0)), Some(None)]);
-    Ok(())
 }
 
 // How many of the sixteen starts lead to an answer of none after one stride.
 fn starts_of_one_stride(bytes: &[u8]) -> usize {
     let mut count = 0usize;
     for start in 0..16 {
-        if counted(bytes, start, 0).ok() == Some((None, 1)) {
+        if counted(bytes, start, Some(0)) == Some((None, 1)) {
             count = count.wrapping_add(1);
         }
     }
@@ -232,30 +201,25 @@ fn starts_of_one_stride(bytes: &[u8]) -> usize {
 }
 
 #[test]
-fn sixteen_buckets_are_one_stride(rt: HostRuntime) -> Result<(), Fail> {
-    let starts = [0, 1, 2, 3, 4, 5, 6, 7, 8, 9, 10, 11, 12, 13, 14];
-    let bytes = archived(rt.alloc(), &SIXTEEN[..15], &starts, (1, 1))?;
-    assert_eq!(rt; starts_of_one_stride(bytes.as_slice()), 16);
-    Ok(())
+fn sixteen_buckets_are_one_stride(rt: HostRuntime) {
+    assert_eq!(rt; starts_of_one_stride(&FIFTEEN_ARCHIVED), 16);
 }
 
 #[test]
-fn the_second_stride_is_read_where_the_first_is_full(rt: HostRuntime) -> Result<(), Fail> {
-    let bytes = archived(rt.alloc(), &SIXTEEN, &[16; 16], (1, 1))?;
-    let bytes = bytes.as_slice();
+fn the_second_stride_is_read_where_the_first_is_full(rt: HostRuntime) {
+    let bytes: &[u8] = &SIXTEEN_ARCHIVED;
     let counted = [
-        counted(bytes, 16, 1).ok(),
-        counted(bytes, 16, 16).ok(),
-        counted(bytes, 16, 17).ok(),
+        counted(bytes, 16, Some(1)),
+        counted(bytes, 16, Some(16)),
+        counted(bytes, 16, Some(17)),
     ];
     assert_eq!(rt;
-        (counted, all_found(bytes, 16, 9)),
+        (counted, found(bytes, 16, Some(9))),
         (
             [Some((Some(1), 1)), Some((Some(16), 1)), Some((None, 2))],
             [Some(Some(9)); 3]
         )
     );
-    Ok(())
 }
 
 /// The items that a comparison is asked for, which accepts none, in the table of sixteen items
@@ -293,34 +257,38 @@ impl Asks {
     }
 }
 
-// Whether each lookup in the table of sixteen items under one hash, which accepts none, asks for
-// each item that it should: by a view, by a position, with its strides counted.
-fn asks_plainly(bytes: &[u8]) -> Result<[bool; 3], VerifyError> {
+// Whether each lookup in the table of sixteen items under one hash, which accepts none, finds
+// nothing and asks for each item that it should: by a view, by a position, with its strides
+// counted.
+fn asks_plainly(bytes: &[u8]) -> Result<([bool; 6], u64), VerifyError> {
     let table = ArchivedHashTable::of(access::<TableOf<u8>>(bytes)?);
     let (by_view, by_pos, by_count) = (Asks::new(), Asks::new(), Asks::new());
     let view = table.get_with(16, |item| by_view.accepts(item.to_native()));
     let pos = table.get_pos_with(16, |item| by_pos.accepts(item.to_native()));
     let mut strides = Strides::new();
     let counted = table.get_counted(16, |item| by_count.accepts(item.to_native()), &mut strides);
-    Ok([
-        view.is_none() && by_view.are_all(),
-        pos.is_none() && by_pos.are_all(),
-        counted.is_none() && by_count.are_all() && strides.count() == 2,
-    ])
+    let none = [
+        view.is_none(),
+        by_view.are_all(),
+        pos.is_none(),
+        by_pos.are_all(),
+        counted.is_none(),
+        by_count.are_all(),
+    ];
+    Ok((none, strides.count()))
 }
 
 // The same by groups of this kind.
-fn asks_by<G: GroupKind>(bytes: &[u8]) -> Result<bool, VerifyError> {
+fn asks_by<G: GroupKind>(bytes: &[u8]) -> Result<[bool; 2], VerifyError> {
     let table = ArchivedHashTable::of(access::<TableOf<u8>>(bytes)?);
     let asks = Asks::new();
     let found = table.get_by::<G, _>(16, |item| asks.accepts(item.to_native()));
-    Ok(found.is_none() && asks.are_all())
+    Ok([found.is_none(), asks.are_all()])
 }
 
 #[test]
-fn a_lookup_that_finds_nothing_asks_for_each_item(rt: HostRuntime) -> Result<(), Fail> {
-    let bytes = archived(rt.alloc(), &SIXTEEN, &[16; 16], (1, 1))?;
-    let bytes = bytes.as_slice();
+fn a_lookup_that_finds_nothing_asks_for_each_item(rt: HostRuntime) {
+    let bytes: &[u8] = &SIXTEEN_ARCHIVED;
     let by_kind = [
         asks_by::<bytewise::Group>(bytes).ok(),
         asks_by::<generic::Group>(bytes).ok(),
@@ -328,54 +296,47 @@ fn a_lookup_that_finds_nothing_asks_for_each_item(rt: HostRuntime) -> Result<(),
     ];
     assert_eq!(rt;
         (asks_plainly(bytes).ok(), by_kind),
-        (Some([true; 3]), [Some(true); 3])
+        (Some(([true; 6], 2)), [Some([true; 2]); 3])
     );
-    Ok(())
-}
-
-// How many buckets and items a table has, whether a lookup that accepts all answers none, by view
-// and by position, and how many strides it reads.
-fn reads_of(bytes: &[u8], hash: u64) -> Result<(usize, usize, bool, u64), VerifyError> {
-    let table = ArchivedHashTable::of(access::<TableOf<u8>>(bytes)?);
-    let mut strides = Strides::new();
-    let counted = table.get_counted(hash, |_| true, &mut strides).is_none();
-    let viewed = table.get_with(hash, |_| true).is_none();
-    let placed = table.get_pos_with(hash, |_| true).is_none();
-    Ok((
-        table.capacity(),
-        table.len(),
-        counted && viewed && placed,
-        strides.count(),
-    ))
 }
 
 #[test]
-fn an_empty_table_is_not_read(rt: HostRuntime) -> Result<(), Fail> {
-    let bytes = archived::<u8>(rt.alloc(), &[], &[], (7, 8))?;
-    let bytes = bytes.as_slice();
-    let empty = is_empty_copied::<u8>(bytes);
-    assert_eq!(rt;
-        (empty, reads_of(bytes, 2).ok(), firsts(bytes, 2)),
-        (Some(true), Some((0, 0, true, 0)), [Some(None); 3])
+fn an_empty_table_is_not_read(rt: HostRuntime) {
+    let bytes: &[u8] = &NONE_ARCHIVED;
+    let answers = (
+        is_empty_copied::<u8>(bytes),
+        answers_of::<u8>(bytes, 2).ok(),
     );
-    Ok(())
+    let found = (
+        first_pos::<u8, Narrow>(bytes, 2).ok(),
+        counted(bytes, 2, None),
+        found(bytes, 2, None),
+    );
+    assert_eq!(rt;
+        (answers, found),
+        (
+            (Some(true), Some((true, 0, 0, true))),
+            (Some(None), Some((None, 0)), [Some(None); 3])
+        )
+    );
 }
 
 // A group of one word marks a tag that differs in the lowest bit right above an equal one.
 #[test]
-fn an_item_under_another_hash_may_be_asked_for(rt: HostRuntime) -> Result<(), Fail> {
-    let bytes = archived(rt.alloc(), &[10u8, 20], &[EVEN_TAG, ODD_TAG], (1, 1))?;
-    let bytes = bytes.as_slice();
-    let (firsts, found) = (firsts(bytes, EVEN_TAG), all_found(bytes, EVEN_TAG, 20));
+fn an_item_under_another_hash_may_be_asked_for(rt: HostRuntime) {
+    let bytes: &[u8] = &TAGS_ARCHIVED;
+    let (first, second) = (
+        found(bytes, EVEN_TAG, None),
+        found(bytes, EVEN_TAG, Some(20)),
+    );
     assert_eq!(rt;
-        (firsts, found, counted(bytes, EVEN_TAG, 20).ok()),
+        (first, second, counted(bytes, EVEN_TAG, Some(20))),
         (
             [Some(Some(10)); 3],
             [Some(None), Some(Some(20)), Some(None)],
             Some((Some(20), 1))
         )
     );
-    Ok(())
 }
 
 // The number that is found where the second ask is accepted and each later one, and the strides
@@ -391,43 +352,53 @@ fn second_counted(bytes: &[u8], hash: u64) -> Result<(Option<u8>, u64), VerifyEr
 }
 
 #[test]
-fn a_comparison_may_change_its_mind(rt: HostRuntime) -> Result<(), Fail> {
-    let bytes = archived(rt.alloc(), &[10u8, 20], &[2, 2], (1, 1))?;
-    assert_eq!(rt;
-        second_counted(bytes.as_slice(), 2).ok(),
-        Some((Some(20), 1))
-    );
-    Ok(())
+fn a_comparison_may_change_its_mind(rt: HostRuntime) {
+    let found = second_counted(&TWO_ARCHIVED, 2).ok();
+    assert_eq!(rt; found, Some((Some(20), 1)));
 }
 
-// The number under its hash, by one of the hashers, and the strides that are read.
-fn counted_wide(bytes: &[u8], hash: u64, wanted: u64) -> Result<(bool, u64), VerifyError> {
+// Whether a number is found under a hash, and the strides that are read.
+fn is_found(bytes: &[u8], hash: u64, wanted: u64) -> Result<(bool, u64), VerifyError> {
     let table = ArchivedHashTable::of(access::<TableOf<u64>>(bytes)?);
     let mut strides = Strides::new();
     let found = table.get_counted(hash, |item| item.to_native() == wanted, &mut strides);
     Ok((found.is_some(), strides.count()))
 }
 
+// The same of three numbers in a table of two, each under its hash.
+fn are_found(
+    alloc: Global,
+    numbers: [u64; 2],
+    hashes: [u64; 2],
+    wanted: [(u64, u64); 3],
+) -> Option<[Option<(bool, u64)>; 3]> {
+    let bytes = archived(alloc, &numbers, &hashes, (7, 8)).ok()?;
+    let bytes = bytes.as_slice();
+    let [(one, first), (two, second), (three, third)] = wanted;
+    Some([
+        is_found(bytes, one, first).ok(),
+        is_found(bytes, two, second).ok(),
+        is_found(bytes, three, third).ok(),
+    ])
+}
+
 #[test]
-fn a_table_is_asked_by_another_hasher(rt: HostRuntime) -> Result<(), Fail> {
+fn a_table_is_asked_by_another_hasher(rt: HostRuntime) {
     let large = 4_294_967_297;
     let hashes = [
         hash_of_usize::<FxHasher64>(1),
         hash_of_usize::<FxHasher64>(large),
     ];
-    let bytes = archived(rt.alloc(), &[1u64, large as u64], &hashes, (7, 8))?;
-    let bytes = bytes.as_slice();
     let (one, other) = (
         hash_of_usize::<FxHasher64Wide>(1),
         hash_of_usize::<FxHasher64Wide>(large),
     );
-    let found = [
-        counted_wide(bytes, one, 1).ok(),
-        counted_wide(bytes, other, large as u64).ok(),
-        counted_wide(bytes, hashes[1], large as u64).ok(),
-    ];
-    assert_eq!(rt; found, [Some((true, 1)), Some((false, 1)), Some((true, 1))]);
-    Ok(())
+    let (numbers, large) = ([1, large as u64], large as u64);
+    let wanted = [(one, 1), (other, large), (hashes[1], large)];
+    assert_eq!(rt;
+        are_found(rt.alloc(), numbers, hashes, wanted),
+        Some([Some((true, 1)), Some((false, 1)), Some((true, 1))])
+    );
 }
 
 // Whether a table of a stranger has this number under this hash.
@@ -440,15 +411,19 @@ fn has_number(bytes: &[u8], hash: u64, wanted: u32) -> Result<bool, VerifyError>
     )
 }
 
-#[test]
-fn a_number_of_a_stranger_is_looked_up(rt: HostRuntime) -> Result<(), Fail> {
+// The same of 7 and of 9 in a table that has 7 under 16, and of too few bytes.
+fn has_numbers(alloc: Global) -> Option<[Option<bool>; 3]> {
     // the tags of the hashes differ in more than their lowest bit
-    let bytes = archived(rt.alloc(), &[7u32, 9], &[16, 1 << 58], (7, 8))?;
-    let found = [
+    let bytes = archived(alloc, &[7u32, 9], &[16, 1 << 58], (7, 8)).ok()?;
+    Some([
         has_number(bytes.as_slice(), 16, 7).ok(),
         has_number(bytes.as_slice(), 16, 9).ok(),
         has_number(&[0; 11], 16, 7).ok(),
-    ];
-    assert_eq!(rt; found, [Some(true), Some(false), None]);
-    Ok(())
+    ])
+}
+
+#[test]
+fn a_number_of_a_stranger_is_looked_up(rt: HostRuntime) {
+    let found = has_numbers(rt.alloc());
+    assert_eq!(rt; found, Some([Some(true), Some(false), None]));
 }

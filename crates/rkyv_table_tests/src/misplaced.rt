@@ -1,11 +1,13 @@
 //! Items that a lookup of their own doesn't answer.
 
-use crate::archives::{FOUR_PAIRS, ONE_PAIR, archived, hash_of_i8, hash_of_u32};
+use crate::archives::{
+    FOUR_ARCHIVED, NONE_ARCHIVED, ONE_PAIR, TWICE_ARCHIVED, TWO_ARCHIVED, UNITS_ARCHIVED,
+    hash_of_i8, hash_of_u32,
+};
 use rkyv_base::access::access;
 use rkyv_base::entry::Entry;
 use rkyv_base::errors::VerifyError;
 use rkyv_table::table::{ArchivedHashTable, TableOf};
-use std::test::Fail;
 
 // How many pairs of a table are misplaced, each of which is told by its key.
 fn misplaced_small(bytes: &[u8]) -> Result<usize, VerifyError> {
@@ -25,25 +27,18 @@ fn misplaced(bytes: &[u8]) -> Result<usize, VerifyError> {
 }
 
 #[test]
-fn pairs_that_were_written_are_in_their_places(rt: HostRuntime) -> Result<(), Fail> {
-    let hashes = [hash_of_i8(1), hash_of_i8(3), hash_of_i8(5), hash_of_i8(7)];
-    let bytes = archived(rt.alloc(), &FOUR_PAIRS, &hashes, (7, 8))?;
-    let none = [1, 0, 0, 0, 0, 0, 0, 0, 0, 0, 0, 0];
+fn pairs_that_were_written_are_in_their_places(rt: HostRuntime) {
     let misplaced = [
-        misplaced_small(bytes.as_slice()).ok(),
+        misplaced_small(&FOUR_ARCHIVED).ok(),
         misplaced(&ONE_PAIR).ok(),
-        misplaced_small(&none).ok(),
+        misplaced_small(&NONE_ARCHIVED).ok(),
     ];
     assert_eq!(rt; misplaced, [Some(0); 3]);
-    Ok(())
 }
 
 #[test]
-fn a_repeated_key_is_misplaced(rt: HostRuntime) -> Result<(), Fail> {
-    let hashes = [hash_of_i8(1), hash_of_i8(1)];
-    let bytes = archived(rt.alloc(), &[(1i8, 2i8), (1, 9)], &hashes, (7, 8))?;
-    assert_eq!(rt; misplaced_small(bytes.as_slice()).ok(), Some(1));
-    Ok(())
+fn a_repeated_key_is_misplaced(rt: HostRuntime) {
+    assert_eq!(rt; misplaced_small(&TWICE_ARCHIVED).ok(), Some(1));
 }
 
 // How many units of a table are misplaced, where each is the same as each.
@@ -53,10 +48,8 @@ fn misplaced_units(bytes: &[u8]) -> Result<usize, VerifyError> {
 }
 
 #[test]
-fn items_of_no_bytes_are_told_by_their_buckets(rt: HostRuntime) -> Result<(), Fail> {
-    let bytes = archived(rt.alloc(), &[(), ()], &[0, 0], (7, 8))?;
-    assert_eq!(rt; misplaced_units(bytes.as_slice()).ok(), Some(1));
-    Ok(())
+fn items_of_no_bytes_are_told_by_their_buckets(rt: HostRuntime) {
+    assert_eq!(rt; misplaced_units(&UNITS_ARCHIVED).ok(), Some(1));
 }
 
 #[test]
@@ -76,8 +69,6 @@ fn misplaced_by_order(bytes: &[u8]) -> Result<(usize, usize), VerifyError> {
 }
 
 #[test]
-fn the_own_item_is_asked_of_first(rt: HostRuntime) -> Result<(), Fail> {
-    let bytes = archived(rt.alloc(), &[10u8, 20], &[2, 2], (1, 1))?;
-    assert_eq!(rt; misplaced_by_order(bytes.as_slice()).ok(), Some((0, 1)));
-    Ok(())
+fn the_own_item_is_asked_of_first(rt: HostRuntime) {
+    assert_eq!(rt; misplaced_by_order(&TWO_ARCHIVED).ok(), Some((0, 1)));
 }

@@ -12,7 +12,7 @@ use rkyv_base::text::Text;
 use rkyv_base::view::View;
 use rkyv_base::width::Width;
 use rkyv_table::table::{ArchivedHashTable, TableOf};
-use std::test::Fail;
+use std::alloc::Global;
 
 // The table of the number 1 and the table of the pair 1 and 2.
 type Outer = TableOf<Entry<i8, TableOf<Entry<i8, i8>>>>;
@@ -27,17 +27,21 @@ const NESTED: [u8; 112] = [
     0xff, 0xff, 0xff, 0x00, 0xe0, 0xff, 0xff, 0xff, 0x01, 0x00, 0x00, 0x00, 0x02, 0x00, 0x00, 0x00,
 ];
 
-#[test]
-fn texts_are_written_by_ascending_bucket(rt: HostRuntime) -> Result<(), Fail> {
+// The position of the first control of the table of two texts, and whether it is written as this
+// front and then empty controls.
+fn texts_written(alloc: Global, front: &[u8]) -> Option<(u64, bool)> {
     let texts = ["wonderful one", "wonderful two"];
-    let (bytes, pos) = written(rt.alloc(), &texts, &[2, 2], (1, 1))?;
+    let (bytes, pos) = written(alloc, &texts, &[2, 2], (1, 1)).ok()?;
+    Some((pos, is_then_empty(bytes.as_slice(), front, 25)))
+}
+
+#[test]
+fn texts_are_written_by_ascending_bucket(rt: HostRuntime) {
     // the first text is in the highest bucket, and so the last; an empty bucket stands between
     // them, and the texts begin 15 and 44 bytes before what tells of them
     let front = b"wonderful twowonderful one\0\0\
 \x8d\0\0\0\xf1\xff\xff\xff\0\0\0\0\0\0\0\0\x8d\0\0\0\xd4\xff\xff\xff\0\xff\0\0\xff\0";
-    let written = is_then_empty(bytes.as_slice(), front, 25);
-    assert_eq!(rt; (pos, written), (52, true));
-    Ok(())
+    assert_eq!(rt; texts_written(rt.alloc(), front), Some((52, true)));
 }
 
 // Whether a text is found under a hash.
@@ -49,34 +53,47 @@ fn has_text(bytes: &[u8], hash: u64, wanted: &str) -> Result<bool, VerifyError> 
     }
 }
 
-#[test]
-fn texts_are_found(rt: HostRuntime) -> Result<(), Fail> {
+// Whether three texts are found in a table of two.
+fn found_texts(alloc: Global) -> Option<[Option<bool>; 3]> {
     let texts = ["wonderful one", "two"];
-    let bytes = archived(rt.alloc(), &texts, &[2, 2], (1, 1))?;
-    let found = [
-        has_text(bytes.as_slice(), 2, "wonderful one").ok(),
-        has_text(bytes.as_slice(), 2, "two").ok(),
-        has_text(bytes.as_slice(), 2, "three").ok(),
-    ];
-    assert_eq!(rt; found, [Some(true), Some(true), Some(false)]);
-    Ok(())
+    let bytes = archived(alloc, &texts, &[2, 2], (1, 1)).ok()?;
+    let bytes = bytes.as_slice();
+    Some([
+        has_text(bytes, 2, "wonderful one").ok(),
+        has_text(bytes, 2, "two").ok(),
+        has_text(bytes, 2, "three").ok(),
+    ])
 }
 
 #[test]
-fn two_texts_may_not_have_one_part(rt: HostRuntime) -> Result<(), Fail> {
+fn texts_are_found(rt: HostRuntime) {
+    let found = found_texts(rt.alloc());
+    assert_eq!(rt; found, Some([Some(true), Some(true), Some(false)]));
+}
+
+// Whether a table of texts is refused, since one of them begins before the others' end.
+fn has_one_part(bytes: &[u8]) -> bool {
+    matches!(
+        access::<TableOf<Text>>(bytes),
+        Err(VerifyError::OutOfRange { pos: 0, size: 13 })
+    )
+}
+
+// The length of the archive of two texts, and whether it is refused where the text in the highest
+// bucket is told to be that in the first.
+fn refused_texts(alloc: Global) -> Option<(usize, bool)> {
     let texts = ["wonderful one", "wonderful two"];
-    let mut bytes = archived(rt.alloc(), &texts, &[2, 2], (1, 1))?;
-    // the text in the highest bucket is told to be that in the first
+    let mut bytes = archived(alloc, &texts, &[2, 2], (1, 1)).ok()?;
     match bytes.get_mut(32) {
         Some(distance) => *distance = 0xe4,
         None => {}
     }
-    let refused = matches!(
-        access::<TableOf<Text>>(bytes.as_slice()),
-        Err(VerifyError::OutOfRange { pos: 0, size: 13 })
-    );
-    assert_eq!(rt; (bytes.len(), refused), (96, true));
-    Ok(())
+    Some((bytes.len(), has_one_part(bytes.as_slice())))
+}
+
+#[test]
+fn two_texts_may_not_have_one_part(rt: HostRuntime) {
+    assert_eq!(rt; refused_texts(rt.alloc()), Some((96, true)));
 }
 
 // How many items the table has that is an entry's value.
@@ -123,14 +140,21 @@ fn what_is_wrong_inside_is_told(rt: HostRuntime) {
     assert_eq!(rt; (unwrapped, outside), (true, true));
 }
 
+// Whether so many bytes of the archive are accepted.
+fn is_accepted(len: usize) -> bool {
+    match NESTED.get(..len) {
+        Some(front) => access::<Outer>(front).is_ok(),
+        None => false,
+    }
+}
+
 // Where zeros of the empty bucket stand at the end, they are the length and the capacity of an
 // empty table.
 #[test]
 fn each_front_of_a_nested_table_is_answered(rt: HostRuntime) {
     let mut right = true;
     for len in 0..113 {
-        let accepted = access::<Outer>(&NESTED[..len]).is_ok();
-        right = right && accepted == matches!(len, 60 | 64 | 68 | 112);
+        right = right && is_accepted(len) == matches!(len, 60 | 64 | 68 | 112);
     }
     assert!(rt; right);
 }

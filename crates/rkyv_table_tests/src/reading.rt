@@ -1,14 +1,9 @@
 //! What tests read of archived tables.
-ghost use Rattle.rkyv_base.specs.Entry.{entry_shape};
-ghost use Rattle.rkyv_base.specs.Scalar.{scalar_shape};
-ghost use Rattle.rkyv_base.specs.View.{IsView};
 
-use rkyv_base::access::access_in;
+use rkyv_base::access::{access, access_in};
 use rkyv_base::element::Element;
 use rkyv_base::entry::Entry;
 use rkyv_base::errors::VerifyError;
-use rkyv_base::scalars::Scalar;
-use rkyv_base::view::View;
 use rkyv_base::width::Width;
 use rkyv_table::controls::find::Strides;
 use rkyv_table::table::{ArchivedHashTable, TableOf};
@@ -19,55 +14,65 @@ pub(crate) fn counts<T: Element, W: Width>(bytes: &[u8]) -> Result<(usize, usize
     Ok((table.len(), table.capacity()))
 }
 
-// Whether a pair has this key.
-fn has_key<K: Scalar + PartialEq, V: Scalar>(pair: View<'_, Entry<K, V>>, key: K) -> bool
-    requires { IsView (entry_shape (scalar_shape K.encoding) (scalar_shape V.encoding)) pair }
-{
-    pair.key().to_native() == key
-}
-
-/// The value of the pair that is found under a hash by its key, and the strides that are read.
-pub(crate) fn value_of<K: Scalar + PartialEq, V: Scalar, W: Width>(
+/// The value of the pair of numbers of eight bits that is found under a hash by its key, and the
+/// strides that are read.
+pub(crate) fn value_of_small(
     bytes: &[u8],
     hash: u64,
-    key: K,
-) -> Result<(Option<V>, u64), VerifyError> {
-    let table = ArchivedHashTable::of(access_in::<W, TableOf<Entry<K, V>, W>>(bytes)?);
+    key: i8,
+) -> Result<(Option<i8>, u64), VerifyError> {
+    let table = ArchivedHashTable::of(access::<TableOf<Entry<i8, i8>>>(bytes)?);
     let mut strides = Strides::new();
-    let found = table.get_counted(
-        hash,
-        |pair| -> bool
-            requires { IsView (entry_shape (scalar_shape K.encoding) (scalar_shape V.encoding))
-                pair }
-        { has_key(pair, key) },
-        &mut strides,
-    );
+    let found = table.get_counted(hash, |pair| pair.key().to_native() == key, &mut strides);
     match found {
         Some(pair) => Ok((Some(pair.value().to_native()), strides.count())),
         None => Ok((None, strides.count())),
     }
 }
 
-/// Where the pair stands that is found under a hash by its key.
-pub(crate) fn pos_of<K: Scalar + PartialEq, V: Scalar, W: Width>(
+/// The same of numbers of 32 bits.
+pub(crate) fn value_of<W: Width>(
     bytes: &[u8],
     hash: u64,
-    key: K,
+    key: u32,
+) -> Result<(Option<u32>, u64), VerifyError> {
+    let table = ArchivedHashTable::of(access_in::<W, TableOf<Entry<u32, u32>, W>>(bytes)?);
+    let mut strides = Strides::new();
+    let found = table.get_counted(hash, |pair| pair.key().to_native() == key, &mut strides);
+    match found {
+        Some(pair) => Ok((Some(pair.value().to_native()), strides.count())),
+        None => Ok((None, strides.count())),
+    }
+}
+
+/// Where the item stands that is found under a hash where all are accepted.
+pub(crate) fn first_pos<T: Element, W: Width>(
+    bytes: &[u8],
+    hash: u64,
 ) -> Result<Option<u64>, VerifyError> {
-    let table = ArchivedHashTable::of(access_in::<W, TableOf<Entry<K, V>, W>>(bytes)?);
-    Ok(table.get_pos_with(
-        hash,
-        |pair| -> bool
-            requires { IsView (entry_shape (scalar_shape K.encoding) (scalar_shape V.encoding))
-                pair }
-        { has_key(pair, key) },
-    ))
+    let table = ArchivedHashTable::of(access_in::<W, TableOf<T, W>>(bytes)?);
+    Ok(table.get_pos_with(hash, |_| true))
+}
+
+/// Whether a table is empty, its length and capacity, and whether a lookup under a hash that
+/// accepts all answers none.
+pub(crate) fn answers_of<T: Element>(
+    bytes: &[u8],
+    hash: u64,
+) -> Result<(bool, usize, usize, bool), VerifyError> {
+    let table = ArchivedHashTable::of(access::<TableOf<T>>(bytes)?);
+    let none = table.get_with(hash, |_| true).is_none();
+    Ok((table.is_empty(), table.len(), table.capacity(), none))
 }
 
 /// How many items a walk gives.
 pub(crate) fn count_walked<T: Element, W: Width>(bytes: &[u8]) -> Result<usize, VerifyError> {
     let table = ArchivedHashTable::of(access_in::<W, TableOf<T, W>>(bytes)?);
-    Ok(table.raw_iter().count())
+    let mut count = 0usize;
+    for _ in table.raw_iter() {
+        count = count.wrapping_add(1);
+    }
+    Ok(count)
 }
 
 // Whether these bytes stand at a position.

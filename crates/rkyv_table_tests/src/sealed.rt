@@ -1,11 +1,10 @@
 //! Items written in place.
 
-use crate::archives::{SIXTEEN, archived, is_archive};
+use crate::archives::{NONE_ARCHIVED, SIXTEEN_ARCHIVED, TWO_ARCHIVED};
 use crate::lookups::Asks;
 use rkyv_base::access::{access, access_mut};
 use rkyv_base::errors::VerifyError;
 use rkyv_table::table::{ArchivedHashTable, TableOf};
-use std::test::Fail;
 
 // Whether a sealed lookup in the table of sixteen items under one hash, which accepts none, asks
 // for each item that it should.
@@ -91,76 +90,71 @@ fn write_each_by_pos(bytes: &mut [u8], numbers: &[u8]) -> Result<bool, VerifyErr
 }
 
 #[test]
-fn a_sealed_lookup_that_finds_nothing_asks_for_each_item(rt: HostRuntime) -> Result<(), Fail> {
-    let mut bytes = archived(rt.alloc(), &SIXTEEN, &[16; 16], (1, 1))?;
-    let asks = asks_sealed(bytes.as_mut_slice()).ok();
-    let same = is_archive(rt.alloc(), bytes.as_slice(), &SIXTEEN, &[16; 16], (1, 1));
-    assert_eq!(rt; (asks, same), (Some(true), true));
-    Ok(())
+fn a_sealed_lookup_that_finds_nothing_asks_for_each_item(rt: HostRuntime) {
+    let mut bytes = SIXTEEN_ARCHIVED;
+    let asks = asks_sealed(&mut bytes).ok();
+    assert_eq!(rt; (asks, bytes), (Some(true), SIXTEEN_ARCHIVED));
 }
 
 #[test]
-fn a_found_item_is_written_in_place(rt: HostRuntime) -> Result<(), Fail> {
-    let mut bytes = archived(rt.alloc(), &[10u8, 20], &[2, 2], (1, 1))?;
-    let replaced = replace(bytes.as_mut_slice(), 2, 20, 30).ok();
-    let same = is_archive(rt.alloc(), bytes.as_slice(), &[10u8, 30], &[2, 2], (1, 1));
+fn a_found_item_is_written_in_place(rt: HostRuntime) {
+    let mut bytes = TWO_ARCHIVED;
+    let replaced = replace(&mut bytes, 2, 20, 30).ok();
     let found = [
-        pos_of_number(bytes.as_slice(), 2, 30).ok(),
-        pos_of_number(bytes.as_slice(), 2, 20).ok(),
+        pos_of_number(&bytes, 2, 30).ok(),
+        pos_of_number(&bytes, 2, 20).ok(),
     ];
+    let mut wanted = TWO_ARCHIVED;
+    wanted[2] = 30;
     assert_eq!(rt;
-        (replaced, same, found),
-        (Some(Some((20, 30))), true, [Some(Some(2)), Some(None)])
+        (replaced, found, bytes),
+        (Some(Some((20, 30))), [Some(Some(2)), Some(None)], wanted)
     );
-    Ok(())
 }
 
 #[test]
-fn the_item_that_was_handed_in_first_is_lent(rt: HostRuntime) -> Result<(), Fail> {
-    let mut bytes = archived(rt.alloc(), &[10u8, 20], &[2, 2], (1, 1))?;
-    assert_eq!(rt; first_lent(bytes.as_mut_slice(), 2).ok(), Some(Some(10)));
-    Ok(())
+fn the_item_that_was_handed_in_first_is_lent(rt: HostRuntime) {
+    let mut bytes = TWO_ARCHIVED;
+    assert_eq!(rt; first_lent(&mut bytes, 2).ok(), Some(Some(10)));
 }
 
 #[test]
-fn where_no_item_is_found_nothing_is_written(rt: HostRuntime) -> Result<(), Fail> {
-    let mut bytes = archived(rt.alloc(), &[10u8, 20], &[2, 2], (1, 1))?;
-    let replaced = replace(bytes.as_mut_slice(), 2, 30, 40).ok();
-    let same = is_archive(rt.alloc(), bytes.as_slice(), &[10u8, 20], &[2, 2], (1, 1));
-    assert_eq!(rt; (replaced, same), (Some(None), true));
-    Ok(())
+fn where_no_item_is_found_nothing_is_written(rt: HostRuntime) {
+    let mut bytes = TWO_ARCHIVED;
+    let replaced = replace(&mut bytes, 2, 30, 40).ok();
+    assert_eq!(rt; (replaced, bytes), (Some(None), TWO_ARCHIVED));
 }
 
 #[test]
-fn items_are_lent_by_ascending_bucket(rt: HostRuntime) -> Result<(), Fail> {
-    let mut bytes = archived(rt.alloc(), &[10u8, 20], &[2, 2], (1, 1))?;
-    let written = write_each(bytes.as_mut_slice(), &[40, 30]).ok();
-    let same = is_archive(rt.alloc(), bytes.as_slice(), &[30u8, 40], &[2, 2], (1, 1));
-    assert_eq!(rt; (written, same), (Some(true), true));
-    Ok(())
+fn items_are_lent_by_ascending_bucket(rt: HostRuntime) {
+    let mut bytes = TWO_ARCHIVED;
+    let written = write_each(&mut bytes, &[40, 30]).ok();
+    let mut wanted = TWO_ARCHIVED;
+    wanted[0] = 30;
+    wanted[2] = 40;
+    assert_eq!(rt; (written, bytes), (Some(true), wanted));
 }
 
 #[test]
-fn items_are_written_by_position(rt: HostRuntime) -> Result<(), Fail> {
-    let mut bytes = archived(rt.alloc(), &SIXTEEN, &[16; 16], (1, 1))?;
-    let written = write_each_by_pos(bytes.as_mut_slice(), &[7; 16]).ok();
-    let same = is_archive(rt.alloc(), bytes.as_slice(), &[7u8; 16], &[16; 16], (1, 1));
-    assert_eq!(rt; (written, same), (Some(true), true));
-    Ok(())
+fn items_are_written_by_position(rt: HostRuntime) {
+    let mut bytes = SIXTEEN_ARCHIVED;
+    let written = write_each_by_pos(&mut bytes, &[7; 16]).ok();
+    let mut wanted = SIXTEEN_ARCHIVED;
+    wanted[0] = 7;
+    wanted[2..17].copy_from_slice(&[7; 15]);
+    assert_eq!(rt; (written, bytes), (Some(true), wanted));
 }
 
 #[test]
-fn an_empty_table_lends_nothing(rt: HostRuntime) -> Result<(), Fail> {
-    let mut bytes = archived::<u8>(rt.alloc(), &[], &[], (7, 8))?;
-    let lent = first_lent(bytes.as_mut_slice(), 2).ok();
-    let walked = write_each(bytes.as_mut_slice(), &[]).ok();
-    let placed = write_each_by_pos(bytes.as_mut_slice(), &[]).ok();
-    let same = is_archive::<u8>(rt.alloc(), bytes.as_slice(), &[], &[], (7, 8));
+fn an_empty_table_lends_nothing(rt: HostRuntime) {
+    let mut bytes = NONE_ARCHIVED;
+    let lent = first_lent(&mut bytes, 2).ok();
+    let walked = write_each(&mut bytes, &[]).ok();
+    let placed = write_each_by_pos(&mut bytes, &[]).ok();
     assert_eq!(rt;
-        (lent, walked, placed, same),
-        (Some(None), Some(true), Some(true), true)
+        (lent, walked, placed, bytes),
+        (Some(None), Some(true), Some(true), NONE_ARCHIVED)
     );
-    Ok(())
 }
 
 #[test]

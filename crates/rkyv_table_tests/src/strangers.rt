@@ -1,35 +1,18 @@
 //! Headers and controls that were not written here.
 
-use crate::archives::{ONE_PAIR, SIXTEEN, archived};
-use crate::reading::counts;
+use crate::archives::{BOOLS_ARCHIVED, FIFTEEN_ARCHIVED, ONE_PAIR};
+use crate::reading::{answers_of, counts};
 use rkyv_base::access::{access, access_in};
 use rkyv_base::element::PartRange;
 use rkyv_base::entry::Entry;
 use rkyv_base::errors::VerifyError;
 use rkyv_base::width::{Narrow, Wide};
 use rkyv_table::table::{ArchivedHashTable, TableOf};
-use std::test::Fail;
-
-// Of a table of pairs: whether it is empty, its length and capacity, and whether a lookup under a
-// hash that accepts all answers none.
-fn answers_of(bytes: &[u8], hash: u64) -> Result<(bool, usize, usize, bool), VerifyError> {
-    let table = ArchivedHashTable::of(access::<TableOf<Entry<u32, u32>>>(bytes)?);
-    let none = table.get_with(hash, |_| true).is_none();
-    Ok((table.is_empty(), table.len(), table.capacity(), none))
-}
 
 #[test]
 fn the_distance_of_an_empty_table_is_not_read(rt: HostRuntime) {
-    let answers = answers_of(&[77, 0, 0, 0, 0, 0, 0, 0, 0, 0, 0, 0], 0).ok();
+    let answers = answers_of::<Entry<u32, u32>>(&[77, 0, 0, 0, 0, 0, 0, 0, 0, 0, 0, 0], 0).ok();
     assert_eq!(rt; answers, Some((true, 0, 0, true)));
-}
-
-// Changes a byte, where it is there.
-fn change(bytes: &mut [u8], place: usize, byte: u8) {
-    match bytes.get_mut(place) {
-        Some(old) => *old = byte,
-        None => {}
-    }
 }
 
 #[test]
@@ -63,18 +46,16 @@ fn a_table_that_has_buckets_and_no_items_is_accepted(rt: HostRuntime) {
     bytes[17] = 0xff;
     bytes[19] = 0xff;
     bytes[52] = 0;
-    let answers = answers_of(&bytes, 0x5000_0000_0000_0001).ok();
+    let answers = answers_of::<Entry<u32, u32>>(&bytes, 0x5000_0000_0000_0001).ok();
     assert_eq!(rt; answers, Some((true, 0, 2, true)));
 }
 
 #[test]
-fn controls_that_do_not_repeat_are_refused(rt: HostRuntime) -> Result<(), Fail> {
-    let starts = [0, 1, 2, 3, 4, 5, 6, 7, 8, 9, 10, 11, 12, 13, 14];
-    let mut large = archived(rt.alloc(), &SIXTEEN[..15], &starts, (1, 1))?;
-    // sixteen buckets of one byte, 31 controls, and a zero before the header
-    change(large.as_mut_slice(), 32, 1);
+fn controls_that_do_not_repeat_are_refused(rt: HostRuntime) {
+    let mut large = FIFTEEN_ARCHIVED;
+    large[32] = 1;
     let sixteen = matches!(
-        access::<TableOf<u8>>(large.as_slice()),
+        access::<TableOf<u8>>(&large),
         Err(VerifyError::UnwrappedControlByte { index: 16 })
     );
     let mut bytes = ONE_PAIR;
@@ -83,8 +64,7 @@ fn controls_that_do_not_repeat_are_refused(rt: HostRuntime) -> Result<(), Fail> 
         access::<TableOf<Entry<u32, u32>>>(&bytes),
         Err(VerifyError::UnwrappedControlByte { index: 4 })
     );
-    assert_eq!(rt; (large.len(), sixteen, two), (60, true, true));
-    Ok(())
+    assert_eq!(rt; (sixteen, two), (true, true));
 }
 
 #[test]
@@ -182,20 +162,19 @@ fn a_narrow_archive_is_no_wide_one(rt: HostRuntime) {
 }
 
 #[test]
-fn an_item_that_is_no_value_is_refused(rt: HostRuntime) -> Result<(), Fail> {
-    let mut bytes = archived(rt.alloc(), &[true, false], &[2, 2], (1, 1))?;
-    let written = counts::<bool, Narrow>(bytes.as_slice()).ok();
+fn an_item_that_is_no_value_is_refused(rt: HostRuntime) {
+    let mut bytes = BOOLS_ARCHIVED;
+    let written = counts::<bool, Narrow>(&bytes).ok();
     // an empty bucket may hold anything
-    change(bytes.as_mut_slice(), 1, 2);
-    let changed = counts::<bool, Narrow>(bytes.as_slice()).ok();
-    change(bytes.as_mut_slice(), 0, 2);
+    bytes[1] = 2;
+    let changed = counts::<bool, Narrow>(&bytes).ok();
+    bytes[0] = 2;
     let refused = matches!(
-        access::<TableOf<bool>>(bytes.as_slice()),
+        access::<TableOf<bool>>(&bytes),
         Err(VerifyError::InvalidValue { pos: 0 })
     );
     assert_eq!(rt;
-        (bytes.len(), written, changed, refused),
-        (48, Some((2, 3)), Some((2, 3)), true)
+        (written, changed, refused),
+        (Some((2, 3)), Some((2, 3)), true)
     );
-    Ok(())
 }

@@ -1,6 +1,8 @@
 //! Walks over the items of tables.
 
-use crate::archives::{FOUR_PAIRS, SIXTEEN, archived, hash_of_i8};
+use crate::archives::{
+    FOUR_ARCHIVED, NONE_ARCHIVED, SIXTEEN_ARCHIVED, TWICE_ARCHIVED, TWO_ARCHIVED, UNITS_ARCHIVED,
+};
 use crate::reading::walks_over;
 use rkyv_base::access::access;
 use rkyv_base::element::Element;
@@ -9,8 +11,6 @@ use rkyv_base::errors::VerifyError;
 use rkyv_base::width::Narrow;
 use rkyv_table::table::raw_iter::RawIter;
 use rkyv_table::table::{ArchivedHashTable, TableOf};
-use std::alloc::Global;
-use std::test::Fail;
 
 // Whether a walk over the numbers of a table gives these, and then nothing, and tells each time how
 // many are left.
@@ -31,43 +31,28 @@ fn walks(bytes: &[u8], items: &[u8]) -> Result<bool, VerifyError> {
     Ok(right && rest.next().is_none() && rest.next().is_none())
 }
 
-// The same of the archive of a table of these numbers, each under its hash.
-fn is_walked(alloc: Global, numbers: &[u8], hashes: &[u64], items: &[u8]) -> bool {
-    match archived(alloc, numbers, hashes, (1, 1)) {
-        Ok(bytes) => matches!(walks(bytes.as_slice(), items), Ok(true)),
-        Err(_) => false,
-    }
-}
-
 #[test]
 fn items_are_walked_by_ascending_bucket(rt: HostRuntime) {
-    let alloc = rt.alloc();
     let sixteen = [2, 3, 4, 5, 6, 7, 8, 9, 10, 11, 12, 13, 14, 15, 16, 1];
     let walked = [
-        is_walked(alloc, &[10, 20], &[2, 2], &[20, 10]),
-        is_walked(alloc, &SIXTEEN, &[16; 16], &sixteen),
-        is_walked(alloc, &[], &[], &[]),
+        walks(&TWO_ARCHIVED, &[20, 10]).ok(),
+        walks(&SIXTEEN_ARCHIVED, &sixteen).ok(),
+        walks(&NONE_ARCHIVED, &[]).ok(),
     ];
-    assert_eq!(rt; walked, [true; 3]);
+    assert_eq!(rt; walked, [Some(true); 3]);
 }
 
 #[test]
-fn pairs_are_walked_by_ascending_bucket(rt: HostRuntime) -> Result<(), Fail> {
-    let hashes = [hash_of_i8(1), hash_of_i8(3), hash_of_i8(5), hash_of_i8(7)];
-    let bytes = archived(rt.alloc(), &FOUR_PAIRS, &hashes, (7, 8))?;
+fn pairs_are_walked_by_ascending_bucket(rt: HostRuntime) {
     let pairs = [5, 6, 7, 8, 1, 2, 3, 4];
-    let walked = walks_over::<Entry<i8, i8>, Narrow>(bytes.as_slice(), &pairs).ok();
+    let walked = walks_over::<Entry<i8, i8>, Narrow>(&FOUR_ARCHIVED, &pairs).ok();
     assert_eq!(rt; walked, Some(true));
-    Ok(())
 }
 
 #[test]
-fn a_repeated_key_is_walked_twice(rt: HostRuntime) -> Result<(), Fail> {
-    let hashes = [hash_of_i8(1), hash_of_i8(1)];
-    let bytes = archived(rt.alloc(), &[(1i8, 2i8), (1, 9)], &hashes, (7, 8))?;
-    let walked = walks_over::<Entry<i8, i8>, Narrow>(bytes.as_slice(), &[1, 2, 1, 9]).ok();
+fn a_repeated_key_is_walked_twice(rt: HostRuntime) {
+    let walked = walks_over::<Entry<i8, i8>, Narrow>(&TWICE_ARCHIVED, &[1, 2, 1, 9]).ok();
     assert_eq!(rt; walked, Some(true));
-    Ok(())
 }
 
 // What a walk gives at its first four asks.
@@ -78,19 +63,15 @@ fn four_asks<T: Element>(bytes: &[u8]) -> Result<[Option<u64>; 4], VerifyError> 
 }
 
 #[test]
-fn a_walk_gives_positions(rt: HostRuntime) -> Result<(), Fail> {
-    let bytes = archived(rt.alloc(), &[10u8, 20], &[2, 2], (1, 1))?;
-    let given = four_asks::<u8>(bytes.as_slice()).ok();
+fn a_walk_gives_positions(rt: HostRuntime) {
+    let given = four_asks::<u8>(&TWO_ARCHIVED).ok();
     assert_eq!(rt; given, Some([Some(2), Some(0), None, None]));
-    Ok(())
 }
 
 #[test]
-fn items_of_no_bytes_are_walked(rt: HostRuntime) -> Result<(), Fail> {
-    let bytes = archived(rt.alloc(), &[(), ()], &[0, 0], (7, 8))?;
-    let given = four_asks::<()>(bytes.as_slice()).ok();
+fn items_of_no_bytes_are_walked(rt: HostRuntime) {
+    let given = four_asks::<()>(&UNITS_ARCHIVED).ok();
     assert_eq!(rt; given, Some([Some(0), Some(0), None, None]));
-    Ok(())
 }
 
 #[test]
@@ -117,11 +98,7 @@ fn two_views(bytes: &[u8]) -> Result<Option<(u8, u8, bool)>, VerifyError> {
 }
 
 #[test]
-fn a_walk_gives_views(rt: HostRuntime) -> Result<(), Fail> {
-    let bytes = archived(rt.alloc(), &[10u8, 20], &[2, 2], (1, 1))?;
-    assert_eq!(rt;
-        two_views(bytes.as_slice()).ok(),
-        Some(Some((20, 10, true)))
-    );
-    Ok(())
+fn a_walk_gives_views(rt: HostRuntime) {
+    let views = two_views(&TWO_ARCHIVED).ok();
+    assert_eq!(rt; views, Some(Some((20, 10, true))));
 }

@@ -1,7 +1,9 @@
 //! The bytes of written tables.
 
 use crate::archives::{
-    FOUR_PAIRS, ONE_PAIR, SIXTEEN, archived, hash_of_i8, hash_of_u32, hash_of_usize, is_archive,
+    BOOLS_ARCHIVED, EVEN_TAG, FIFTEEN_ARCHIVED, FOUR_ARCHIVED, FOUR_PAIRS, NONE_ARCHIVED, ODD_TAG,
+    ONE_PAIR, SIXTEEN, SIXTEEN_ARCHIVED, TAGS_ARCHIVED, TWICE_ARCHIVED, TWO_ARCHIVED,
+    UNIT_ARCHIVED, UNITS_ARCHIVED, archived, hash_of_i8, hash_of_u32, hash_of_usize, is_archive,
     is_then_empty, written,
 };
 use crate::reading::counts;
@@ -13,7 +15,6 @@ use rkyv_scan::hash::{FxHasher64, FxHasher64Wide, KeyHasher};
 use rkyv_scan::simd::{GroupKind, bytewise, generic, lanes};
 use rkyv_table::table::ArchivedHashTable;
 use std::alloc::Global;
-use std::test::Fail;
 
 // Whether a table that is written by groups of this kind has its first control here, and these
 // bytes.
@@ -171,41 +172,70 @@ fn hashes_of_wide_numbers_are_written(rt: HostRuntime) {
     assert_eq!(rt; (whole, halves), (Some(true), Some(true)));
 }
 
-#[test]
-fn no_items_write_nothing(rt: HostRuntime) -> Result<(), Fail> {
-    let header = [1, 0, 0, 0, 0, 0, 0, 0, 0, 0, 0, 0];
-    let archived = is_archive::<u8>(rt.alloc(), &header, &[], &[], (7, 8));
-    let (bytes, pos) = written::<u8>(rt.alloc(), &[], &[], (7, 8))?;
-    assert_eq!(rt; (archived, pos, bytes.len()), (true, 0, 0));
-    Ok(())
+// Where the first control of a table of no numbers is, and how many bytes it has.
+fn room_of_none(alloc: Global) -> Option<(u64, usize)> {
+    let (bytes, pos) = written::<u8>(alloc, &[], &[], (7, 8)).ok()?;
+    Some((pos, bytes.len()))
 }
 
 #[test]
-fn a_table_begins_at_a_multiple_of_the_alignment(rt: HostRuntime) {
-    let mut writer = VecWriter::new(rt.alloc());
-    let started = append(&mut writer, &[9]).is_ok();
-    let resolver = match ArchivedHashTable::<u16, Narrow>::serialize_from_iter::<
+fn no_items_write_nothing(rt: HostRuntime) {
+    let archived = is_archive::<u8>(rt.alloc(), &NONE_ARCHIVED, &[], &[], (7, 8));
+    assert_eq!(rt; (archived, room_of_none(rt.alloc())), (true, Some((0, 0))));
+}
+
+#[test]
+fn archives_are_written(rt: HostRuntime) {
+    let alloc = rt.alloc();
+    let keys = [hash_of_i8(1), hash_of_i8(3), hash_of_i8(5), hash_of_i8(7)];
+    let twice = [(1i8, 2i8), (1, 9)];
+    let starts = [0, 1, 2, 3, 4, 5, 6, 7, 8, 9, 10, 11, 12, 13, 14];
+    let tags = [EVEN_TAG, ODD_TAG];
+    let written = [
+        is_archive(alloc, &FOUR_ARCHIVED, &FOUR_PAIRS, &keys, (7, 8)),
+        is_archive(alloc, &TWICE_ARCHIVED, &twice, &[keys[0]; 2], (7, 8)),
+        is_archive(alloc, &TWO_ARCHIVED, &[10u8, 20], &[2; 2], (1, 1)),
+        is_archive(alloc, &TAGS_ARCHIVED, &[10u8, 20], &tags, (1, 1)),
+        is_archive(alloc, &SIXTEEN_ARCHIVED, &SIXTEEN, &[16; 16], (1, 1)),
+        is_archive(alloc, &FIFTEEN_ARCHIVED, &SIXTEEN[..15], &starts, (1, 1)),
+        is_archive(alloc, &BOOLS_ARCHIVED, &[true, false], &[2; 2], (1, 1)),
+        is_archive(alloc, &UNIT_ARCHIVED, &[()], &[0], (7, 8)),
+        is_archive(alloc, &UNITS_ARCHIVED, &[(); 2], &[0; 2], (7, 8)),
+    ];
+    assert_eq!(rt; written, [true; 9]);
+}
+
+// Writes a nine and the table of one number of 16 bits: where its first control is, its length and
+// its load factor.
+fn write_behind_a_nine(
+    alloc: Global,
+    writer: &mut VecWriter,
+) -> Option<(u64, usize, (usize, usize))> {
+    append(writer, &[9]).ok()?;
+    let resolver = ArchivedHashTable::<u16, Narrow>::serialize_from_iter::<
         VecWriter,
         u16,
         u16,
         _,
         _,
     >(
-        rt.alloc(),
+        alloc,
         [7u16].into_iter(),
         [0u64].into_iter(),
         1,
         (7, 8),
-        &mut writer,
-    ) {
-        Ok(resolver) => Some((resolver.pos(), resolver.len(), resolver.load_factor())),
-        Err(_) => None,
-    };
+        writer,
+    )
+    .ok()?;
+    Some((resolver.pos(), resolver.len(), resolver.load_factor()))
+}
+
+#[test]
+fn a_table_begins_at_a_multiple_of_the_alignment(rt: HostRuntime) {
+    let mut writer = VecWriter::new(rt.alloc());
+    let resolved = write_behind_a_nine(rt.alloc(), &mut writer);
     let written = is_then_empty(writer.bytes(), &[9, 0, 0, 0, 7, 0, 0, 0xff, 0], 28);
-    assert_eq!(rt;
-        (started, resolver, written),
-        (true, Some((6, 1, (7, 8))), true)
-    );
+    assert_eq!(rt; (resolved, written), (Some((6, 1, (7, 8))), true));
 }
 
 // How many buckets a table of these numbers has, and how many bytes.
@@ -216,16 +246,21 @@ fn room_of(alloc: Global, items: &[u8], hashes: &[u64]) -> Option<(usize, usize)
     Some((buckets, bytes.len()))
 }
 
+// The same of so many sevens, up to a hundred.
+fn room_of_sevens(alloc: Global, len: usize) -> Option<(usize, usize)> {
+    room_of(alloc, [7; 100].get(..len)?, [0; 100].get(..len)?)
+}
+
 #[test]
 fn an_eighth_of_the_buckets_is_empty(rt: HostRuntime) {
     let alloc = rt.alloc();
     let rooms = [
-        room_of(alloc, &[], &[]),
-        room_of(alloc, &[7], &[0]),
-        room_of(alloc, &[7; 3], &[0; 3]),
-        room_of(alloc, &[7; 5], &[0; 5]),
-        room_of(alloc, &[7; 7], &[0; 7]),
-        room_of(alloc, &[7; 100], &[0; 100]),
+        room_of_sevens(alloc, 0),
+        room_of_sevens(alloc, 1),
+        room_of_sevens(alloc, 3),
+        room_of_sevens(alloc, 5),
+        room_of_sevens(alloc, 7),
+        room_of_sevens(alloc, 100),
     ];
     assert_eq!(rt;
         rooms,
