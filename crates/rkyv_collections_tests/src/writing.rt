@@ -17,15 +17,23 @@ use rkyv_keys::keys::{KeyElement, NativeKey};
 use rkyv_scan::hash::FxHasher64;
 use std::alloc::{AllocError, Global};
 use std::marker::PhantomData;
-use std::test::Fail;
+
+// Whether each of these controls is empty.
+fn are_empty(controls: &[u8]) -> bool {
+    for control in controls {
+        if *control != 0xff {
+            return false;
+        }
+    }
+    true
+}
 
 // Whether the bytes are these, and then so many bytes ff.
 fn is_then_empty(bytes: &[u8], front: &[u8], empty: usize) -> bool {
-    if bytes.len() < front.len() {
-        return false;
+    match bytes.split_at_checked(front.len()) {
+        Some((first, others)) => first == front && others.len() == empty && are_empty(others),
+        None => false,
     }
-    let (first, others) = bytes.split_at(front.len());
-    first == front && others.len() == empty && others.iter().all(|control| *control == 0xff)
 }
 
 // The position that resolves the map of these pairs, written at position 0, where its bytes are
@@ -149,31 +157,53 @@ fn list_of(alloc: Global, pairs: &[(i8, i8)]) -> Result<Pairs<i8, i8, FxHasher64
     Ok(Pairs(list, PhantomData))
 }
 
-#[test]
-fn the_empty_map(rt: HostRuntime) -> Result<(), Fail> {
-    let list = list_of(rt.alloc(), &[])?;
-    assert!(rt; is_archive_of(rt.alloc(), &list, &EMPTY));
-    Ok(())
+// Whether a list of no pairs is archived as these bytes.
+fn none_are(alloc: Global, bytes: &[u8]) -> bool {
+    match list_of(alloc, &[]) {
+        Ok(list) => is_archive_of(alloc, &list, bytes),
+        Err(_) => false,
+    }
 }
 
 #[test]
-fn a_list_is_looked_up(rt: HostRuntime) -> Result<(), Fail> {
-    let list = list_of(rt.alloc(), &[(1, 2), (3, 4), (5, 6), (7, 8), (3, 9)])?;
-    let bytes = to_bytes(rt.alloc(), &list)?;
-    let found = [
-        number_of::<i8, i8, FxHasher64, Narrow, i8>(bytes.as_slice(), &3).ok(),
-        number_of::<i8, i8, FxHasher64, Narrow, i8>(bytes.as_slice(), &7).ok(),
-        number_of::<i8, i8, FxHasher64, Narrow, i8>(bytes.as_slice(), &2).ok(),
-    ];
-    let counts = counts::<i8, i8, FxHasher64, Narrow>(bytes.as_slice()).ok();
+fn the_empty_map(rt: HostRuntime) {
+    assert!(rt; none_are(rt.alloc(), &EMPTY));
+}
+
+// The archive of a list of five pairs, of which two have one key.
+fn archived_list(alloc: Global) -> Option<Vec<u8>> {
+    let list = list_of(alloc, &[(1, 2), (3, 4), (5, 6), (7, 8), (3, 9)]).ok()?;
+    to_bytes(alloc, &list).ok()
+}
+
+// The values of three keys in a map.
+fn three_values(bytes: &[u8]) -> [Option<Option<i8>>; 3] {
+    [
+        number_of::<i8, i8, FxHasher64, Narrow, i8>(bytes, &3).ok(),
+        number_of::<i8, i8, FxHasher64, Narrow, i8>(bytes, &7).ok(),
+        number_of::<i8, i8, FxHasher64, Narrow, i8>(bytes, &2).ok(),
+    ]
+}
+
+// The same of that list, and its counts.
+fn list_values(alloc: Global) -> Option<([Option<Option<i8>>; 3], Option<(bool, usize, usize)>)> {
+    let bytes = archived_list(alloc)?;
+    let bytes = bytes.as_slice();
+    Some((
+        three_values(bytes),
+        counts::<i8, i8, FxHasher64, Narrow>(bytes).ok(),
+    ))
+}
+
+#[test]
+fn a_list_is_looked_up(rt: HostRuntime) {
     assert_eq!(rt;
-        (found, counts),
-        (
+        list_values(rt.alloc()),
+        Some((
             [Some(Some(4)), Some(Some(8)), Some(None)],
             Some((false, 5, 6))
-        )
+        ))
     );
-    Ok(())
 }
 
 // The list of one pair, of 1 and these pairs.
@@ -185,9 +215,15 @@ fn outer_of(
     Ok(Pairs(vec![in alloc; (1, inner)]?, PhantomData))
 }
 
+// Whether the list of one pair, of 1 and the pair 1 and 2, is archived as these bytes.
+fn one_in_one_is(alloc: Global, bytes: &[u8]) -> bool {
+    match outer_of(alloc, &[(1, 2)]) {
+        Ok(list) => is_archive_of(alloc, &list, bytes),
+        Err(_) => false,
+    }
+}
+
 #[test]
-fn a_map_of_maps(rt: HostRuntime) -> Result<(), Fail> {
-    let list = outer_of(rt.alloc(), &[(1, 2)])?;
-    assert!(rt; is_archive_of(rt.alloc(), &list, &NESTED));
-    Ok(())
+fn a_map_of_maps(rt: HostRuntime) {
+    assert!(rt; one_in_one_is(rt.alloc(), &NESTED));
 }
