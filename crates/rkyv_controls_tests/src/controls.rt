@@ -195,6 +195,24 @@ fn sixteen_buckets_are_one_place(rt: HostRuntime) {
     assert!(rt; right);
 }
 
+// Whether each of these controls is empty.
+fn are_empty(controls: &[u8]) -> bool {
+    for control in controls {
+        if *control != 0xff {
+            return false;
+        }
+    }
+    true
+}
+
+// Whether the controls begin with these bytes and are ff from there on.
+fn is_then_empty(controls: &[u8], front: &[u8]) -> bool {
+    match controls.split_at_checked(front.len()) {
+        Some((first, others)) => first == front && are_empty(others),
+        None => false,
+    }
+}
+
 // Whether the items stand at these buckets, and the controls begin with these bytes and are ff
 // from there on.
 fn is_written<G: GroupKind>(
@@ -211,12 +229,7 @@ fn is_written<G: GroupKind>(
         Ok(table) => table,
         Err(_) => return false,
     };
-    let controls = table.controls.as_slice();
-    if controls.len() < front.len() {
-        return false;
-    }
-    let (first, others) = controls.split_at(front.len());
-    table.homes.as_slice() == homes && first == front && others.iter().all(|c| *c == 0xff)
+    table.homes.as_slice() == homes && is_then_empty(table.controls.as_slice(), front)
 }
 
 // By each kind of group.
