@@ -10,6 +10,8 @@ mod bytes;
 #[cfg(test)]
 mod first;
 #[cfg(test)]
+mod growths;
+#[cfg(test)]
 mod lists;
 #[cfg(test)]
 mod nested;
@@ -21,6 +23,8 @@ mod sealed;
 mod sets;
 #[cfg(test)]
 mod std_maps;
+#[cfg(test)]
+mod there_and_back;
 #[cfg(test)]
 mod walks;
 #[cfg(test)]

@@ -1,0 +1,78 @@
+//! Growths that are refused. Which one is, is up to who runs the tests: `tools/refuse-growths`
+//! refuses each in turn. What ends in `succeeds` passes only where none is.
+
+use crate::bytes::{FOUR_PAIRS, NESTED};
+use rkyv_base::access::access;
+use rkyv_base::errors::{ReadError, VerifyError, WriteError};
+use rkyv_base::root::to_bytes;
+use rkyv_base::writer::NoMemory;
+use rkyv_collections::map::{ArchivedHashMap, HashMapOf};
+use rkyv_collections::std_maps::hashed::Hashed;
+use std::alloc::{AllocError, Global};
+use std::collections::HashMap;
+use std::hash::BuildHasherDefault;
+
+type Nested = Hashed<HashMap<i8, Hashed<HashMap<i8, i8>>>>;
+
+// The map of 1 to the map of 1 to 2.
+fn nested(alloc: Global) -> Result<Nested, AllocError> {
+    let mut inner = HashMap::new(alloc);
+    inner.insert(1, 2)?;
+    let mut outer = HashMap::new(alloc);
+    outer.insert(1, Hashed::new(inner))?;
+    Ok(Hashed::new(outer))
+}
+
+// Whether its archive is written as it should be, or why it isn't, if there is memory for the map.
+fn written(alloc: Global) -> Option<Result<bool, WriteError<NoMemory>>> {
+    let map = nested(alloc).ok()?;
+    match to_bytes(alloc, &map) {
+        Ok(bytes) => Some(Ok(bytes.as_slice() == NESTED.as_slice())),
+        Err(e) => Some(Err(e)),
+    }
+}
+
+#[test]
+fn an_archive_is_whole_or_wants_memory(rt: HostRuntime) {
+    let right = match written(rt.alloc()) {
+        Some(Ok(whole)) => whole,
+        Some(Err(cause)) => matches!(cause, WriteError::Memory | WriteError::Writer(_)),
+        None => true,
+    };
+    assert!(rt; right);
+}
+
+#[test]
+fn an_archive_succeeds(rt: HostRuntime) {
+    let whole = matches!(written(rt.alloc()), Some(Ok(true)));
+    assert!(rt; whole);
+}
+
+// Whether the map of std's that is read back has the four pairs, or why there is none.
+fn read_back(alloc: Global) -> Result<Result<bool, ReadError>, VerifyError> {
+    let root = ArchivedHashMap::of(access::<HashMapOf<i8, i8>>(&FOUR_PAIRS)?);
+    let back: Result<HashMap<i8, i8>, ReadError> = root.deserialize_std(
+        alloc,
+        BuildHasherDefault::new(),
+    );
+    match back {
+        Ok(map) => Ok(Ok(root.eq_std(&map))),
+        Err(e) => Ok(Err(e)),
+    }
+}
+
+#[test]
+fn a_map_is_read_back_or_wants_memory(rt: HostRuntime) {
+    let right = match read_back(rt.alloc()) {
+        Ok(Ok(whole)) => whole,
+        Ok(Err(cause)) => matches!(cause, ReadError::Memory),
+        Err(_) => false,
+    };
+    assert!(rt; right);
+}
+
+#[test]
+fn reading_back_succeeds(rt: HostRuntime) {
+    let whole = matches!(read_back(rt.alloc()), Ok(Ok(true)));
+    assert!(rt; whole);
+}
