@@ -23,7 +23,7 @@ use Rattle.rkyv_collections.specs.Equality.{pair_at}
 use Rattle.rkyv_collections.specs.ListedLookups.{IsPairOf, first_pair}
 use Rattle.rkyv_collections.specs.Map.{hash_at, map_shape}
 use Rattle.rkyv_collections.specs.MapFormat.{MapStands, hash_of}
-use Rattle.rkyv_collections.specs.SetFormat.{with_units}
+use Rattle.rkyv_table.specs.Table.Lent.{with_units}
 use Rattle.rkyv_collections.specs.StdLookups.{FindsEntries, FindsMembers, IsValueBehind}
 use Rattle.rkyv_collections.specs.StdMap.{of_entries}
 use Rattle.rkyv_collections.proofs.FoundPairs.{first_listed}

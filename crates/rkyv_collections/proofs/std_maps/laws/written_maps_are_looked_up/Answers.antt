@@ -1,6 +1,6 @@
 use Rattle.rkyv_base.specs.Pairs.{written_as-format}
 use Rattle.rkyv_collections.specs.Lemmas.MapSound.{listed_map_sound}
-use Rattle.rkyv_collections.specs.Listed.{listed}
+use Rattle.rkyv_table.specs.Table.Listed.{listed}
 use Rattle.rkyv_collections.specs.Map.{map_shape}
 use Rattle.rkyv_collections.specs.MapFormat.{hash_of, map_format}
 use Rattle.rkyv_collections.specs.StdLookups.{FindsEntries}

@@ -1,10 +1,10 @@
 use Rattle.rkyv_base.specs.Empty.{unit_element, unit_format, unit_is_format, unit_shape, unit_stands}
 use Rattle.rkyv_base.specs.Pairs.{written_as, written_as-format}
 use Rattle.rkyv_collections.specs.Lemmas.MapSound.{listed_map_sound}
-use Rattle.rkyv_collections.specs.Listed.{listed}
+use Rattle.rkyv_table.specs.Table.Listed.{listed}
 use Rattle.rkyv_collections.specs.MapFormat.{hash_of, map_format}
 use Rattle.rkyv_collections.specs.Set.{set_shape}
-use Rattle.rkyv_collections.specs.SetFormat.{with_units}
+use Rattle.rkyv_table.specs.Table.Lent.{with_units}
 use Rattle.rkyv_collections.specs.StdLookups.{FindsEntries}
 use Rattle.rkyv_collections.specs.StdMap.{of_entries}
 use Rattle.rkyv_collections.proofs.StdFinding.{looked_up, members_looked_up}
