@@ -11,3 +11,5 @@ pub mod IndexSteps
 pub mod SeenRow
 pub mod Taking
 pub mod Repeats
+pub mod ValueWrites
+pub mod SealedIndex

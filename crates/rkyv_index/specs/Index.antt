@@ -1,6 +1,6 @@
 -- What an index map is in an archive, and what a lookup in it answers.
 use Rattle.std.specs.Prelude.{◌≡◌, ℕ, suc, zero, ◌+◌, ◌/◌, ◌<◌, ◌≤◌, ◌↔◌, List, [], ◌∷◌, Bool, true}
-use Rattle.std.specs.Prelude.{Option, Some, None, IsSome, IsTrue, MatchOption, length, map}
+use Rattle.std.specs.Prelude.{Option, Some, None, IsSome, IsTrue, MatchOption, length}
 use Rattle.std.specs.Borrow.{Bor}
 use Rattle.std.specs.Int.{Width, byte_len}
 use Rattle.std.specs.List.{find}
@@ -129,6 +129,26 @@ module _ {K V H W : Type 0} where
   ReadsFew w m before after = ReadsWithin (index_len w m) (probe_capacity (cap_at w (index_bytes m)
       (index_pos m)) / 16) before after
 
+-- whether the key of a place of the map at p fits
+abbrev pub fits_in : Width → Shape → Shape → List ℕ → ℕ → (List ℕ → ℕ → Bool) → ℕ → Bool
+fits_in w k v b p fits i = fits b (pair_pos w (entry_shape k v).size b p i)
+
+module _ (w : Width) (k v : Shape) (b : List ℕ) (p : ℕ) where
+  -- only keys under the hash are accepted, in the map at p
+  abbrev pub AreUnderHashAt : ℕ → (List ℕ → ℕ → ℕ) → (ℕ → Bool) → Type 0
+  AreUnderHashAt hash key_hash accept = (i : ℕ) → i < len_at w b p → accept i ≡ true
+      → key_hash b (pair_pos w (entry_shape k v).size b p i) ≡ hash
+
+  -- what is told is told of the place that a lookup under the hash answers, on any accepted map
+  abbrev pub FindsPlaceAt : ℕ → (ℕ → Bool) → (Option ℕ → Type 0) → Type 0
+  FindsPlaceAt hash accept Told = Told (index_found w b p hash accept)
+
+  -- and on a written one: of the first place whose key is accepted
+  abbrev pub FindsFirstPlaceAt : (List ℕ → ℕ → ℕ) → (ℕ → Bool) → (Option ℕ → Type 0) → Type 0
+  FindsFirstPlaceAt key_hash accept Told = (homes : List ℕ)
+      → IndexWrittenAt w (entry_shape k v).size key_hash b p homes
+      → Told (find accept (places_of (len_at w b p)))
+
 module _ {K V H W : Type 0} (w : Width) (k v : Shape) (m : ArchivedIndexMap K V H W) where
   -- the comparison may be asked of each key
   abbrev pub MayAskKeys : (View K → Type 0) → Type 0
@@ -141,22 +161,21 @@ module _ {K V H W : Type 0} (w : Width) (k v : Shape) (m : ArchivedIndexMap K V 
 
   -- only keys under the hash are accepted
   abbrev pub AreUnderHash : ℕ → (List ℕ → ℕ → ℕ) → (ℕ → Bool) → Type 0
-  AreUnderHash hash key_hash accept = (i : ℕ) → i < index_len w m → accept i ≡ true → key_hash
-      (index_bytes m) (key_pos w k v m i) ≡ hash
+  AreUnderHash hash key_hash accept = AreUnderHashAt w k v (index_bytes m) (index_pos m) hash
+      key_hash accept
 
   -- whether the key of a place fits
   abbrev pub fits_at : (List ℕ → ℕ → Bool) → ℕ → Bool
-  fits_at fits i = fits (index_bytes m) (key_pos w k v m i)
+  fits_at fits i = fits_in w k v (index_bytes m) (index_pos m) fits i
 
   -- what is told is told of the place that a lookup under the hash answers, on any accepted map
   abbrev pub FindsPlace : ℕ → (ℕ → Bool) → (Option ℕ → Type 0) → Type 0
-  FindsPlace hash accept Told = Told (index_found w (index_bytes m) (index_pos m) hash accept)
+  FindsPlace hash accept Told = FindsPlaceAt w k v (index_bytes m) (index_pos m) hash accept Told
 
   -- and on a written one: of the first place whose key is accepted
   abbrev pub FindsFirstPlace : (List ℕ → ℕ → ℕ) → (ℕ → Bool) → (Option ℕ → Type 0) → Type 0
-  FindsFirstPlace key_hash accept Told =
-      (homes : List ℕ) → IndexWrittenAt w (entry_shape k v).size key_hash (index_bytes m)
-      (index_pos m) homes → Told (find accept (places_of (index_len w m)))
+  FindsFirstPlace key_hash accept Told = FindsFirstPlaceAt w k v (index_bytes m) (index_pos m)
+      key_hash accept Told
 
   -- the same where the comparison tells of keys
   abbrev pub FindsBy : (View K → Bool → Type 0) → ℕ → (Option ℕ → Type 0) → Type 0

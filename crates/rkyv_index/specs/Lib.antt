@@ -3,6 +3,8 @@ pub mod IndexHeader
 pub mod Row
 pub mod IndexFormat
 pub mod Index
+pub mod ValueWrites
+pub mod SealedIndex
 pub mod Walking
 pub mod Equality
 pub mod IndexSet

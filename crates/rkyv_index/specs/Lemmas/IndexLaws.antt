@@ -266,6 +266,21 @@ module _ (w : Width) (kind : IsArchiveWord w) where
         subst (λ x. x < n) (place_same_at (get_or ws k d) (walked_all w P P_law b p k d lt))
         (All-unmap (λ q. number_at w b q < n) (at b p) ws below k d lt)))
 
+-- where a header's bytes are the same, its entries are told to begin at the same position
+pub told_same : (w : Width) (b c : List ℕ) (p : ℕ) → Same b c p (p + 4 * byte_len w)
+    → entries_told w b p ≡ entries_told w c p
+told_same w b c p fixed =
+    let field : Same b c (distance_pos w p) (distance_pos w p + byte_len w) =
+    same_part b c p (p + 4 * byte_len w) (distance_pos w p) (distance_pos w p + byte_len w)
+    (omega arith) (omega arith) (omega arith) fixed in
+    ap (λ (x : List ℕ). pos (distance_pos w p) +ℤ cast_signed w (from_le_bytes w x)) field
+
+-- and its table of places has the same header
+pub head_same : (w : Width) (b c : List ℕ) (p : ℕ) → Same b c p (p + 4 * byte_len w)
+    → Same b c p (p + 3 * byte_len w)
+head_same w b c p fixed = same_part b c p (p + 4 * byte_len w) p (p + 3 * byte_len w) (omega arith)
+    (omega arith) (omega arith) fixed
+
 module _ (w : Width) (kind : IsArchiveWord w) (s : Shape) (law : IsElement s) where
   abbrev T_law : IsElement (table_shape w (place_shape w))
   T_law = table_element w kind (place_shape w) (place_element w kind)
@@ -325,31 +340,35 @@ module _ (w : Width) (kind : IsArchiveWord w) (s : Shape) (law : IsElement s) wh
         omega arith,
       )
 
-  index_near : (b c : List ℕ) (p lo hi l : ℕ) → lo ≤ hi → Same b c p (p + 4 * byte_len w) → Same b c
-      lo l → IndexHolds w s b p lo hi l → IndexHolds w s c p lo hi l
-  index_near b c p lo hi l o fixed part h =
-      let head : Same b c p (p + 3 * byte_len w) = same_part b c p (p + 4 * byte_len w) p
-      (p + 3 * byte_len w) (omega arith) (omega arith) (omega arith) fixed in
-      let field : Same b c (distance_pos w p) (distance_pos w p + byte_len w) =
-      same_part b c p (p + 4 * byte_len w) (distance_pos w p) (distance_pos w p + byte_len w)
-      (omega arith) (omega arith) (omega arith) fixed in
-      let told : entries_told w b p ≡ entries_told w c p =
-      ap (λ (x : List ℕ). pos (distance_pos w p) +ℤ cast_signed w (from_le_bytes w x)) field in
+  -- where the header and the table of places are the same, and entries hold there again, the index
+  -- map does
+  pub index_again : (b c : List ℕ) (p lo hi l : ℕ) → lo ≤ hi → Same b c p (p + 4 * byte_len w)
+      → (h : IndexHolds w s b p lo hi l) → Same b c lo h.middle
+      → EntriesIn s c (entries_told w b p) (len_at w b p) h.middle hi l
+      → IndexHolds w s c p lo hi l
+  index_again b c p lo hi l o fixed h front entries =
+      let head = head_same w b c p fixed in
       let len : len_at w b p ≡ len_at w c p = len_same w b c p head in
-      let t = T_law.between b p lo hi h.middle o h.table in
-      let r = entries_between s law b (entries_told w b p) (len_at w b p) h.middle hi l h.entries in
-      let front : Same b c lo h.middle = same_part b c lo l lo h.middle (omega arith) r.0 t.0 part
-      in
-      let back : Same b c h.middle l = same_part b c lo l h.middle l t.0 (omega arith) r.0 part in
       record {
         middle = h.middle;
         table = T_law.near b c p lo hi h.middle o head front h.table;
         below = subst (λ n. PlacesBelow w c n (item_positions w (byte_len w) c p)) len
             (places_near w kind b c p lo hi h.middle o head front h.table (len_at w b p) h.below);
         entries = subst (λ n. EntriesIn s c (entries_told w c p) n h.middle hi l) len
-            (subst (λ z. EntriesIn s c z (len_at w b p) h.middle hi l) told (entries_near s law b c
-            (entries_told w b p) (len_at w b p) h.middle hi l back h.entries));
+            (subst (λ z. EntriesIn s c z (len_at w b p) h.middle hi l) (told_same w b c p fixed)
+            entries);
       }
+
+  index_near : (b c : List ℕ) (p lo hi l : ℕ) → lo ≤ hi → Same b c p (p + 4 * byte_len w) → Same b c
+      lo l → IndexHolds w s b p lo hi l → IndexHolds w s c p lo hi l
+  index_near b c p lo hi l o fixed part h =
+      let t = T_law.between b p lo hi h.middle o h.table in
+      let r = entries_between s law b (entries_told w b p) (len_at w b p) h.middle hi l h.entries in
+      let front : Same b c lo h.middle = same_part b c lo l lo h.middle (omega arith) r.0 t.0 part
+      in
+      let back : Same b c h.middle l = same_part b c lo l h.middle l t.0 (omega arith) r.0 part in
+      index_again b c p lo hi l o fixed h front (entries_near s law b c (entries_told w b p)
+      (len_at w b p) h.middle hi l back h.entries)
 
   -- an index map is an element
   pub index_element : IsElement (index_shape w s)

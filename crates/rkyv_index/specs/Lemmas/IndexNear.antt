@@ -1,8 +1,8 @@
 -- An index map stands where the same bytes do.
 use Rattle.std.proofs.Common.{◌≡◌, ℕ, ◌+◌, ◌*◌, ◌<◌, ◌≤◌, sym, ap, subst, ◌∙◌, arith}
-use Rattle.std.proofs.Common.{inl, inr, List, length, map, get_or, slice_index, pos, ◌+ℤ◌}
+use Rattle.std.proofs.Common.{List, length, map, get_or, slice_index}
 use Rattle.std.specs.Prelude.{unsigned_abs}
-use Rattle.std.specs.Int.{Width, byte_len, cast_signed, from_le_bytes}
+use Rattle.std.specs.Int.{Width, byte_len}
 use Rattle.std.proofs.lemmas.List.{ext_get_or, get_or-map, length-map}
 use Rattle.std.proofs.lemmas.List.FromFn.{get_or-range_with_len, length-range_with_len}
 use Rattle.std.proofs.lemmas.Option.{slice_get_within}
@@ -18,23 +18,82 @@ use Rattle.rkyv_keys.specs.Keys.{IsKey}
 use Rattle.rkyv_table.specs.Table.Header.{cap_at, len_at}
 use Rattle.rkyv_table.specs.Lemmas.ItemPositions.{HoldsWithin}
 use Rattle.rkyv_table.specs.Lemmas.PlaceLaws.{all_between}
-use Rattle.rkyv_table.specs.Controls.Placing.{Written}
-use Rattle.rkyv_table.specs.Table.Reading.{WrittenAt, home_positions, item_at, table_controls}
+use Rattle.rkyv_table.specs.Table.Reading.{IsWalked, WrittenAt, home_positions, item_at}
+use Rattle.rkyv_table.specs.Table.Reading.{table_controls}
 use Rattle.rkyv_table.specs.Lemmas.SameHeader.{cap_same, len_same}
 use Rattle.rkyv_table.specs.Lemmas.TableLaws.{table_element}
+use Rattle.rkyv_table.proofs.SameTable.{written_there}
 use Rattle.rkyv_table.proofs.WrittenTables.{home_pos, home_walked}
 use Rattle.rkyv_index.specs.Index.{hash_at}
-use Rattle.rkyv_index.specs.IndexFormat.{IndexStands}
+use Rattle.rkyv_index.specs.IndexFormat.{IndexStands, IndexWrittenAt}
 use Rattle.rkyv_index.specs.IndexLayout.{entries_pos, pair_pos}
 use Rattle.rkyv_index.specs.Lemmas.IndexLaws.{each_holds, entry_inside, place_element}
-use Rattle.rkyv_index.specs.Lemmas.IndexLaws.{place_same_at, same_controls}
-use Rattle.rkyv_index.specs.IndexLayout.{IndexHolds, distance_pos, entries_told, entry_at}
+use Rattle.rkyv_index.specs.Lemmas.IndexLaws.{head_same, place_same_at, same_controls, told_same}
+use Rattle.rkyv_index.specs.IndexLayout.{IndexHolds, entry_at}
 use Rattle.rkyv_index.specs.IndexLayout.{index_shape, place_shape, places_of}
 
 -- the hash of a key rests on the bytes on which it rests that the key holds
 abbrev pub HashNear : Shape → (List ℕ → ℕ → ℕ) → Type 0
 HashNear k hash = (b c : List ℕ) (q lo hi l : ℕ) → lo ≤ hi → k.holds b q lo hi l → Same b c q
     (q + k.size) → Same b c lo l → hash b q ≡ hash c q
+
+-- Two archives have the same header of the table of places at p, its controls where it has buckets,
+-- the same numbers in full buckets, and keys under the same hashes: an index map that was written
+-- in one was so in the other.
+module _ (w : Width) (size : ℕ) (key_hash : List ℕ → ℕ → ℕ) (b c : List ℕ) (p : ℕ)
+    (head : Same b c p (p + 3 * byte_len w))
+    (controls : 0 < cap_at w b p → table_controls w b p ≡ table_controls w c p)
+    (read : (i : ℕ) → IsWalked w b p i → number_at w b (item_at w (byte_len w) b p i)
+    ≡ number_at w c (item_at w (byte_len w) c p i))
+    (alike : (i : ℕ) → i < len_at w b p → key_hash b (pair_pos w size b p i)
+    ≡ key_hash c (pair_pos w size c p i)) where
+  abbrev hashes_in : List ℕ → List ℕ
+  hashes_in d = map (λ i. key_hash d (pair_pos w size d p i)) (places_of (len_at w d p))
+
+  len_is : len_at w b p ≡ len_at w c p
+  len_is = len_same w b c p head
+
+  same_hashes : hashes_in b ≡ hashes_in c
+  same_hashes =
+      let n = len_at w b p in
+      let is = places_of n in
+      let count = length-range_with_len 0 n in
+      let f : ℕ → ℕ = λ i. key_hash b (pair_pos w size b p i) in
+      let g : ℕ → ℕ = λ i. key_hash c (pair_pos w size c p i) in
+      ext_get_or 0 (map f is) (map g is) (length-map is f ∙ sym (length-map is g))
+      (λ i below.
+      let inside : i < n = omega (arith, below, length-map is f, count) in
+      let here : i < length is = omega (arith, inside, count) in
+      let at : get_or is i 0 ≡ i = get_or-range_with_len 0 n i 0 inside ∙ omega arith in
+      get_or-map f is i 0 0 here ∙ ap f at ∙ alike i inside ∙ ap g (sym at)
+      ∙ sym (get_or-map g is i 0 0 here))
+      ∙ ap (λ m. map g (places_of m)) len_is
+
+  same_places : (homes : List ℕ) → IndexWrittenAt w size key_hash b p homes
+      → map (number_at w c) (home_positions w (byte_len w) c p homes) ≡ places_of (len_at w c p)
+  same_places homes written =
+      let hb = home_positions w (byte_len w) b p homes in
+      let hc = home_positions w (byte_len w) c p homes in
+      let nb : length hb ≡ length homes = length-map homes (item_at w (byte_len w) b p) in
+      let nc : length hc ≡ length homes = length-map homes (item_at w (byte_len w) c p) in
+      ext_get_or 0 (map (number_at w c) hc) (map (number_at w b) hb)
+      (length-map hc (number_at w c) ∙ nc ∙ sym nb ∙ sym (length-map hb (number_at w b)))
+      (λ i below.
+      let n : i < length homes = omega (arith, below, length-map hc (number_at w c), nc) in
+      let walked = home_walked w b p (hashes_in b) homes written.table i n in
+      get_or-map (number_at w c) hc i 0 0 (omega (arith, n, nc)) ∙ ap (number_at w c)
+      (home_pos w (byte_len w) c p homes i n) ∙ sym (read (slice_index homes i) walked)
+      ∙ ap (number_at w b) (sym (home_pos w (byte_len w) b p homes i n))
+      ∙ sym (get_or-map (number_at w b) hb i 0 0 (omega (arith, n, nb))))
+      ∙ written.places ∙ ap places_of len_is
+
+  pub written_again : (homes : List ℕ) → IndexWrittenAt w size key_hash b p homes
+      → IndexWrittenAt w size key_hash c p homes
+  written_again homes written = record {
+    table = subst (λ (xs : List ℕ). WrittenAt w c p xs homes) same_hashes
+        (written_there w b c p head controls (hashes_in b) homes written.table);
+    places = same_places homes written;
+  }
 
 module _ (w : Width) (kind : IsArchiveWord w) (k v : Shape) (kl : IsElement k) (vl : IsElement v)
     {A B : Type 0} (key : List ℕ → ℕ → A → Type 0) (value : List ℕ → ℕ → B → Type 0)
@@ -50,18 +109,10 @@ module _ (w : Width) (kind : IsArchiveWord w) (k v : Shape) (kl : IsElement k) (
   module _ (h : IndexHolds w S b p lo hi l) (fixed : Same b c p (p + 4 * byte_len w))
       (part : Same b c lo l) (st : IndexStands w k v key value hash factor b p pairs) where
     head : Same b c p (p + 3 * byte_len w)
-    head = same_part b c p (p + 4 * byte_len w) p (p + 3 * byte_len w) (omega arith) (omega arith)
-        (omega arith) fixed
-
-    told : entries_told w b p ≡ entries_told w c p
-    told =
-        let field : Same b c (distance_pos w p) (distance_pos w p + byte_len w) =
-        same_part b c p (p + 4 * byte_len w) (distance_pos w p) (distance_pos w p + byte_len w)
-        (omega arith) (omega arith) (omega arith) fixed in
-        ap (λ (x : List ℕ). pos (distance_pos w p) +ℤ cast_signed w (from_le_bytes w x)) field
+    head = head_same w b c p fixed
 
     same_pos : (i : ℕ) → pair_pos w S.size b p i ≡ pair_pos w S.size c p i
-    same_pos i = ap (λ z. entry_at S.size (unsigned_abs z) i) told
+    same_pos i = ap (λ z. entry_at S.size (unsigned_abs z) i) (told_same w b c p fixed)
 
     same_len : len_at w b p ≡ len_at w c p
     same_len = len_same w b c p head
@@ -130,77 +181,19 @@ module _ (w : Width) (kind : IsArchiveWord w) (k v : Shape) (kl : IsElement k) (
           (same_part b c lo l r.lower r.rest (omega (arith, r.above, table_ends))
           (omega (arith, within, last_ends, ends)) x.0 part) there
 
-    abbrev hashes : List ℕ
-    hashes = map (λ i. hash b (pair_pos w S.size b p i)) (places_of (len_at w b p))
-
-    same_hashes : hashes ≡ map (λ i. hash c (pair_pos w S.size c p i)) (places_of (len_at w c p))
-    same_hashes =
-        let n = len_at w b p in
-        let is = places_of n in
-        let count = length-range_with_len 0 n in
-        let f : ℕ → ℕ = λ i. hash b (pair_pos w S.size b p i) in
-        let g : ℕ → ℕ = λ i. hash c (pair_pos w S.size c p i) in
-        ext_get_or 0 (map f is) (map g is) (length-map is f ∙ sym (length-map is g))
-        (λ i below.
-        let inside : i < n = omega (arith, below, length-map is f, count) in
-        let here : i < length is = omega (arith, inside, count) in
-        let at : get_or is i 0 ≡ i = get_or-range_with_len 0 n i 0 inside ∙ omega arith in
-        get_or-map f is i 0 0 here ∙ ap f at ∙ same_hash i inside ∙ ap (hash c) (same_pos i)
-        ∙ ap g (sym at) ∙ sym (get_or-map g is i 0 0 here))
-        ∙ ap (λ m. map g (places_of m)) same_len
-
     table_near : Same b c lo h.middle
     table_near =
         let ends = h.entries.ends in
         let above = h.entries.part.above in
         same_part b c lo l lo h.middle (omega arith) (omega (arith, above, ends)) table_ends.0 part
 
-    written_near : WrittenAt w c p hashes st.homes
-    written_near =
-        let t = st.written.table in
-        record {
-          count = sym same_len ∙ t.count;
-          fit = t.fit;
-          placed = elim t.placed [
-            | inl e ↦ inl e
-            | inr e ↦ inr (
-              subst (λ n. length hashes < n) same_cap e.0,
-              subst (λ n. Written n hashes st.homes (table_controls w c p)) same_cap
-                  (subst (λ (xs : List ℕ). Written (cap_at w b p) hashes st.homes xs)
-                  (same_controls w kind b c p lo hi h.middle o head table_near h.table
-                  (omega (arith, e.0))) e.1),
-            )
-          ];
-        }
-
-    places_near : map (number_at w c) (home_positions w (byte_len w) c p st.homes) ≡ places_of
-        (len_at w c p)
-    places_near =
-        let t = st.written.table in
-        let hb = home_positions w (byte_len w) b p st.homes in
-        let hc = home_positions w (byte_len w) c p st.homes in
-        let nb : length hb ≡ length st.homes = length-map st.homes (item_at w (byte_len w) b p) in
-        let nc : length hc ≡ length st.homes = length-map st.homes (item_at w (byte_len w) c p) in
-        ext_get_or 0 (map (number_at w c) hc) (map (number_at w b) hb)
-        (length-map hc (number_at w c) ∙ nc ∙ sym nb ∙ sym (length-map hb (number_at w b)))
-        (λ i below.
-        let n : i < length st.homes = omega (arith, below, length-map hc (number_at w c), nc) in
-        let walked = home_walked w b p hashes st.homes t i n in
-        let same = place_same_at w kind b c p lo hi h.middle o head table_near h.table
-        (slice_index st.homes i) walked in
-        get_or-map (number_at w c) hc i 0 0 (omega (arith, n, nc)) ∙ ap (number_at w c)
-        (home_pos w (byte_len w) c p st.homes i n) ∙ sym same
-        ∙ ap (number_at w b) (sym (home_pos w (byte_len w) b p st.homes i n))
-        ∙ sym (get_or-map (number_at w b) hb i 0 0 (omega (arith, n, nb))))
-        ∙ st.written.places ∙ ap places_of same_len
-
     stands_again : IndexStands w k v key value hash factor c p pairs
     stands_again = record {
       homes = st.homes;
-      written = record {
-        table = subst (λ (xs : List ℕ). WrittenAt w c p xs st.homes) same_hashes written_near;
-        places = places_near;
-      };
+      written = written_again w S.size hash b c p head
+          (same_controls w kind b c p lo hi h.middle o head table_near h.table)
+          (place_same_at w kind b c p lo hi h.middle o head table_near h.table)
+          (λ i below. same_hash i below ∙ ap (hash c) (same_pos i)) st.homes st.written;
       len = sym same_len ∙ st.len;
       cap = sym same_cap ∙ st.cap;
       at = λ i pair e.

@@ -1,0 +1,319 @@
+-- A write of one value in place keeps the index map, and the list that it stands for but for that value.
+use Rattle.std.proofs.Common.{◌≡◌, ◌≢◌, ℕ, suc, ◌+◌, ◌*◌, ◌<◌, ◌≤◌, ◌^◌, ◌∙◌, inl, inr, refl, sym, ap, subst, arith, Bool, List, [], ◌∷◌, length, Option, Some, None, get_or}
+use Rattle.std.specs.Prelude.{slice_get, slice_set, unsigned_abs}
+use Rattle.std.specs.Int.{Width, byte_len}
+use Rattle.std.specs.Option.{option_map}
+use Rattle.std.proofs.Math.Nat.{mul-le-mul_right}
+use Rattle.std.proofs.lemmas.Bool.{cases_eq, cases_lt}
+use Rattle.std.proofs.lemmas.List.{get_or-set_other, get_or-set_same, length-set}
+use Rattle.std.proofs.lemmas.Option.{get_or_from_slice_get, slice_get-get_or, slice_get_within}
+use Rattle.rkyv_scan.specs.Groups.{generic_kind}
+use Rattle.rkyv_scan.specs.Lemmas.KindLaws.{word_lawful}
+use Rattle.rkyv_base.specs.Bytes.{Same, number_at}
+use Rattle.rkyv_base.specs.Entry.{entry_element, entry_shape, parts_inside, same_key, size_of_small, viewed_key, viewed_value, whole_size}
+use Rattle.rkyv_base.specs.Format.{StandsNear}
+use Rattle.rkyv_base.specs.Pairs.{PairStands, pair_near}
+use Rattle.rkyv_base.specs.Sealing.{Keeps, Outside, Sealed, value_pos}
+use Rattle.rkyv_base.specs.Shape.{IsElement, Shape, Viewed}
+use Rattle.rkyv_base.specs.Text.{IsArchiveWord}
+use Rattle.rkyv_base.proofs.Sealing.{entry_kept, holds_elsewhere, same_outside, sealed_wider, viewed_kept}
+use Rattle.rkyv_keys.specs.Asking.{RestsOnKeys}
+use Rattle.rkyv_table.specs.Table.Header.{cap_at, len_at}
+use Rattle.rkyv_table.specs.Controls.Finding.{found}
+use Rattle.rkyv_table.specs.Controls.Numbers.{capacity}
+use Rattle.rkyv_table.specs.Lemmas.ItemPositions.{HoldsWithin}
+use Rattle.rkyv_table.specs.Lemmas.PlaceLaws.{AllBelow}
+use Rattle.rkyv_table.specs.Lemmas.SameHeader.{cap_same, len_same}
+use Rattle.rkyv_table.specs.Lemmas.TableLaws.{table_element}
+use Rattle.rkyv_table.specs.Table.Places.{AllHold}
+use Rattle.rkyv_table.specs.Table.Reading.{IsWalked, item_at, table_controls}
+use Rattle.rkyv_table.specs.Table.SealedTable.{SameValue}
+use Rattle.rkyv_table.proofs.Items.{controls_accepted, some_cap}
+use Rattle.rkyv_table.proofs.Misplaced.{found_agree, found_walked}
+use Rattle.rkyv_table.proofs.Walks.{walked_full}
+use Rattle.rkyv_index.specs.Index.{fits_in, index_found}
+use Rattle.rkyv_index.specs.IndexFormat.{IndexStands, IndexWrittenAt}
+use Rattle.rkyv_index.specs.IndexLayout.{EntriesIn, IndexHolds, entries_pos, entries_told, entry_at, index_shape, pair_pos, place_shape, places_of}
+use Rattle.rkyv_index.specs.Lemmas.IndexLaws.{each_holds, entry_inside, head_same, index_again, place_element, place_same_at, places_below, same_controls, told_same}
+use Rattle.rkyv_index.specs.Lemmas.IndexNear.{HashNear, written_again}
+use Rattle.rkyv_index.specs.SealedIndex.{IsPairPos}
+use Rattle.rkyv_index.specs.ValueWrites.{KeepsEntries, KeepsIndexMap, RestsOnKey, WritesValue}
+use Rattle.rkyv_index.proofs.Held.{begin_is, entries_inside, entry_viewed, place_below, table_there}
+
+-- two entries share no byte
+entries_apart : (size begin i j : ℕ) → j ≢ i → Outside (entry_at size begin i) size (entry_at size begin j) (entry_at size begin j + size)
+entries_apart size begin i j ne = elim (cases_lt i j) [
+  | inl l ↦ let m : (suc i) * size ≤ j * size = mul-le-mul_right size (omega arith) in inr (omega (arith, m))
+  | inr g ↦
+      let less : j < i = omega (arith, ne, g) in
+      let m : (suc j) * size ≤ i * size = mul-le-mul_right size (omega arith) in
+      inl (omega (arith, m))
+]
+
+-- of values that hold, one after the other, one is written in place and kept, which shares no byte with the others, and
+-- whose own bytes lie behind all parts: then they hold again
+all_kept : (s : Shape) → IsElement s → (at : ℕ → ℕ) (b c : List ℕ) (n hi i : ℕ) → Sealed b (at i) s.size c → Keeps s b c (at i) → hi ≤ at i
+    → ((j : ℕ) → j < n → j ≢ i → Outside (at i) s.size (at j) (at j + s.size)) → (is : List ℕ) (lo l : ℕ) → lo ≤ hi → AllBelow n is → AllHold s at b hi is lo l → AllHold s at c hi is lo l
+all_kept s law at b c n hi i sealed keeps above apart [] lo l o below h = h
+all_kept s law at b c n hi i sealed keeps above apart (j ∷ is) lo l o below h =
+    let k : (lo ≤ h.0) × (h.0 ≤ hi) = law.between b (at j) lo hi h.0 o h.1 in
+    let here : s.holds c (at j) lo hi h.0 = elim (cases_eq j i) [
+      | inl e ↦ subst (λ z. s.holds c (at z) lo hi h.0) (sym e) (keeps lo hi h.0 o above (subst (λ z. s.holds b (at z) lo hi h.0) e h.1))
+      | inr ne ↦ holds_elsewhere s law b c (at i) s.size sealed (at j) lo hi h.0 o (apart j below.0 ne) (inl (omega (arith, k.1, above))) h.1
+    ] in
+    (h.0, here, all_kept s law at b c n hi i sealed keeps above apart is h.0 l k.1 below.1 h.2)
+
+-- what holds with its parts before hi leaves no greater lower end in any range
+parts_below : (s : Shape) → IsElement s → (b : List ℕ) (q lo hi rest l : ℕ) → lo ≤ hi → hi ≤ q → s.holds b q lo hi rest → s.holds b q 0 q l → l ≤ hi
+parts_below s law b q lo hi rest l o above held h =
+    let d : (l' : ℕ) × s.holds b q 0 hi l' × (l' ≤ rest) = law.lower b q lo 0 hi rest (omega arith) o held in
+    let k = law.between b q lo hi rest o held in
+    let same : l ≡ d.0 = law.one b q 0 q l d.0 h (law.higher b q 0 hi q d.0 above d.1) in
+    omega (arith, same, d.2, k.1)
+
+-- what is found is read alike where it is walked
+read_alike : (f g f' g' : ℕ → ℕ) (o : Option ℕ) → ((i : ℕ) → o ≡ Some i → f (g i) ≡ f' (g' i)) → option_map f (option_map g o) ≡ option_map f' (option_map g' o)
+read_alike f g f' g' None same = refl
+read_alike f g f' g' (Some i) same = ap Some (same i refl)
+
+module _ (w : Width) (kind : IsArchiveWord w) (k v : Shape) (kl : IsElement k) (vl : IsElement v) (b : List ℕ) (p : ℕ) (view : Viewed (index_shape w (entry_shape k v)) b p) where
+  abbrev S : Shape
+  S = entry_shape k v
+
+  abbrev law : IsElement S
+  law = entry_element k v kl vl
+
+  abbrev at : ℕ → ℕ
+  at = pair_pos w S.size b p
+
+  abbrev held : IndexHolds w S b p 0 p view.stands.0
+  held = view.stands.1
+
+  begins : entries_pos w b p ≡ held.entries.begin
+  begins = begin_is w kind S law b p view
+
+  entry_there : (i : ℕ) → i < len_at w b p → Viewed S b (at i)
+  entry_there i below = entry_viewed w kind S law b p view i below
+
+  -- it stands before the header
+  entry_before : (i : ℕ) → i < len_at w b p → at i + S.size ≤ p
+  entry_before i below =
+      let u = entry_inside S.size (entries_pos w b p) (len_at w b p) i below in
+      let e = entries_inside w kind S law b p view in
+      omega (arith, u.1, e)
+
+  -- and holds with its parts before the entries
+  entry_parts : (i : ℕ) → i < len_at w b p → HoldsWithin S b (at i) held.middle (entries_pos w b p) held.entries.last
+  entry_parts i below =
+      let begin = held.entries.begin in
+      let r = each_holds S law (entry_at S.size begin) b begin 0 (len_at w b p) held.middle held.entries.last i held.entries.part.above held.entries.hold (omega arith) (omega (arith, below)) in
+      subst (λ n. HoldsWithin S b (entry_at S.size n i) held.middle n held.entries.last) (sym begins) r
+
+  -- the value of place i is written
+  module _ (c : List ℕ) (i : ℕ) (below : i < len_at w b p) (writes : WritesValue w k v b c (at i)) where
+    wider : Sealed b (at i) S.size c
+    wider =
+        let small = size_of_small (whole_size k v) (entry_there i below).stands.1.0 in
+        let inside = parts_inside k v in
+        sealed_wider b c (value_pos k v (at i)) v.size (at i) S.size (omega arith) (omega (arith, small, inside.1)) writes.sealed
+
+    entry_keeps : Keeps S b c (at i)
+    entry_keeps = entry_kept k v kl vl b c (at i) writes.sealed writes.keeps
+
+    front_same : (x y : ℕ) → x ≤ y → y ≤ entries_pos w b p → Same b c x y
+    front_same x y o h = same_outside b (at i) S.size c wider x y o (inl (omega (arith, h)))
+
+    header_same : Same b c p (p + 4 * byte_len w)
+    header_same = let e = entry_before i below in same_outside b (at i) S.size c wider p (p + 4 * byte_len w) (omega arith) (inr (omega (arith, e)))
+
+    head : Same b c p (p + 3 * byte_len w)
+    head = head_same w b c p header_same
+
+    entries_hold : (lo hi l : ℕ) → EntriesIn S b (entries_told w b p) (len_at w b p) lo hi l → EntriesIn S c (entries_told w b p) (len_at w b p) lo hi l
+    entries_hold lo hi l h =
+        let n = len_at w b p in
+        let begin = h.begin in
+        let is : entries_pos w b p ≡ begin = ap unsigned_abs (sym h.part.begins) in
+        record {
+          begin = begin;
+          part = h.part;
+          last = h.last;
+          hold = all_kept S law (entry_at S.size begin) b c n begin i
+              (subst (λ m. Sealed b (entry_at S.size m i) S.size c) is wider) (subst (λ m. Keeps S b c (entry_at S.size m i)) is entry_keeps)
+              (omega arith) (λ j less ne. entries_apart S.size begin i j ne) (places_of n) lo h.last h.part.above (places_below n) h.hold;
+          ends = h.ends;
+        }
+
+    index_holds : Keeps (index_shape w S) b c p
+    index_holds lo hi l o o' h =
+        let t = (table_element w kind (place_shape w) (place_element w kind)).between b p lo hi h.middle o h.table in
+        let is : entries_pos w b p ≡ h.entries.begin = ap unsigned_abs (sym h.entries.part.begins) in
+        let above = h.entries.part.above in
+        index_again w kind S law b c p lo hi l o header_same h (front_same lo h.middle t.0 (omega (arith, above, is))) (entries_hold h.middle hi l h.entries)
+
+    entry_same : (j : ℕ) → j ≢ i → Same b c (at j) (at j + S.size)
+    entry_same j ne = same_outside b (at i) S.size c wider (at j) (at j + S.size) (omega arith) (entries_apart S.size (entries_pos w b p) i j ne)
+
+    other_same : (j : ℕ) → j < len_at w b p → j ≢ i → SameValue S b c (at j)
+    other_same j there ne =
+        let r = entry_parts j there in
+        record {
+          fixed = entry_same j ne;
+          parts = λ l h. front_same 0 l (omega arith) (parts_below S law b (at j) r.lower (entries_pos w b p) r.rest l r.below (omega arith) r.holds h);
+        }
+
+    key_fixed : (j : ℕ) → j < len_at w b p → Same b c (at j) (at j + k.size)
+    key_fixed j there = elim (cases_eq j i) [
+      | inl e ↦
+          let inside = parts_inside k v in
+          let own : Same b c (at i) (at i + k.size) = same_outside b (value_pos k v (at i)) v.size c writes.sealed (at i) (at i + k.size) (omega arith) (inl (omega (arith, inside.0))) in
+          subst (λ n. Same b c (at n) (at n + k.size)) (sym e) own
+      | inr ne ↦ same_key k v kl vl b c (at j) (entry_there j there).stands.1.0 (entry_same j ne)
+    ]
+
+    key_same : (j : ℕ) → j < len_at w b p → SameValue k b c (at j)
+    key_same j there =
+        let r = entry_parts j there in
+        record {
+          fixed = key_fixed j there;
+          parts = λ l h. front_same 0 l (omega arith) (parts_below k kl b (at j) r.lower (entries_pos w b p) r.holds.1 l r.below (omega arith) r.holds.2 h);
+        }
+
+    pub entries_kept : KeepsEntries w k v b c p i
+    entries_kept = record {
+      holds = index_holds;
+      header = header_same;
+      front = front_same 0 (entries_pos w b p) (omega arith) (omega arith);
+      keys = key_same;
+      others = other_same;
+    }
+
+    -- ---- the table of places, and what a lookup finds
+
+    places_same : (j : ℕ) → pair_pos w S.size c p j ≡ at j
+    places_same j = ap (λ z. entry_at S.size (unsigned_abs z) j) (sym (told_same w b c p header_same))
+
+    table_below : held.middle ≤ entries_pos w b p
+    table_below = let above = held.entries.part.above in omega (arith, above, begins)
+
+    controls_same : 0 < cap_at w b p → table_controls w b p ≡ table_controls w c p
+    controls_same = same_controls w kind b c p 0 p held.middle (omega arith) head (front_same 0 held.middle (omega arith) table_below) held.table
+
+    read_same : (j : ℕ) → IsWalked w b p j → number_at w b (item_at w (byte_len w) b p j) ≡ number_at w c (item_at w (byte_len w) c p j)
+    read_same = place_same_at w kind b c p 0 p held.middle (omega arith) head (front_same 0 held.middle (omega arith) table_below) held.table
+
+    some_buckets : 0 < cap_at w b p
+    some_buckets = some_cap w (place_shape w) (place_element w kind) b p (table_there w kind S law b p view) (omega (arith, below))
+
+    module _ (hash : ℕ) (small : hash < 2 ^ 64) (fits : List ℕ → ℕ → Bool) (rests : RestsOnKey k fits) where
+      abbrev tells : List ℕ → ℕ → Bool
+      tells d j = fits d (pair_pos w S.size d p (number_at w d (item_at w (byte_len w) d p j)))
+
+      abbrev bucket : Option ℕ
+      bucket = found generic_kind (table_controls w b p) (cap_at w b p) (len_at w b p) hash (tells b)
+
+      tells_same : (j : ℕ) → IsWalked w b p j → tells c j ≡ tells b j
+      tells_same j there =
+          let n = number_at w b (item_at w (byte_len w) b p j) in
+          let inside = place_below w kind S law b p view j there in
+          let key = viewed_key k v kl vl b (at n) (entry_there n inside) in
+          ap (λ m. fits c (pair_pos w S.size c p m)) (sym (read_same j there)) ∙ ap (fits c) (places_same n)
+          ∙ rests b c (at n) key.stands.0 key.stands.1 (key_same n inside)
+
+      bucket_same : found generic_kind (table_controls w c p) (cap_at w c p) (len_at w c p) hash (tells c) ≡ bucket
+      bucket_same =
+          let f = found generic_kind in
+          ap (λ (x : List ℕ). f x (cap_at w c p) (len_at w c p) hash (tells c)) (sym (controls_same some_buckets))
+          ∙ ap (λ n. f (table_controls w b p) n (len_at w c p) hash (tells c)) (sym (cap_same w b c p head))
+          ∙ ap (λ n. f (table_controls w b p) (cap_at w b p) n hash (tells c)) (sym (len_same w b c p head))
+          ∙ found_agree generic_kind (cap_at w b p) (len_at w b p) hash (table_controls w b p) word_lawful
+          (controls_accepted w (place_shape w) (place_element w kind) b p (table_there w kind S law b p view) some_buckets) small (tells c) (tells b)
+          (λ j there. tells_same j (walked_full (cap_at w b p) (table_controls w b p) j there))
+
+      lookup_same : index_found w c p hash (fits_in w k v c p fits) ≡ index_found w b p hash (fits_in w k v b p fits)
+      lookup_same =
+          let of : List ℕ → Option ℕ → Option ℕ = λ d o. option_map (number_at w d) (option_map (item_at w (byte_len w) d p) o) in
+          ap (of c) bucket_same ∙ read_alike (number_at w c) (item_at w (byte_len w) c p) (number_at w b) (item_at w (byte_len w) b p) bucket (λ j is.
+          let walked = found_walked generic_kind (cap_at w b p) (len_at w b p) hash (table_controls w b p) word_lawful
+          (controls_accepted w (place_shape w) (place_element w kind) b p (table_there w kind S law b p view) some_buckets) small (tells b) j is in
+          sym (read_same j (walked_full (cap_at w b p) (table_controls w b p) j walked.1)))
+
+    -- ---- an index map that was written, and one that stands for a list
+
+    module _ (key_hash : List ℕ → ℕ → ℕ) (near : HashNear k key_hash) where
+      hash_same : (j : ℕ) → j < len_at w b p → key_hash c (at j) ≡ key_hash b (at j)
+      hash_same j there =
+          let key = viewed_key k v kl vl b (at j) (entry_there j there) in
+          let same = key_same j there in
+          sym (near b c (at j) 0 (at j) key.stands.0 (omega arith) key.stands.1 same.fixed (same.parts key.stands.0 key.stands.1))
+
+      written_same : (homes : List ℕ) → IndexWrittenAt w S.size key_hash b p homes → IndexWrittenAt w S.size key_hash c p homes
+      written_same = written_again w S.size key_hash b c p head controls_same read_same
+          (λ j there. sym (hash_same j there) ∙ ap (key_hash c) (sym (places_same j)))
+
+      pub index_kept : KeepsIndexMap w k v key_hash b c p i
+      index_kept = record {
+        entries = entries_kept;
+        stands = viewed_kept (index_shape w S) b c p writes.sealed.same_length index_holds view;
+        len = sym (len_same w b c p head);
+        places = places_same;
+        hashes = hash_same;
+        lookups = λ hash fits small rests. lookup_same hash small fits rests;
+        written = written_same;
+      }
+
+      module _ {A B : Type 0} (key : List ℕ → ℕ → A → Type 0) (value : List ℕ → ℕ → B → Type 0) (kn : StandsNear k key) (vn : StandsNear v value) (factor : ℕ × ℕ) (pairs : List (A × B))
+          (pair : A × B) (new : B) (st : IndexStands w k v key value key_hash factor b p pairs) (at_i : slice_get pairs i ≡ Some pair) (stands : value c (value_pos k v (at i)) new) where
+        -- the written pair stands with the new value, and every other one as before
+        written_stands : PairStands k v key value c (at i) (pair.0, new)
+        written_stands =
+            let there = viewed_key k v kl vl b (at i) (entry_there i below) in
+            let same = key_same i below in
+            (kn pair.0 b c (at i) 0 (at i) there.stands.0 (omega arith) there.stands.1 same.fixed (same.parts there.stands.0 there.stands.1) (st.at i pair at_i).0, stands)
+
+        other_stands : (j : ℕ) (x : A × B) → j < len_at w b p → slice_get pairs j ≡ Some x → j ≢ i → PairStands k v key value c (at j) x
+        other_stands j x there at_j ne =
+            let entry = entry_there j there in
+            let same = other_same j there ne in
+            pair_near k v kl vl key value kn vn x b c (at j) 0 (at j) entry.stands.0 (omega arith) entry.stands.1 same.fixed (same.parts entry.stands.0 entry.stands.1) (st.at j x at_j)
+
+        pub written_value_stands : IndexStands w k v key value key_hash factor c p (slice_set pairs i (pair.0, new))
+        written_value_stands =
+            let y : A × B = (pair.0, new) in
+            let same_count = length-set pairs i y in
+            let inside : i < length pairs = slice_get_within pairs i pair at_i in
+            let count = st.len in
+            record {
+              homes = st.homes;
+              written = written_same st.homes st.written;
+              len = sym (len_same w b c p head) ∙ st.len ∙ sym same_count;
+              cap = sym (cap_same w b c p head) ∙ st.cap ∙ ap (λ m. capacity m factor) (sym same_count);
+              at = λ j x e.
+                  let h : j < length pairs = omega (arith, slice_get_within (slice_set pairs i y) j x e, same_count) in
+                  let there : j < len_at w b p = omega (arith, h, count) in
+                  let is : get_or (slice_set pairs i y) j x ≡ x = get_or_from_slice_get (slice_set pairs i y) j x x e in
+                  subst (λ z. PairStands k v key value c z x) (sym (places_same j)) (elim (cases_eq j i) [
+                    | inl same ↦
+                        let one : y ≡ x = sym (get_or-set_same pairs i y x inside) ∙ ap (λ m. get_or (slice_set pairs i y) m x) (sym same) ∙ is in
+                        subst (λ m. PairStands k v key value c (at m) x) (sym same) (subst (PairStands k v key value c (at i)) one written_stands)
+                    | inr ne ↦
+                        let one : get_or pairs j x ≡ x = sym (get_or-set_other pairs i j y x ne) ∙ is in
+                        other_stands j x there (slice_get-get_or pairs j x h ∙ ap Some one) ne
+                  ]);
+            }
+
+  -- the pair of a place, whose value may be written
+  pub pair_place : (i : ℕ) → i < len_at w b p → IsPairPos w k v b p i (at i)
+  pair_place i below =
+      let entry = entry_there i below in
+      record {
+        below = below;
+        place = refl;
+        key = viewed_key k v kl vl b (at i) entry;
+        value = viewed_value k v kl vl b (at i) entry;
+        kept = λ c writes. entries_kept c i below writes;
+      }
+
+-- a test that rests on the keys rests on each
+pub rests_on_each : {Q : Type 0} (k : Shape) (can_read : Q → Type 0) (fits : Q → List ℕ → ℕ → Bool) → RestsOnKeys k can_read fits → (q : Q) → can_read q → RestsOnKey k (fits q)
+rests_on_each k can_read fits rests q can b c p l holds same = rests q b c p l can holds same.fixed (same.parts l holds)

@@ -1,0 +1,114 @@
+-- What a lookup in an index map answers that lends the value to be written.
+use Rattle.std.specs.Prelude.{◌≡◌, ℕ, ◌<◌, List, Bool, Option, Some, None, MatchOption, take, drop}
+use Rattle.std.specs.Int.{Width}
+use Rattle.std.specs.Option.{option_map}
+use Rattle.rkyv_base.specs.Entry.{entry_shape}
+use Rattle.rkyv_base.specs.Seal.{archive_in, bytes_in, seal_pos, pos_in}
+use Rattle.rkyv_base.specs.Sealing.{value_pos}
+use Rattle.rkyv_base.specs.Shape.{Shape, Viewed}
+use Rattle.rkyv_base.specs.View.{IsView, bytes_of, pos_of}
+use Rattle.rkyv_base.specs.declared.seal.ArchiveSeal.{ArchiveSeal}
+use Rattle.rkyv_base.specs.declared.seal.Seal.{Seal}
+use Rattle.rkyv_base.specs.declared.view.View.{View}
+use Rattle.rkyv_table.specs.Table.Header.{len_at}
+use Rattle.rkyv_index.specs.Index.{AreUnderHashAt, FindsFirstPlaceAt, FindsPlaceAt, IsHeldAt}
+use Rattle.rkyv_index.specs.IndexLayout.{index_shape}
+use Rattle.rkyv_index.specs.ValueWrites.{KeptByWrites, pair_at}
+use Rattle.rkyv_index.specs.declared.map.IndexMapOf.{IndexMapOf}
+
+-- the header of an index map stands where the seal is
+abbrev pub IsIndexSeal : {K V H W : Type 0} → Width → Shape → Shape
+    → ArchiveSeal (IndexMapOf K V H W) → Type 0
+IsIndexSeal w k v a = Viewed (index_shape w (entry_shape k v)) (archive_in a) (pos_in a)
+
+-- the view is that of the key of place i of the index map at p, in the same bytes
+pub record IsKeyAt {K : Type 0} (w : Width) (k v : Shape) (b : List ℕ) (p i : ℕ) (key : View K) :
+    Type 0 where
+  pub below : i < len_at w b p
+  pub bytes : bytes_of key ≡ b
+  pub place : pos_of key ≡ pair_at w k v b p i
+  pub viewed : IsView k key
+
+module _ {K : Type 0} (w : Width) (k v : Shape) (b : List ℕ) (p : ℕ) where
+  -- the comparison may be asked of each key
+  abbrev pub MayAskKeysAt : (View K → Type 0) → Type 0
+  MayAskKeysAt pre = (i : ℕ) (key : View K) → IsKeyAt w k v b p i key → pre key
+
+  -- of each key the comparison answers what accept tells of its place
+  abbrev pub AnswersKeysAt : (View K → Bool → Type 0) → (ℕ → Bool) → Type 0
+  AnswersKeysAt post accept = (i : ℕ) (key : View K) (r : Bool) → IsKeyAt w k v b p i key
+      → post key r → r ≡ accept i
+
+  -- what is told of what a lookup by a comparison finds, for each function of places as which the
+  -- comparison answers
+  abbrev pub FindsByAt : (View K → Bool → Type 0) → ℕ → (Option ℕ → Type 0) → Type 0
+  FindsByAt post hash Told = (accept : ℕ → Bool) → AnswersKeysAt post accept
+      → FindsPlaceAt w k v b p hash accept Told
+
+  -- and on an index map that was written, where it accepts keys under the hash alone
+  abbrev pub FindsFirstByAt : (View K → Bool → Type 0) → ℕ → (List ℕ → ℕ → ℕ)
+      → (Option ℕ → Type 0) → Type 0
+  FindsFirstByAt post hash key_hash Told = (accept : ℕ → Bool) → AnswersKeysAt post accept
+      → AreUnderHashAt w k v b p hash key_hash accept
+      → FindsFirstPlaceAt w k v b p key_hash accept Told
+
+-- The key of place i of the index map at p stands at q, and the value behind it. Every write of the
+-- value alone that keeps the value keeps the index map.
+pub record IsPairPos (w : Width) (k v : Shape) (b : List ℕ) (p i q : ℕ) : Type 0 where
+  pub below : i < len_at w b p
+  pub place : q ≡ pair_at w k v b p i
+  pub key : Viewed k b q
+  pub value : Viewed v b (value_pos k v q)
+  pub kept : KeptByWrites w k v b p i
+
+-- the bytes are cut at the begin of the value of place i: the key is viewed in the front, and the
+-- seal is at the begin of the back
+pub record LendsPair {K V : Type 0} (w : Width) (k v : Shape) (b : List ℕ) (p i : ℕ)
+    (pair : View K × Seal V) : Type 0 where
+  pub at : IsPairPos w k v b p i (pos_of pair.0)
+  pub key : IsView k pair.0
+  pub front : bytes_of pair.0 ≡ take (value_pos k v (pos_of pair.0)) b
+  pub back : bytes_in pair.1 ≡ drop (value_pos k v (pos_of pair.0)) b
+  pub begin : seal_pos pair.1 ≡ 0
+
+-- the seal is at the value of place i, in the same bytes
+pub record LendsValue {V : Type 0} (w : Width) (k v : Shape) (b : List ℕ) (p i : ℕ)
+    (value : Seal V) : Type 0 where
+  pub key : ℕ
+  pub at : IsPairPos w k v b p i key
+  pub bytes : bytes_in value ≡ b
+  pub place : seal_pos value ≡ value_pos k v key
+
+module _ {K V H W : Type 0} (w : Width) (k v : Shape) (a : ArchiveSeal (IndexMapOf K V H W)) where
+  -- what is lent is the pair of a place that a full bucket holds, and the place comes with it
+  abbrev pub IsFullSeal : ℕ × View K × Seal V → Type 0
+  IsFullSeal full = IsHeldAt w (archive_in a) (pos_in a) full.0
+      × LendsPair w k v (archive_in a) (pos_in a) full.0 (full.1, full.2)
+
+  -- what is lent is the pair of a place that a full bucket holds
+  abbrev pub IsPairSeal : View K × Seal V → Type 0
+  IsPairSeal pair = (i : ℕ) × IsHeldAt w (archive_in a) (pos_in a) i
+      × LendsPair w k v (archive_in a) (pos_in a) i pair
+
+  -- what is lent is the value of a place that a full bucket holds
+  abbrev pub IsValueSeal : Seal V → Type 0
+  IsValueSeal value = (i : ℕ) × IsHeldAt w (archive_in a) (pos_in a) i
+      × LendsValue w k v (archive_in a) (pos_in a) i value
+
+  -- what was lent is the pair of the place, or none was found
+  abbrev pub IsPairSealAt : Option (View K × Seal V) → Option ℕ → Type 0
+  IsPairSealAt result place = MatchOption place (result ≡ None) (λ i. (pair : View K × Seal V)
+      × (result ≡ Some pair) × LendsPair w k v (archive_in a) (pos_in a) i pair)
+
+  -- what was lent is the value of the place, or none was found
+  abbrev pub IsValueSealAt : Option (Seal V) → Option ℕ → Type 0
+  IsValueSealAt result place = MatchOption place (result ≡ None) (λ i. (value : Seal V)
+      × (result ≡ Some value) × LendsValue w k v (archive_in a) (pos_in a) i value)
+
+-- the place of a pair that was lent
+abbrev pub full_seal_place : {K V : Type 0} → Option (ℕ × View K × Seal V) → Option ℕ
+full_seal_place {K} {V} result = option_map (λ (full : ℕ × View K × Seal V). full.0) result
+
+-- what was lent is at the place, or none was found
+abbrev pub IsFullSealAt : {K V : Type 0} → Option (ℕ × View K × Seal V) → Option ℕ → Type 0
+IsFullSealAt result place = full_seal_place result ≡ place

@@ -1,0 +1,58 @@
+//! Writing the value of a place over the bare bytes of an archive.
+ghost use Rattle.std.specs.Prelude.{length, ◌+◌, ◌<◌, ◌≡◌, ◌≤◌};
+ghost use Rattle.rkyv_base.specs.Entry.{entry_shape};
+ghost use Rattle.rkyv_base.specs.Scalar.{scalar_shape};
+ghost use Rattle.rkyv_base.specs.Sealing.{value_pos, with_value};
+ghost use Rattle.rkyv_base.specs.Shape.{Viewed};
+ghost use Rattle.rkyv_table.specs.Table.Header.{len_at};
+ghost use Rattle.rkyv_index.specs.Index.{hash_at};
+ghost use Rattle.rkyv_index.specs.IndexLayout.{index_shape};
+ghost use Rattle.rkyv_index.specs.ValueWrites.{KeepsIndexMap, SetsPlace, pair_at};
+
+use crate::map::ArchivedIndexMap;
+use rkyv_base::element::{Element, StandsFor};
+use rkyv_base::scalars::Scalar;
+use rkyv_base::seal::set_at;
+use rkyv_base::view::View;
+use rkyv_base::width::Width;
+use rkyv_keys::keys::KeyElement;
+use rkyv_scan::hash::KeyHasher;
+
+/// Where the value of a place stands, in the index map whose header stands at `root`.
+#[inline]
+fn value_pos_at<K: Element, V: Element, H, W: Width>(archive: &[u8], root: u64, place: usize) -> u64
+    requires map { Viewed (index_shape W.word (entry_shape K.shape V.shape)) archive.now root }
+    requires below { place < len_at W.word archive.now root }
+    ensures at { result ≡ value_pos K.shape V.shape
+        (pair_at W.word K.shape V.shape archive.now root place) }
+    ensures inside { result + V.shape.size ≤ length archive.now }
+{
+    let map = ArchivedIndexMap::<K, V, H, W>::of(View::new(archive, root));
+    map.entries().entry(place).value().pos()
+}
+
+/// Writes the value of a place below the length, in the index map whose header stands at `root`;
+/// all other bytes stay.
+///
+/// The place of a key is told by `get_index_of`. Where the map stands for a list of pairs, whose
+/// keys are of type A, it then stands for the list with the new value at the place.
+pub fn set_value_at<A, K: KeyElement + StandsFor<A>, N: Scalar, H: KeyHasher, W: Width>(
+    archive: &mut [u8],
+    root: u64,
+    place: usize,
+    value: N,
+)
+    requires map { Viewed (index_shape W.word (entry_shape K.shape (scalar_shape N.encoding)))
+        archive.old root }
+    requires below { place < len_at W.word archive.old root }
+    ensures written { archive.new ≡ with_value N.encoding archive.old
+        (value_pos K.shape (scalar_shape N.encoding)
+        (pair_at W.word K.shape (scalar_shape N.encoding) archive.old root place)) value }
+    ensures kept { KeepsIndexMap W.word K.shape (scalar_shape N.encoding)
+        (hash_at H.hasher K.key_calls) archive.old archive.new root place }
+    ensures listed { SetsPlace W.word K.shape N.encoding K.stands
+        (hash_at H.hasher K.key_calls) archive.old root place value archive.new }
+{
+    let pos = value_pos_at::<K, N, H, W>(&*archive, root, place);
+    set_at(archive, pos as usize, value);
+}

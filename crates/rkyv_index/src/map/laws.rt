@@ -1,0 +1,41 @@
+//! Laws of index maps of which one value is written in place, over their definitions alone.
+ghost use Rattle.rkyv_index.specs.Index.{hash_at};
+ghost use Rattle.rkyv_index.specs.IndexFormat.{hash_of};
+ghost use Rattle.rkyv_index.specs.ValueWrites.{
+  ValueWritesKeepAnswers,
+  ValueWritesKeepIndexMaps,
+  ValuesWrittenStand,
+};
+
+use rkyv_base::element::{Element, StandsFor};
+use rkyv_base::width::Width;
+use rkyv_keys::keys::{KeyElement, Query};
+use rkyv_scan::hash::KeyHasher;
+
+/// A write of one value in place that keeps the value keeps the index map: its length, the places,
+/// all keys and all other values are as before, each lookup finds the same place, and an index map
+/// that was written stays one.
+pub fn value_writes_keep_index_maps<K: KeyElement, V: Element, H: KeyHasher, W: Width>()
+    ensures { ValueWritesKeepIndexMaps W.word K.shape V.shape
+        (hash_at H.hasher K.key_calls) }
+{}
+
+/// After such a write each query finds the same place.
+pub fn value_writes_keep_answers<K: KeyElement, V: Element, Q: Query<K>, H: KeyHasher, W: Width>()
+    ensures { let hash = hash_of H.hasher Q.calls in
+        ValueWritesKeepAnswers W.word K.shape V.shape Q.can_read hash Q.fits }
+{}
+
+/// An index map that stands for a list of pairs stands, once the value of a place was written, for
+/// the list with the new value at that place.
+pub fn values_written_stand<
+    A,
+    B,
+    K: KeyElement + StandsFor<A>,
+    V: StandsFor<B>,
+    H: KeyHasher,
+    W: Width,
+>()
+    ensures { ValuesWrittenStand W.word K.shape V.shape K.stands V.stands
+        (hash_at H.hasher K.key_calls) }
+{}
