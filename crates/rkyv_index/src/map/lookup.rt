@@ -300,6 +300,35 @@ impl<'a, K: KeyElement, V: Element, H: KeyHasher, W: Width> ArchivedIndexMap<'a,
         self.find(key, cmp, &mut Strides::new())
     }
 
+    /// As `get_index_of_with`, and counts the strides of sixteen controls that are read: none in an
+    /// empty map, else one at least, and at most one for each sixteen buckets, rounded up, whatever
+    /// the comparison answers. Every other lookup reads as many.
+    ///
+    /// The count may be at most 9,223,372,036,854,775,808.
+    #[inline]
+    pub fn get_index_of_counted<Q: KeyHash, F: Fn(&Q, View<'a, K>) -> bool>(
+        self,
+        key: &Q,
+        cmp: F,
+        strides: &mut Strides,
+    ) -> Option<usize>
+        requires map { IsIndexMap W.word K.shape V.shape self }
+        requires query { Q.can_read key.now }
+        requires room { strides.old ≤ 2 ^ 63 }
+        requires callable { MayAskKeys W.word K.shape V.shape self (F.pre cmp key) }
+        ensures walked { IfSome result (IsHeld W.word self.entry) }
+        ensures below { IfSome result (λ i. i < index_len W.word self.entry) }
+        ensures answer { let hash = hash_of_calls H.hasher (Q.calls key.now) in
+            FindsBy W.word K.shape V.shape self.entry (F.post cmp key.entry) hash (IsPlace result) }
+        ensures first { let hash = hash_of_calls H.hasher (Q.calls key.now) in
+            let key_hash = hash_at H.hasher K.key_calls in
+            FindsFirstBy W.word K.shape V.shape self.entry (F.post cmp key.entry) hash key_hash
+            (IsPlace result) }
+        ensures bounded { ReadsFew W.word self.entry strides.old strides.new }
+    {
+        self.find(key, cmp, strides)
+    }
+
     /// The place of the pair that `get_full` answers.
     #[inline]
     pub fn get_index_of<Q: Query<K>>(self, key: &Q) -> Option<usize>
