@@ -21,7 +21,7 @@ use Rattle.rkyv_base.proofs.GivingUp.{appends_after, end-appends, told_as}
 use Rattle.rkyv_table.specs.Lemmas.TableLaws.{table_element}
 use Rattle.rkyv_table.specs.Table.Layout.{table_shape}
 use Rattle.rkyv_table.specs.Table.Passing.{HoldsAround, WrittenTablesPass}
-use Rattle.rkyv_table.specs.Table.Serializing.{NoTable}
+use Rattle.rkyv_table.specs.Table.Serializing.{NoItems}
 use Rattle.rkyv_table.specs.Table.FirstItem.{AnswersFirst, IsFirstOf}
 use Rattle.rkyv_table.specs.Table.Header.{IsHeader, cap_at}
 use Rattle.rkyv_table.specs.Controls.Numbers.{capacity}
@@ -39,11 +39,11 @@ use Rattle.rkyv_headline.specs.declared.looking.Unseen.TheVariants.{Memory, Veri
 use Rattle.rkyv_headline.specs.declared.whole.Lost.TheVariants.{Look}
 
 -- what the table's write gives up for, the list's does
-pub no_table : {X F : Type 0} (gave : List (ℕ × X) → Type 0) (len : ℕ) (load_factor : ℕ × ℕ) (max limit align : ℕ) (f : Format (List (ℕ × X)) TableResolver) (o o' : Output)
-    (other : ℕ → Type 0) (e : WriteError F) → NoTable gave len load_factor max f o o' limit other e → NoList gave len load_factor max limit align f o o' other e
-no_table gave len load_factor max limit align f o o' other e (inl h) = inl h
-no_table gave len load_factor max limit align f o o' other e (inr h) =
-    inr (h.0, h.1.0, h.1.1, told_as limit (RootNext align f h.1.0 (end_of o)) (f.next h.1.0 (end_of o)) o o' e (λ front step n. inr (inl n)) h.1.2)
+pub no_list : {X F : Type 0} (gave : List (ℕ × X) → Type 0) (len : ℕ) (load_factor : ℕ × ℕ) (max limit align : ℕ) (f : Format (List (ℕ × X)) TableResolver) (o o' : Output)
+    (other : ℕ → Type 0) (e : WriteError F) → NoItems gave len load_factor max f o o' limit other e → NoList gave len load_factor max limit align f o o' other e
+no_list gave len load_factor max limit align f o o' other e (inl h) = inl h
+no_list gave len load_factor max limit align f o o' other e (inr h) =
+    inr (h.0, h.1, h.2, told_as limit (RootNext align f h.1 (end_of o)) (f.next h.1 (end_of o)) o o' e (λ front step n. inr (inl n)) h.3)
 
 -- the scratch has room for a header
 pub header_small : (w : Width) → IsArchiveWord w → (size align : ℕ) → align ≡ byte_len w → size ≡ 3 * align → size ≤ 24

@@ -1,5 +1,6 @@
 -- What a list is that was written as a table with its header behind it, and what is seen of it.
-use Rattle.std.specs.Prelude.{◌≡◌, ℕ, ◌+◌, ◌*◌, ◌%◌, ◌≤◌, ◌⊎◌, Bool, List, ◌++◌, length, slice_get, slice_index, Some}
+use Rattle.std.specs.Prelude.{◌≡◌, ℕ, ◌+◌, ◌*◌, ◌%◌, ◌≤◌, ◌⊎◌, Bool, List, ◌++◌, length}
+use Rattle.std.specs.Prelude.{slice_get, slice_index, Some}
 use Rattle.std.specs.Int.{Width, byte_len}
 use Rattle.rkyv_base.specs.Bytes.{Sits}
 use Rattle.rkyv_base.specs.Entry.{round_up}
@@ -48,7 +49,8 @@ module _ {X : Type 0} (gave : List (ℕ × X) → Type 0) (len : ℕ) (load_fact
   -- the pairs that came were written as a table, and its header behind it
   abbrev pub WroteList : ℕ → ℕ → Type 0
   WroteList end p = HasCapacity len load_factor max × (pairs : List (ℕ × X)) × Came gave len pairs
-      × (bytes : List ℕ) × Appended limit bytes o o' × ListBytes align f pairs (end_of o) end p bytes
+      × (bytes : List ℕ) × Appended limit bytes o o'
+      × ListBytes align f pairs (end_of o) end p bytes
 
   -- a cause of the call's own, and nothing was written; or else writing the pairs that came, the
   -- zeros or the header gave up
@@ -99,10 +101,10 @@ AnswersFirstItem {X = X} post w s stands c p hash pairs seen =
     → TellsOf stands c accept (items_of pairs) told → AreUnder hash accept pairs
     → IsFirstOf stands c accept (items_of pairs) seen.found
 
--- A list that was written and then looked over: what stood before is kept; the table ends at `end`,
--- and its header stands behind it, at p, and ends what the writer holds; the list stands, so that it
--- passes the check; the walk gives exactly its items; and a lookup answers the first of them that
--- the comparison accepts, within the bound.
+-- A list that was written and then looked over: what stood before is kept; the table ends at
+-- `end`, and its header stands behind it, at p, and ends what the writer holds; the list stands, so
+-- that it passes the check; the walk gives exactly its items; and a lookup answers the first of
+-- them that the comparison accepts, within the bound.
 pub record SeesList {T X : Type 0} (post : View T → Bool → Type 0) (w : Width) (s : Shape)
     (stands : List ℕ → ℕ → X → Type 0) (load_factor : ℕ × ℕ) (o o' : Output) (hash : ℕ)
     (pairs : List (ℕ × X)) (seen : Seen) : Type 0 where
@@ -115,11 +117,11 @@ pub record SeesList {T X : Type 0} (post : View T → Bool → Type 0) (w : Widt
   pub first : AnswersFirstItem post w s stands o'.bytes p hash pairs seen
   pub sees : SeesTable post w s o'.bytes p hash seen
 
--- why a list wasn't written and looked over: a cause of writing it; or there is no memory for what
--- is seen of it. Never that the check refuses what was written.
 module _ {X : Type 0} (gave : List (ℕ × X) → Type 0) (len : ℕ) (load_factor : ℕ × ℕ)
     (max limit align : ℕ) (f : Format (List (ℕ × X)) TableResolver) (o o' : Output)
     (other : ℕ → Type 0) where
+  -- why a list wasn't written and looked over: a cause of writing it; or there is no memory for
+  -- what is seen of it. Never that the check refuses what was written.
   abbrev pub ListLost : Lost → Type 0
   ListLost (Write e) = NoList gave len load_factor max limit align f o o' other e
   ListLost (Look (Verify e)) = ⊥

@@ -25,9 +25,9 @@ per_sixteen cap = (cap + 15) / 16
 abbrev pub ReadsFew : Width → List ℕ → ℕ → ℕ → Type 0
 ReadsFew w b p strides = ReadsWithin (len_at w b p) (per_sixteen (cap_at w b p)) 0 strides
 
--- What is seen of the table whose header stands at p: the items are walked by ascending bucket, each
--- once and nothing else, as many as the header tells, and each is checked and stands inside the
--- bytes; a lookup answers none or one of them of which the comparison answered true, within the
+-- What is seen of the table whose header stands at p: the items are walked by ascending bucket,
+-- each once and nothing else, as many as the header tells, and each is checked and stands inside
+-- the bytes; a lookup answers none or one of them of which the comparison answered true, within the
 -- bound, whatever the comparison answers; and where its answers are a function of the position,
 -- what is found, after exactly so many strides.
 pub record SeesTable {T : Type 0} (post : View T → Bool → Type 0) (w : Width) (s : Shape)

@@ -69,7 +69,8 @@ fn look_up<W: Width, T: Element, F: Fn(View<'_, T>) -> bool>(
 ) -> Answer
     requires table { Viewed (table_shape W.word T.shape) bytes.now pos }
     requires callable { MayAskOf (F.pre cmp) W.word T.shape bytes.now pos }
-    ensures looks { LooksUp (F.post cmp) generic_kind W.word T.shape bytes.now pos hash result.found }
+    ensures looks { LooksUp (F.post cmp) generic_kind W.word T.shape bytes.now pos hash
+        result.found }
     ensures reads { ReadsFew W.word bytes.now pos result.strides }
     ensures exact { ReadsExactly (F.post cmp) generic_kind W.word T.shape bytes.now pos hash
         result.strides }
@@ -92,8 +93,8 @@ fn look_up<W: Width, T: Element, F: Fn(View<'_, T>) -> bool>(
 /// where they are, walks over its items, and looks up the hash.
 ///
 /// Whatever the bytes are and the comparison answers: the items that are walked were checked, each
-/// lies in the bytes, and the lookup answers none or one of them that the comparison accepted, after
-/// at most one stride of sixteen control bytes for each sixteen buckets, rounded up.
+/// lies in the bytes, and the lookup answers none or one of them that the comparison accepted,
+/// after at most one stride of sixteen control bytes for each sixteen buckets, rounded up.
 ///
 /// # Errors
 /// `Verify` with the first point that fails, where the check refuses the bytes; `Memory` where

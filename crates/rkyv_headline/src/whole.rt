@@ -50,9 +50,9 @@ pub fn written_lists_stand<W: Width, U: Archive<W>, X: Lend<U>>()
     walk_visits_homes();
 }
 
-/// Writes a list of `len` items, of which each has the next of the hashes, as a table behind what the
-/// writer holds, and behind the table its header; checks it where it stands, walks over its items,
-/// and looks up `hash`.
+/// Writes a list of `len` items, of which each has the next of the hashes, as a table behind what
+/// the writer holds, and behind the table its header; checks it where it stands, walks over its
+/// items, and looks up `hash`.
 ///
 /// What was written passes the check; the walk gives exactly the items; the lookup answers the
 /// first item handed in that the comparison accepts, where it goes by the item and accepts only

@@ -45,7 +45,8 @@ pub(crate) fn write_list<
     serializer: &mut S,
 ) -> Result<Written, WriteError<S::Fault>>
     requires { I.can_next items × J.can_next hashes }
-    ensures { let f = table_format W.word U.Archived.shape (written_as X.lent U.format) load_factor in
+    ensures { let f = table_format W.word U.Archived.shape (written_as X.lent U.format)
+        load_factor in
         let gave = GaveBoth I.next_gives J.next_gives items hashes in
         let o = S.output serializer.old in let o' = S.output serializer.new in MatchResult result
         (λ at. WroteList gave len load_factor W.MAX_CAPACITY W.LIMIT (byte_len W.word) f o o'

@@ -13,9 +13,9 @@ fn is_seen(seen: &Seen, walked: &[u64], found: Option<u64>, strides: u64) -> boo
     seen.walked.as_slice() == walked && seen.found == found && seen.strides == strides
 }
 
-// Whether 10, 20 and 30, written behind a zero, the first two under the hash 2 and the last under 5,
-// are walked as they stand in four buckets, a lookup under 2 of a number above 10 answers 20, and
-// the header ends there.
+// Whether 10, 20 and 30, written behind a zero, the first two under the hash 2 and the last under
+// 5, are walked as they stand in four buckets, a lookup under 2 of a number above 10 answers 20,
+// and the header ends there.
 fn is_looked_over<W: Width>(alloc: Global, end: u64) -> bool {
     let mut writer = VecWriter::new(alloc);
     if writer.write(&[0]).is_err() {

@@ -5,25 +5,25 @@ use Rattle.rkyv_base.proofs.RootWriting.{root_told_align, root_told_append, root
 use Rattle.rkyv_table.specs.Table.Counting.{GaveBoth, Uneven}
 use Rattle.rkyv_table.specs.Table.Header.{HeaderFar}
 use Rattle.rkyv_table.specs.Table.TableFormat.{table_format}
-use Rattle.rkyv_headline.proofs.Listing.{header_small, image_of, list_wrote, no_table, room_of}
+use Rattle.rkyv_headline.proofs.Listing.{header_small, image_of, list_wrote, no_list, room_of}
 use Rattle.rkyv_headline.proofs.writing.write_list.Goals as goal
 
 pub returns-in-Err : goal.returns-in-Err
 returns-in-Err g c =
     let f = table_format g.W.Width.word g.U.Archived.Element.shape (written_as g.X.Lend.lent g.U.Archive.format) c.args.load_factor in
-    no_table (GaveBoth g.I.Iterator.next_gives g.J.Iterator.next_gives c.args.items c.args.hashes) c.args.len c.args.load_factor g.W.Width.MAX_CAPACITY g.W.Width.LIMIT (byte_len g.W.Width.word) f
+    no_list (GaveBoth g.I.Iterator.next_gives g.J.Iterator.next_gives c.args.items c.args.hashes) c.args.len c.args.load_factor g.W.Width.MAX_CAPACITY g.W.Width.LIMIT (byte_len g.W.Width.word) f
     (g.S.Writer.output c.args.serializer.now) (g.S.Writer.output c.serialize_from_iter.new.serializer) (Uneven g.I.Iterator.next_gives g.J.Iterator.next_gives c.args.len c.args.items c.args.hashes) c.in-Err.e c.in-Err.ensures
 
 pub returns-in-Err-align_for_in : goal.returns-in-Err-align_for_in
 returns-in-Err-align_for_in g c =
     let f = table_format g.W.Width.word g.U.Archived.Element.shape (written_as g.X.Lend.lent g.U.Archive.format) c.args.load_factor in
     let h = c.in-Ok.ensures in
-    let s = h.1.2 in
+    let s = h.3 in
     inr (
       h.0,
-      h.1.0,
-      h.1.1,
-      root_told_align g.row.S-Fault.Denot g.W.Width.LIMIT (byte_len g.W.Width.word) f h.1.0
+      h.1,
+      h.2,
+      root_told_align g.row.S-Fault.Denot g.W.Width.LIMIT (byte_len g.W.Width.word) f h.1
           (g.S.Writer.output c.args.serializer.now) (g.S.Writer.output c.serialize_from_iter.new.serializer) (g.S.Writer.output c.align_for_in.new.serializer) (g.S.Writer.output c.align_for_in.new.serializer)
           s.0 c.in-Ok.resolver s.1 s.2 s.3 c.in-Err-align_for_in.e c.in-Err-align_for_in.ensures,
     )
@@ -38,15 +38,15 @@ returns-in-Err-resolve_from_len g c =
     let w = g.W.Width.word in
     let f = table_format w g.U.Archived.Element.shape (written_as g.X.Lend.lent g.U.Archive.format) c.args.load_factor in
     let h = c.in-Ok.ensures in
-    let s = h.1.2 in
+    let s = h.3 in
     let a = c.in-Ok-align_for_in.ensures in
-    let len = s.2.len ∙ h.1.1.1 in
+    let len = s.2.len ∙ h.2.1 in
     let far = subst (λ (n : ℕ). HeaderFar w n c.in-Ok.resolver.pos c.in-Ok-align_for_in.pos) (sym len) c.in-Err-resolve_from_len.ensures.0 in
     inr (
       h.0,
-      h.1.0,
-      h.1.1,
-      root_told_far g.row.S-Fault.Denot g.W.Width.LIMIT (byte_len w) f h.1.0
+      h.1,
+      h.2,
+      root_told_far g.row.S-Fault.Denot g.W.Width.LIMIT (byte_len w) f h.1
           (g.S.Writer.output c.args.serializer.now) (g.S.Writer.output c.serialize_from_iter.new.serializer) (g.S.Writer.output c.align_for_in.new.serializer) (g.S.Writer.output c.align_for_in.new.serializer)
           s.0 c.in-Ok.resolver s.1 s.2 s.3 (a.0, rw a.1 at a.2) (subst (λ (n : ℕ). HeaderFar w c.in-Ok.resolver.len c.in-Ok.resolver.pos n) a.1 far),
     )
@@ -56,28 +56,28 @@ returns-in-Ok-append_in g c =
     let w = g.W.Width.word in
     let f = table_format w g.U.Archived.Element.shape (written_as g.X.Lend.lent g.U.Archive.format) c.args.load_factor in
     let h = c.in-Ok.ensures in
-    let s = h.1.2 in
+    let s = h.3 in
     let a = c.in-Ok-align_for_in.ensures in
     let d = c.in-Ok-append_in.ensures in
-    let image = image_of w c.in-Ok.resolver c.args.len c.args.load_factor c.in-Ok-align_for_in.pos _ c.resolve_from_len.new.out (s.2.len ∙ h.1.1.1) s.2.factor a.1 c.in-Ok-resolve_from_len.ensures in
-    let wrote = list_wrote (byte_len w) f h.1.0
+    let image = image_of w c.in-Ok.resolver c.args.len c.args.load_factor c.in-Ok-align_for_in.pos _ c.resolve_from_len.new.out (s.2.len ∙ h.2.1) s.2.factor a.1 c.in-Ok-resolve_from_len.ensures in
+    let wrote = list_wrote (byte_len w) f h.1
     (g.S.Writer.output c.args.serializer.now) (g.S.Writer.output c.serialize_from_iter.new.serializer) (g.S.Writer.output c.align_for_in.new.serializer) (g.S.Writer.output c.append_in.new.serializer)
     s.0 c.in-Ok.resolver c.resolve_from_len.new.out c.pos-end.result c.in-Ok-align_for_in.pos s.1 s.2 a.0 image d.0 c.pos-end.ensures a.1 in
-    (h.0, h.1.0, h.1.1, wrote.0, (wrote.1, d.1), wrote.2)
+    (h.0, h.1, h.2, wrote.0, (wrote.1, d.1), wrote.2)
 
 pub returns-in-Err-append_in : goal.returns-in-Err-append_in
 returns-in-Err-append_in g c =
     let w = g.W.Width.word in
     let f = table_format w g.U.Archived.Element.shape (written_as g.X.Lend.lent g.U.Archive.format) c.args.load_factor in
     let h = c.in-Ok.ensures in
-    let s = h.1.2 in
+    let s = h.3 in
     let a = c.in-Ok-align_for_in.ensures in
-    let image = image_of w c.in-Ok.resolver c.args.len c.args.load_factor c.in-Ok-align_for_in.pos _ c.resolve_from_len.new.out (s.2.len ∙ h.1.1.1) s.2.factor a.1 c.in-Ok-resolve_from_len.ensures in
+    let image = image_of w c.in-Ok.resolver c.args.len c.args.load_factor c.in-Ok-align_for_in.pos _ c.resolve_from_len.new.out (s.2.len ∙ h.2.1) s.2.factor a.1 c.in-Ok-resolve_from_len.ensures in
     inr (
       h.0,
-      h.1.0,
-      h.1.1,
-      root_told_append g.row.S-Fault.Denot g.W.Width.LIMIT (byte_len w) f h.1.0
+      h.1,
+      h.2,
+      root_told_append g.row.S-Fault.Denot g.W.Width.LIMIT (byte_len w) f h.1
           (g.S.Writer.output c.args.serializer.now) (g.S.Writer.output c.serialize_from_iter.new.serializer) (g.S.Writer.output c.align_for_in.new.serializer) (g.S.Writer.output c.append_in.new.serializer)
           s.0 c.in-Ok.resolver s.1 s.2 s.3 c.resolve_from_len.new.out c.in-Err-append_in.e (a.0, rw a.1 at a.2) image c.in-Err-append_in.ensures,
     )
