@@ -10,6 +10,8 @@ mod changes;
 #[cfg(test)]
 mod headers;
 #[cfg(test)]
+mod in_place;
+#[cfg(test)]
 mod lookups;
 #[cfg(test)]
 mod misplaced;
