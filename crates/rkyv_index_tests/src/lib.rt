@@ -4,11 +4,17 @@
 #[cfg(test)]
 mod archives;
 #[cfg(test)]
+mod changes;
+#[cfg(test)]
 mod checking;
+#[cfg(test)]
+mod growths;
 #[cfg(test)]
 mod interning;
 #[cfg(test)]
 mod lookups;
+#[cfg(test)]
+mod sealed;
 #[cfg(test)]
 mod sets;
 #[cfg(test)]

@@ -1,10 +1,11 @@
 //! Pairs of index maps that are found.
 
-use crate::archives::{four_pairs, one_key_twice, one_pair};
+use crate::archives::{four_pairs, no_pairs, one_key_twice, one_pair};
 use crate::writing::narrow;
 use rkyv_base::access::access;
 use rkyv_base::view::View;
 use rkyv_index::{ArchivedIndexMap, IndexMapOf};
+use rkyv_table::Strides;
 use std::cell::Cell;
 use std::test::Fail;
 
@@ -132,6 +133,25 @@ fn a_comparison_that_accepts_none(rt: HostRuntime) -> Result<(), Fail> {
     });
     assert!(rt; found.is_none());
     assert_eq!(rt; asks.get(), 4);
+    Ok(())
+}
+
+#[test]
+fn strides_are_counted(rt: HostRuntime) -> Result<(), Fail> {
+    let four = four_pairs();
+    let map = ArchivedIndexMap::of(access::<Small>(&four)?);
+    let none = no_pairs();
+    let empty = ArchivedIndexMap::of(access::<Small>(&none)?);
+    let mut strides = Strides::new();
+    let found = map.get_index_of_counted(&5i8, |_: &i8, _: View<'_, i8>| true, &mut strides);
+    let one = strides.count();
+    let refused = map.get_index_of_counted(&5i8, |_: &i8, _: View<'_, i8>| false, &mut strides);
+    let two = strides.count();
+    let nothing = empty.get_index_of_counted(&5i8, |_: &i8, _: View<'_, i8>| true, &mut strides);
+    assert_eq!(rt;
+        (found, refused, nothing, one, two, strides.count()),
+        (Some(2), None, None, 1, 2, 2)
+    );
     Ok(())
 }
 
