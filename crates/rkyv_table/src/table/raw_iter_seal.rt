@@ -3,7 +3,7 @@ ghost use Rattle.std.specs.Prelude.{IfSome, MatchOption, [], length, slice_index
 ghost use Rattle.std.specs.Prelude.{◌+◌, ◌-◌, ◌<◌, ◌∷◌, ◌≡◌, ◌≤◌};
 ghost use Rattle.std.specs.Int.{byte_len};
 ghost use Rattle.rkyv_base.specs.Scalar.{scalar_shape};
-ghost use Rattle.rkyv_base.specs.Seal.{LiesIn, SealStays, archive_in, bytes_in, seal_pos, pos_in};
+ghost use Rattle.rkyv_base.specs.Seal.{LiesIn, archive_in, bytes_in, pos_in};
 ghost use Rattle.rkyv_base.specs.Sealing.{Keeps, Sealed, with_value};
 ghost use Rattle.rkyv_table.specs.Table.Header.{cap_at, len_at};
 ghost use Rattle.rkyv_table.specs.Controls.Placing.{walk};
@@ -343,38 +343,5 @@ impl<'a, T: Element, W: Width> ArchivedHashTable<'a, T, W> {
             Some(place) => Some(lend_seal(archive, place as usize, write)),
             None => None,
         }
-    }
-}
-
-/// Sets each item of a table.
-pub fn set_all<N: Scalar, W: Width>(archive: &mut [u8], pos: u64, value: N)
-    requires { Viewed (table_shape W.word (scalar_shape N.encoding)) archive.old pos }
-    ensures { Viewed (table_shape W.word (scalar_shape N.encoding)) archive.new pos }
-{
-    let mut rest = ArchivedHashTable::<N, W>::raw_iter_over(archive, pos);
-    while let Some(next) = rest.next_pos() {
-        rest.set_at(next, value);
-    }
-}
-
-/// Sets each item of a table, by seals.
-pub fn set_all_by_seals<N: Scalar, W: Width>(archive: &mut [u8], pos: u64, value: N)
-    requires { Viewed (table_shape W.word (scalar_shape N.encoding)) archive.old pos }
-    ensures { Viewed (table_shape W.word (scalar_shape N.encoding)) archive.new pos }
-{
-    let mut rest = ArchivedHashTable::<N, W>::raw_iter_over(archive, pos);
-    for _ in 0..rest.len() {
-        rest.next_seal_with(
-            |seal: &mut Seal<'_, N>|
-                requires { LiesIn (scalar_shape N.encoding) seal.old }
-                ensures stays { SealStays seal.old seal.new }
-                ensures sealed { Sealed (bytes_in seal.old) (seal_pos seal.old)
-                    (byte_len N.encoding.word) (bytes_in seal.new) }
-                ensures holds { Keeps (scalar_shape N.encoding) (bytes_in seal.old)
-                    (bytes_in seal.new) (seal_pos seal.old) }
-            {
-                seal.set(value);
-            },
-        );
     }
 }
