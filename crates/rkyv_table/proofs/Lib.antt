@@ -5,6 +5,7 @@ pub mod Coverage
 pub mod Search
 pub mod Written
 pub mod ProbeSteps
+pub mod Reciprocals
 pub mod Marks
 pub mod Groups
 pub mod Lookup

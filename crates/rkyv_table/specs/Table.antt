@@ -3,6 +3,7 @@ pub mod Header
 pub mod Places
 pub mod Layout
 pub mod Reading
+pub mod Finder
 pub mod Lending
 pub mod Slots
 pub mod Taking

@@ -5,5 +5,6 @@ pub mod laws;
 pub mod numbers;
 pub mod place;
 pub mod probe;
+pub mod reciprocal;
 pub mod repeats;
 pub mod walk;

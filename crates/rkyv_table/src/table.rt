@@ -3,6 +3,7 @@
 mod buckets;
 mod bytes;
 mod element;
+pub mod finder;
 mod hands_in;
 mod header;
 pub(crate) mod items;

@@ -8,6 +8,8 @@ mod asks;
 #[cfg(test)]
 mod changes;
 #[cfg(test)]
+mod finders;
+#[cfg(test)]
 mod headers;
 #[cfg(test)]
 mod in_place;

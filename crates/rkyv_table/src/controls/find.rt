@@ -9,7 +9,7 @@ ghost use Rattle.rkyv_table.specs.Controls.Placing.{Accepted};
 ghost use Rattle.rkyv_table.specs.Controls.Seen.{IsAcceptedBy, IsMarked, IsSeen, IsShown};
 ghost use Rattle.rkyv_table.specs.Controls.Seen.{IsShownIfAccepted};
 
-use crate::controls::numbers::{bucket_of, tag};
+use crate::controls::numbers::{bucket_of, start, tag};
 use crate::controls::probe::Probe;
 use rkyv_scan::simd::{GroupKind, Marks};
 use std::marker::Model;
@@ -190,6 +190,47 @@ fn scan<G: GroupKind, F: Fn(usize) -> bool>(
     }
 }
 
+/// As `find`, where the bucket at which the probe sequence of the hash begins is known.
+///
+/// Where there are no buckets, `start` is of no meaning.
+#[inline]
+pub fn find_from<G: GroupKind, F: Fn(usize) -> bool>(
+    controls: &[u8],
+    cap: usize,
+    len: usize,
+    hash: u64,
+    start: usize,
+    cmp: F,
+    strides: &mut Strides,
+) -> Option<usize>
+    requires accepted { 0 < len → Accepted cap len controls.now }
+    requires start { 0 < cap → start ≡ hash % cap }
+    requires room { strides.old ≤ 2 ^ 63 }
+    requires callable { (b : ℕ) → IsFullBucket cap controls.now b → F.pre cmp b }
+    ensures walked { IfSome result (IsFullBucket cap controls.now) }
+    ensures accepted { IfSome result (λ b. F.post cmp b true) }
+    ensures bounded { ReadsWithin len (probe_capacity cap / 16) strides.old strides.new }
+    ensures answer { (accept : ℕ → Bool)
+        → AnswersAs (F.post cmp) (IsFullBucket cap controls.now) accept
+        → result ≡ found G.kind controls.now cap len hash accept }
+    ensures counted { (accept : ℕ → Bool)
+        → AnswersAs (F.post cmp) (IsFullBucket cap controls.now) accept
+        → strides.new ≡ strides.old + end G.kind controls.now cap len hash accept }
+{
+    if len == 0 {
+        return None;
+    }
+    let tag = tag(hash);
+    for pos in Probe::starting_at(start, cap) {
+        match scan::<G, F>(strides.stride(controls, pos), pos, cap, tag, &cmp) {
+            Seen::Accepted(bucket) => return Some(bucket),
+            Seen::Empty => return None,
+            Seen::Full => {}
+        }
+    }
+    None
+}
+
 /// Finds the bucket of an item under `hash` that the comparison accepts.
 ///
 /// The comparison is asked for buckets whose control is full, and accepted the one that is
@@ -216,16 +257,5 @@ pub fn find<G: GroupKind, F: Fn(usize) -> bool>(
         → AnswersAs (F.post cmp) (IsFullBucket cap controls.now) accept
         → strides.new ≡ strides.old + end G.kind controls.now cap len hash accept }
 {
-    if len == 0 {
-        return None;
-    }
-    let tag = tag(hash);
-    for pos in Probe::new(hash, cap) {
-        match scan::<G, F>(strides.stride(controls, pos), pos, cap, tag, &cmp) {
-            Seen::Accepted(bucket) => return Some(bucket),
-            Seen::Empty => return None,
-            Seen::Full => {}
-        }
-    }
-    None
+    find_from::<G, F>(controls, cap, len, hash, start(hash, cap), cmp, strides)
 }

@@ -1,7 +1,8 @@
 //! The numbers of a table: how many buckets and control bytes it has, and the tag of a hash.
 ghost use Rattle.std.specs.Prelude.{◌≡◌, ◌%◌, ◌*◌, ◌+◌, ◌<◌, ◌^◌, ◌≤◌};
 ghost use Rattle.rkyv_table.specs.Controls.Capacity.{IsCapacity};
-ghost use Rattle.rkyv_table.specs.Controls.Numbers.{control_count, modulus, probe_capacity, tag};
+ghost use Rattle.rkyv_table.specs.Controls.Numbers.{control_count, modulus, probe_capacity, start};
+ghost use Rattle.rkyv_table.specs.Controls.Numbers.{tag};
 
 /// Why a table can't have the capacity that is asked for.
 #[derive(Debug, Clone, Copy, PartialEq, Eq)]
@@ -62,6 +63,18 @@ pub fn modulus(cap: usize) -> usize
     ensures { result ≡ modulus cap }
 {
     control_count(cap).next_power_of_two()
+}
+
+/// The bucket at which the probe sequence of a hash begins; of no meaning where there are none.
+#[inline]
+pub fn start(hash: u64, cap: usize) -> usize
+    ensures { 0 < cap → result ≡ start hash cap }
+{
+    if cap == 0 {
+        0
+    } else {
+        (hash % cap as u64) as usize
+    }
 }
 
 /// The tag of a hash: its seven highest bits.

@@ -1,5 +1,5 @@
 //! The probe sequence of a hash.
-ghost use Rattle.std.specs.Prelude.{List, ℕ, ◌<◌, ◌^◌, ◌≡◌, ◌≤◌};
+ghost use Rattle.std.specs.Prelude.{List, ℕ, ◌%◌, ◌<◌, ◌^◌, ◌≡◌, ◌≤◌};
 ghost use Rattle.std.specs.Iterator.{YieldsFirst, item_count};
 ghost use Rattle.rkyv_table.specs.Controls.Numbers.{control_count};
 ghost use Rattle.rkyv_table.specs.Controls.Probe.{IsProbe, strides, strides_from};
@@ -34,9 +34,19 @@ impl Probe {
         requires fits { control_count cap ≤ 2 ^ 63 }
         ensures { result ≡ strides hash cap }
     {
+        Probe::starting_at((hash % cap as u64) as usize, cap)
+    }
+
+    /// Those of each hash that is `start` modulo `cap`, in a table of `cap` buckets.
+    #[inline]
+    pub fn starting_at(start: usize, cap: usize) -> Probe
+        requires begun { start < cap }
+        requires fits { control_count cap ≤ 2 ^ 63 }
+        ensures { (hash : ℕ) → start ≡ hash % cap → result ≡ strides hash cap }
+    {
         Probe {
             cap,
-            start: (hash % cap as u64) as usize,
+            start,
             offset: 0,
             index: 0,
         }

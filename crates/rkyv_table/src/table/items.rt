@@ -1,10 +1,15 @@
 //! The items of a table whose header was read, and finding one of them.
-ghost use Rattle.std.specs.Prelude.{◌≡◌};
+ghost use Rattle.std.specs.Prelude.{IfSome, true, ◌%◌, ◌<◌, ◌^◌, ◌≡◌, ◌≤◌};
+ghost use Rattle.rkyv_scan.specs.Groups.{generic_kind};
 ghost use Rattle.rkyv_table.specs.Table.Header.{cap_at};
 ghost use Rattle.rkyv_table.specs.Controls.Placing.{walk};
-ghost use Rattle.rkyv_table.specs.Table.Reading.{AreItems, IsItemIn, IsTable, IsWalked};
+ghost use Rattle.rkyv_table.specs.Table.Reading.{AreItems, CountsEnd, CountsWithin, FindsBucket};
+ghost use Rattle.rkyv_table.specs.Table.Reading.{FindsFirst, FindsFound, IsItem, IsItemIn, IsTable};
+ghost use Rattle.rkyv_table.specs.Table.Reading.{IsWalked, MayAsk, bucket_of_found, pos_of_found};
 ghost use Rattle.rkyv_table.specs.Table.Reading.{table_bytes, table_controls, table_pos};
+ghost use Rattle.rkyv_base.specs.declared.view.View.{View};
 
+use crate::controls::find::{Strides, find_from};
 use crate::controls::walk::Walk;
 use crate::table::ArchivedHashTable;
 use crate::table::header::{controls_from, controls_pos, read_header};
@@ -12,6 +17,7 @@ use rkyv_base::element::Element;
 use rkyv_base::view::View;
 use rkyv_base::width::Width;
 use rkyv_scan::simd::GroupKind;
+use rkyv_scan::simd::halves::Group;
 
 /// A table and what its header tells.
 #[derive_where(Clone, Copy)]
@@ -72,6 +78,83 @@ impl<'a, T: Element, W: Width> Items<'a, T, W> {
     {
         let place = self.place - (bucket + 1) * T::size();
         View::new(self.table.view.bytes(), place as u64)
+    }
+
+    /// Finds an item under `hash` that the comparison accepts, by groups of the kind G, and counts
+    /// the strides of controls that are read. The probe sequence of the hash begins at `start`.
+    #[inline]
+    pub(crate) fn find<G: GroupKind, F: Fn(View<'a, T>) -> bool>(
+        self,
+        start: usize,
+        hash: u64,
+        cmp: F,
+        strides: &mut Strides,
+    ) -> Option<FoundItem<'a, T>>
+        requires items { AreItems W.word T.shape self }
+        requires start { 0 < self.cap → start ≡ hash % self.cap }
+        requires room { strides.old ≤ 2 ^ 63 }
+        requires callable { MayAsk (F.pre cmp) W.word T.shape self.table }
+        ensures walked { IfSome result (λ found.
+            IsItemIn W.word T.shape self.entry.table found.bucket found.item) }
+        ensures accepted { IfSome result (λ found. F.post cmp found.item true) }
+        ensures answer { FindsBucket (F.post cmp) G.kind W.word T.shape self.entry.table hash
+            (bucket_of_found result) }
+        ensures bounded { CountsWithin W.word self.entry.table strides.old strides.new }
+        ensures counted { CountsEnd (F.post cmp) G.kind W.word T.shape self.entry.table hash
+            strides.old strides.new }
+    {
+        let bucket = find_from::<G, _>(
+            self.controls,
+            self.cap,
+            self.len,
+            hash,
+            start,
+            |bucket|
+                requires items { AreItems W.word T.shape self }
+                requires walked { IsWalked W.word (table_bytes self.table) (table_pos self.table)
+                    bucket }
+                requires callable { MayAsk (F.pre cmp) W.word T.shape self.table }
+                ensures { (v : View T) × IsItemIn W.word T.shape self.entry.table bucket v
+                    × F.post cmp v result }
+            { cmp(self.item(bucket)) },
+            strides,
+        );
+        match bucket {
+            Some(bucket) => Some(FoundItem {
+                bucket,
+                item: self.item(bucket),
+            }),
+            None => None,
+        }
+    }
+
+    /// As `find`, by the groups that lookups read.
+    #[inline]
+    pub(crate) fn get_counted<F: Fn(View<'a, T>) -> bool>(
+        self,
+        start: usize,
+        hash: u64,
+        cmp: F,
+        strides: &mut Strides,
+    ) -> Option<View<'a, T>>
+        requires items { AreItems W.word T.shape self }
+        requires start { 0 < self.cap → start ≡ hash % self.cap }
+        requires room { strides.old ≤ 2 ^ 63 }
+        requires callable { MayAsk (F.pre cmp) W.word T.shape self.table }
+        ensures walked { IfSome result (IsItem W.word T.shape self.entry.table) }
+        ensures accepted { IfSome result (λ v. F.post cmp v true) }
+        ensures answer { FindsFound (F.post cmp) generic_kind W.word T.shape self.entry.table hash
+            (pos_of_found result) }
+        ensures first { FindsFirst (F.post cmp) W.word T.shape self.entry.table hash
+            (pos_of_found result) }
+        ensures bounded { CountsWithin W.word self.entry.table strides.old strides.new }
+        ensures counted { CountsEnd (F.post cmp) generic_kind W.word T.shape self.entry.table hash
+            strides.old strides.new }
+    {
+        match self.find::<Group, F>(start, hash, cmp, strides) {
+            Some(found) => Some(found.item),
+            None => None,
+        }
     }
 
     /// The full buckets, ascending.

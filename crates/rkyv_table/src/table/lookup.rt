@@ -1,15 +1,13 @@
 //! Finding an item.
-ghost use Rattle.std.specs.Prelude.{IfSome, true, ◌≡◌, ◌≤◌, ◌^◌};
+ghost use Rattle.std.specs.Prelude.{IfSome, true, ◌^◌, ◌≤◌};
 ghost use Rattle.rkyv_scan.specs.Groups.{generic_kind};
-ghost use Rattle.rkyv_table.specs.Table.Reading.{AreItems, CountsEnd, CountsWithin, FindsBucket};
-ghost use Rattle.rkyv_table.specs.Table.Reading.{FindsFirst, FindsFound};
-ghost use Rattle.rkyv_table.specs.Table.Reading.{IsAcceptedAt, IsItem, IsItemIn, IsItemPos};
-ghost use Rattle.rkyv_table.specs.Table.Reading.{IsTable};
-ghost use Rattle.rkyv_table.specs.Table.Reading.{IsWalked, MayAsk, bucket_of_found, pos_of_found};
-ghost use Rattle.rkyv_table.specs.Table.Reading.{table_bytes, table_pos};
-ghost use Rattle.rkyv_base.specs.View.{IsView};
+ghost use Rattle.rkyv_table.specs.Table.Reading.{CountsEnd, CountsWithin, FindsBucket, FindsFirst};
+ghost use Rattle.rkyv_table.specs.Table.Reading.{FindsFound, IsAcceptedAt, IsItem, IsItemIn};
+ghost use Rattle.rkyv_table.specs.Table.Reading.{IsItemPos, IsTable, MayAsk, bucket_of_found};
+ghost use Rattle.rkyv_table.specs.Table.Reading.{pos_of_found};
 
-use crate::controls::find::{Strides, find};
+use crate::controls::find::Strides;
+use crate::controls::numbers::start;
 use crate::table::ArchivedHashTable;
 use crate::table::items::{FoundItem, Items};
 use rkyv_base::element::Element;
@@ -42,28 +40,7 @@ impl<'a, T: Element, W: Width> ArchivedHashTable<'a, T, W> {
             strides.new }
     {
         let items = Items::of(self);
-        let bucket = find::<G, _>(
-            items.controls,
-            items.cap,
-            items.len,
-            hash,
-            |bucket|
-                requires items { AreItems W.word T.shape items }
-                requires walked { IsWalked W.word (table_bytes items.table) (table_pos items.table)
-                    bucket }
-                requires callable { MayAsk (F.pre cmp) W.word T.shape items.table }
-                ensures { (v : View T) × IsItemIn W.word T.shape items.entry.table bucket v
-                    × F.post cmp v result }
-            { cmp(items.item(bucket)) },
-            strides,
-        );
-        match bucket {
-            Some(bucket) => Some(FoundItem {
-                bucket,
-                item: items.item(bucket),
-            }),
-            None => None,
-        }
+        items.find::<G, F>(start(hash, items.cap), hash, cmp, strides)
     }
 
     /// The first item under `hash` that the comparison accepts, in the order in which the items
@@ -149,9 +126,7 @@ impl<'a, T: Element, W: Width> ArchivedHashTable<'a, T, W> {
         ensures counted { CountsEnd (F.post cmp) generic_kind W.word T.shape self.entry hash
             strides.old strides.new }
     {
-        match self.find::<Group, F>(hash, cmp, strides) {
-            Some(found) => Some(found.item),
-            None => None,
-        }
+        let items = Items::of(self);
+        items.get_counted(start(hash, items.cap), hash, cmp, strides)
     }
 }

@@ -1,71 +1,17 @@
-use Rattle.std.proofs.Common.{◌≡◌, refl, sym, ap, subst, ◌∙◌, ◌+◌, ℕ, true}
-use Rattle.rkyv_table.specs.Table.Reading.{IsItem, bucket_found, item_at, lookup_end, table_bytes, table_pos}
-use Rattle.rkyv_table.proofs.Items.{read_accepted, read_end, read_found, read_walked, view_is}
+use Rattle.std.proofs.Common.{refl}
 use Rattle.rkyv_table.proofs.table.ArchivedHashTable.find.Goals as goal
 
-pub find-bucket-requires : goal.find-bucket-requires
-find-bucket-requires g c κs =
-    let w = g.W.Width.word in
-    let s = g.T.Element.shape in
-    let items = c.of-items.result in
-    let are = c.of-items.ensures.items in
-    let law = g.met.T.Element.laws in
-    record {
-      accepted = read_accepted w s law items are;
-      room = c.requires.room;
-      callable = λ b full. ((refl, tt), (are, (read_walked w s law items are b full, λ v h. c.requires.callable v (subst (λ t. IsItem w s t v) c.of-items.ensures.table h))));
-    }
+pub find-requires : goal.find-requires
+find-requires g c κs = ((refl, tt), (c.of-items.ensures.items, (c.start.ensures, (c.requires.room, rw c.of-items.ensures.table c.requires.callable))))
 
-pub returns-in-Some-clause-answer : goal.returns-in-Some-clause-answer
-returns-in-Some-clause-answer g c = λ accept alone.
-    let w = g.W.Width.word in
-    let s = g.T.Element.shape in
-    let items = c.of-items.result in
-    let are = c.of-items.ensures.items in
-    let same = c.of-items.ensures.table in
-    let at : ℕ → ℕ = item_at w s.size (table_bytes items.table) (table_pos items.table) in
-    let h = c.in-Some.ensures.answer (λ i. accept (at i)) (λ b r full e. alone e.0 r (subst (λ t. IsItem w s t e.0) same (b, e.1)) e.2 ∙ ap accept e.1.place) in
-    let f = read_found w s g.met.T.Element.laws items are g.G.GroupKind.kind c.args.hash (λ i. accept (at i)) in
-    h ∙ f ∙ ap (λ t. bucket_found g.G.GroupKind.kind w s.size (table_bytes t) (table_pos t) c.args.hash accept) same
-
-pub returns-in-Some-clause-counted : goal.returns-in-Some-clause-counted
-returns-in-Some-clause-counted g c = λ accept alone.
-    let w = g.W.Width.word in
-    let s = g.T.Element.shape in
-    let items = c.of-items.result in
-    let are = c.of-items.ensures.items in
-    let same = c.of-items.ensures.table in
-    let at : ℕ → ℕ = item_at w s.size (table_bytes items.table) (table_pos items.table) in
-    let h = c.in-Some.ensures.counted (λ i. accept (at i)) (λ b r full e. alone e.0 r (subst (λ t. IsItem w s t e.0) same (b, e.1)) e.2 ∙ ap accept e.1.place) in
-    let f = read_end w s g.met.T.Element.laws items are g.G.GroupKind.kind c.args.hash (λ i. accept (at i)) in
-    h ∙ ap (λ n. c.args.strides.now + n) (f ∙ ap (λ t. lookup_end g.G.GroupKind.kind w s.size (table_bytes t) (table_pos t) c.args.hash accept) same)
+pub returns-clause-walked : goal.returns-clause-walked
+returns-clause-walked g c = rw c.of-items.ensures.table at c.find.ensures.walked
 
 pub returns-clause-answer : goal.returns-clause-answer
-returns-clause-answer g c = λ accept alone.
-    let w = g.W.Width.word in
-    let s = g.T.Element.shape in
-    let items = c.of-items.result in
-    let are = c.of-items.ensures.items in
-    let same = c.of-items.ensures.table in
-    let at : ℕ → ℕ = item_at w s.size (table_bytes items.table) (table_pos items.table) in
-    let h = c.in-None.ensures.answer (λ i. accept (at i)) (λ b r full e. alone e.0 r (subst (λ t. IsItem w s t e.0) same (b, e.1)) e.2 ∙ ap accept e.1.place) in
-    let f = read_found w s g.met.T.Element.laws items are g.G.GroupKind.kind c.args.hash (λ i. accept (at i)) in
-    h ∙ f ∙ ap (λ t. bucket_found g.G.GroupKind.kind w s.size (table_bytes t) (table_pos t) c.args.hash accept) same
+returns-clause-answer g c = rw c.of-items.ensures.table at c.find.ensures.answer
+
+pub returns-clause-bounded : goal.returns-clause-bounded
+returns-clause-bounded g c = rw c.of-items.ensures.table at c.find.ensures.bounded
 
 pub returns-clause-counted : goal.returns-clause-counted
-returns-clause-counted g c = λ accept alone.
-    let w = g.W.Width.word in
-    let s = g.T.Element.shape in
-    let items = c.of-items.result in
-    let are = c.of-items.ensures.items in
-    let same = c.of-items.ensures.table in
-    let at : ℕ → ℕ = item_at w s.size (table_bytes items.table) (table_pos items.table) in
-    let h = c.in-None.ensures.counted (λ i. accept (at i)) (λ b r full e. alone e.0 r (subst (λ t. IsItem w s t e.0) same (b, e.1)) e.2 ∙ ap accept e.1.place) in
-    let f = read_end w s g.met.T.Element.laws items are g.G.GroupKind.kind c.args.hash (λ i. accept (at i)) in
-    h ∙ ap (λ n. c.args.strides.now + n) (f ∙ ap (λ t. lookup_end g.G.GroupKind.kind w s.size (table_bytes t) (table_pos t) c.args.hash accept) same)
-
-pub returns-in-Some-clause-accepted : goal.returns-in-Some-clause-accepted
-returns-in-Some-clause-accepted g c =
-    let e = c.in-Some.ensures.accepted in
-    let same : e.0 ≡ c.item.result = view_is e.0 c.item.result (e.1.archive ∙ sym c.item.ensures.archive) (e.1.place ∙ sym c.item.ensures.place) in
-    subst (λ v. goal.F-post g c.args.cmp v true) same e.2
+returns-clause-counted g c = rw c.of-items.ensures.table at c.find.ensures.counted

@@ -1,5 +1,5 @@
-use Rattle.rkyv_table.proofs.ProbeSteps.{all_strides}
+use Rattle.std.proofs.Common.{refl}
 use Rattle.rkyv_table.proofs.controls.probe.Probe.new.Goals as goal
 
 pub returns : goal.returns
-returns c = all_strides c.args.hash c.args.cap
+returns c = c.starting_at.ensures c.args.hash refl

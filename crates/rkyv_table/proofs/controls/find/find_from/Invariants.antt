@@ -6,7 +6,7 @@ use Rattle.rkyv_table.specs.Controls.Numbers.{tag}
 use Rattle.rkyv_table.specs.Controls.Probe.{strides}
 use Rattle.rkyv_table.proofs.Search.{answer}
 use Rattle.rkyv_table.proofs.Lookup.{place}
-use Rattle.rkyv_table.proofs.controls.find.find.Given as goal
+use Rattle.rkyv_table.proofs.controls.find.find_from.Given as goal
 
 abbrev pub invariant-loop-pos : goal.invariant-loop-pos
 invariant-loop-pos g l = record {

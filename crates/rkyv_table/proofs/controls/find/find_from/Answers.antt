@@ -1,13 +1,29 @@
-use Rattle.std.proofs.Common.{arith, ◌≡◌, ℕ, sym, ap, ◌∙◌, Bool, length, drop, length-take, length-drop, []}
+use Rattle.std.proofs.Common.{arith, ◌≡◌, ℕ, ◌+◌, sym, ap, ◌∙◌, Bool, List, length, drop, length-take, length-drop, []}
 use Rattle.rkyv_scan.specs.Groups.{Kind}
 use Rattle.rkyv_table.specs.Controls.Shown.{IsFullBucket}
 use Rattle.rkyv_table.specs.Controls.Finding.{AnswersAs}
 use Rattle.rkyv_table.proofs.Coverage.{count_strides, stride_below}
 use Rattle.rkyv_table.proofs.FirstFree.{member_front, member_rest}
 use Rattle.rkyv_table.specs.Controls.Numbers.{tag}
+use Rattle.rkyv_table.specs.Controls.Probe.{strides}
+use Rattle.rkyv_table.proofs.Search.{answer}
 use Rattle.rkyv_table.specs.Controls.Placing.{Accepted}
 use Rattle.rkyv_table.proofs.Lookup.{place, ends_by_item, ends_by_empty, goes_on, ends_somewhere, found_is, end_is, few_strides, stride_full, shown_full}
-use Rattle.rkyv_table.proofs.controls.find.find.Goals as goal
+use Rattle.rkyv_table.proofs.controls.find.find_from.Goals as goal
+
+pub loop-pos-init : goal.loop-pos-init
+loop-pos-init g c =
+    let a : Accepted c.args.cap c.args.len c.args.controls.now = c.requires.accepted (omega (arith, c.if-len-eq0.false)) in
+    let room = a.room in
+    let all : c.starting_at-pos-items.result ≡ strides c.args.hash c.args.cap = c.starting_at-pos-items.ensures c.args.hash (c.requires.start (omega arith)) in
+    let same : c.into_iter-pos-iterator.result ≡ strides c.args.hash c.args.cap = cc in
+    record {
+      room = ap (λ (ps : List ℕ). c.args.strides.now + length ps) same;
+      members = λ p m. rw (← same) m;
+      up = omega arith;
+      same = λ accept answers. ap (answer g.G.GroupKind.kind c.args.controls.now c.args.cap (tag c.args.hash) accept) (sym same);
+      counted = λ accept answers. ap (λ ps. c.args.strides.now + place g.G.GroupKind.kind c.args.controls.now c.args.cap (tag c.args.hash) accept ps) same;
+    }
 
 pub stride-requires-clause-inside : goal.stride-requires-clause-inside
 stride-requires-clause-inside g c =

@@ -1,0 +1,7 @@
+use Rattle.std.proofs.Common.{ap, ◌∙◌}
+use Rattle.rkyv_table.specs.Controls.Probe.{strides_from}
+use Rattle.rkyv_table.proofs.ProbeSteps.{all_strides}
+use Rattle.rkyv_table.proofs.controls.probe.Probe.starting_at.Goals as goal
+
+pub returns : goal.returns
+returns c = λ hash e. ap (λ s. strides_from c.args.cap s 0) e ∙ all_strides hash c.args.cap
