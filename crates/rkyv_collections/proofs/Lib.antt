@@ -14,5 +14,6 @@ pub mod StdComparing
 pub mod StdFinding
 pub mod Headline
 pub mod FoundPairs
+pub mod FoundEntries
 pub mod Alike
 pub mod FirstWrites

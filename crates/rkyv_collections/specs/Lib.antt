@@ -1,11 +1,13 @@
 pub mod Map
 pub mod Equality
 pub mod Misplaced
+pub mod MapFinder
 pub mod MapFormat
 pub mod Handing
 pub mod Lemmas
 pub mod SetFormat
 pub mod Set
+pub mod SetFinder
 pub mod SealedMap
 pub mod SealedPairs
 pub mod ValueWrites

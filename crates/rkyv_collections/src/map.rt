@@ -3,6 +3,7 @@
 mod debug;
 mod element;
 mod equality;
+pub mod finder;
 mod hashing;
 pub mod in_place;
 pub mod iter;

@@ -2,6 +2,7 @@
 
 mod debug;
 mod equality;
+pub mod finder;
 mod reading;
 pub mod writing;
 pub mod written;

@@ -8,6 +8,8 @@ mod asks;
 #[cfg(test)]
 mod bytes;
 #[cfg(test)]
+mod finders;
+#[cfg(test)]
 mod first;
 #[cfg(test)]
 mod growths;

@@ -1,0 +1,79 @@
+-- What is found in the table of a map, told of the map.
+use Rattle.std.proofs.Common.{◌≡◌, ℕ, ◌<◌, ◌^◌, ◌∙◌, ap, sym, Bool, List, None, Option, Some, map}
+use Rattle.std.specs.Borrow.{Bor}
+use Rattle.std.specs.Int.{Width}
+use Rattle.std.specs.Prelude.{IfSome}
+use Rattle.rkyv_scan.specs.Groups.{generic_kind}
+use Rattle.rkyv_scan.specs.Hash.{Hasher, HasherCall, hash_of_calls}
+use Rattle.rkyv_base.specs.Entry.{entry_shape}
+use Rattle.rkyv_base.specs.Shape.{Shape, IsElement}
+use Rattle.rkyv_base.specs.View.{IsAt, IsView, archive_of, pos_of}
+use Rattle.rkyv_base.specs.declared.entry.Entry.{Entry}
+use Rattle.rkyv_base.specs.declared.view.View.{View}
+use Rattle.rkyv_keys.specs.Equality.{Comparison}
+use Rattle.rkyv_keys.specs.Keys.{IsQuery}
+use Rattle.rkyv_table.specs.Controls.Laws.{IsUnderHash}
+use Rattle.rkyv_table.specs.Table.Reading.{IsItem, WrittenAt, home_positions, pos_found, table_bytes, table_pos}
+use Rattle.rkyv_table.specs.declared.table.ArchivedHashTable.{ArchivedHashTable}
+use Rattle.rkyv_collections.specs.Map.{AnswersKeys, AreUnderHash, FindsKey, IsEntryIn, IsMap, MapWrittenAt, hash_at, map_archive, map_bytes, map_pos}
+use Rattle.rkyv_collections.specs.Misplaced.{FindsOneKey}
+use Rattle.rkyv_collections.specs.declared.map.ArchivedHashMap.{ArchivedHashMap}
+use Rattle.rkyv_collections.proofs.Lookups.{entry_of_item, key_of_entry, under_hash}
+use Rattle.rkyv_collections.proofs.MisplacedKeys.{finds_the_one}
+
+module _ {K V H W : Type 0} (w : Width) (k v : Shape) (m : ArchivedHashMap K V H W) (t : ArchivedHashTable (Entry K V) W) (at : IsAt t.view (map_archive m) (map_pos m)) where
+  same : table_bytes t ≡ map_bytes m
+  same = ap (λ (x : Bor (List ℕ)). x.now) at.0
+
+  same_place : table_pos t ≡ map_pos m
+  same_place = at.1
+
+  -- what is told of an item by its key is told by the position of the key
+  pub told_by_key : (post : View K → Bool → Type 0) (accept : ℕ → Bool) → AnswersKeys w k v m post accept
+      → (entry : View (Entry K V)) (r : Bool) → IsItem w (entry_shape k v) t entry
+      → (key : View K) × IsAt key (archive_of entry) (pos_of entry) × IsView k key × post key r
+      → r ≡ accept entry.pos
+  told_by_key post accept alone entry r item e =
+      alone e.0 r (key_of_entry w k v m entry e.0 (entry_of_item w k v m t at entry item) e.1 e.2) e.3 ∙ ap accept e.1.1
+
+  -- an item that was found is an entry of the map
+  pub entry_found : (result : Option (View (Entry K V))) → IfSome result (IsItem w (entry_shape k v) t) → IfSome result (IsEntryIn w k v m)
+  entry_found None item = item
+  entry_found (Some entry) item = entry_of_item w k v m t at entry item
+
+  -- the table finds what the map does
+  pub found_there : (hash asked : ℕ) (accept : ℕ → Bool) → hash ≡ asked
+      → pos_found generic_kind w (entry_shape k v).size (table_bytes t) (table_pos t) hash accept
+      ≡ pos_found generic_kind w (entry_shape k v).size (map_bytes m) (map_pos m) asked accept
+  found_there hash asked accept e =
+      let found : List ℕ → ℕ → ℕ → Option ℕ = λ b p h. pos_found generic_kind w (entry_shape k v).size b p h accept in
+      ap (λ b. found b (table_pos t) hash) same ∙ ap (λ p. found (map_bytes m) p hash) same_place ∙ ap (found (map_bytes m) (map_pos m)) e
+
+  -- it was written with the same homes, at the same places, and what is accepted is under the hash
+  pub written_there : (hashes homes : List ℕ) → WrittenAt w (map_bytes m) (map_pos m) hashes homes → WrittenAt w (table_bytes t) (table_pos t) hashes homes
+  written_there hashes homes written = rw (same, same_place) written
+
+  pub places_there : (homes : List ℕ) → home_positions w (entry_shape k v).size (table_bytes t) (table_pos t) homes ≡ home_positions w (entry_shape k v).size (map_bytes m) (map_pos m) homes
+  places_there homes =
+      let places : List ℕ → ℕ → List ℕ = λ b p. home_positions w (entry_shape k v).size b p homes in
+      ap (λ b. places b (table_pos t)) same ∙ ap (places (map_bytes m)) same_place
+
+  pub under_there : (hash asked : ℕ) (key_hash : List ℕ → ℕ → ℕ) (accept : ℕ → Bool) (homes : List ℕ) → hash ≡ asked
+      → AreUnderHash w k v m asked key_hash accept → MapWrittenAt w (entry_shape k v) key_hash (map_bytes m) (map_pos m) homes
+      → IsUnderHash hash (map (key_hash (map_bytes m)) (home_positions w (entry_shape k v).size (map_bytes m) (map_pos m) homes))
+      (home_positions w (entry_shape k v).size (table_bytes t) (table_pos t) homes) accept
+  under_there hash asked key_hash accept homes e under written =
+      let here = under_hash w k v m hash key_hash accept homes (λ q place fits. under q place fits ∙ sym e) written in
+      rw (places_there homes) here
+
+-- what is found under the hash of a query is the one key that fits, where none is misplaced
+pub one_found : {K V H W Q State : Type 0} (w : Width) (k v : Shape) (m : ArchivedHashMap K V H W) (kl : IsElement k) (vl : IsElement v) (hasher : Hasher State)
+    (same_key : Comparison) (key_calls : List ℕ → ℕ → List HasherCall) (can_read : Q → Type 0) (calls : Q → List HasherCall) (fits : Q → List ℕ → ℕ → Bool)
+    → IsQuery k same_key key_calls can_read calls fits → IsMap w k v m → (q : Q) → can_read q → hash_of_calls hasher (calls q) < 2 ^ 64 → (Told : Option ℕ → Type 0)
+    → FindsKey w k v m (hash_of_calls hasher (calls q)) (fits q (map_bytes m)) Told
+    → FindsOneKey w k v m (hash_at hasher key_calls) same_key (fits q (map_bytes m)) Told
+one_found w k v m kl vl hasher same_key key_calls can_read calls fits query is q can small Told found = λ none. (
+  pos_found generic_kind w (entry_shape k v).size (map_bytes m) (map_pos m) (hash_of_calls hasher (calls q)) (fits q (map_bytes m)),
+  finds_the_one w k v kl vl hasher same_key key_calls can_read calls fits query (map_bytes m) (map_pos m) is q can small none,
+  found,
+)
