@@ -1,0 +1,92 @@
+-- Tables of symbols: what is one, which list one stands for, and the address of a name.
+use Rattle.std.specs.Prelude.{ℕ, ◌+◌, ◌-◌, List, length, Option}
+use Rattle.std.specs.Borrow.{Bor}
+use Rattle.std.specs.Int.{w32, w64}
+use Rattle.std.specs.Option.{option_map}
+use Rattle.rkyv_scan.specs.Groups.{generic_kind}
+use Rattle.rkyv_scan.specs.Hash.{fx_hasher, low_halves}
+use Rattle.rkyv_base.specs.Access.{Accepted, AccessFails}
+use Rattle.rkyv_base.specs.Bytes.{number_at}
+use Rattle.rkyv_base.specs.Entry.{entry_shape, value_offset}
+use Rattle.rkyv_base.specs.Format.{Format}
+use Rattle.rkyv_base.specs.Numbers.{unsigned}
+use Rattle.rkyv_base.specs.Pairs.{written_as}
+use Rattle.rkyv_base.specs.Root.{ArchiveOf, ArchiveRefused}
+use Rattle.rkyv_base.specs.Scalar.{ScalarStands, scalar_format, scalar_shape}
+use Rattle.rkyv_base.specs.Shape.{Shape}
+use Rattle.rkyv_base.specs.Text.{text_at, text_shape}
+use Rattle.rkyv_base.specs.TextWriting.{text_format}
+use Rattle.rkyv_base.specs.declared.errors.VerifyError.{VerifyError}
+use Rattle.rkyv_base.specs.declared.errors.WriteError.{WriteError}
+use Rattle.rkyv_keys.specs.Calls.{text_calls}
+use Rattle.rkyv_keys.specs.OfTexts.{IsTextOf, same_bytes, text_key_calls}
+use Rattle.rkyv_table.specs.Table.Reading.{pos_found}
+use Rattle.rkyv_table.specs.Table.TableFormat.{TableResolver}
+use Rattle.rkyv_table.specs.Table.Listed.{listed}
+use Rattle.rkyv_collections.specs.ListedLookups.{first_value}
+use Rattle.rkyv_collections.specs.Map.{hash_at, map_shape}
+use Rattle.rkyv_collections.specs.MapFormat.{MapStands, hash_of, map_format}
+
+-- names, each with its address
+abbrev pub Symbols : Type 0
+Symbols = List (Bor (List ℕ) × ℕ)
+
+-- the fixed bytes of a name
+abbrev pub name_shape : Shape
+name_shape = text_shape w32
+
+-- of an address
+abbrev pub address_shape : Shape
+address_shape = scalar_shape (unsigned w64)
+
+-- of the header of a table
+abbrev pub header_shape : Shape
+header_shape = map_shape w32 name_shape address_shape
+
+-- where the header stands
+abbrev pub root : List ℕ → ℕ
+root table = length table - header_shape.size
+
+-- the bytes are a table
+unfoldable pub IsTable : List ℕ → Type 0
+IsTable table = Accepted 4_294_967_295 header_shape table
+
+-- the first point at which they are none
+unfoldable pub IsRefused : List ℕ → VerifyError → Type 0
+IsRefused table e = AccessFails 4_294_967_295 header_shape table e
+
+-- a map of the symbols stands at the position, under a load factor
+abbrev pub SymbolsStand : ℕ × ℕ → List ℕ → ℕ → Symbols → Type 0
+SymbolsStand factor = MapStands w32 name_shape address_shape (IsTextOf w32 (λ name. name.now))
+    (ScalarStands (unsigned w64)) (hash_at (fx_hasher low_halves) (text_key_calls w32)) factor
+
+-- the table stands for the symbols
+unfoldable pub StandsFor : List ℕ → Symbols → Type 0
+StandsFor table symbols = SymbolsStand (7, 8) table (root table) symbols
+
+-- how the symbols are written
+abbrev pub symbols_format : ℕ × ℕ → Format Symbols TableResolver
+symbols_format factor = listed 4_294_967_295 factor (map_format w32 name_shape address_shape
+    (written_as (λ name. name.now) (text_format w32)) (scalar_format (unsigned w64))
+    (hash_of (fx_hasher low_halves) (λ name. text_calls name.now)) factor)
+
+-- the bytes are the table of the symbols, and nothing else
+unfoldable pub IsTableOf : Symbols → List ℕ → Type 0
+IsTableOf symbols table =
+    ArchiveOf 4_294_967_295 header_shape (SymbolsStand (7, 8)) (symbols_format (7, 8)) symbols table
+
+-- why there is no table of the symbols
+unfoldable pub NoTableOf : {F : Type 0} → Symbols → WriteError F → Type 0
+NoTableOf symbols e = ArchiveRefused 4_294_967_295 header_shape (symbols_format (7, 8)) symbols e
+
+-- the address of the first symbol of the name
+abbrev pub first_address : List ℕ → Symbols → Option ℕ
+first_address name symbols = first_value (λ held. same_bytes name held.now) symbols
+
+-- the address that a lookup finds in the bytes, whoever made them
+unfoldable pub address_found : List ℕ → List ℕ → Option ℕ
+address_found name table =
+    option_map (λ q. number_at w64 table (q + value_offset name_shape address_shape))
+    (pos_found generic_kind w32 (entry_shape name_shape address_shape).size table (root table)
+    (hash_of (fx_hasher low_halves) text_calls name)
+    (λ q. same_bytes name (text_at w32 table q)))

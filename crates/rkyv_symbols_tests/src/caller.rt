@@ -1,0 +1,21 @@
+//! The caller that the library's page shows.
+
+use rkyv_symbols::lines::parse;
+use rkyv_symbols::table::{address_of, archive};
+use std::alloc::Global;
+use std::test::Fail;
+
+// The address of a name, in the table of the lines.
+fn address_in(alloc: Global, lines: &str, name: &str) -> Result<Option<u64>, Fail> {
+    let symbols = parse(alloc, lines)?;
+    let table = archive(alloc, symbols.as_slice())?;
+    Ok(address_of(table.as_slice(), name)?)
+}
+
+#[test]
+fn the_first_of_a_name_is_found(rt: HostRuntime) -> Result<(), Fail> {
+    let lines = "0000000000001139 T main\n0000000000000001 t main\n";
+    let found = address_in(rt.alloc(), lines, "main")?;
+    assert_eq!(rt; found, Some(0x1139));
+    Ok(())
+}

@@ -1,0 +1,9 @@
+//! Tests of `rkyv_symbols`.
+#![tactic(auto)]
+
+#[cfg(test)]
+mod caller;
+#[cfg(test)]
+mod damaged;
+#[cfg(test)]
+mod tables;
