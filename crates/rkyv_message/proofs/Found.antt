@@ -1,0 +1,61 @@
+-- What was found in a message is what stands in its list.
+use Rattle.std.proofs.Common.{◌≡◌, ℕ, Bool, List, Option, None, Some, Result, Ok, Err, MatchResult, IfOk, ap, false, refl, subst, sym, ◌∙◌}
+use Rattle.std.specs.Borrow.{Bor}
+use Rattle.std.specs.Int.{w32}
+use Rattle.std.specs.Option.{is_some}
+use Rattle.rkyv_base.specs.Numbers.{unsigned}
+use Rattle.rkyv_base.specs.declared.view.View.{View}
+use Rattle.rkyv_collections.specs.InPlace.{SetsFound, with_first}
+use Rattle.rkyv_collections.specs.ListedLookups.{IsFoundValue, first_pair}
+use Rattle.rkyv_collections.specs.declared.lists.pairs.MapPairs.{MapPairs}
+use Rattle.rkyv_message.specs.Message.{FieldList, FieldsStand, PartStands, SetsIn, StandsIfFound, is_named, name_hash, name_shape, number_in, number_of_part}
+
+-- what holds at a place of some bytes holds at the same place of the same bytes
+pub moved : (P : List ℕ → ℕ → Type 0) (b c : List ℕ) (p q : ℕ) → b ≡ c → p ≡ q → P b p → P c q
+moved P b c p q e f h = subst (λ x. P x q) e (subst (λ y. P b y) f h)
+
+pub number_listed : {V : Type 0} (num : List ℕ → ℕ → ℕ) (view : View V) (n : ℕ) (o : Option ℕ) → num view.archive.now view.pos ≡ n → IsFoundValue (λ b p v. num b p ≡ v) (Some view) o → Some n ≡ o
+number_listed num view n None e h = absurd h
+number_listed num view n (Some v) e h = ap Some (sym e ∙ h)
+
+pub none_listed : {B : Type 0} (stands : List ℕ → ℕ → B → Type 0) (o : Option B) → IsFoundValue {V = ℕ} stands None o → None ≡ o
+none_listed stands None h = refl
+none_listed stands (Some v) h = absurd h
+
+pub part_found : {V : Type 0} (b : List ℕ) (p : ℕ) (view : View V) (o : Option (MapPairs (Bor (List ℕ)) ℕ ℕ)) → view.archive.now ≡ b → view.pos ≡ p → IsFoundValue PartStands (Some view) o → StandsIfFound b o (Some p)
+part_found b p view None e f h = absurd h
+part_found b p view (Some part) e f h = moved (λ x q. PartStands x q part) _ _ _ _ e f h
+
+pub no_part_found : (b : List ℕ) (o : Option (MapPairs (Bor (List ℕ)) ℕ ℕ)) → IsFoundValue {V = ℕ} PartStands None o → StandsIfFound b o None
+no_part_found b None h = tt
+no_part_found b (Some part) h = absurd h
+
+module _ (b : List ℕ) (field : List ℕ) where
+  pub number_told : (p : ℕ) (o : Option (MapPairs (Bor (List ℕ)) ℕ ℕ)) (r : Option ℕ) → StandsIfFound b o (Some p)
+      → ((factor : ℕ × ℕ) (list : FieldList) → FieldsStand factor b p list → r ≡ number_in field list) → r ≡ number_of_part field o
+  number_told p None r s told = absurd s
+  number_told p (Some part) r s told = told part.load_factor part.pairs.now s
+
+  pub none_told : (o : Option (MapPairs (Bor (List ℕ)) ℕ ℕ)) → StandsIfFound b o None → None ≡ number_of_part field o
+  none_told None s = refl
+  none_told (Some part) s = absurd s
+
+  module _ (number : ℕ) where
+    pub number_set : (c : List ℕ) (found : Bool) (p : ℕ) (o : Option (MapPairs (Bor (List ℕ)) ℕ ℕ)) → StandsIfFound b o (Some p)
+        → ((factor : ℕ × ℕ) (list : FieldList) → FieldsStand factor b p list → (found ≡ is_some (first_pair (is_named field) list)) × FieldsStand factor c p (with_first (is_named field) number list))
+        → SetsIn field number o b c found
+    number_set c found p None s set = absurd s
+    number_set c found p (Some part) s set = let told = set part.load_factor part.pairs.now s in (p, s, told.0, told.1)
+
+    pub none_set : (o : Option (MapPairs (Bor (List ℕ)) ℕ ℕ)) → StandsIfFound b o None → SetsIn field number o b b false
+    none_set None s = (refl, refl)
+    none_set (Some part) s = absurd s
+
+pub unfound_kept : (b c : List ℕ) (p n : ℕ) (found : Bool) (place : Option ℕ) → SetsFound w32 name_shape (unsigned w32) name_hash b p n found c place → found ≡ false → c ≡ b
+unfound_kept b c p n found None h e = h.1
+unfound_kept b c p n found (Some q) h e = absurd cc
+
+-- what is known of an Ok
+pub on_ok : {T E : Type 0} (P R : T → Type 0) (Q : E → Type 0) (r : Result T E) → ((x : T) → P x → R x) → MatchResult r P Q → IfOk r R
+on_ok P R Q (Ok x) f h = f x h
+on_ok P R Q (Err e) f h = tt

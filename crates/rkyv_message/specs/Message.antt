@@ -1,0 +1,159 @@
+-- Messages: what is one, which parts one stands for, and the number of a field of a part.
+use Rattle.std.specs.Prelude.{◌≡◌, ℕ, ◌-◌, Bool, List, length, false, Option, None, Some}
+use Rattle.std.specs.Borrow.{Bor}
+use Rattle.std.specs.Int.{w32}
+use Rattle.std.specs.Option.{is_some}
+use Rattle.rkyv_scan.specs.Hash.{fx_hasher, low_halves}
+use Rattle.rkyv_base.specs.Access.{Accepted, AccessFails}
+use Rattle.rkyv_base.specs.Format.{Format}
+use Rattle.rkyv_base.specs.Numbers.{unsigned}
+use Rattle.rkyv_base.specs.Pairs.{written_as}
+use Rattle.rkyv_base.specs.Root.{ArchiveOf, ArchiveRefused}
+use Rattle.rkyv_base.specs.Scalar.{ScalarStands, scalar_format, scalar_shape}
+use Rattle.rkyv_base.specs.Shape.{Shape, Viewed}
+use Rattle.rkyv_base.specs.Text.{text_shape}
+use Rattle.rkyv_base.specs.TextWriting.{text_format}
+use Rattle.rkyv_base.specs.declared.errors.VerifyError.{VerifyError}
+use Rattle.rkyv_base.specs.declared.errors.WriteError.{WriteError}
+use Rattle.rkyv_keys.specs.Calls.{text_calls}
+use Rattle.rkyv_keys.specs.OfTexts.{IsTextOf, same_bytes, text_key_calls}
+use Rattle.rkyv_table.specs.Table.Listed.{listed, written_under}
+use Rattle.rkyv_table.specs.Table.TableFormat.{TableResolver}
+use Rattle.rkyv_collections.specs.InPlace.{with_first}
+use Rattle.rkyv_collections.specs.ListedLookups.{first_pair, first_value}
+use Rattle.rkyv_collections.specs.Map.{hash_at, map_shape}
+use Rattle.rkyv_collections.specs.MapFormat.{MapStands, hash_of, map_format}
+use Rattle.rkyv_collections.specs.declared.lists.pairs.MapPairs.{MapPairs}
+
+-- names, each with a number
+abbrev pub FieldList : Type 0
+FieldList = List (Bor (List ℕ) × ℕ)
+
+-- names, each with its fields, which have a load factor
+abbrev pub Parts : Type 0
+Parts = List (Bor (List ℕ) × MapPairs (Bor (List ℕ)) ℕ ℕ)
+
+-- the fixed bytes of a name
+abbrev pub name_shape : Shape
+name_shape = text_shape w32
+
+-- of a number
+abbrev pub number_shape : Shape
+number_shape = scalar_shape (unsigned w32)
+
+-- of the header of the fields of a part
+abbrev pub fields_shape : Shape
+fields_shape = map_shape w32 name_shape number_shape
+
+-- of the header of a message
+abbrev pub header_shape : Shape
+header_shape = map_shape w32 name_shape fields_shape
+
+-- where the header stands
+abbrev pub root : List ℕ → ℕ
+root message = length message - header_shape.size
+
+-- the bytes are a message
+unfoldable pub IsMessage : List ℕ → Type 0
+IsMessage message = Accepted 4_294_967_295 header_shape message
+
+-- the first point at which they are none
+unfoldable pub IsRefused : List ℕ → VerifyError → Type 0
+IsRefused message e = AccessFails 4_294_967_295 header_shape message e
+
+-- the name stands at the position
+abbrev pub NameStands : List ℕ → ℕ → Bor (List ℕ) → Type 0
+NameStands = IsTextOf w32 (λ name. name.now)
+
+-- the hash of the name at a position
+abbrev pub name_hash : List ℕ → ℕ → ℕ
+name_hash = hash_at (fx_hasher low_halves) (text_key_calls w32)
+
+-- a map of fields stands at the position, whatever they are
+abbrev pub IsFields : List ℕ → ℕ → Type 0
+IsFields b p = Viewed fields_shape b p
+
+-- the map of these fields stands there, under a load factor
+abbrev pub FieldsStand : ℕ × ℕ → List ℕ → ℕ → FieldList → Type 0
+FieldsStand factor = MapStands w32 name_shape number_shape NameStands (ScalarStands (unsigned w32))
+    name_hash factor
+
+-- the fields of a part stand at the position
+abbrev pub PartStands : List ℕ → ℕ → MapPairs (Bor (List ℕ)) ℕ ℕ → Type 0
+PartStands b p part = FieldsStand part.load_factor b p part.pairs.now
+
+-- a map of the parts stands at the position, under a load factor
+abbrev pub PartsStand : ℕ × ℕ → List ℕ → ℕ → Parts → Type 0
+PartsStand factor = MapStands w32 name_shape fields_shape NameStands PartStands name_hash factor
+
+-- the message stands for the parts
+unfoldable pub StandsFor : List ℕ → Parts → Type 0
+StandsFor message parts = PartsStand (7, 8) message (root message) parts
+
+-- how a list of names is written, each with a value of the shape
+abbrev pub map_of_names : {B R : Type 0} → Shape → Format B R → ℕ × ℕ
+    → Format (List (Bor (List ℕ) × B)) TableResolver
+map_of_names shape format factor = listed 4_294_967_295 factor (map_format w32 name_shape shape
+    (written_as (λ name. name.now) (text_format w32)) format
+    (hash_of (fx_hasher low_halves) (λ name. text_calls name.now)) factor)
+
+-- how the fields of a part are written
+abbrev pub part_format : Format (MapPairs (Bor (List ℕ)) ℕ ℕ) TableResolver
+part_format = written_under (λ part. part.pairs.now)
+    (λ part. map_of_names number_shape (scalar_format (unsigned w32)) part.load_factor)
+
+-- how the parts are written
+abbrev pub parts_format : ℕ × ℕ → Format Parts TableResolver
+parts_format factor = map_of_names fields_shape part_format factor
+
+-- the bytes are the message of the parts, and nothing else
+unfoldable pub IsMessageOf : Parts → List ℕ → Type 0
+IsMessageOf parts message =
+    ArchiveOf 4_294_967_295 header_shape (PartsStand (7, 8)) (parts_format (7, 8)) parts message
+
+-- why there is no message of the parts
+unfoldable pub NoMessageOf : {F : Type 0} → Parts → WriteError F → Type 0
+NoMessageOf parts e = ArchiveRefused 4_294_967_295 header_shape (parts_format (7, 8)) parts e
+
+-- the name is this one
+abbrev pub is_named : List ℕ → Bor (List ℕ) → Bool
+is_named name held = same_bytes name held.now
+
+-- the number of the first field of the name
+abbrev pub number_in : List ℕ → FieldList → Option ℕ
+number_in field fields = first_value (is_named field) fields
+
+-- in the fields of a part, where there is one
+abbrev pub number_of_part : List ℕ → Option (MapPairs (Bor (List ℕ)) ℕ ℕ) → Option ℕ
+number_of_part field None = None
+number_of_part field (Some part) = number_in field part.pairs.now
+
+-- the number of the first field of the name in the first part of the name
+abbrev pub first_number : List ℕ → List ℕ → Parts → Option ℕ
+first_number part field parts = number_of_part field (first_value (is_named part) parts)
+
+-- the fields of the part stand at the position, or there is neither
+abbrev pub StandsIfFound : List ℕ → Option (MapPairs (Bor (List ℕ)) ℕ ℕ) → Option ℕ → Type 0
+StandsIfFound b None None = Unit {0}
+StandsIfFound b (Some part) (Some p) = PartStands b p part
+StandsIfFound b None (Some p) = ⊥
+StandsIfFound b (Some part) None = ⊥
+
+-- the fields of the first part of the name stand at the position, or there is none
+abbrev pub ArePartsFields : List ℕ → List ℕ → Parts → Option ℕ → Type 0
+ArePartsFields b part parts p = StandsIfFound b (first_value (is_named part) parts) p
+
+-- There is no part, and no byte is changed; or its fields stand at a position, and there then stand
+-- the fields with the new number in the first of the name, where there is one.
+abbrev pub SetsIn : List ℕ → ℕ → Option (MapPairs (Bor (List ℕ)) ℕ ℕ) → List ℕ → List ℕ → Bool
+    → Type 0
+SetsIn field number None b c found = (found ≡ false) × (c ≡ b)
+SetsIn field number (Some part) b c found =
+    (p : ℕ) × PartStands b p part
+    × (found ≡ is_some (first_pair (is_named field) part.pairs.now))
+    × FieldsStand part.load_factor c p (with_first (is_named field) number part.pairs.now)
+
+-- so of the first part of the name
+abbrev pub SetsNumber : List ℕ → List ℕ → ℕ → Parts → List ℕ → List ℕ → Bool → Type 0
+SetsNumber part field number parts b c found =
+    SetsIn field number (first_value (is_named part) parts) b c found

@@ -1,0 +1,131 @@
+//! Writing a message, reading a number of it, and writing one in place.
+ghost use Rattle.std.specs.Prelude.{IfErr, IfOk, IfSome, IsOk, MatchResult, false, ℕ, ◌≡◌};
+ghost use Rattle.rkyv_collections.specs.Map.{IsMap, map_bytes, map_pos};
+ghost use Rattle.rkyv_message.specs.Message.{
+  ArePartsFields,
+  FieldList,
+  FieldsStand,
+  IsFields,
+  IsMessage,
+  IsMessageOf,
+  IsRefused,
+  NoMessageOf,
+  Parts,
+  SetsNumber,
+  StandsFor,
+  first_number,
+  name_shape,
+  number_in,
+  number_shape,
+};
+ghost use Rattle.std.specs.Int.{w32};
+
+use rkyv_base::access::access;
+use rkyv_base::errors::{VerifyError, WriteError};
+use rkyv_base::root::to_bytes;
+use rkyv_base::text::Text;
+use rkyv_base::view::View;
+use rkyv_base::width::Narrow;
+use rkyv_base::writer::NoMemory;
+use rkyv_collections::map::in_place::set_value_of;
+use rkyv_collections::map::laws::lookups_find_listed;
+use rkyv_collections::map::{ArchivedHashMap, HashMapOf};
+use rkyv_collections::{FxHasher64, MapPairs};
+use std::alloc::Global;
+
+/// The fields of a part: names, each with a number.
+pub type Fields<'a> = MapPairs<'a, &'a str, u32>;
+
+/// The message of the parts, each a name with its fields, in their order.
+///
+/// # Errors
+/// Those of `to_bytes` of a map: among them, that a load factor of some fields is none, and that a
+/// growth is refused.
+pub fn archive(alloc: Global, parts: &[(&str, Fields<'_>)]) -> Result<Vec<u8>, WriteError<NoMemory>>
+    ensures whole { MatchResult result
+        (λ message. IsMessageOf parts.now message.items)
+        (NoMessageOf parts.now) }
+    ensures stands { IfOk result (λ message.
+        IsMessage message.items × StandsFor message.items parts.now) }
+{
+    let list: MapPairs<'_, &str, Fields<'_>> = MapPairs::new(parts);
+    to_bytes(alloc, &list)
+}
+
+/// The number of a field in a map of fields.
+fn field_number(fields: ArchivedHashMap<'_, Text, u32>, field: &str) -> Option<u32>
+    requires map { IsMap w32 name_shape number_shape fields }
+    ensures { (factor : ℕ × ℕ) (list : FieldList)
+        → FieldsStand factor (map_bytes fields.entry) (map_pos fields.entry) list
+        → result ≡ number_in field.now list }
+{
+    lookups_find_listed::<&str, u32, Text, u32, FxHasher64, Narrow>();
+    match fields.get(&field) {
+        Some(number) => Some(number.to_native()),
+        None => None,
+    }
+}
+
+/// Where the fields of a part stand.
+fn pos_of_part(message: &[u8], part: &str) -> Result<Option<u64>, VerifyError>
+    ensures checked { MatchResult result (λ _. IsMessage message.now) (IsRefused message.now) }
+    ensures accepts { IsMessage message.now → IsOk result }
+    ensures viewed { IfOk result (λ found. IfSome found (IsFields message.now)) }
+    ensures listed { (parts : Parts) → StandsFor message.now parts
+        → IfOk result (λ found. ArePartsFields message.now part.now parts found) }
+{
+    lookups_find_listed::<&str, Fields<'_>, Text, HashMapOf<Text, u32>, FxHasher64, Narrow>();
+    let root = match access::<HashMapOf<Text, HashMapOf<Text, u32>>>(message) {
+        Ok(root) => root,
+        Err(refused) => return Err(refused),
+    };
+    let map = ArchivedHashMap::of(root);
+    match map.get(&part) {
+        Some(fields) => Ok(Some(fields.pos())),
+        None => Ok(None),
+    }
+}
+
+/// The number of a field of a part, or none: where a name stands more than once in the list, of the
+/// first.
+///
+/// # Errors
+/// The first point at which the bytes are no message.
+pub fn number_of(message: &[u8], part: &str, field: &str) -> Result<Option<u32>, VerifyError>
+    ensures checked { MatchResult result (λ _. IsMessage message.now) (IsRefused message.now) }
+    ensures accepts { IsMessage message.now → IsOk result }
+    ensures listed { (parts : Parts) → StandsFor message.now parts
+        → IfOk result (λ found. found ≡ first_number part.now field.now parts) }
+{
+    match pos_of_part(message, part) {
+        Ok(Some(pos)) => Ok(field_number(ArchivedHashMap::of(View::new(message, pos)), field)),
+        Ok(None) => Ok(None),
+        Err(refused) => Err(refused),
+    }
+}
+
+/// Writes the number of a field of a part in place, and tells whether it is there: where a name
+/// stands more than once in the list, of the first. Where it isn't, no byte is changed.
+///
+/// # Errors
+/// The first point at which the bytes are no message; no byte is changed.
+pub fn set_number(
+    message: &mut [u8],
+    part: &str,
+    field: &str,
+    number: u32,
+) -> Result<bool, VerifyError>
+    ensures refused { IfErr result (λ e. IsRefused message.old e × (message.new ≡ message.old)) }
+    ensures accepts { IsMessage message.old → IsOk result }
+    ensures missed { IfOk result (λ found. found ≡ false → message.new ≡ message.old) }
+    ensures listed { (parts : Parts) → StandsFor message.old parts
+        → IfOk result (SetsNumber part.now field.now number parts message.old message.new) }
+{
+    match pos_of_part(&*message, part) {
+        Ok(Some(pos)) => Ok(set_value_of::<&str, Text, u32, FxHasher64, Narrow>(
+            message, pos, &field, number,
+        )),
+        Ok(None) => Ok(false),
+        Err(refused) => Err(refused),
+    }
+}

@@ -1,0 +1,71 @@
+//! Messages that are cut short, or of which a byte is changed.
+
+use rkyv_base::errors::VerifyError;
+use rkyv_collections::MapPairs;
+use rkyv_message::message::{archive, number_of, set_number};
+use std::alloc::Global;
+use std::test::Fail;
+
+// The message of a part of two fields.
+fn message(alloc: Global) -> Result<Vec<u8>, Fail> {
+    let fields = [("a field of some length", 7), ("b", 8)];
+    let parts = [("head", MapPairs::new(&fields))];
+    Ok(archive(alloc, &parts)?)
+}
+
+// Whether no number is told of a field or of a part that isn't there, and none is written.
+fn is_answered(bytes: &mut [u8]) -> bool {
+    let field = number_of(bytes, "head", "none_such");
+    let part = number_of(bytes, "none_such", "b");
+    let write = set_number(bytes, "head", "none_such", 1);
+    !matches!(field, Ok(Some(_))) && !matches!(part, Ok(Some(_))) && !matches!(write, Ok(true))
+}
+
+// How many of the fronts are answered, and how many of those that are shorter than a header are
+// refused for that.
+fn fronts(bytes: &mut [u8]) -> (usize, usize) {
+    let mut answered = 0usize;
+    let mut short = 0usize;
+    for len in 0..bytes.len() {
+        let front = &mut bytes[..len];
+        if is_answered(front) {
+            answered = answered.wrapping_add(1);
+        }
+        let told = number_of(front, "head", "b");
+        if len < 12 && matches!(told, Err(VerifyError::OutOfRange { .. })) {
+            short = short.wrapping_add(1);
+        }
+    }
+    (answered, short)
+}
+
+#[test]
+fn each_front_is_answered(rt: HostRuntime) -> Result<(), Fail> {
+    let mut bytes = message(rt.alloc())?;
+    let len = bytes.len();
+    let seen = fronts(bytes.as_mut_slice());
+    assert_eq!(rt; seen, (len, 12));
+    Ok(())
+}
+
+// How many of the changed bytes are answered.
+fn changed(bytes: &mut [u8]) -> usize {
+    let mut answered = 0usize;
+    for at in 0..bytes.len() {
+        bytes[at] ^= 0xff;
+        if is_answered(bytes) {
+            answered = answered.wrapping_add(1);
+        }
+        bytes[at] ^= 0xff;
+    }
+    answered
+}
+
+#[test]
+fn each_changed_byte_is_answered(rt: HostRuntime) -> Result<(), Fail> {
+    let mut bytes = message(rt.alloc())?;
+    let len = bytes.len();
+    let answered = changed(bytes.as_mut_slice());
+    assert_eq!(rt; answered, len);
+    Ok(())
+}
