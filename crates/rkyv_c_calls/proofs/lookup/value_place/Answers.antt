@@ -1,0 +1,44 @@
+use Rattle.std.proofs.Common.{◌≡◌, ℕ, ◌∙◌, None, Option, Some, ap, subst, sym}
+use Rattle.std.specs.Option.{option_map}
+use Rattle.rkyv_scan.specs.Groups.{generic_kind}
+use Rattle.rkyv_base.specs.Entry.{entry_shape}
+use Rattle.rkyv_base.specs.Sealing.{value_pos}
+use Rattle.rkyv_base.specs.Shape.{Viewed}
+use Rattle.rkyv_table.specs.Table.Reading.{pos_found}
+use Rattle.rkyv_collections.specs.Map.{IsKeyPosAt}
+use Rattle.rkyv_collections.proofs.SealedMap.{as_read, pair_place}
+use Rattle.rkyv_c_calls.specs.Archives.{hash_by}
+use Rattle.rkyv_c_calls.proofs.lookup.value_place.Goals as goal
+
+pub returns-in-Some-clause-viewed : goal.returns-in-Some-clause-viewed
+returns-in-Some-clause-viewed g c =
+    let bytes = ap (λ v. v.archive.now) c.of-map.ensures.view ∙ ap (λ a. a.now) c.new.ensures.0 in
+    let place = ap (λ v. v.pos) c.of-map.ensures.view ∙ c.new.ensures.1 in
+    let k = g.K.Element.shape in
+    let v = g.V.Element.shape in
+    let is = c.in-Some.ensures.walked in
+    let at = as_read c.of-map.result c.args.archive.now c.args.root bytes place (λ d r. IsKeyPosAt g.W.Width.word k v d r is.key) is.walked in
+    let pair = pair_place g.W.Width.word k v g.met.K.Element.laws g.met.V.Element.laws c.args.archive.now c.args.root c.requires.map is.key at in
+    subst (Viewed v c.args.archive.now) (sym (c.pos.ensures ∙ is.at.1)) pair.value
+
+pub returns-in-Some-clause-found : goal.returns-in-Some-clause-found
+returns-in-Some-clause-found g c =
+    let bytes = ap (λ v. v.archive.now) c.of-map.ensures.view ∙ ap (λ a. a.now) c.new.ensures.0 in
+    let place = ap (λ v. v.pos) c.of-map.ensures.view ∙ c.new.ensures.1 in
+    let k = g.K.Element.shape in
+    let v = g.V.Element.shape in
+    let hash = hash_by (g.Q.KeyHash.calls c.args.key.now) in
+    ap Some c.pos.ensures
+    ∙ as_read c.of-map.result c.args.archive.now c.args.root bytes place
+    (λ d r. Some c.in-Some.value.pos ≡ option_map (value_pos k v) (pos_found generic_kind g.W.Width.word (entry_shape k v).size d r hash (g.Q.Query.fits c.args.key.now d))) c.in-Some.ensures.answer
+
+pub returns-in-None-clause-found : goal.returns-in-None-clause-found
+returns-in-None-clause-found g c =
+    let bytes = ap (λ v. v.archive.now) c.of-map.ensures.view ∙ ap (λ a. a.now) c.new.ensures.0 in
+    let place = ap (λ v. v.pos) c.of-map.ensures.view ∙ c.new.ensures.1 in
+    let k = g.K.Element.shape in
+    let v = g.V.Element.shape in
+    let hash = hash_by (g.Q.KeyHash.calls c.args.key.now) in
+    let none : Option ℕ = None in
+    as_read c.of-map.result c.args.archive.now c.args.root bytes place
+    (λ d r. none ≡ option_map (value_pos k v) (pos_found generic_kind g.W.Width.word (entry_shape k v).size d r hash (g.Q.Query.fits c.args.key.now d))) c.in-None.ensures.answer

@@ -1,0 +1,13 @@
+use Rattle.std.proofs.Common.{inl, inr, refl, subst}
+use Rattle.rkyv_base.specs.Numbers.{unsigned}
+use Rattle.rkyv_c_calls.specs.Archives.{Sets, word_of}
+use Rattle.rkyv_c_calls.specs.Calls.{text_found}
+use Rattle.rkyv_c_calls.proofs.texts.set_text.Goals as goal
+
+pub returns-in-Some-clause-sets : goal.returns-in-Some-clause-sets
+returns-in-Some-clause-sets c =
+    let a = c.args in
+    inr (c.in-Some.ensures.0, subst (λ key. Sets (unsigned (word_of a.long_values)) a.archive.now (text_found a.long_values a.wide a.archive.now key) a.value c.set_of.result c.set_of.new.archive) c.in-Some.ensures.1 c.set_of.ensures.sets)
+
+pub returns-in-None-clause-sets : goal.returns-in-None-clause-sets
+returns-in-None-clause-sets c = inl (c.in-None.ensures, refl, refl)

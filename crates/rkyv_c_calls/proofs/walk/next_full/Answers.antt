@@ -1,0 +1,17 @@
+use Rattle.std.proofs.Common.{◌∙◌}
+use Rattle.rkyv_table.proofs.SealedItems.{full_end, full_skipped, full_taken}
+use Rattle.rkyv_c_calls.proofs.walk.next_full.Goals as goal
+
+pub returns-then-controls-bucket-lt128 : goal.returns-then-controls-bucket-lt128
+returns-then-controls-bucket-lt128 c = (
+  c.loop-bucket-test.true,
+  c.if-controls-bucket-lt128.true,
+  c.loop-bucket.invariant ∙ full_taken c.args.controls.now c.args.cap c.loop-bucket.bucket c.loop-bucket-test.true c.if-controls-bucket-lt128.true,
+)
+
+pub loop-bucket-preserved : goal.loop-bucket-preserved
+loop-bucket-preserved c =
+    c.loop-bucket.invariant ∙ full_skipped c.args.controls.now c.args.cap c.loop-bucket.bucket c.loop-bucket-test.true c.if-controls-bucket-lt128.false
+
+pub returns : goal.returns
+returns c = c.loop-bucket.invariant ∙ full_end c.args.controls.now c.args.cap c.loop-bucket.bucket c.loop-bucket-test.false

@@ -1,0 +1,90 @@
+-- The archives of maps that are opened, and what is found in them.
+use Rattle.std.specs.Prelude.{◌≡◌, ℕ, ◌-◌, ◌^◌, ◌≤◌, ◌⊎◌, Bool, true, false, List, length, Option}
+use Rattle.std.specs.Prelude.{MatchOption}
+use Rattle.std.specs.Int.{Width, w32, w64}
+use Rattle.std.specs.Option.{option_map}
+use mir.Val.{bits}
+use Rattle.rkyv_scan.specs.Groups.{generic_kind}
+use Rattle.rkyv_scan.specs.Hash.{HasherCall, fx_hash, low_halves}
+use Rattle.rkyv_base.specs.Access.{Accepted, AccessFails}
+use Rattle.rkyv_base.specs.Bytes.{number_at}
+use Rattle.rkyv_base.specs.Entry.{entry_shape}
+use Rattle.rkyv_base.specs.Numbers.{unsigned}
+use Rattle.rkyv_base.specs.Scalar.{Encoding, scalar_shape}
+use Rattle.rkyv_base.specs.Sealing.{value_pos, with_value}
+use Rattle.rkyv_base.specs.Shape.{Shape}
+use Rattle.rkyv_base.specs.Text.{text_shape}
+use Rattle.rkyv_base.specs.declared.errors.VerifyError.{VerifyError}
+use Rattle.rkyv_collections.specs.Map.{map_shape}
+use Rattle.rkyv_table.specs.Table.Reading.{pos_found}
+use Rattle.rkyv_c_calls.specs.Status.{refusal}
+
+-- a number of 32 bits, or of 64
+abbrev pub word_of : Bool → Width
+word_of false = w32
+word_of true = w64
+
+-- the greatest length of an archive, narrow or wide
+abbrev pub limit_of : Bool → ℕ
+limit_of false = 4_294_967_295
+limit_of true = 9_223_372_036_854_775_807
+
+-- a number of 32 bits as a key
+abbrev pub number_key : Shape
+number_key = scalar_shape (unsigned w32)
+
+-- a text as a key, in a narrow or a wide archive
+abbrev pub text_key : Bool → Shape
+text_key wide = text_shape (word_of wide)
+
+-- a number of 32 or of 64 bits as a value
+abbrev pub value_shape : Bool → Shape
+value_shape long_values = scalar_shape (unsigned (word_of long_values))
+
+-- the header of a map of numbers
+abbrev pub number_map : Bool → Bool → Shape
+number_map long_values wide = map_shape (word_of wide) number_key (value_shape long_values)
+
+-- the header of a map of texts
+abbrev pub text_map : Bool → Bool → Shape
+text_map long_values wide = map_shape (word_of wide) (text_key wide) (value_shape long_values)
+
+-- the bytes are accepted as the archive of a map of numbers
+abbrev pub IsNumberArchive : Bool → Bool → List ℕ → Type 0
+IsNumberArchive long_values wide b = Accepted (limit_of wide) (number_map long_values wide) b
+
+-- the bytes are accepted as the archive of a map of texts
+abbrev pub IsTextArchive : Bool → Bool → List ℕ → Type 0
+IsTextArchive long_values wide b = Accepted (limit_of wide) (text_map long_values wide) b
+
+-- the bytes are accepted, or the status tells the first point at which they are no archive
+abbrev pub Opens : ℕ → Shape → List ℕ → ℕ → Type 0
+Opens limit s b status = (Accepted limit s b × (status ≡ 0))
+    ⊎ ((e : VerifyError) × AccessFails limit s b e × (status ≡ refusal e))
+
+-- the hash of a list of calls
+abbrev pub hash_by : List HasherCall → ℕ
+hash_by calls = fx_hash low_halves calls
+
+module _ (w : Width) (k v : Shape) (b : List ℕ) where
+  -- where the header of the map stands
+  abbrev pub root : ℕ
+  root = length b - (map_shape w k v).size
+
+  -- where the value of the key stands that a lookup with these calls finds, of those that fit
+  abbrev pub value_found : List HasherCall → (ℕ → Bool) → Option ℕ
+  value_found calls fits = option_map (value_pos k v)
+      (pos_found generic_kind w (entry_shape k v).size b root (hash_by calls) fits)
+
+-- the number at the place is given; or there is no place, and what was there is kept
+abbrev pub Gives : Width → List ℕ → Option ℕ → ℕ → ℕ → ℕ → Type 0
+Gives v b place before status after = MatchOption place ((status ≡ 1) × (after ≡ before))
+    (λ q. (status ≡ 0) × (after ≡ number_at v b q))
+
+-- the number has too many bits, or there is no place, and no byte is changed; or the number's value
+-- is written at the place, and no other byte is changed
+abbrev pub Sets : {N : Type 0} → Encoding N → List ℕ → Option ℕ → ℕ → ℕ → List ℕ → Type 0
+Sets {N} e b place number status c =
+    ((2 ^ bits e.word ≤ number) × (status ≡ 3) × (c ≡ b))
+    ⊎ ((value : N) × (e.code value ≡ number) × MatchOption place ((status ≡ 1) × (c ≡ b))
+    (λ q. (status ≡ 0) × (c ≡ with_value e b q value)))

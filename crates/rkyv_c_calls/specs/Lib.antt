@@ -1,0 +1,4 @@
+pub mod Status
+pub mod Archives
+pub mod Walking
+pub mod Calls

@@ -1,0 +1,47 @@
+//! Whether bytes are the archive of a map, where it stands, and how many pairs it has.
+
+ghost use Rattle.std.specs.Prelude.{◌≡◌};
+ghost use Rattle.rkyv_base.specs.Access.{Accepted};
+ghost use Rattle.rkyv_base.specs.Shape.{Viewed};
+ghost use Rattle.rkyv_collections.specs.Map.{map_shape};
+ghost use Rattle.rkyv_table.specs.Table.Header.{len_at};
+ghost use Rattle.rkyv_c_calls.specs.Archives.{Opens, root};
+
+use crate::status::{DONE, refusal};
+use rkyv_base::access::{access_in, access_unchecked};
+use rkyv_base::element::Element;
+use rkyv_base::view::View;
+use rkyv_base::width::Width;
+use rkyv_collections::FxHasher64;
+use rkyv_collections::map::{ArchivedHashMap, HashMapOf};
+
+/// Whether the bytes are the archive of a map.
+pub(crate) fn open_map<K: Element, V: Element, W: Width>(archive: &[u8]) -> u32
+    ensures told { Opens W.LIMIT (map_shape W.word K.shape V.shape) archive.now result }
+    ensures accepts { Accepted W.LIMIT (map_shape W.word K.shape V.shape) archive.now
+        → result ≡ 0 }
+{
+    match access_in::<W, HashMapOf<K, V, FxHasher64, W>>(archive) {
+        Ok(_) => DONE,
+        Err(e) => refusal(&e),
+    }
+}
+
+/// Where the header of the map of an archive stands.
+#[inline]
+pub(crate) fn root_of<K: Element, V: Element, W: Width>(archive: &[u8]) -> u64
+    requires { Accepted W.LIMIT (map_shape W.word K.shape V.shape) archive.now }
+    ensures at { result ≡ root W.word K.shape V.shape archive.now }
+    ensures viewed { Viewed (map_shape W.word K.shape V.shape) archive.now result }
+{
+    access_unchecked::<HashMapOf<K, V, FxHasher64, W>>(archive).pos()
+}
+
+/// How many pairs the map at `root` has.
+#[inline]
+pub(crate) fn pair_count<K: Element, V: Element, W: Width>(archive: &[u8], root: u64) -> usize
+    requires { Viewed (map_shape W.word K.shape V.shape) archive.now root }
+    ensures { result ≡ len_at W.word archive.now root }
+{
+    ArchivedHashMap::<K, V, FxHasher64, W>::of(View::new(archive, root)).len()
+}

@@ -1,0 +1,155 @@
+//! Walking over the pairs of a map, from any bucket on.
+
+ghost use Rattle.std.specs.Prelude.{[], IfSome, MatchOption, length, pos as int, slice_index};
+ghost use Rattle.std.specs.Prelude.{slice_range, unsigned_abs, ℕ, ◌*◌, ◌+ℤ◌, ◌+◌, ◌-◌, ◌<◌, ◌∷◌};
+ghost use Rattle.std.specs.Prelude.{◌^◌, ◌≡◌, ◌≤◌};
+ghost use Rattle.std.specs.Int.{byte_len};
+ghost use Rattle.rkyv_base.specs.Bytes.{number_at, signed_at};
+ghost use Rattle.rkyv_base.specs.Entry.{entry_shape};
+ghost use Rattle.rkyv_base.specs.Scalar.{scalar_shape};
+ghost use Rattle.rkyv_base.specs.Sealing.{value_pos};
+ghost use Rattle.rkyv_base.specs.Shape.{Viewed};
+ghost use Rattle.rkyv_collections.specs.Map.{map_shape};
+ghost use Rattle.rkyv_table.specs.Controls.Numbers.{control_count};
+ghost use Rattle.rkyv_table.specs.Controls.Walking.{full_from};
+ghost use Rattle.rkyv_table.specs.Table.Header.{cap_at};
+ghost use Rattle.rkyv_table.specs.Table.Reading.{controls_pos};
+ghost use Rattle.rkyv_c_calls.specs.Walking.{IsNextPlace};
+
+use crate::value::Value;
+use rkyv_base::element::Element;
+use rkyv_base::entry::Entry;
+use rkyv_base::view::View;
+use rkyv_base::width::Width;
+use rkyv_collections::FxHasher64;
+use rkyv_collections::map::ArchivedHashMap;
+use rkyv_table::controls::numbers::control_count;
+
+/// A full bucket, and where the pair in it stands.
+#[derive(Clone, Copy)]
+pub(crate) struct Place {
+    pub(crate) bucket: u64,
+    pub(crate) pos: u64,
+}
+
+/// The first of the first `cap` buckets from `from` on whose control is full.
+#[inline]
+fn next_full(controls: &[u8], cap: usize, from: usize) -> Option<usize>
+    requires { cap ≤ length controls.now }
+    ensures { MatchOption result (full_from controls.now cap from ≡ [])
+        (λ b. (b < cap) × (slice_index controls.now b < 128)
+        × (full_from controls.now cap from ≡ b ∷ full_from controls.now cap (b + 1))) }
+{
+    for bucket in from..cap {
+        if controls[bucket] < 0x80 {
+            return Some(bucket);
+        }
+    }
+    None
+}
+
+/// How far the first control stands from a header, in bytes.
+#[derive(Clone, Copy)]
+struct Distance {
+    told: i64,
+}
+
+/// The distance that the header at `root` tells.
+#[inline]
+fn distance_at<W: Width>(archive: &[u8], root: u64) -> Distance
+    requires { root + byte_len W.word ≤ length archive.now }
+    ensures { result.told ≡ signed_at W.word archive.now root }
+{
+    Distance {
+        told: W::read_distance(archive, root as usize),
+    }
+}
+
+/// Where the first control stands, of a header at `root` that tells this distance.
+#[inline]
+fn controls_begin(root: u64, distance: Distance) -> usize
+    requires { (place : ℕ) × (int place ≡ int root +ℤ distance.told) × (place < 2 ^ 64) }
+    ensures { result ≡ unsigned_abs (int root +ℤ distance.told) }
+{
+    (i128::from(root) + i128::from(distance.told)) as usize
+}
+
+/// How many buckets the map at `root` has.
+#[inline]
+fn bucket_count<K: Element, V: Element, W: Width>(archive: &[u8], root: u64) -> usize
+    requires { Viewed (map_shape W.word K.shape V.shape) archive.now root }
+    ensures { result ≡ cap_at W.word archive.now root }
+{
+    ArchivedHashMap::<K, V, FxHasher64, W>::of(View::new(archive, root)).capacity()
+}
+
+/// Where the first of the controls of the map at `root` stands, which has buckets.
+#[inline]
+fn controls_in<K: Element, V: Element, W: Width>(archive: &[u8], root: u64, cap: usize) -> usize
+    requires map { Viewed (map_shape W.word K.shape V.shape) archive.now root }
+    requires cap { cap ≡ cap_at W.word archive.now root }
+    requires some { 0 < cap }
+    ensures at { result ≡ controls_pos W.word archive.now root }
+    ensures inside { result + control_count cap ≤ length archive.now }
+{
+    controls_begin(root, distance_at::<W>(archive, root))
+}
+
+/// The controls of `cap` buckets, from `place` on.
+#[inline]
+fn controls_from(bytes: &[u8], place: usize, cap: usize) -> &[u8]
+    requires { place + control_count cap ≤ length bytes.now }
+    ensures { result.now ≡ slice_range bytes.now place (place + control_count cap) }
+{
+    &bytes[place..place + control_count(cap)]
+}
+
+/// Where a bucket stands before the first control.
+#[inline]
+fn pos_before(place: usize, bucket: usize, size: usize) -> u64
+    requires small { bucket + 1 < 2 ^ 64 }
+    requires room { (bucket + 1) * size ≤ place }
+    ensures { result ≡ place - (bucket + 1) * size }
+{
+    (place - (bucket + 1) * size) as u64
+}
+
+/// The first full bucket from `from` on of the map at `root`, and where the pair in it stands.
+#[inline]
+pub(crate) fn next_place<K: Element, V: Element, W: Width>(
+    archive: &[u8],
+    root: u64,
+    from: u64,
+) -> Option<Place>
+    requires { Viewed (map_shape W.word K.shape V.shape) archive.now root }
+    ensures next { IsNextPlace W.word K.shape V.shape archive.now root from result }
+    ensures viewed { IfSome result (λ place. Viewed (entry_shape K.shape V.shape) archive.now
+        place.pos) }
+    ensures small { IfSome result (λ place. place.bucket + 1 < 2 ^ 64) }
+{
+    let cap = bucket_count::<K, V, W>(archive, root);
+    if from >= cap as u64 {
+        return None;
+    }
+    let begin = controls_in::<K, V, W>(archive, root, cap);
+    let controls = controls_from(archive, begin, cap);
+    let size = Entry::<K, V>::size();
+    match next_full(controls, cap, from as usize) {
+        Some(bucket) => Some(Place {
+            bucket: bucket as u64,
+            pos: pos_before(begin, bucket, size),
+        }),
+        None => None,
+    }
+}
+
+/// The value of the pair at a position, as a number of 64 bits.
+#[inline]
+pub(crate) fn value_in<K: Element, V: Value>(archive: &[u8], pos: u64) -> u64
+    requires { Viewed (entry_shape K.shape (scalar_shape V.encoding)) archive.now pos }
+    ensures { result ≡ number_at V.encoding.word archive.now
+        (value_pos K.shape (scalar_shape V.encoding) pos) }
+{
+    let entry: View<'_, Entry<K, V>> = View::new(archive, pos);
+    entry.value().to_native().to_number()
+}
