@@ -44,6 +44,20 @@ unsafe extern "C" {
         ends: *const u32,
         count: usize,
     ) -> u64;
+    fn rkyv_bench_lookup_u32_by_finder(
+        archive: *const u8,
+        len: usize,
+        keys: *const u32,
+        key_count: usize,
+    ) -> u64;
+    fn rkyv_bench_lookup_text_by_finder(
+        archive: *const u8,
+        archive_len: usize,
+        bytes: *const u8,
+        len: usize,
+        ends: *const u32,
+        count: usize,
+    ) -> u64;
     fn rkyv_bench_walk_u32(archive: *const u8, len: usize) -> u64;
     fn rkyv_bench_walk_text(archive: *const u8, len: usize) -> u64;
 
@@ -106,6 +120,9 @@ pub trait Keys {
     /// The sum of the values that are found, and of 2^32 for each key that isn't.
     fn lookup(&self, archive: &Accepted<'_, Self>) -> u64;
 
+    /// The same by a finder of the map, which each call makes once.
+    fn lookup_by_finder(&self, archive: &Accepted<'_, Self>) -> u64;
+
     /// The sum of all pairs of an archive.
     fn walk(archive: &Accepted<'_, Self>) -> u64;
 }
@@ -159,6 +176,19 @@ impl Keys for Numbers {
         // SAFETY: as above, and the archive was accepted.
         unsafe {
             rkyv_bench_lookup_u32(
+                archive.as_ptr(),
+                archive.len(),
+                self.0.as_ptr(),
+                self.0.len(),
+            )
+        }
+    }
+
+    fn lookup_by_finder(&self, archive: &Accepted<'_, Self>) -> u64 {
+        let archive = archive.archive;
+        // SAFETY: as above, and the archive was accepted.
+        unsafe {
+            rkyv_bench_lookup_u32_by_finder(
                 archive.as_ptr(),
                 archive.len(),
                 self.0.as_ptr(),
@@ -241,6 +271,20 @@ impl Keys for Texts {
         // SAFETY: as above, and the archive was accepted.
         unsafe {
             rkyv_bench_lookup_text(
+                archive.archive.as_ptr(),
+                archive.archive.len(),
+                self.bytes.as_ptr(),
+                self.bytes.len(),
+                self.ends.as_ptr(),
+                self.ends.len(),
+            )
+        }
+    }
+
+    fn lookup_by_finder(&self, archive: &Accepted<'_, Self>) -> u64 {
+        // SAFETY: as above, and the archive was accepted.
+        unsafe {
+            rkyv_bench_lookup_text_by_finder(
                 archive.archive.as_ptr(),
                 archive.archive.len(),
                 self.bytes.as_ptr(),

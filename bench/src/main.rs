@@ -29,16 +29,21 @@ enum Measure {
     Access,
     Hits,
     Misses,
+    // As `Hits` and `Misses`, but by a finder, where std's map is asked as before.
+    HitsByFinder,
+    MissesByFinder,
     Walk,
 }
 
-const MEASURES: [Measure; 7] = [
+const MEASURES: [Measure; 9] = [
     Measure::Hash,
     Measure::Build,
     Measure::BuildBorrowed,
     Measure::Access,
     Measure::Hits,
     Measure::Misses,
+    Measure::HitsByFinder,
+    Measure::MissesByFinder,
     Measure::Walk,
 ];
 
@@ -51,6 +56,8 @@ impl Measure {
             Measure::Access => "access",
             Measure::Hits => "lookup, found",
             Measure::Misses => "lookup, not found",
+            Measure::HitsByFinder => "lookup by a finder, found",
+            Measure::MissesByFinder => "lookup by a finder, not found",
             Measure::Walk => "walk",
         }
     }
@@ -159,10 +166,19 @@ fn build_std<K: Eq + Hash, S: BuildHasher + Default>(
     map
 }
 
-/// The time of one build. The maps are dropped outside of it.
-fn time_build<T>(times: usize, mut build: impl FnMut() -> T) -> Duration {
-    let mut maps = Vec::with_capacity(times);
-    time(times, || maps.push(build())).0
+/// The time of one build, of several in a row, and what the last one answered. Each is clocked by
+/// itself, and what it built is dropped outside of the clock, before the next one begins.
+fn time_build<T>(times: usize, mut build: impl FnMut() -> T) -> (Duration, T) {
+    let mut taken = Duration::ZERO;
+    let mut built = None;
+    for _ in 0..times {
+        drop(built.take());
+        let begin = now();
+        let answer = black_box(build());
+        taken += now() - begin;
+        built = Some(answer);
+    }
+    (taken / times as u32, built.unwrap())
 }
 
 fn measure_std<Q: Key, K, S: BuildHasher + Default>(
@@ -189,18 +205,20 @@ fn measure_std<Q: Key, K, S: BuildHasher + Default>(
                 let keys = black_box(work.key_list).iter().map(|key| key.own());
                 build_std::<Q::Owned, S>(keys, work.values)
             };
-            (time_build(times, build), count)
+            (time_build(times, build).0, count)
         }
         Measure::BuildBorrowed => {
             let build = || {
                 let keys = black_box(work.key_list).iter().copied();
                 build_std::<Q, S>(keys, work.values)
             };
-            (time_build(times, build), count)
+            (time_build(times, build).0, count)
         }
         Measure::Access => unreachable!("it has no counterpart"),
-        Measure::Hits => time(times, || lookup(black_box(work.hit_list))),
-        Measure::Misses => time(times, || lookup(black_box(work.miss_list))),
+        Measure::Hits | Measure::HitsByFinder => time(times, || lookup(black_box(work.hit_list))),
+        Measure::Misses | Measure::MissesByFinder => {
+            time(times, || lookup(black_box(work.miss_list)))
+        }
         Measure::Walk => time(times, || {
             sum(black_box(map)
                 .iter()
@@ -220,13 +238,18 @@ fn measure_ours<Q, K: Keys>(
     match measure {
         Measure::Hash => time(times, || black_box(work.keys).hash()),
         Measure::Build | Measure::BuildBorrowed => {
-            let (duration, len) = time(times, || black_box(work.keys).build(work.values, out));
+            let (duration, len) =
+                time_build(times, || black_box(work.keys).build(work.values, out));
             assert!(out[..len] == *archive, "another archive was built");
             (duration, work.values.len() as u64)
         }
         Measure::Access => time(times, || K::access(black_box(archive)) as u64),
         Measure::Hits => time(times, || black_box(work.hits).lookup(accepted)),
         Measure::Misses => time(times, || black_box(work.misses).lookup(accepted)),
+        Measure::HitsByFinder => time(times, || black_box(work.hits).lookup_by_finder(accepted)),
+        Measure::MissesByFinder => {
+            time(times, || black_box(work.misses).lookup_by_finder(accepted))
+        }
         Measure::Walk => time(times, || K::walk(black_box(accepted))),
     }
 }
@@ -283,8 +306,8 @@ fn run<Q: Key, K: Keys>(kind: &str, work: &Workload<'_, K, Q>, rounds: usize) {
                 Measure::Hash => hash_sum,
                 Measure::Build | Measure::BuildBorrowed => count as u64,
                 Measure::Access => count as u64 + 1,
-                Measure::Hits => hit_sum,
-                Measure::Misses => MISS * count as u64,
+                Measure::Hits | Measure::HitsByFinder => hit_sum,
+                Measure::Misses | Measure::MissesByFinder => MISS * count as u64,
                 Measure::Walk => walk_sum,
             };
             assert_eq!(answer, expected, "{}: another answer", measure.name());

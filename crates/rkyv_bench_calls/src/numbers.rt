@@ -7,7 +7,9 @@ ghost use Rattle.rkyv_bench_calls.specs.Totals.{number_hash, number_looked_up, n
 ghost use Rattle.rkyv_bench_calls.specs.Totals.{pair_weight, total, walked};
 
 use crate::building::{Pairs, build};
-use crate::totals::{hash_total, length_and_1, lookup_total, map_in, walk_total};
+use crate::totals::{
+    finder_in, hash_total, length_and_1, lookup_total, lookup_total_by_finder, map_in, walk_total,
+};
 use rkyv_scan::hash::FxHasher64;
 use std::alloc::Global;
 use std::marker::PhantomData;
@@ -50,6 +52,19 @@ pub fn lookup_u32(archive: &[u8], keys: &[u32]) -> u64
     ensures { result ≡ total (number_looked_up archive.now) keys.now }
 {
     lookup_total::<u32, u32, &u32, std::slice::Iter<'_, u32>>(map_in(archive), keys.iter())
+}
+
+/// As `lookup_u32`, by a finder of the map.
+///
+/// The archive must have been accepted: `access_u32` answered more than 0.
+pub fn lookup_u32_by_finder(archive: &[u8], keys: &[u32]) -> u64
+    requires { IsArchive number_shape archive.now }
+    ensures { result ≡ total (number_looked_up archive.now) keys.now }
+{
+    lookup_total_by_finder::<u32, u32, &u32, std::slice::Iter<'_, u32>>(
+        finder_in(archive),
+        keys.iter(),
+    )
 }
 
 /// The sum modulo 2^64 of all keys and all values.

@@ -9,7 +9,9 @@ ghost use Rattle.rkyv_bench_calls.specs.Totals.{text_weight, total, walked};
 
 use crate::building::{Pairs, build};
 use crate::cuts::{Cuts, cut, list};
-use crate::totals::{hash_total, length_and_1, lookup_total, map_in, walk_total};
+use crate::totals::{
+    finder_in, hash_total, length_and_1, lookup_total, lookup_total_by_finder, map_in, walk_total,
+};
 use rkyv_base::text::Text;
 use rkyv_scan::hash::FxHasher64;
 use std::alloc::Global;
@@ -66,6 +68,17 @@ pub fn lookup_text(archive: &[u8], bytes: &[u8], ends: &[u32]) -> u64
     ensures { result ≡ total (text_looked_up archive.now) (texts bytes.now ends.now) }
 {
     lookup_total::<Text, &str, &str, Cuts<'_>>(map_in(archive), cut(bytes, ends))
+}
+
+/// As `lookup_text`, by a finder of the map.
+///
+/// The archive must have been accepted: `access_text` answered more than 0.
+pub fn lookup_text_by_finder(archive: &[u8], bytes: &[u8], ends: &[u32]) -> u64
+    requires archive { IsArchive short_text archive.now }
+    requires texts { AreTexts bytes.now ends.now }
+    ensures { result ≡ total (text_looked_up archive.now) (texts bytes.now ends.now) }
+{
+    lookup_total_by_finder::<Text, &str, &str, Cuts<'_>>(finder_in(archive), cut(bytes, ends))
 }
 
 /// The sum modulo 2^64 of the lengths of all keys, in bytes, and of all values.

@@ -4,6 +4,7 @@ ghost use Rattle.std.specs.Int.{w32};
 ghost use Rattle.std.specs.Iterator.{Drains, IsFinite};
 ghost use Rattle.std.specs.Prelude.{List, ◌≡◌};
 ghost use Rattle.rkyv_collections.specs.Map.{IsMap, map_bytes, map_pos};
+ghost use Rattle.rkyv_collections.specs.MapFinder.{IsMapFinder, map_of};
 ghost use Rattle.rkyv_bench_calls.specs.Archives.{IsArchive, IsLengthAnd1, IsMapAtRoot};
 ghost use Rattle.rkyv_bench_calls.specs.Archives.{number_shape};
 ghost use Rattle.rkyv_bench_calls.specs.Totals.{hash_by, looked_up, pair_weight, total, walked};
@@ -12,6 +13,7 @@ use crate::weighing::Weigh;
 use rkyv_base::access::{access, access_unchecked};
 use rkyv_base::element::Element;
 use rkyv_base::lend::Lend;
+use rkyv_collections::map::finder::MapFinder;
 use rkyv_collections::map::{ArchivedHashMap, HashMapOf};
 use rkyv_keys::hash::{KeyHash, hash_value};
 use rkyv_keys::keys::{KeyElement, Query};
@@ -56,6 +58,16 @@ pub(crate) fn map_in<'a, K: Element>(archive: &'a [u8]) -> ArchivedHashMap<'a, K
     ArchivedHashMap::of(access_unchecked::<HashMapOf<K, u32>>(archive))
 }
 
+/// The map of an archive, for many lookups.
+#[inline]
+pub(crate) fn finder_in<'a, K: Element>(archive: &'a [u8]) -> MapFinder<'a, K, u32>
+    requires { IsArchive K.shape archive.now }
+    ensures at { IsMapAtRoot (map_of result) archive.entry }
+    ensures finder { IsMapFinder w32 K.shape number_shape result }
+{
+    map_in::<K>(archive).finder()
+}
+
 /// The value of a key, or 2^32 where it isn't found.
 #[inline]
 fn value_or_miss<K: KeyElement, Q: Query<K>>(map: ArchivedHashMap<'_, K, u32>, key: &Q) -> u64
@@ -91,6 +103,45 @@ pub(crate) fn lookup_total<
     let mut total = 0u64;
     for key in keys {
         total = total.wrapping_add(value_or_miss::<K, Q>(map, key.lend()));
+    }
+    total
+}
+
+/// The value of a key by a finder, or 2^32 where it isn't found.
+#[inline]
+fn value_by_finder<K: KeyElement, Q: Query<K>>(finder: MapFinder<'_, K, u32>, key: &Q) -> u64
+    requires finder { IsMapFinder w32 K.shape number_shape finder }
+    requires read { Q.can_read key.now }
+    ensures { let b = map_bytes (map_of finder.entry) in
+        result ≡ looked_up K.shape b (map_pos (map_of finder.entry)) (hash_by (Q.calls key.now))
+        (Q.fits key.now b) }
+{
+    match finder.get(key) {
+        Some(value) => u64::from(value.to_native()),
+        None => 0x1_0000_0000,
+    }
+}
+
+/// The sum of what is found of the keys by a finder.
+#[inline]
+pub(crate) fn lookup_total_by_finder<
+    K: KeyElement,
+    Q: Query<K>,
+    B: Lend<Q> + Drop,
+    I: Iterator<Item = B> + Drop,
+>(finder: MapFinder<'_, K, u32>, keys: I) -> u64
+    requires finder { IsMapFinder w32 K.shape number_shape finder }
+    requires can { I.can_next keys }
+    requires ends { IsFinite (I.remaining keys) }
+    requires read { (key : Q) → Q.can_read key }
+    ensures { let b = map_bytes (map_of finder.entry) in
+        (items : List B) × Drains I.next_gives keys items
+        × (result ≡ total (λ item. looked_up K.shape b (map_pos (map_of finder.entry))
+        (hash_by (Q.calls (B.lent item))) (Q.fits (B.lent item) b)) items) }
+{
+    let mut total = 0u64;
+    for key in keys {
+        total = total.wrapping_add(value_by_finder::<K, Q>(finder, key.lend()));
     }
     total
 }

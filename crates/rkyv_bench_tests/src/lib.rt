@@ -2,4 +2,6 @@
 #![tactic(auto)]
 
 #[cfg(test)]
+mod finders;
+#[cfg(test)]
 mod maps;
