@@ -1,0 +1,111 @@
+//! A symbol table of what `nm` prints: written to files, opened again, looked up, and listed.
+#![tactic(auto)]
+
+mod by_address;
+
+use anyhow::{Result, bail};
+use rkyv_symbols::lines::parse;
+use rkyv_symbols::table::{address_of, archive};
+use std::{env, fs, io};
+
+/// Writes the table of the symbols to one file, and their index to another.
+fn write(rt: &HostRuntime, symbols: &[(&str, u64)], table: &str, index: &str) -> Result<()> {
+    let bytes = archive(rt.alloc(), symbols)?;
+    fs::write(rt, table, bytes.as_slice())?;
+    let bytes = by_address::archive(rt.alloc(), symbols)?;
+    fs::write(rt, index, bytes.as_slice())?;
+    println!(rt; "symbols {}", symbols.len())?;
+    Ok(())
+}
+
+/// Prints the address of a name in a table, or that there is none.
+fn answer(rt: &HostRuntime, table: &[u8], name: &str) -> Result<()> {
+    match address_of(table, name) {
+        Ok(Some(address)) => println!(rt; "{address:016x} {name}")?,
+        Ok(None) => println!(rt; "none {name}")?,
+        Err(refused) => bail!("refused: {refused:?}"),
+    }
+    Ok(())
+}
+
+/// Prints the addresses of names in the table of a file: of those handed in, or where there are
+/// none, of the lines on standard input.
+fn get(rt: &HostRuntime, table: &str, names: &[String]) -> Result<()> {
+    let bytes = fs::read(rt, table)?;
+    for name in names {
+        answer(rt, bytes.as_slice(), name.as_str())?;
+    }
+    if names.is_empty() {
+        let text = io::read_to_string(rt.alloc(), rt.reader())?;
+        for name in text.lines() {
+            answer(rt, bytes.as_slice(), name)?;
+        }
+    }
+    Ok(())
+}
+
+/// Prints the names in the index of a file by ascending address.
+fn list(rt: &HostRuntime, index: &str) -> Result<()> {
+    let bytes = fs::read(rt, index)?;
+    let map = match by_address::open(bytes.as_slice()) {
+        Ok(map) => map,
+        Err(refused) => bail!("refused: {refused:?}"),
+    };
+    for place in 0..map.len() {
+        if let Some((address, name)) = by_address::entry(map, place) {
+            println!(rt; "{address:016x} {name}")?;
+        }
+    }
+    Ok(())
+}
+
+/// Prints why a table without its last byte is refused.
+fn cut_short(rt: &HostRuntime, table: &[u8]) -> Result<()> {
+    if let Some((_, front)) = table.split_last() {
+        match address_of(front, "") {
+            Ok(_) => println!(rt; "cut short: accepted")?,
+            Err(refused) => println!(rt; "cut short: {refused:?}")?,
+        }
+    }
+    Ok(())
+}
+
+/// Writes the table and the index of the lines on standard input to files; and where `all` is true,
+/// opens the files again, prints the address of each name in the table, lists the index, and tells
+/// why a table that is cut short is refused.
+fn build(rt: &HostRuntime, table: &str, index: &str, all: bool) -> Result<()> {
+    let text = io::read_to_string(rt.alloc(), rt.reader())?;
+    let symbols = parse(rt.alloc(), text.as_str())?;
+    write(rt, symbols.as_slice(), table, index)?;
+    if all {
+        let bytes = fs::read(rt, table)?;
+        for (name, _) in symbols.iter() {
+            answer(rt, bytes.as_slice(), name)?;
+        }
+        list(rt, index)?;
+        cut_short(rt, bytes.as_slice())?;
+    }
+    Ok(())
+}
+
+fn main(rt: HostRuntime) -> Result<()> {
+    let mut words: Vec<String> = Vec::new(rt.alloc());
+    for word in env::args(&rt)?.skip(1) {
+        words.push(word)?;
+    }
+    let words = words.as_slice();
+    if words.len() == 3 && (words[0].as_str() == "write" || words[0].as_str() == "all") {
+        build(
+            &rt,
+            words[1].as_str(),
+            words[2].as_str(),
+            words[0].as_str() == "all",
+        )
+    } else if words.len() >= 2 && words[0].as_str() == "get" {
+        get(&rt, words[1].as_str(), &words[2..])
+    } else if words.len() == 2 && words[0].as_str() == "list" {
+        list(&rt, words[1].as_str())
+    } else {
+        bail!("wanted: write TABLE INDEX, get TABLE NAME.., list INDEX, or all TABLE INDEX")
+    }
+}
