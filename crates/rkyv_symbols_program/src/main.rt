@@ -2,14 +2,22 @@
 #![tactic(auto)]
 
 mod by_address;
+mod errors;
 
-use anyhow::{Result, bail};
+use crate::errors::SymbolsError;
 use rkyv_symbols::lines::parse;
 use rkyv_symbols::table::{address_of, archive};
+use std::alloc::AllocError;
+use std::process::ExitCode;
 use std::{env, fs, io};
 
 /// Writes the table of the symbols to one file, and their index to another.
-fn write(rt: &HostRuntime, symbols: &[(&str, u64)], table: &str, index: &str) -> Result<()> {
+fn write(
+    rt: &HostRuntime,
+    symbols: &[(&str, u64)],
+    table: &str,
+    index: &str,
+) -> Result<(), SymbolsError> {
     let bytes = archive(rt.alloc(), symbols)?;
     fs::write(rt, table, bytes.as_slice())?;
     let bytes = by_address::archive(rt.alloc(), symbols)?;
@@ -19,18 +27,18 @@ fn write(rt: &HostRuntime, symbols: &[(&str, u64)], table: &str, index: &str) ->
 }
 
 /// Prints the address of a name in a table, or that there is none.
-fn answer(rt: &HostRuntime, table: &[u8], name: &str) -> Result<()> {
+fn answer(rt: &HostRuntime, table: &[u8], name: &str) -> Result<(), SymbolsError> {
     match address_of(table, name) {
         Ok(Some(address)) => println!(rt; "{address:016x} {name}")?,
         Ok(None) => println!(rt; "none {name}")?,
-        Err(refused) => bail!("refused: {refused:?}"),
+        Err(refused) => return Err(SymbolsError::Refused(refused)),
     }
     Ok(())
 }
 
 /// Prints the addresses of names in the table of a file: of those handed in, or where there are
 /// none, of the lines on standard input.
-fn get(rt: &HostRuntime, table: &str, names: &[String]) -> Result<()> {
+fn get(rt: &HostRuntime, table: &str, names: &[String]) -> Result<(), SymbolsError> {
     let bytes = fs::read(rt, table)?;
     for name in names {
         answer(rt, bytes.as_slice(), name.as_str())?;
@@ -45,11 +53,11 @@ fn get(rt: &HostRuntime, table: &str, names: &[String]) -> Result<()> {
 }
 
 /// Prints the names in the index of a file by ascending address.
-fn list(rt: &HostRuntime, index: &str) -> Result<()> {
+fn list(rt: &HostRuntime, index: &str) -> Result<(), SymbolsError> {
     let bytes = fs::read(rt, index)?;
     let map = match by_address::open(bytes.as_slice()) {
         Ok(map) => map,
-        Err(refused) => bail!("refused: {refused:?}"),
+        Err(refused) => return Err(SymbolsError::Refused(refused)),
     };
     for place in 0..map.len() {
         if let Some((address, name)) = by_address::entry(map, place) {
@@ -60,7 +68,7 @@ fn list(rt: &HostRuntime, index: &str) -> Result<()> {
 }
 
 /// Prints why a table without its last byte is refused.
-fn cut_short(rt: &HostRuntime, table: &[u8]) -> Result<()> {
+fn cut_short(rt: &HostRuntime, table: &[u8]) -> Result<(), SymbolsError> {
     if let Some((_, front)) = table.split_last() {
         match address_of(front, "") {
             Ok(_) => println!(rt; "cut short: accepted")?,
@@ -73,7 +81,7 @@ fn cut_short(rt: &HostRuntime, table: &[u8]) -> Result<()> {
 /// Writes the table and the index of the lines on standard input to files; and where `all` is true,
 /// opens the files again, prints the address of each name in the table, lists the index, and tells
 /// why a table that is cut short is refused.
-fn build(rt: &HostRuntime, table: &str, index: &str, all: bool) -> Result<()> {
+fn build(rt: &HostRuntime, table: &str, index: &str, all: bool) -> Result<(), SymbolsError> {
     let text = io::read_to_string(rt.alloc(), rt.reader())?;
     let symbols = parse(rt.alloc(), text.as_str())?;
     write(rt, symbols.as_slice(), table, index)?;
@@ -88,24 +96,38 @@ fn build(rt: &HostRuntime, table: &str, index: &str, all: bool) -> Result<()> {
     Ok(())
 }
 
-fn main(rt: HostRuntime) -> Result<()> {
+/// Does what the words of the command line ask for.
+fn run(rt: &HostRuntime) -> Result<(), SymbolsError> {
     let mut words: Vec<String> = Vec::new(rt.alloc());
-    for word in env::args(&rt)?.skip(1) {
-        words.push(word)?;
+    for word in env::args(rt)?.skip(1) {
+        match words.push(word) {
+            Ok(()) => {}
+            Err(refused) => return Err(SymbolsError::Memory(AllocError::from(refused))),
+        }
     }
     let words = words.as_slice();
     if words.len() == 3 && (words[0].as_str() == "write" || words[0].as_str() == "all") {
         build(
-            &rt,
+            rt,
             words[1].as_str(),
             words[2].as_str(),
             words[0].as_str() == "all",
         )
     } else if words.len() >= 2 && words[0].as_str() == "get" {
-        get(&rt, words[1].as_str(), &words[2..])
+        get(rt, words[1].as_str(), &words[2..])
     } else if words.len() == 2 && words[0].as_str() == "list" {
-        list(&rt, words[1].as_str())
+        list(rt, words[1].as_str())
     } else {
-        bail!("wanted: write TABLE INDEX, get TABLE NAME.., list INDEX, or all TABLE INDEX")
+        Err(SymbolsError::Usage)
+    }
+}
+
+fn main(rt: HostRuntime) -> ExitCode {
+    match run(&rt) {
+        Ok(()) => ExitCode::SUCCESS,
+        Err(error) => {
+            let _ = rt.eprintln(&error);
+            ExitCode::FAILURE
+        }
     }
 }
