@@ -11,7 +11,7 @@ ghost use Rattle.rkyv_symbols.specs.Table.{
   first_address,
 };
 
-use rkyv_base::access::access;
+use rkyv_base::access::{access, access_unchecked};
 use rkyv_base::errors::{VerifyError, WriteError};
 use rkyv_base::root::to_bytes;
 use rkyv_base::text::Text;
@@ -37,8 +37,37 @@ pub fn archive(alloc: Global, symbols: &[(&str, u64)]) -> Result<Vec<u8>, WriteE
     to_bytes(alloc, &list)
 }
 
+/// Whether the bytes are a table.
+///
+/// # Errors
+/// The first point at which they are none.
+pub fn check(table: &[u8]) -> Result<(), VerifyError>
+    ensures checked { MatchResult result (λ _. IsTable table.now) (IsRefused table.now) }
+    ensures accepts { IsTable table.now → IsOk result }
+{
+    match access::<HashMapOf<Text, u64>>(table) {
+        Ok(_) => Ok(()),
+        Err(refused) => Err(refused),
+    }
+}
+
 /// The address of a name in a table, or none: in one that stands for a list of symbols, that of the
-/// first of this name.
+/// first of this name. The bytes aren't checked again.
+pub fn address_in(table: &[u8], name: &str) -> Option<u64>
+    requires { IsTable table.now }
+    ensures found { result ≡ address_found name.now table.now }
+    ensures listed { (symbols : Symbols) → StandsFor table.now symbols
+        → result ≡ first_address name.now symbols }
+{
+    lookups_find_listed::<&str, u64, Text, u64, FxHasher64, Narrow>();
+    let map = ArchivedHashMap::of(access_unchecked::<HashMapOf<Text, u64>>(table));
+    match map.get(&name) {
+        Some(address) => Some(address.to_native()),
+        None => None,
+    }
+}
+
+/// As `address_in`, of bytes that are checked first.
 ///
 /// # Errors
 /// The first point at which the bytes are no table.
@@ -50,14 +79,8 @@ pub fn address_of(table: &[u8], name: &str) -> Result<Option<u64>, VerifyError>
     ensures listed { (symbols : Symbols) → StandsFor table.now symbols
         → IfOk result (λ found. found ≡ first_address name.now symbols) }
 {
-    lookups_find_listed::<&str, u64, Text, u64, FxHasher64, Narrow>();
-    let root = match access::<HashMapOf<Text, u64>>(table) {
-        Ok(root) => root,
-        Err(refused) => return Err(refused),
-    };
-    let map = ArchivedHashMap::of(root);
-    match map.get(&name) {
-        Some(address) => Ok(Some(address.to_native())),
-        None => Ok(None),
+    match check(table) {
+        Ok(()) => Ok(address_in(table, name)),
+        Err(refused) => Err(refused),
     }
 }

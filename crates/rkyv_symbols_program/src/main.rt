@@ -1,12 +1,15 @@
 //! A symbol table of what `nm` prints: written to files, opened again, looked up, and listed.
 #![tactic(auto)]
 
+ghost use Rattle.std.specs.Prelude.{OnOk};
+ghost use Rattle.rkyv_symbols.specs.Table.{IsTable};
+
 mod by_address;
 mod errors;
 
 use crate::errors::SymbolsError;
 use rkyv_symbols::lines::parse;
-use rkyv_symbols::table::{address_of, archive};
+use rkyv_symbols::table::{address_in, archive, check};
 use std::alloc::AllocError;
 use std::process::ExitCode;
 use std::{env, fs, io};
@@ -27,19 +30,31 @@ fn write(
 }
 
 /// Prints the address of a name in a table, or that there is none.
-fn answer(rt: &HostRuntime, table: &[u8], name: &str) -> Result<(), SymbolsError> {
-    match address_of(table, name) {
-        Ok(Some(address)) => println!(rt; "{address:016x} {name}")?,
-        Ok(None) => println!(rt; "none {name}")?,
-        Err(refused) => return Err(SymbolsError::Refused(refused)),
+fn answer(rt: &HostRuntime, table: &[u8], name: &str) -> Result<(), SymbolsError>
+    requires { IsTable table.now }
+{
+    match address_in(table, name) {
+        Some(address) => println!(rt; "{address:016x} {name}")?,
+        None => println!(rt; "none {name}")?,
     }
     Ok(())
+}
+
+/// Looks whether the bytes are a table.
+fn opened(table: &[u8]) -> Result<(), SymbolsError>
+    ensures { OnOk result (IsTable table.now) }
+{
+    match check(table) {
+        Ok(()) => Ok(()),
+        Err(refused) => Err(SymbolsError::Refused(refused)),
+    }
 }
 
 /// Prints the addresses of names in the table of a file: of those handed in, or where there are
 /// none, of the lines on standard input.
 fn get(rt: &HostRuntime, table: &str, names: &[String]) -> Result<(), SymbolsError> {
     let bytes = fs::read(rt, table)?;
+    opened(bytes.as_slice())?;
     for name in names {
         answer(rt, bytes.as_slice(), name.as_str())?;
     }
@@ -70,8 +85,8 @@ fn list(rt: &HostRuntime, index: &str) -> Result<(), SymbolsError> {
 /// Prints why a table without its last byte is refused.
 fn cut_short(rt: &HostRuntime, table: &[u8]) -> Result<(), SymbolsError> {
     if let Some((_, front)) = table.split_last() {
-        match address_of(front, "") {
-            Ok(_) => println!(rt; "cut short: accepted")?,
+        match check(front) {
+            Ok(()) => println!(rt; "cut short: accepted")?,
             Err(refused) => println!(rt; "cut short: {refused:?}")?,
         }
     }
@@ -87,6 +102,7 @@ fn build(rt: &HostRuntime, table: &str, index: &str, all: bool) -> Result<(), Sy
     write(rt, symbols.as_slice(), table, index)?;
     if all {
         let bytes = fs::read(rt, table)?;
+        opened(bytes.as_slice())?;
         for (name, _) in symbols.iter() {
             answer(rt, bytes.as_slice(), name)?;
         }

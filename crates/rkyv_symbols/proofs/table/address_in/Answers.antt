@@ -3,6 +3,7 @@ use Rattle.std.specs.Int.{w32, w64}
 use Rattle.std.specs.Option.{option_map}
 use Rattle.rkyv_scan.specs.Groups.{generic_kind}
 use Rattle.rkyv_scan.specs.Hash.{fx_hasher, low_halves}
+use Rattle.rkyv_base.specs.Access.{root_viewed}
 use Rattle.rkyv_base.specs.Bytes.{number_at}
 use Rattle.rkyv_base.specs.Entry.{entry_shape, value_offset}
 use Rattle.rkyv_base.specs.Numbers.{unsigned}
@@ -12,41 +13,41 @@ use Rattle.rkyv_keys.specs.Calls.{text_calls}
 use Rattle.rkyv_keys.specs.OfTexts.{same_bytes}
 use Rattle.rkyv_table.specs.Table.Reading.{pos_found}
 use Rattle.rkyv_collections.specs.MapFormat.{hash_of}
-use Rattle.rkyv_symbols.specs.Table.{IsRefused, IsTable, StandsFor, SymbolsStand, address_found, address_shape, name_shape}
+use Rattle.rkyv_symbols.specs.Table.{IsTable, StandsFor, SymbolsStand, address_found, address_shape, header_shape, name_shape}
 use Rattle.rkyv_symbols.proofs.Found.{moved, none_listed, none_read, number_listed, number_read}
-use Rattle.rkyv_symbols.proofs.table.address_of.Goals as goal
+use Rattle.rkyv_symbols.proofs.table.address_in.Goals as goal
 
 -- the value behind the key that a lookup of the name finds in some bytes
 abbrev place : List ℕ → List ℕ → ℕ → Option ℕ
 place name b p = option_map (λ q. q + value_offset name_shape address_shape)
     (pos_found generic_kind w32 (entry_shape name_shape address_shape).size b p (hash_of (fx_hasher low_halves) text_calls name) (λ q. same_bytes name (text_at w32 b q)))
 
-pub returns-in-Err-clause-checked : goal.returns-in-Err-clause-checked
-unfolding IsRefused
-returns-in-Err-clause-checked c = c.in-Err.ensures.root
+pub access_unchecked-requires : goal.access_unchecked-requires
+unfolding IsTable
+access_unchecked-requires c = root_viewed 4_294_967_295 header_shape c.args.table.now c.requires
 
-pub returns-in-Some-clause-checked : goal.returns-in-Some-clause-checked
-unfolding IsTable address_found
-returns-in-Some-clause-checked c =
-    let at = c.in-Ok.ensures.root.1 in
+pub returns-in-Some-clause-found : goal.returns-in-Some-clause-found
+unfolding address_found
+returns-in-Some-clause-found c =
+    let at = c.access_unchecked.ensures.at in
     let bytes = ap (λ v. v.archive.now) c.of-map.ensures.view ∙ ap (λ a. a.now) at.0 in
     let pos = ap (λ v. v.pos) c.of-map.ensures.view ∙ at.1 in
     let b = c.args.table.now in
     let read : number_at w64 b c.in-Some.address.pos ≡ c.to_native.result = ap (λ x. number_at w64 x c.in-Some.address.pos) (sym (ap (λ a. a.now) c.in-Some.ensures.walked.at.0 ∙ bytes)) ∙ c.to_native.ensures in
-    (c.in-Ok.ensures.root.0, number_read (number_at w64 b) _ _ _ _ read (moved (λ x p. Some c.in-Some.address.pos ≡ place c.args.name.now x p) _ _ _ _ bytes pos c.in-Some.ensures.answer))
+    number_read (number_at w64 b) _ _ _ _ read (moved (λ x p. Some c.in-Some.address.pos ≡ place c.args.name.now x p) _ _ _ _ bytes pos c.in-Some.ensures.answer)
 
-pub returns-in-None-clause-checked : goal.returns-in-None-clause-checked
-unfolding IsTable address_found
-returns-in-None-clause-checked c =
-    let at = c.in-Ok.ensures.root.1 in
+pub returns-in-None-clause-found : goal.returns-in-None-clause-found
+unfolding address_found
+returns-in-None-clause-found c =
+    let at = c.access_unchecked.ensures.at in
     let bytes = ap (λ v. v.archive.now) c.of-map.ensures.view ∙ ap (λ a. a.now) at.0 in
     let pos = ap (λ v. v.pos) c.of-map.ensures.view ∙ at.1 in
-    (c.in-Ok.ensures.root.0, none_read (number_at w64 c.args.table.now) _ _ (moved (λ x p. None ≡ place c.args.name.now x p) _ _ _ _ bytes pos c.in-None.ensures.answer))
+    none_read (number_at w64 c.args.table.now) _ _ (moved (λ x p. None ≡ place c.args.name.now x p) _ _ _ _ bytes pos c.in-None.ensures.answer)
 
 pub returns-in-Some-clause-listed : goal.returns-in-Some-clause-listed
 unfolding StandsFor
 returns-in-Some-clause-listed c = λ symbols stands.
-    let at = c.in-Ok.ensures.root.1 in
+    let at = c.access_unchecked.ensures.at in
     let bytes = ap (λ v. v.archive.now) c.of-map.ensures.view ∙ ap (λ a. a.now) at.0 in
     let pos = ap (λ v. v.pos) c.of-map.ensures.view ∙ at.1 in
     let here = moved (λ b p. SymbolsStand (7, 8) b p symbols) _ _ _ _ (sym bytes) (sym pos) stands in
@@ -56,13 +57,9 @@ returns-in-Some-clause-listed c = λ symbols stands.
 pub returns-in-None-clause-listed : goal.returns-in-None-clause-listed
 unfolding StandsFor
 returns-in-None-clause-listed c = λ symbols stands.
-    let at = c.in-Ok.ensures.root.1 in
+    let at = c.access_unchecked.ensures.at in
     let bytes = ap (λ v. v.archive.now) c.of-map.ensures.view ∙ ap (λ a. a.now) at.0 in
     let pos = ap (λ v. v.pos) c.of-map.ensures.view ∙ at.1 in
     let here = moved (λ b p. SymbolsStand (7, 8) b p symbols) _ _ _ _ (sym bytes) (sym pos) stands in
     let listed = c.lookups_find_listed.ensures c.of-map.result _ (λ held. same_bytes c.args.name.now held.now) (7, 8) symbols c.of-map.ensures.map (λ held q s there. ap (same_bytes c.args.name.now) there) here in
     none_listed (ScalarStands (unsigned w64)) _ (listed.gives_value None c.in-None.ensures.walked c.in-None.ensures.first)
-
-pub returns-in-Err-clause-accepts : goal.returns-in-Err-clause-accepts
-unfolding IsTable
-returns-in-Err-clause-accepts c = c.in-Err.ensures.accepts
