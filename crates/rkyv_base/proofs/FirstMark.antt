@@ -1,5 +1,5 @@
 -- The first element of a list that passes, a stretch at a time.
-use Rattle.std.proofs.Common.{◌≡◌, ℕ, ◌+◌, ◌<◌, ◌≤◌, ◌^◌, ◌-◌, Bool, true, false, not, cond, ltb, List, length, get_or, map, Option, Some, None, refl, sym, ap, subst, ◌∙◌, arith, ⊎_elim, w8}
+use Rattle.std.proofs.Common.{◌≡◌, ℕ, ◌+◌, ◌<◌, ◌≤◌, ◌^◌, ◌-◌, Bool, true, false, not, cond, ltb, List, length, get_or, map, Some, None, refl, sym, ap, subst, ◌∙◌, arith, ⊎_elim, w8}
 use Rattle.std.specs.List.{position, prefix_len}
 use Rattle.std.specs.Simd.Lanes.{mask_l}
 use Rattle.std.proofs.lemmas.Bool.{lt-ltb, le-ltb, cases_lt}

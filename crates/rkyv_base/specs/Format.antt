@@ -1,5 +1,5 @@
 -- How values are written: what serializing one appends, and what it then is.
-use Rattle.std.specs.Prelude.{◌≡◌, ℕ, ◌+◌, ◌%◌, ◌≤◌, List, length}
+use Rattle.std.specs.Prelude.{◌≡◌, ℕ, ◌+◌, ◌%◌, ◌≤◌, List, length, MatchResult, Result}
 use Rattle.rkyv_base.specs.declared.errors.WriteError.{WriteError}
 use Rattle.rkyv_base.specs.Bytes.{Same, Sits}
 use Rattle.rkyv_base.specs.Shape.{Shape}
@@ -42,6 +42,13 @@ Serialized limit f v o o' r = (part : List ℕ) × Appends o o' part × f.parts 
 -- serializing gave up: what stood before is kept, and the cause stands
 abbrev pub GaveUp : {F V R : Type 0} → ℕ → Format V R → V → Output → Output → WriteError F → Type 0
 GaveUp limit f v o o' e = Told limit (f.next v (end_of o)) o o' e
+
+-- what serializing a value answers: what resolves it, where its parts were appended, or else why it
+-- gave up
+abbrev pub Serializes : {F V R : Type 0} → ℕ → Format V R → V → Output → Output
+    → Result R (WriteError F) → Type 0
+Serializes limit f v o o' result =
+    MatchResult result (Serialized limit f v o o') (GaveUp limit f v o o')
 
 -- nothing comes next, nothing is far
 abbrev pub nothing_next : {V : Type 0} → V → ℕ → List ℕ → Step → Type 0

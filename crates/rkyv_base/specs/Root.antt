@@ -1,5 +1,18 @@
 -- A value written as the root of an archive: its parts, zeros up to its alignment, the value.
-use Rattle.std.specs.Prelude.{◌≡◌, ℕ, ◌+◌, ◌-◌, ◌≤◌, ◌⊎◌, List, [], ◌++◌, length}
+use Rattle.std.specs.Prelude.{
+  MatchResult,
+  Result,
+  ◌≡◌,
+  ℕ,
+  ◌+◌,
+  ◌-◌,
+  ◌≤◌,
+  ◌⊎◌,
+  List,
+  [],
+  ◌++◌,
+  length,
+}
 use Rattle.rkyv_base.specs.declared.errors.WriteError.{WriteError}
 use Rattle.rkyv_base.specs.Writing.{
   Only,
@@ -55,6 +68,12 @@ WroteRoot limit align f v o o' root =
 abbrev pub RootGaveUp : {F V R : Type 0} → ℕ → ℕ → Format V R → V → Output → Output → WriteError F
     → Type 0
 RootGaveUp limit align f v o o' e = Told limit (RootNext align f v (end_of o)) o o' e
+
+-- what writing a root answers: its position, where it was appended, or else why it gave up
+abbrev pub WritesRoot : {F V R : Type 0} → ℕ → ℕ → Format V R → V → Output → Output
+    → Result ℕ (WriteError F) → Type 0
+WritesRoot limit align f v o o' result =
+    MatchResult result (WroteRoot limit align f v o o') (RootGaveUp limit align f v o o')
 
 -- what a new writer into memory holds
 abbrev pub fresh : Output

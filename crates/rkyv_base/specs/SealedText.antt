@@ -4,7 +4,7 @@ use Rattle.std.specs.Char.{to_ascii_uppercase}
 use Rattle.std.specs.Int.{Width}
 use Rattle.std.specs.Str.{IsUtf8}
 use Rattle.rkyv_base.specs.Sealing.{with_bytes}
-use Rattle.rkyv_base.specs.Text.{fixed_bytes, inline_text, is_far}
+use Rattle.rkyv_base.specs.Text.{fixed_bytes, inline_text, is_far, text_at}
 
 -- the text at p stands elsewhere
 abbrev pub IsElsewhere : Width → List ℕ → ℕ → Type 0
@@ -17,6 +17,10 @@ IsInline w b p = is_far (fixed_bytes w b p) ≡ false
 -- the inline text at p
 abbrev pub inline_at : Width → List ℕ → ℕ → List ℕ
 inline_at w b p = inline_text (fixed_bytes w b p)
+
+-- the text at p stands inline, and is this one
+abbrev pub ReadsInline : Width → List ℕ → ℕ → List ℕ → Type 0
+ReadsInline w b p text = IsInline w b p × (text ≡ text_at w b p)
 
 -- the fixed bytes at p are those of an accepted text, as far as it stands in them
 abbrev pub IsSealedText : Width → List ℕ → ℕ → Type 0

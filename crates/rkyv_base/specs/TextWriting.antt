@@ -1,8 +1,6 @@
 -- How text is written: up to as many bytes as its fixed bytes inline, filled up with ff; else in
 -- one piece elsewhere.
 use Rattle.std.specs.Prelude.{
-  MatchResult,
-  Result,
   ◌≡◌,
   ℕ,
   ◌+◌,
@@ -41,9 +39,8 @@ use Rattle.std.specs.Int.{Width, byte_len, to_le_bytes, from_le_bytes, cast_unsi
 use Rattle.std.specs.Str.{IsUtf8}
 use mir.Val.{bits}
 use Rattle.rkyv_base.specs.declared.strings.TextResolver.{TextResolver}
-use Rattle.rkyv_base.specs.declared.errors.WriteError.{WriteError}
-use Rattle.rkyv_base.specs.Writing.{Only, Output, Step, long_text, piece, refusal}
-use Rattle.rkyv_base.specs.Format.{Format, IsFormat, Serialized, GaveUp}
+use Rattle.rkyv_base.specs.Writing.{Only, Step, long_text, piece, refusal}
+use Rattle.rkyv_base.specs.Format.{Format, IsFormat}
 use Rattle.rkyv_base.specs.Pairs.{written_as, written_as-format}
 use Rattle.rkyv_base.specs.Text.{
   FixedHolds,
@@ -130,12 +127,6 @@ text_format w = record {
   image = TextImage w;
   far = TextFar w;
 }
-
--- what serializing a text answers
-abbrev pub TextWritten : {F : Type 0} → ℕ → Width → List ℕ → Output → Output
-    → Result TextResolver (WriteError F) → Type 0
-TextWritten limit w t o o' result = MatchResult result (Serialized limit (text_format w) t o o')
-    (GaveUp limit (text_format w) t o o')
 
 -- the bytes that sit at a text's position are its fixed bytes
 fixed_sits : (w : Width) (c out : List ℕ) (p : ℕ) → length out ≡ text_size w → Sits c p out

@@ -16,6 +16,8 @@ use Rattle.std.specs.Prelude.{
   take,
   min,
   replicate,
+  MatchResult,
+  Result,
 }
 use Rattle.rkyv_base.specs.declared.errors.WriteError.{WriteError}
 use Rattle.rkyv_base.specs.declared.errors.WriteError.TheVariants.{
@@ -141,6 +143,12 @@ Appended limit bytes o o' = Appends o o' bytes × (end_of o' ≤ limit)
 abbrev pub PieceGaveUp : {F : Type 0} → ℕ → List ℕ → Output → Output → WriteError F → Type 0
 PieceGaveUp limit bytes o o' e = Told limit (Only (piece bytes)) o o' e
 
+-- what appending one piece answers: nothing, where it was appended, or else why it gave up
+abbrev pub AppendsPiece : {F : Type 0} → ℕ → List ℕ → Output → Output
+    → Result (Unit {0}) (WriteError F) → Type 0
+AppendsPiece limit bytes o o' result =
+    MatchResult result (λ _. Appended limit bytes o o') (PieceGaveUp limit bytes o o')
+
 -- how many zeros lie from position p to the next multiple of a
 abbrev pub padding : ℕ → ℕ → ℕ
 padding a p = (a - p % a) % a
@@ -153,3 +161,9 @@ zeros n = replicate n 0
 abbrev pub Aligned : ℕ → ℕ → Output → Output → ℕ → Type 0
 Aligned limit a o o' p = Appends o o' (zeros (padding a (end_of o))) × (p ≡ end_of o') × (p ≤ limit)
     × (p % a ≡ 0)
+
+-- what aligning to a answers: the position behind the zeros that were appended, or else why it gave
+-- up
+abbrev pub Aligns : {F : Type 0} → ℕ → ℕ → Output → Output → Result ℕ (WriteError F) → Type 0
+Aligns limit a o o' result = MatchResult result (Aligned limit a o o')
+    (PieceGaveUp limit (zeros (padding a (end_of o))) o o')

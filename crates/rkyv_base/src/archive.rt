@@ -1,7 +1,7 @@
 //! Archiving values.
 
 ghost use Rattle.std.specs.Prelude.{◌≡◌, ◌+◌, ◌^◌, ◌<◌, length, MatchResult};
-ghost use Rattle.rkyv_base.specs.Format.{Format, GaveUp, IsFormat, Serialized};
+ghost use Rattle.rkyv_base.specs.Format.{Format, IsFormat, Serializes};
 
 use crate::element::StandsFor;
 use crate::errors::{DistanceTooLarge, WriteError};
@@ -51,9 +51,6 @@ pub trait Serialize<S: Writer, W: Width>: Archive<W> {
         alloc: Global,
         serializer: &mut S,
     ) -> Result<Self::Resolver, WriteError<S::Fault>>
-        ensures { MatchResult result
-            (Serialized W.LIMIT Self.format self.now (S.output serializer.old)
-            (S.output serializer.new))
-            (GaveUp W.LIMIT Self.format self.now (S.output serializer.old)
-            (S.output serializer.new)) };
+        ensures { Serializes W.LIMIT Self.format self.now
+            (S.output serializer.old) (S.output serializer.new) result };
 }

@@ -1,4 +1,7 @@
 //! The archive core: writers, elements, text, entries, checking, views.
+//!
+//! What callers name stands at the root too, but for the function `access`: a root can't have it
+//! beside the module of its name.
 #![tactic(auto)]
 
 pub mod access;
@@ -22,3 +25,24 @@ pub mod unit;
 pub mod view;
 pub mod width;
 pub mod writer;
+
+pub use access::{
+    access_in, access_mut, access_mut_in, access_mut_with, access_mut_with_in, access_unchecked,
+};
+pub use adapter::EntryAdapter;
+pub use archive::{Archive, Serialize};
+pub use element::{Element, PartRange, StandsFor};
+pub use entry::{Entry, LARGEST, value_offset, whole_size};
+pub use errors::{DistanceTooLarge, IteratorLengthMismatch, ReadError, VerifyError, WriteError};
+pub use lend::Lend;
+pub use limit::{LimitFault, LimitWriter};
+pub use pairs::EntryResolver;
+pub use part::part_in;
+pub use root::{to_bytes, to_bytes_in, write_root, write_root_in};
+pub use scalars::Scalar;
+pub use seal::{ArchiveSeal, Seal, halves, set_at, set_value};
+pub use strings::TextResolver;
+pub use text::Text;
+pub use view::View;
+pub use width::{Narrow, Wide, Width};
+pub use writer::{NoMemory, VecWriter, Writer, align_for, align_for_in, append, append_in};

@@ -2,7 +2,7 @@
 
 ghost use Rattle.std.specs.Prelude.{◌≡◌, ◌+◌, ◌^◌, ◌<◌, ◌≤◌, length, MatchResult};
 ghost use Rattle.rkyv_base.specs.Entry.{entry_shape};
-ghost use Rattle.rkyv_base.specs.Format.{GaveUp, Serialized};
+ghost use Rattle.rkyv_base.specs.Format.{Serializes};
 ghost use Rattle.rkyv_base.specs.Pairs.{
   Padded,
   PairStands,
@@ -81,11 +81,8 @@ pub(crate) fn serialize_entry<S: Writer, W: Width, A: Serialize<S, W>, B: Serial
     serializer: &mut S,
 ) -> Result<EntryResolver<A::Resolver, B::Resolver>, WriteError<S::Fault>>
     ensures { let f = pair_format A.Archived.shape B.Archived.shape A.format B.format in
-        MatchResult result
-        (Serialized W.LIMIT f (key.now, value.now) (S.output serializer.old)
-        (S.output serializer.new))
-        (GaveUp W.LIMIT f (key.now, value.now) (S.output serializer.old)
-        (S.output serializer.new)) }
+        Serializes W.LIMIT f (key.now, value.now)
+        (S.output serializer.old) (S.output serializer.new) result }
 {
     if whole_size::<A::Archived, B::Archived>() > LARGEST {
         return Err(WriteError::Refused(0));

@@ -1,7 +1,7 @@
 //! Writing a whole archive.
 
 ghost use Rattle.std.specs.Prelude.{MatchResult};
-ghost use Rattle.rkyv_base.specs.Root.{ArchiveOf, ArchiveRefused, RootGaveUp, WroteRoot};
+ghost use Rattle.rkyv_base.specs.Root.{ArchiveOf, ArchiveRefused, WritesRoot};
 
 use crate::archive::Serialize;
 use crate::element::Element;
@@ -21,11 +21,8 @@ pub fn write_root_in<W: Width, S: Writer, V: Serialize<S, W>>(
     value: &V,
     serializer: &mut S,
 ) -> Result<u64, WriteError<S::Fault>>
-    ensures { MatchResult result
-        (WroteRoot W.LIMIT V.Archived.shape.align V.format value.now (S.output serializer.old)
-        (S.output serializer.new))
-        (RootGaveUp W.LIMIT V.Archived.shape.align V.format value.now (S.output serializer.old)
-        (S.output serializer.new)) }
+    ensures { WritesRoot W.LIMIT V.Archived.shape.align V.format value.now
+        (S.output serializer.old) (S.output serializer.new) result }
 {
     let size = <V::Archived as Element>::size();
     let mut scratch = match vec![in alloc; 0u8; size] {
@@ -79,11 +76,8 @@ pub fn write_root<S: Writer, V: Serialize<S, Narrow>>(
     value: &V,
     serializer: &mut S,
 ) -> Result<u64, WriteError<S::Fault>>
-    ensures { MatchResult result
-        (WroteRoot 4294967295 V.Archived.shape.align V.format value.now (S.output serializer.old)
-        (S.output serializer.new))
-        (RootGaveUp 4294967295 V.Archived.shape.align V.format value.now (S.output serializer.old)
-        (S.output serializer.new)) }
+    ensures { WritesRoot 4294967295 V.Archived.shape.align V.format value.now
+        (S.output serializer.old) (S.output serializer.new) result }
 {
     write_root_in::<Narrow, S, V>(alloc, value, serializer)
 }

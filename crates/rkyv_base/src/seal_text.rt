@@ -8,6 +8,7 @@ ghost use Rattle.rkyv_base.specs.SealedText.{
   IsInline,
   IsSealedText,
   Raised,
+  ReadsInline,
   inline_at,
 };
 ghost use Rattle.rkyv_base.specs.Sealing.{Keeps, Sealed};
@@ -71,8 +72,7 @@ impl<'a, W: Width> Seal<'a, Text<W>> {
         requires text { IsSealedText W.word (bytes_in self.now) (seal_pos self.now) }
         ensures { MatchOption result
             (IsElsewhere W.word (bytes_in self.now) (seal_pos self.now))
-            (λ text. IsInline W.word (bytes_in self.now) (seal_pos self.now)
-            × (text.now ≡ text_at W.word (bytes_in self.now) (seal_pos self.now))) }
+            (λ text. ReadsInline W.word (bytes_in self.now) (seal_pos self.now) text.now) }
     {
         match inline_bytes::<W>(&*self.bytes, self.pos) {
             Some(text) => Some(unsafe { str::from_utf8_unchecked(text) }),

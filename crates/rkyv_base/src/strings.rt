@@ -14,10 +14,10 @@ ghost use Rattle.std.specs.Prelude.{
   FitsSigned,
   MatchResult,
 };
+ghost use Rattle.rkyv_base.specs.Format.{Serializes};
 ghost use Rattle.rkyv_base.specs.Pairs.{written_as};
 ghost use Rattle.rkyv_base.specs.Text.{text_size};
 ghost use Rattle.rkyv_base.specs.TextWriting.{
-  TextWritten,
   far_bytes,
   inline_bytes,
   length_word,
@@ -108,7 +108,7 @@ fn serialize_text<S: Writer, W: Width>(
     text: &str,
     serializer: &mut S,
 ) -> Result<TextResolver, WriteError<S::Fault>>
-    ensures { TextWritten W.LIMIT W.word text.now
+    ensures { Serializes W.LIMIT (text_format W.word) text.now
         (S.output serializer.old) (S.output serializer.new) result }
 {
     if text.len() <= W::TEXT_SIZE {
@@ -171,7 +171,7 @@ impl<'t, S: Writer, W: Width> Serialize<S, W> for &'t str {
         _alloc: Global,
         serializer: &mut S,
     ) -> Result<TextResolver, WriteError<S::Fault>>
-        ensures { TextWritten W.LIMIT W.word self.now.now
+        ensures { Serializes W.LIMIT (text_format W.word) self.now.now
             (S.output serializer.old) (S.output serializer.new) result }
     {
         serialize_text::<S, W>(self, serializer)
@@ -185,7 +185,7 @@ impl<S: Writer, W: Width> Serialize<S, W> for String {
         _alloc: Global,
         serializer: &mut S,
     ) -> Result<TextResolver, WriteError<S::Fault>>
-        ensures { TextWritten W.LIMIT W.word (string_bytes self.now)
+        ensures { Serializes W.LIMIT (text_format W.word) (string_bytes self.now)
             (S.output serializer.old) (S.output serializer.new) result }
     {
         serialize_text::<S, W>(self.as_str(), serializer)

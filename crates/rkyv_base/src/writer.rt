@@ -2,13 +2,11 @@
 
 ghost use Rattle.std.specs.Prelude.{
   List,
-  MatchResult,
   OnErr,
   OnOk,
   [],
   length,
   ℕ,
-  ◌%◌,
   ◌+◌,
   ◌<◌,
   ◌^◌,
@@ -16,16 +14,13 @@ ghost use Rattle.std.specs.Prelude.{
   ◌≤◌,
 };
 ghost use Rattle.rkyv_base.specs.Writing.{
-  Aligned,
-  Appended,
+  Aligns,
   Appends,
+  AppendsPiece,
   Fell,
   Output,
-  PieceGaveUp,
   end_of,
   held,
-  padding,
-  zeros,
 };
 
 use crate::element::Element;
@@ -153,9 +148,8 @@ pub fn append_in<W: Width, S: Writer>(
     serializer: &mut S,
     bytes: &[u8],
 ) -> Result<(), WriteError<S::Fault>>
-    ensures { MatchResult result
-        (λ _. Appended W.LIMIT bytes.now (S.output serializer.old) (S.output serializer.new))
-        (PieceGaveUp W.LIMIT bytes.now (S.output serializer.old) (S.output serializer.new)) }
+    ensures { AppendsPiece W.LIMIT bytes.now
+        (S.output serializer.old) (S.output serializer.new) result }
 {
     let pos = serializer.pos();
     let len = bytes.len() as u64;
@@ -177,11 +171,8 @@ pub fn append_in<W: Width, S: Writer>(
 pub fn align_for_in<W: Width, T: Element, S: Writer>(
     serializer: &mut S,
 ) -> Result<u64, WriteError<S::Fault>>
-    ensures { let o = S.output serializer.old in let pad =
-        zeros (padding T.shape.align (end_of o)) in
-        MatchResult result
-        (Aligned W.LIMIT T.shape.align o (S.output serializer.new))
-        (PieceGaveUp W.LIMIT pad o (S.output serializer.new)) }
+    ensures { Aligns W.LIMIT T.shape.align
+        (S.output serializer.old) (S.output serializer.new) result }
 {
     let align = T::align();
     let over = (serializer.pos() % align as u64) as usize;
@@ -198,9 +189,8 @@ pub fn align_for_in<W: Width, T: Element, S: Writer>(
 /// As `append_in`, with the limit 4,294,967,295.
 #[inline]
 pub fn append<S: Writer>(serializer: &mut S, bytes: &[u8]) -> Result<(), WriteError<S::Fault>>
-    ensures { MatchResult result
-        (λ _. Appended 4294967295 bytes.now (S.output serializer.old) (S.output serializer.new))
-        (PieceGaveUp 4294967295 bytes.now (S.output serializer.old) (S.output serializer.new)) }
+    ensures { AppendsPiece 4294967295 bytes.now
+        (S.output serializer.old) (S.output serializer.new) result }
 {
     append_in::<Narrow, S>(serializer, bytes)
 }
@@ -211,11 +201,8 @@ pub fn append<S: Writer>(serializer: &mut S, bytes: &[u8]) -> Result<(), WriteEr
 /// As `align_for_in`, with the limit 4,294,967,295.
 #[inline]
 pub fn align_for<T: Element, S: Writer>(serializer: &mut S) -> Result<u64, WriteError<S::Fault>>
-    ensures { let o = S.output serializer.old in let pad =
-        zeros (padding T.shape.align (end_of o)) in
-        MatchResult result
-        (Aligned 4294967295 T.shape.align o (S.output serializer.new))
-        (PieceGaveUp 4294967295 pad o (S.output serializer.new)) }
+    ensures { Aligns 4294967295 T.shape.align
+        (S.output serializer.old) (S.output serializer.new) result }
 {
     align_for_in::<Narrow, T, S>(serializer)
 }
