@@ -1,10 +1,11 @@
 -- What a list is that was written as a table with its header behind it, and what is seen of it.
 use Rattle.std.specs.Prelude.{◌≡◌, ℕ, ◌+◌, ◌*◌, ◌%◌, ◌≤◌, ◌⊎◌, Bool, List, ◌++◌, length}
-use Rattle.std.specs.Prelude.{slice_get, slice_index, Some}
+use Rattle.std.specs.Prelude.{slice_get, slice_index, MatchResult, Result, Some}
 use Rattle.std.specs.Int.{Width, byte_len}
 use Rattle.rkyv_base.specs.Bytes.{Sits}
 use Rattle.rkyv_base.specs.Entry.{round_up}
 use Rattle.rkyv_base.specs.Format.{Format}
+use Rattle.rkyv_base.specs.Pairs.{written_as}
 use Rattle.rkyv_base.specs.Root.{RootGaveUp}
 use Rattle.rkyv_base.specs.Shape.{Shape}
 use Rattle.rkyv_base.specs.View.{IsView}
@@ -14,7 +15,9 @@ use Rattle.rkyv_base.specs.declared.view.View.{View}
 use Rattle.rkyv_table.specs.Table.Bare.{AnswersOf}
 use Rattle.rkyv_table.specs.Table.FirstItem.{AreUnder, IsFirstOf, TellsOf}
 use Rattle.rkyv_table.specs.Table.Header.{cap_at}
+use Rattle.rkyv_table.specs.Table.Input.{Input}
 use Rattle.rkyv_table.specs.Table.Layout.{table_shape}
+use Rattle.rkyv_table.specs.Table.Lending.{lent_stands}
 use Rattle.rkyv_table.specs.Table.Passing.{HoldsAround}
 use Rattle.rkyv_table.specs.Table.Reading.{WrittenAt, home_positions, table_controls}
 use Rattle.rkyv_table.specs.Table.Serializing.{Came, HasCapacity, OwnCause}
@@ -26,6 +29,7 @@ use Rattle.rkyv_headline.specs.declared.looking.Seen.{Seen}
 use Rattle.rkyv_headline.specs.declared.looking.Unseen.TheVariants.{Memory, Verify}
 use Rattle.rkyv_headline.specs.declared.whole.Lost.{Lost}
 use Rattle.rkyv_headline.specs.declared.whole.Lost.TheVariants.{Look, Write}
+use Rattle.rkyv_headline.specs.declared.writing.Written.{Written}
 
 -- the comparison may be asked of each item, wherever one stands
 abbrev pub MayAskAny : {T : Type 0} → (View T → Type 0) → Shape → Type 0
@@ -58,6 +62,15 @@ module _ {X : Type 0} (gave : List (ℕ × X) → Type 0) (len : ℕ) (load_fact
   NoList other e = (OwnCause len load_factor max other e × (o' ≡ o))
       ⊎ (HasCapacity len load_factor max × (pairs : List (ℕ × X)) × Came gave len pairs
       × RootGaveUp limit align f pairs o o' e)
+
+-- `len` pairs of hash and item are written as a table, of items that lend values of the format, and
+-- its header behind it: the answer is where, or why they are not written
+abbrev pub WritesList : {X V R F : Type 0} → Width → ℕ → ℕ → Shape → (X → V) → Format V R
+    → Input (ℕ × X) → ℕ → ℕ × ℕ → Output → Output → Result Written (WriteError F) → Type 0
+WritesList w max limit s lent f input len load_factor o o' result =
+    let g = table_format w s (written_as lent f) load_factor in MatchResult result
+    (λ at. WroteList input.gave len load_factor max limit (byte_len w) g o o' at.end at.pos)
+    (NoList input.gave len load_factor max limit (byte_len w) g o o' (input.gave_other len))
 
 -- The walk over the table at p visits the home of each of the items once, ascending, and nothing
 -- else; there each stands, whose home is the first bucket that its hash shows and no earlier item
@@ -127,3 +140,18 @@ module _ {X : Type 0} (gave : List (ℕ × X) → Type 0) (len : ℕ) (load_fact
   ListLost (Look (Verify e)) = ⊥
   ListLost (Look Memory) =
       (end : ℕ) × (p : ℕ) × WroteList gave len load_factor max limit align f o o' end p
+
+-- the pairs that came, of items that lend values, were written and then looked over
+abbrev pub SawItems : {T X V : Type 0} → (View T → Bool → Type 0) → Width → Shape
+    → (List ℕ → ℕ → V → Type 0) → (X → V) → Input (ℕ × X) → ℕ → ℕ × ℕ → ℕ → Output → Output → Seen
+    → Type 0
+SawItems {X = X} post w s stands lent input len load_factor hash o o' seen =
+    (pairs : List (ℕ × X)) × Came input.gave len pairs
+    × SeesList post w s (lent_stands lent stands) load_factor o o' hash pairs seen
+
+-- why pairs, of items that lend values of the format, were not written and looked over
+abbrev pub LosesItems : {X V R : Type 0} → Width → ℕ → ℕ → Shape → (X → V) → Format V R
+    → Input (ℕ × X) → ℕ → ℕ × ℕ → Output → Output → Lost → Type 0
+LosesItems w max limit s lent f input len load_factor o o' lost =
+    ListLost input.gave len load_factor max limit (byte_len w)
+    (table_format w s (written_as lent f) load_factor) o o' (input.gave_other len) lost

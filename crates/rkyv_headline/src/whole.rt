@@ -1,14 +1,12 @@
 //! A list from its items to what is seen of it.
 
-ghost use Rattle.std.specs.Prelude.{List, MatchResult, ℕ};
-ghost use Rattle.std.specs.Int.{byte_len};
+ghost use Rattle.std.specs.Prelude.{IfErr, IfOk, ℕ};
 ghost use Rattle.rkyv_base.specs.Pairs.{written_as};
 ghost use Rattle.rkyv_base.specs.Writing.{held};
-ghost use Rattle.rkyv_table.specs.Table.Counting.{GaveBoth, Uneven};
+ghost use Rattle.rkyv_table.specs.Table.Input.{from_both};
 ghost use Rattle.rkyv_table.specs.Table.Lending.{lent_stands};
-ghost use Rattle.rkyv_table.specs.Table.Serializing.{Came, HasCapacity};
-ghost use Rattle.rkyv_table.specs.Table.TableFormat.{table_format};
-ghost use Rattle.rkyv_headline.specs.Listing.{ListLost, ListsStand, MayAskAny, SeesList};
+ghost use Rattle.rkyv_table.specs.Table.Serializing.{HasCapacity};
+ghost use Rattle.rkyv_headline.specs.Listing.{ListsStand, LosesItems, MayAskAny, SawItems};
 
 use crate::looking::{Seen, Unseen, look_over};
 use crate::writing::write_list;
@@ -81,15 +79,13 @@ pub fn write_and_look_over<
 ) -> Result<Seen, Lost>
     requires can { I.can_next items × J.can_next hashes }
     requires callable { MayAskAny (F.pre cmp) U.Archived.shape }
-    ensures { let s = U.Archived.shape in let stands = lent_stands X.lent U.Archived.stands in
-        let f = table_format W.word s (written_as X.lent U.format) load_factor in
-        let gave = GaveBoth I.next_gives J.next_gives items hashes in
-        let o = held serializer.old in let o' = held serializer.new in MatchResult result
-        (λ seen. HasCapacity len load_factor W.MAX_CAPACITY
-        × (pairs : List (ℕ × X)) × Came gave len pairs
-        × SeesList (F.post cmp) W.word s stands load_factor o o' hash pairs seen)
-        (ListLost gave len load_factor W.MAX_CAPACITY W.LIMIT (byte_len W.word) f o o'
-        (Uneven I.next_gives J.next_gives len items hashes)) }
+    ensures fits { IfOk result (λ _. HasCapacity len load_factor W.MAX_CAPACITY) }
+    ensures seen { IfOk result (SawItems (F.post cmp) W.word U.Archived.shape U.Archived.stands
+        X.lent (from_both I.next_gives J.next_gives items hashes) len load_factor hash
+        (held serializer.old) (held serializer.new)) }
+    ensures lost { IfErr result (LosesItems W.word W.MAX_CAPACITY W.LIMIT U.Archived.shape X.lent
+        U.format (from_both I.next_gives J.next_gives items hashes) len load_factor
+        (held serializer.old) (held serializer.new)) }
 {
     let begin = serializer.pos();
     let at = match write_list::<W, VecWriter, U, X, I, J>(

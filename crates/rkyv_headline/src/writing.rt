@@ -1,12 +1,7 @@
 //! Writing a list as a table, with its header behind it.
 
-ghost use Rattle.std.specs.Prelude.{MatchResult, ◌+◌, ◌≡◌};
-ghost use Rattle.std.specs.Int.{byte_len};
-ghost use Rattle.rkyv_base.specs.Pairs.{written_as};
-ghost use Rattle.rkyv_base.specs.Writing.{end_of};
-ghost use Rattle.rkyv_table.specs.Table.Counting.{GaveBoth, Uneven};
-ghost use Rattle.rkyv_table.specs.Table.TableFormat.{table_format};
-ghost use Rattle.rkyv_headline.specs.Listing.{NoList, WroteList};
+ghost use Rattle.rkyv_table.specs.Table.Input.{from_both};
+ghost use Rattle.rkyv_headline.specs.Listing.{WritesList};
 
 use rkyv_base::archive::Serialize;
 use rkyv_base::errors::WriteError;
@@ -45,14 +40,9 @@ pub(crate) fn write_list<
     serializer: &mut S,
 ) -> Result<Written, WriteError<S::Fault>>
     requires { I.can_next items × J.can_next hashes }
-    ensures { let f = table_format W.word U.Archived.shape (written_as X.lent U.format)
-        load_factor in
-        let gave = GaveBoth I.next_gives J.next_gives items hashes in
-        let o = S.output serializer.old in let o' = S.output serializer.new in MatchResult result
-        (λ at. WroteList gave len load_factor W.MAX_CAPACITY W.LIMIT (byte_len W.word) f o o'
-        at.end at.pos)
-        (NoList gave len load_factor W.MAX_CAPACITY W.LIMIT (byte_len W.word) f o o'
-        (Uneven I.next_gives J.next_gives len items hashes)) }
+    ensures { WritesList W.word W.MAX_CAPACITY W.LIMIT U.Archived.shape X.lent U.format
+        (from_both I.next_gives J.next_gives items hashes) len load_factor
+        (S.output serializer.old) (S.output serializer.new) result }
 {
     let resolver = match ArchivedHashTable::<U::Archived, W>::serialize_from_iter::<S, U, X, I, J>(
         alloc,

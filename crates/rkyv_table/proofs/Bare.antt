@@ -1,9 +1,8 @@
 -- What is asked of a table that is read is asked of its bytes.
-use Rattle.std.proofs.Common.{◌≡◌, ℕ, ◌+◌, zero-add, sym, ap, subst, ◌∙◌, Bool, List, Option, None, Some, true}
+use Rattle.std.proofs.Common.{◌≡◌, ℕ, ◌+◌, zero-add, sym, ap, subst, ◌∙◌, Bool, List, Option, None, Some}
 use Rattle.std.specs.Int.{Width}
 use Rattle.std.specs.List.{find}
 use Rattle.rkyv_base.specs.Shape.{IsElement, Shape, Viewed}
-use Rattle.rkyv_base.specs.View.{pos_of}
 use Rattle.rkyv_base.specs.declared.view.View.{View}
 use Rattle.rkyv_scan.specs.Groups.{Kind}
 use Rattle.rkyv_table.specs.Controls.Laws.{IsUnderHash}

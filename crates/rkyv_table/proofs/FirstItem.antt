@@ -1,5 +1,5 @@
 -- A lookup in a written table answers the first accepted item of the list.
-use Rattle.std.proofs.Common.{◌≡◌, ℕ, suc, ◌^◌, ◌<◌, ◌∙◌, inl, inr, refl, sym, ap, subst, arith, Bool, true, false, List, [], ◌∷◌, length, map, slice_get, slice_index, Some}
+use Rattle.std.proofs.Common.{◌≡◌, ℕ, suc, ◌∙◌, inl, inr, refl, sym, ap, subst, arith, Bool, true, List, [], ◌∷◌, length, slice_get, slice_index, Some}
 use Rattle.std.specs.Int.{Width}
 use Rattle.std.specs.List.{find}
 use Rattle.std.specs.Option.{option_map}
@@ -7,11 +7,9 @@ use Rattle.std.proofs.lemmas.Bool.{cases_Bool}
 use Rattle.std.proofs.lemmas.List.{get_or-map, length-map}
 use Rattle.std.proofs.lemmas.Option.{slice_get-map, slice_get_cases}
 use Rattle.rkyv_base.specs.Shape.{Shape}
-use Rattle.rkyv_scan.specs.Groups.{IsKind, Kind}
 use Rattle.rkyv_table.specs.Controls.Laws.{IsUnderHash}
-use Rattle.rkyv_table.specs.Table.FirstItem.{AnswersFirst, AreUnder, IsFirstOf, TellsOf, first_of}
-use Rattle.rkyv_table.specs.Table.Reading.{home_positions, pos_found}
-use Rattle.rkyv_table.specs.Table.TableFormat.{TableStands}
+use Rattle.rkyv_table.specs.Table.FirstItem.{AnswersFirst, AreUnder, IsFirstOf, TellsOf}
+use Rattle.rkyv_table.specs.Table.Reading.{home_positions}
 use Rattle.rkyv_table.specs.Table.Taking.{hashes_of, items_of}
 use Rattle.rkyv_table.specs.Table.WrittenTables.{IsWrittenOf}
 use Rattle.rkyv_table.proofs.FirstFound.{first_found}

@@ -1,17 +1,16 @@
 -- The ready elements are written in one way alone.
-use Rattle.std.proofs.Common.{◌≡◌, ℕ, ◌+◌, ◌-◌, ◌<◌, ◌≤◌, ◌∙◌, inl, inr, refl, sym, ap, subst, arith, List, ◌++◌, length, pos}
+use Rattle.std.proofs.Common.{◌≡◌, ℕ, ◌+◌, ◌<◌, ◌∙◌, inl, inr, refl, sym, ap, subst, arith, List, ◌++◌, length}
 use Rattle.std.specs.Int.{Width}
-use Rattle.std.specs.Prelude.{◌-ℤ◌}
 use Rattle.rkyv_base.specs.declared.pairs.EntryResolver.{EntryResolver}
 use Rattle.rkyv_base.specs.declared.strings.TextResolver.{TextResolver}
 use Rattle.rkyv_base.specs.Empty.{unit_format}
-use Rattle.rkyv_base.specs.Entry.{IsSmall, value_offset, whole_size}
+use Rattle.rkyv_base.specs.Entry.{value_offset, whole_size}
 use Rattle.rkyv_base.specs.Format.{Format}
 use Rattle.rkyv_base.specs.Pairs.{PairImage, PairParts, pair_bytes, pair_format, written_as}
 use Rattle.rkyv_base.specs.Scalar.{Encoding, scalar_format}
 use Rattle.rkyv_base.specs.Shape.{Shape}
 use Rattle.rkyv_base.specs.Text.{IsArchiveWord, by_archive_word, text_size}
-use Rattle.rkyv_base.specs.TextWriting.{IsShort, TextImage, TextParts, far_bytes, text_format, text_limit}
+use Rattle.rkyv_base.specs.TextWriting.{TextImage, TextParts, text_format, text_limit}
 use Rattle.rkyv_table.specs.Table.OneWay.{WritesOneWay}
 
 pub scalars_one_way : {V : Type 0} (e : Encoding V) → WritesOneWay (scalar_format e)

@@ -1,5 +1,5 @@
 -- A write of one item in place keeps the table.
-use Rattle.std.specs.Prelude.{◌≡◌, ◌≢◌, ℕ, suc, ◌+◌, ◌-◌, ◌*◌, ◌<◌, ◌≤◌, List, [], ◌∷◌, Bool, length, slice_index, slice_range}
+use Rattle.std.specs.Prelude.{◌≡◌, ◌≢◌, ℕ, suc, ◌+◌, ◌-◌, ◌*◌, ◌<◌, ◌≤◌, List, [], ◌∷◌, Bool, slice_index, slice_range}
 use Rattle.std.specs.Int.{Width, byte_len}
 use Rattle.std.proofs.Common.{arith, subst, sym, ◌∙◌, ap, inl, inr}
 use Rattle.std.proofs.lemmas.Bool.{cases_eq, cases_lt}
@@ -21,7 +21,7 @@ use Rattle.rkyv_table.specs.Lemmas.ItemPositions.{HeldPart, bucket_holds_within,
 use Rattle.rkyv_table.specs.Controls.Numbers.{control_count}
 use Rattle.rkyv_table.specs.Table.Places.{AllHold}
 use Rattle.rkyv_table.specs.Lemmas.PlaceLaws.{AllBelow, range_below}
-use Rattle.rkyv_table.specs.Controls.Placing.{Accepted, Written, walk}
+use Rattle.rkyv_table.specs.Controls.Placing.{Accepted, walk}
 use Rattle.rkyv_table.specs.Table.Layout.{IsPart, TableAt, bucket_at, controls_at, table_shape}
 use Rattle.rkyv_table.specs.Lemmas.SameHeader.{begin_same, cap_same, item_same, len_same, pos_same}
 use Rattle.rkyv_table.specs.Lemmas.TableLaws.{bucket_inside, of_numbers}

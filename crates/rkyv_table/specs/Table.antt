@@ -8,6 +8,7 @@ pub mod Lending
 pub mod Slots
 pub mod Taking
 pub mod Counting
+pub mod Input
 pub mod TableFormat
 pub mod Serializing
 pub mod Listed

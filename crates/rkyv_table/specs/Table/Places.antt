@@ -1,5 +1,5 @@
 -- Values at places, one after the other.
-use Rattle.std.specs.Prelude.{◌≡◌, ℕ, ◌⊎◌, List, [], ◌∷◌}
+use Rattle.std.specs.Prelude.{◌≡◌, ℕ, ◌≤◌, ◌⊎◌, List, [], ◌∷◌, MatchResult, Result}
 use Rattle.rkyv_base.specs.declared.errors.VerifyError.{VerifyError}
 use Rattle.rkyv_base.specs.Shape.{Shape}
 
@@ -18,3 +18,10 @@ abbrev pub FirstFails : Shape → (ℕ → ℕ) → List ℕ → ℕ → List �
 FirstFails s at b hi [] lo e = ⊥
 FirstFails s at b hi (i ∷ is) lo e =
     s.fails b (at i) lo hi e ⊎ ((m : ℕ) × s.holds b (at i) lo hi m × FirstFails s at b hi is m e)
+
+-- the value at p holds with its parts from lo to hi, and the answer is the lower end that it
+-- leaves; or else the first point at which it doesn't
+abbrev pub ChecksValue : Shape → List ℕ → ℕ → ℕ → ℕ → Result ℕ VerifyError → Type 0
+ChecksValue s b p lo hi result = MatchResult result
+    (λ rest. (lo ≤ rest) × (rest ≤ hi) × s.holds b p lo hi rest)
+    (s.fails b p lo hi)

@@ -1,5 +1,6 @@
 -- What writing a table answers.
-use Rattle.std.specs.Prelude.{◌≡◌, ℕ, ◌<◌, ◌≤◌, ◌⊎◌, ⊤, List, length, Option}
+use Rattle.std.specs.Prelude.{◌≡◌, ℕ, ◌<◌, ◌≤◌, ◌⊎◌, ⊤, List, length, MatchResult, Option, Result}
+use Rattle.std.specs.Int.{Width}
 use Rattle.rkyv_base.specs.declared.errors.WriteError.{WriteError}
 use Rattle.rkyv_base.specs.declared.errors.WriteError.TheVariants.{InvalidLoadFactor}
 use Rattle.rkyv_base.specs.declared.errors.WriteError.TheVariants.{IteratorLengthMismatch}
@@ -8,10 +9,13 @@ use Rattle.rkyv_base.specs.declared.errors.WriteError.TheVariants.{PositionTooLa
 use Rattle.rkyv_base.specs.declared.errors.WriteError.TheVariants.{DistanceTooLarge, TextTooLong}
 use Rattle.rkyv_base.specs.declared.errors.WriteError.TheVariants.{Writer, Memory, Refused}
 use Rattle.rkyv_base.specs.Format.{Format, GaveUp, Serialized}
+use Rattle.rkyv_base.specs.Pairs.{written_as}
 use Rattle.rkyv_base.specs.Shape.{Shape}
 use Rattle.rkyv_base.specs.Writing.{Appended, Output, Told, end_of}
 use Rattle.rkyv_table.specs.Controls.Numbers.{IsLoadFactor, capacity}
+use Rattle.rkyv_table.specs.Table.Input.{Input}
 use Rattle.rkyv_table.specs.Table.Slots.{TableBytes, TableNext}
+use Rattle.rkyv_table.specs.Table.TableFormat.{TableResolver, table_format}
 use Rattle.rkyv_table.specs.Table.Taking.{Placed}
 
 -- so many items have a capacity within the limit
@@ -51,6 +55,21 @@ module _ {X R : Type 0} (gave : List X → Type 0) (len : ℕ) (load_factor : �
       ⊎ (HasCapacity len load_factor max × (items : List X) × Came gave len items
       × GaveUp limit f items o o' e)
 
+-- `len` items are written as `f` says, under a load factor, with at most `max` buckets and no
+-- position above `limit`: the answer is what resolves them, or why they are not written
+abbrev pub WritesItems : {X R F : Type 0} → Input X → ℕ → ℕ × ℕ → ℕ → ℕ → Format (List X) R
+    → Output → Output → Result R (WriteError F) → Type 0
+WritesItems input len load_factor max limit f o o' result = MatchResult result
+    (WroteItems input.gave len load_factor max f o o' limit)
+    (NoItems input.gave len load_factor max f o o' limit (input.gave_other len))
+
+-- `len` pairs of hash and item are written as a table, of items that lend values of the format
+abbrev pub WritesTable : {X V R F : Type 0} → Width → ℕ → ℕ → Shape → (X → V) → Format V R
+    → Input (ℕ × X) → ℕ → ℕ × ℕ → Output → Output → Result TableResolver (WriteError F) → Type 0
+WritesTable w max limit s lent f input len load_factor o o' result =
+    WritesItems input len load_factor max limit
+    (table_format w s (written_as lent f) load_factor) o o' result
+
 -- the causes for which the items are not placed
 abbrev pub NotPlaced : {F : Type 0} → ℕ → (ℕ → Type 0) → WriteError F → Type 0
 NotPlaced len other (InvalidLoadFactor n d) = ⊥
@@ -86,3 +105,11 @@ module _ {X R : Type 0} (gave : List (ℕ × X) → Type 0) where
         ⊎ ((pairs : List (ℕ × X)) × (slots : List (Option X)) × (controls : List ℕ)
         × Taken gave len cap slots controls pairs
         × Told limit (TableNext s f slots controls (end_of o)) o o' e)
+
+-- `len` pairs of hash and item are placed in `cap` buckets and written: the answer is the position
+-- of the first control, or why they are not written
+abbrev pub WritesFilled : {X R F : Type 0} → Input (ℕ × X) → ℕ → ℕ → Shape → Format X R → ℕ
+    → Output → Output → Result ℕ (WriteError F) → Type 0
+WritesFilled input len cap s f limit o o' result = MatchResult result
+    (WroteFilled input.gave len cap s f o o' limit)
+    (NoFilled input.gave len cap s f o o' limit (input.gave_other len))

@@ -1,11 +1,12 @@
 -- The bytes of a table whose items stand in slots, one for each bucket.
 use Rattle.std.specs.Prelude.{◌≡◌, ℕ, suc, ◌+◌, ◌-◌, ◌*◌, ◌⊎◌, List, [], ◌∷◌, ◌++◌, length, take}
-use Rattle.std.specs.Prelude.{drop, Option, Some, None, slice_get}
+use Rattle.std.specs.Prelude.{drop, MatchResult, Option, Result, Some, None, slice_get}
 use Rattle.rkyv_base.specs.Entry.{round_up}
 use Rattle.rkyv_base.specs.Format.{Format}
 use Rattle.rkyv_base.specs.Shape.{Shape}
-use Rattle.rkyv_base.specs.Writing.{Appended, Output, Step, distance, end_of, padding, piece}
-use Rattle.rkyv_base.specs.Writing.{refusal, zeros}
+use Rattle.rkyv_base.specs.Writing.{Appended, Appends, Output, Step, Told, Within, distance, end_of}
+use Rattle.rkyv_base.specs.Writing.{padding, piece, refusal, zeros}
+use Rattle.rkyv_base.specs.declared.errors.WriteError.{WriteError}
 
 -- how many slots have an item
 abbrev pub filled : {X : Type 0} → List (Option X) → ℕ
@@ -28,6 +29,14 @@ module _ {X R : Type 0} (f : Format X R) where
         × (slice_get slots i ≡ Some (Some x)) × SlotParts (take i slots) p a rs
         × f.next x (p + length a) rest step × (front ≡ a ++ rest)
 
+-- the items' parts are written, by ascending bucket, and `rs` resolve them; or the cause is told
+abbrev pub WritesParts : {X R U F : Type 0} → Format X R → ℕ → List (Option X) → List R → Output
+    → Output → Result U (WriteError F) → Type 0
+WritesParts f limit slots rs o o' result = MatchResult result
+    (λ _. (part : List ℕ) × Appends o o' part × SlotParts f slots (end_of o) part rs
+    × Within limit o' part)
+    (Told limit (PartsNext f slots (end_of o)) o o')
+
 module _ {X R : Type 0} (size : ℕ) (f : Format X R) where
   -- the buckets before position z, from the highest to the first
   abbrev pub SlotImages : List (Option X) → List R → ℕ → List ℕ → Type 0
@@ -47,6 +56,12 @@ module _ {X R : Type 0} (size : ℕ) (f : Format X R) where
   abbrev pub TooFar : Option X → List R → ℕ → Type 0
   TooFar None left p = ⊥
   TooFar (Some x) left p = (r : R) × (more : List R) × (left ≡ more ++ r ∷ []) × f.far x r p
+
+  -- one bucket is filled, or the distance of its item is too large
+  abbrev pub FillsBucket : {U E : Type 0} → Option X → List R → List R → ℕ → List ℕ → Result U E
+      → Type 0
+  FillsBucket s left more p out result =
+      MatchResult result (λ _. Filled s left more p out) (λ _. TooFar s left p)
 
   -- what writing one bucket at position p comes to: its bytes, or that the distance of its item is
   -- too large
@@ -70,6 +85,13 @@ module _ {X R : Type 0} (size : ℕ) (f : Format X R) where
   abbrev pub WroteBuckets : ℕ → List (Option X) → List R → Output → Output → Type 0
   WroteBuckets limit slots rs o o' =
       (out : List ℕ) × Appended limit out o o' × SlotImages slots rs (end_of o') out
+
+  -- the buckets are written within the limit, or the cause is told
+  abbrev pub WritesBuckets : {U F : Type 0} → ℕ → List (Option X) → List R → Output → Output
+      → Result U (WriteError F) → Type 0
+  WritesBuckets limit slots rs o o' result = MatchResult result
+      (λ _. WroteBuckets limit slots rs o o')
+      (Told limit (BucketNext slots rs (end_of o)) o o')
 
 module _ {X R : Type 0} (s : Shape) (f : Format X R) (slots : List (Option X)) (controls : List ℕ)
     (p : ℕ) where
@@ -101,3 +123,12 @@ module _ {X R : Type 0} (s : Shape) (f : Format X R) (slots : List (Option X)) (
       ⊎ ((a : List ℕ) × (rs : List R) × (b : List ℕ) × (g : List ℕ) × BeforeBuckets a rs b
       × SlotImages s.size f slots rs (p + length front) g × (front ≡ b ++ g)
       × (step ≡ piece controls))
+
+-- the parts, the buckets and the controls of a table are written, and the answer is the position of
+-- the first control; or the cause is told
+abbrev pub WritesSlots : {X R F : Type 0} → Shape → Format X R → ℕ → List (Option X) → List ℕ
+    → Output → Output → Result ℕ (WriteError F) → Type 0
+WritesSlots s f limit slots controls o o' result = MatchResult result
+    (λ z. (bytes : List ℕ) × Appended limit bytes o o'
+    × TableBytes s f slots controls (end_of o) z bytes)
+    (Told limit (TableNext s f slots controls (end_of o)) o o')

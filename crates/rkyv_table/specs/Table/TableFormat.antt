@@ -3,7 +3,7 @@ use Rattle.std.specs.Prelude.{◌≡◌, ℕ, ◌^◌, ◌<◌, ◌⊎◌, pos, 
 use Rattle.std.specs.Prelude.{Option, Some}
 use Rattle.std.specs.Int.{Width}
 use mir.Val.{bits}
-use Rattle.rkyv_base.specs.Format.{Format}
+use Rattle.rkyv_base.specs.Format.{Format, IsFormat}
 use Rattle.rkyv_base.specs.Shape.{Shape}
 use Rattle.rkyv_base.specs.Writing.{Step}
 use Rattle.rkyv_table.specs.Table.Header.{HeaderFar, IsHeader, begin_told, cap_at, len_at}
@@ -11,7 +11,7 @@ use Rattle.rkyv_table.specs.Controls.Laws.{AreHashes}
 use Rattle.rkyv_table.specs.Controls.Numbers.{capacity}
 use Rattle.rkyv_table.specs.Controls.Placing.{Written}
 use Rattle.rkyv_table.specs.Table.Slots.{TableBytes, TableNext}
-use Rattle.rkyv_table.specs.Table.Layout.{bucket_at, controls_at}
+use Rattle.rkyv_table.specs.Table.Layout.{bucket_at, controls_at, table_shape}
 use Rattle.rkyv_table.specs.Table.Taking.{Placed, hashes_of, items_of}
 
 -- what resolves a table: the position of its first control, 0 of an empty one; its length; its load
@@ -77,3 +77,10 @@ pub record TableStands {X : Type 0} (w : Width) (s : Shape) (stands : List ℕ �
   pub cap : cap_at w c p ≡ capacity (length pairs) load_factor
   pub buckets : 0 < length pairs → (begin : ℕ) × (pos begin ≡ begin_told w s.size c p)
       × BucketsStand s.size stands c (capacity (length pairs) load_factor) begin pairs
+
+-- what is written of a list of hashes and items is a table of them, wherever it sits, in a range
+-- around it
+abbrev pub WrittenTablesStand : {X R : Type 0} → Width → Shape → (List ℕ → ℕ → X → Type 0)
+    → Format X R → ℕ × ℕ → Type 0
+WrittenTablesStand w s stands f load_factor = IsFormat (table_shape w s)
+    (TableStands w s stands load_factor) (table_format w s f load_factor)

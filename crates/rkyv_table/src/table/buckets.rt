@@ -1,9 +1,9 @@
 //! Writing the buckets of a table, from the highest to the first.
 
-ghost use Rattle.std.specs.Prelude.{◌≡◌, ◌+◌, ◌<◌, ◌≤◌, ◌^◌, IfSome, MatchResult, length};
+ghost use Rattle.std.specs.Prelude.{◌≡◌, ◌+◌, ◌<◌, ◌≤◌, ◌^◌, IfSome, length};
 ghost use Rattle.rkyv_base.specs.Pairs.{written_as};
-ghost use Rattle.rkyv_base.specs.Writing.{Told, end_of};
-ghost use Rattle.rkyv_table.specs.Table.Slots.{BucketNext, Filled, TooFar, WroteBuckets, filled};
+ghost use Rattle.rkyv_base.specs.Writing.{end_of};
+ghost use Rattle.rkyv_table.specs.Table.Slots.{FillsBucket, WritesBuckets, filled};
 
 use rkyv_base::archive::Archive;
 use rkyv_base::element::Element;
@@ -24,9 +24,8 @@ fn fill_bucket<W: Width, U: Archive<W>, X: Lend<U>>(
     requires room { length bucket.old ≡ U.Archived.shape.size }
     requires fits { pos + U.Archived.shape.size < 2 ^ 64 }
     ensures kept { length bucket.new ≡ U.Archived.shape.size }
-    ensures answer { let f = written_as X.lent U.format in MatchResult result
-        (λ _. Filled U.Archived.shape.size f slot.now rest.old.items rest.new.items pos bucket.new)
-        (λ _. TooFar U.Archived.shape.size f slot.now rest.old.items pos) }
+    ensures answer { FillsBucket U.Archived.shape.size (written_as X.lent U.format) slot.now
+        rest.old.items rest.new.items pos bucket.new result }
 {
     match slot {
         Some(item) => {
@@ -53,13 +52,8 @@ fn write_by<W: Width, S: Writer, U: Archive<W>, X: Lend<U>>(
     requires room { length bucket.old ≡ U.Archived.shape.size }
     requires within { end_of (S.output serializer.old) ≤ W.LIMIT }
     ensures kept { length bucket.new ≡ U.Archived.shape.size }
-    ensures answer { let f = written_as X.lent U.format in
-        let size = U.Archived.shape.size in
-        let o = S.output serializer.old in
-        let o' = S.output serializer.new in
-        MatchResult result
-        (λ _. WroteBuckets size f W.LIMIT slots.now resolvers.items o o')
-        (Told W.LIMIT (BucketNext size f slots.now resolvers.items (end_of o)) o o') }
+    ensures answer { WritesBuckets U.Archived.shape.size (written_as X.lent U.format) W.LIMIT
+        slots.now resolvers.items (S.output serializer.old) (S.output serializer.new) result }
 {
     let mut rest = resolvers;
     let mut above = slots.len();
@@ -88,13 +82,8 @@ pub(crate) fn write_buckets<W: Width, S: Writer, U: Archive<W>, X: Lend<U>>(
     requires room { length bucket.old ≡ U.Archived.shape.size }
     requires within { end_of (S.output serializer.old) ≤ W.LIMIT }
     ensures kept { length bucket.new ≡ U.Archived.shape.size }
-    ensures answer { let f = written_as X.lent U.format in
-        let size = U.Archived.shape.size in
-        let o = S.output serializer.old in
-        let o' = S.output serializer.new in
-        MatchResult result
-        (λ _. WroteBuckets size f W.LIMIT slots.now resolvers.items o o')
-        (Told W.LIMIT (BucketNext size f slots.now resolvers.items (end_of o)) o o') }
+    ensures answer { WritesBuckets U.Archived.shape.size (written_as X.lent U.format) W.LIMIT
+        slots.now resolvers.items (S.output serializer.old) (S.output serializer.new) result }
 {
     let size = <U::Archived as Element>::size();
     if size <= 64 {

@@ -1,9 +1,8 @@
 //! Writing the bytes of a table whose items are placed.
 
-ghost use Rattle.std.specs.Prelude.{◌≡◌, ◌≤◌, [], MatchResult, length, vec_capacity, List, ℕ};
+ghost use Rattle.std.specs.Prelude.{◌≡◌, ◌≤◌, [], length, vec_capacity};
 ghost use Rattle.rkyv_base.specs.Pairs.{written_as};
-ghost use Rattle.rkyv_base.specs.Writing.{Appended, Told, end_of};
-ghost use Rattle.rkyv_table.specs.Table.Slots.{TableBytes, TableNext, filled};
+ghost use Rattle.rkyv_table.specs.Table.Slots.{WritesSlots, filled};
 
 use crate::table::buckets::write_buckets;
 use crate::table::parts::serialize_slots;
@@ -27,14 +26,8 @@ pub(crate) fn write_table<W: Width, S: Writer, U: Serialize<S, W>, X: Lend<U>>(
     requires empty { resolvers.items ≡ [] }
     requires places { filled slots.now ≤ vec_capacity resolvers }
     requires room { length bucket.old ≡ U.Archived.shape.size }
-    ensures { let s = U.Archived.shape in
-        let f = written_as X.lent U.format in
-        let o = S.output serializer.old in
-        let o' = S.output serializer.new in
-        MatchResult result
-        (λ z. (bytes : List ℕ) × Appended W.LIMIT bytes o o'
-        × TableBytes s f slots.now controls.now (end_of o) z bytes)
-        (Told W.LIMIT (TableNext s f slots.now controls.now (end_of o)) o o') }
+    ensures { WritesSlots U.Archived.shape (written_as X.lent U.format) W.LIMIT slots.now
+        controls.now (S.output serializer.old) (S.output serializer.new) result }
 {
     let mut kept = resolvers;
     match serialize_slots::<W, S, U, X>(alloc, slots, &mut kept, serializer) {

@@ -1,10 +1,8 @@
 //! What hands in the items of a table and their hashes: one iterator of pairs, or two iterators.
 
-ghost use Rattle.std.specs.Prelude.{◌≡◌, ℕ, ◌<◌, List, [], MatchResult, None, replicate, length};
-ghost use Rattle.std.specs.Iterator.{Drains};
+ghost use Rattle.std.specs.Prelude.{◌≡◌, ℕ, ◌<◌, [], MatchResult, None, replicate};
 ghost use Rattle.rkyv_table.specs.Controls.Shown.{fresh_controls};
-ghost use Rattle.rkyv_table.specs.Table.Counting.{GaveBoth, GaveOther, Uneven};
-ghost use Rattle.rkyv_table.specs.Table.Taking.{Placed};
+ghost use Rattle.rkyv_table.specs.Table.Input.{Input, TakesItems, from_both, from_iter};
 
 use crate::table::take::{take_none, take_pairs};
 use crate::table::take_two::take_two;
@@ -15,11 +13,8 @@ pub(crate) trait HandsIn<X>: Drop {
     // It may be asked.
     ghost can: { Self → Type 0 };
 
-    // It gave these pairs of hash and item, and then nothing.
-    ghost gave: { Self → List (ℕ × X) → Type 0 };
-
-    // It gave another number of them than was claimed.
-    ghost gave_other: { ℕ → Self → ℕ → Type 0 };
+    // The pairs of hash and item that it hands in.
+    ghost input: { Self → Input (ℕ × X) };
 
     // Takes `len` pairs, and each item into the first empty bucket that its hash shows. An `Err`
     // has how many came.
@@ -34,15 +29,12 @@ pub(crate) trait HandsIn<X>: Drop {
         requires room { len < cap }
         requires fresh { controls.old ≡ fresh_controls cap }
         requires empty { slots.old ≡ replicate cap None }
-        ensures { MatchResult result
-            (λ _. (xs : List (ℕ × X)) × gave self xs × (length xs ≡ len)
-            × Placed cap xs slots.new controls.new)
-            (gave_other len self) };
+        ensures { TakesItems (input self) len cap slots.new controls.new result };
 
     // Takes none. An `Err` has how many came.
     fn take_none(self) -> Result<(), usize>
         requires { can self }
-        ensures { MatchResult result (λ _. gave self []) (gave_other 0 self) };
+        ensures { MatchResult result (λ _. (input self).gave []) ((input self).gave_other 0) };
 }
 
 /// One iterator of pairs of hash and item.
@@ -61,9 +53,7 @@ pub(crate) struct ItemsAndHashes<I, J> {
 impl<X: Drop, I: Iterator<Item = (u64, X)>> HandsIn<X> for Pairs<I> {
     ghost can = { λ s. I.can_next s.pairs };
 
-    ghost gave = { λ s. Drains I.next_gives s.pairs };
-
-    ghost gave_other = { λ len s. GaveOther I.next_gives len s.pairs };
+    ghost input = { λ s. from_iter I.next_gives s.pairs };
 
     #[inline]
     fn take_into<G: GroupKind>(
@@ -85,9 +75,7 @@ impl<X: Drop, I: Iterator<Item = (u64, X)>> HandsIn<X> for Pairs<I> {
 impl<X: Drop, I: Iterator<Item = X>, J: Iterator<Item = u64>> HandsIn<X> for ItemsAndHashes<I, J> {
     ghost can = { λ s. I.can_next s.items × J.can_next s.hashes };
 
-    ghost gave = { λ s. GaveBoth I.next_gives J.next_gives s.items s.hashes };
-
-    ghost gave_other = { λ len s. Uneven I.next_gives J.next_gives len s.items s.hashes };
+    ghost input = { λ s. from_both I.next_gives J.next_gives s.items s.hashes };
 
     #[inline]
     fn take_into<G: GroupKind>(

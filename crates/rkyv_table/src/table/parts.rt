@@ -1,9 +1,8 @@
 //! Serializing the items of a table, by ascending bucket.
 
-ghost use Rattle.std.specs.Prelude.{◌≡◌, ◌≤◌, [], MatchResult, vec_capacity, List, ℕ};
+ghost use Rattle.std.specs.Prelude.{◌≡◌, ◌≤◌, [], vec_capacity};
 ghost use Rattle.rkyv_base.specs.Pairs.{written_as};
-ghost use Rattle.rkyv_base.specs.Writing.{Appends, Told, Within, end_of};
-ghost use Rattle.rkyv_table.specs.Table.Slots.{PartsNext, SlotParts, filled};
+ghost use Rattle.rkyv_table.specs.Table.Slots.{WritesParts, filled};
 
 use rkyv_base::archive::Serialize;
 use rkyv_base::errors::WriteError;
@@ -21,13 +20,8 @@ pub(crate) fn serialize_slots<W: Width, S: Writer, U: Serialize<S, W>, X: Lend<U
 ) -> Result<(), WriteError<S::Fault>>
     requires empty { resolvers.old.items ≡ [] }
     requires room { filled slots.now ≤ vec_capacity resolvers.old }
-    ensures { let f = written_as X.lent U.format in
-        let o = S.output serializer.old in
-        let o' = S.output serializer.new in
-        MatchResult result
-        (λ _. (part : List ℕ) × Appends o o' part
-        × SlotParts f slots.now (end_of o) part resolvers.new.items × Within W.LIMIT o' part)
-        (Told W.LIMIT (PartsNext f slots.now (end_of o)) o o') }
+    ensures { WritesParts (written_as X.lent U.format) W.LIMIT slots.now resolvers.new.items
+        (S.output serializer.old) (S.output serializer.new) result }
 {
     for slot in slots {
         if let Some(item) = slot {

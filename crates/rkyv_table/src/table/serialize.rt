@@ -1,16 +1,11 @@
 //! Writing tables from iterators of items and hashes.
 
-ghost use Rattle.std.specs.Prelude.{◌≡◌, ◌+◌, ◌^◌, ◌⊎◌, ◌<◌, ◌≤◌, [], IfOk, MatchResult, None};
-ghost use Rattle.std.specs.Prelude.{length, replicate, vec_capacity, List, ℕ};
+ghost use Rattle.std.specs.Prelude.{◌≡◌, ◌+◌, ◌^◌, ◌<◌, ◌≤◌, [], IfOk, None};
+ghost use Rattle.std.specs.Prelude.{length, replicate, vec_capacity};
 ghost use Rattle.rkyv_base.specs.Pairs.{written_as};
-ghost use Rattle.rkyv_base.specs.Writing.{Appends, Told, end_of};
-ghost use Rattle.rkyv_table.specs.Controls.Capacity.{IsCapacity};
-ghost use Rattle.rkyv_table.specs.Controls.Shown.{fresh_controls};
-ghost use Rattle.rkyv_table.specs.Table.Counting.{GaveBoth, GaveOther, Uneven};
-ghost use Rattle.rkyv_table.specs.Controls.Numbers.{capacity, control_count};
-ghost use Rattle.rkyv_table.specs.Table.Serializing.{NoFilled, NoItems, WroteFilled, WroteItems};
-ghost use Rattle.rkyv_table.specs.Table.TableFormat.{table_format};
-ghost use Rattle.std.specs.Iterator.{Drains};
+ghost use Rattle.rkyv_table.specs.Controls.Numbers.{control_count};
+ghost use Rattle.rkyv_table.specs.Table.Input.{from_both, from_iter};
+ghost use Rattle.rkyv_table.specs.Table.Serializing.{WritesFilled, WritesTable};
 
 use crate::controls::numbers::{CapacityError, capacity, control_count};
 use crate::table::ArchivedHashTable;
@@ -91,13 +86,8 @@ fn fill_and_write<
     requires scratch { room.scratch.items
         ≡ replicate (control_count cap + U.Archived.shape.size) 255 }
     requires resolvers { (room.resolvers.items ≡ []) × (len ≤ vec_capacity room.resolvers) }
-    ensures { let s = U.Archived.shape in
-        let f = written_as X.lent U.format in
-        let o = S.output serializer.old in
-        let o' = S.output serializer.new in
-        MatchResult result
-        (WroteFilled (H.gave given) len cap s f o o' W.LIMIT)
-        (NoFilled (H.gave given) len cap s f o o' W.LIMIT (H.gave_other len given)) }
+    ensures { WritesFilled (H.input given) len cap U.Archived.shape (written_as X.lent U.format)
+        W.LIMIT (S.output serializer.old) (S.output serializer.new) result }
 {
     let mut slots = room.slots;
     let mut scratch = room.scratch;
@@ -137,13 +127,8 @@ fn serialize_filled<
     requires can { H.can given }
     requires below { len < cap }
     requires fits { cap ≤ W.MAX_CAPACITY }
-    ensures { let s = U.Archived.shape in
-        let f = written_as X.lent U.format in
-        let o = S.output serializer.old in
-        let o' = S.output serializer.new in
-        MatchResult result
-        (WroteFilled (H.gave given) len cap s f o o' W.LIMIT)
-        (NoFilled (H.gave given) len cap s f o o' W.LIMIT (H.gave_other len given)) }
+    ensures { WritesFilled (H.input given) len cap U.Archived.shape (written_as X.lent U.format)
+        W.LIMIT (S.output serializer.old) (S.output serializer.new) result }
 {
     match Room::new(alloc, len, cap, <U::Archived as Element>::size()) {
         Ok(room) => fill_and_write::<W, G, S, U, X, H>(alloc, given, len, cap, room, serializer),
@@ -167,14 +152,9 @@ fn serialize_given<
     serializer: &mut S,
 ) -> Result<HashTableResolver<W>, WriteError<S::Fault>>
     requires { H.can given }
-    ensures { let f = table_format W.word U.Archived.shape (written_as X.lent U.format)
-        load_factor in
-        let o = S.output serializer.old in
-        let o' = S.output serializer.new in
-        MatchResult result
-        (WroteItems (H.gave given) len load_factor W.MAX_CAPACITY f o o' W.LIMIT)
-        (NoItems (H.gave given) len load_factor W.MAX_CAPACITY f o o' W.LIMIT
-        (H.gave_other len given)) }
+    ensures { WritesTable W.word W.MAX_CAPACITY W.LIMIT U.Archived.shape X.lent U.format
+        (H.input given) len load_factor (S.output serializer.old) (S.output serializer.new)
+        result }
 {
     let cap = match capacity(len, load_factor, W::MAX_CAPACITY) {
         Ok(cap) => cap,
@@ -242,13 +222,9 @@ impl<'a, T, W: Width> ArchivedHashTable<'a, T, W> {
         serializer: &mut S,
     ) -> Result<HashTableResolver<W>, WriteError<S::Fault>>
         requires { I.can_next items × J.can_next hashes }
-        ensures { let f = table_format W.word T.shape (written_as X.lent U.format) load_factor in
-            let gave = GaveBoth I.next_gives J.next_gives items hashes in
-            let o = S.output serializer.old in let o' = S.output serializer.new in
-            MatchResult result
-            (WroteItems gave len load_factor W.MAX_CAPACITY f o o' W.LIMIT)
-            (NoItems gave len load_factor W.MAX_CAPACITY f o o' W.LIMIT
-            (Uneven I.next_gives J.next_gives len items hashes)) }
+        ensures { WritesTable W.word W.MAX_CAPACITY W.LIMIT T.shape X.lent U.format
+            (from_both I.next_gives J.next_gives items hashes) len load_factor
+            (S.output serializer.old) (S.output serializer.new) result }
     {
         let given = ItemsAndHashes { items, hashes };
         serialize_given::<W, Group, S, U, X, ItemsAndHashes<I, J>>(
@@ -278,13 +254,9 @@ impl<'a, T, W: Width> ArchivedHashTable<'a, T, W> {
         serializer: &mut S,
     ) -> Result<HashTableResolver<W>, WriteError<S::Fault>>
         requires { I.can_next pairs }
-        ensures { let f = table_format W.word T.shape (written_as X.lent U.format) load_factor in
-            let gave = Drains I.next_gives pairs in
-            let o = S.output serializer.old in let o' = S.output serializer.new in
-            MatchResult result
-            (WroteItems gave len load_factor W.MAX_CAPACITY f o o' W.LIMIT)
-            (NoItems gave len load_factor W.MAX_CAPACITY f o o' W.LIMIT
-            (GaveOther I.next_gives len pairs)) }
+        ensures { WritesTable W.word W.MAX_CAPACITY W.LIMIT T.shape X.lent U.format
+            (from_iter I.next_gives pairs) len load_factor
+            (S.output serializer.old) (S.output serializer.new) result }
     {
         serialize_given::<W, G, S, U, X, Pairs<I>>(
             alloc,

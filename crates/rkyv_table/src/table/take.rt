@@ -5,7 +5,7 @@ ghost use Rattle.std.specs.Prelude.{replicate, IfSome, length, slice_set};
 ghost use Rattle.std.specs.Iterator.{Drains};
 ghost use Rattle.rkyv_table.specs.Controls.Shown.{fresh_controls};
 ghost use Rattle.rkyv_table.specs.Table.Counting.{GaveOther};
-ghost use Rattle.rkyv_table.specs.Table.Taking.{Placed};
+ghost use Rattle.rkyv_table.specs.Table.Input.{TakesItems, from_iter};
 
 use crate::controls::place::place_one;
 use rkyv_scan::simd::GroupKind;
@@ -42,10 +42,7 @@ pub(crate) fn take_pairs<G: GroupKind, X: Drop, I: Iterator<Item = (u64, X)>>(
     requires room { len < cap }
     requires fresh { controls.old ≡ fresh_controls cap }
     requires empty { slots.old ≡ replicate cap None }
-    ensures { MatchResult result
-        (λ _. (xs : List (ℕ × X)) × Drains I.next_gives pairs xs × (length xs ≡ len)
-        × Placed cap xs slots.new controls.new)
-        (GaveOther I.next_gives len pairs) }
+    ensures { TakesItems (from_iter I.next_gives pairs) len cap slots.new controls.new result }
 {
     let mut rest = pairs;
     for count in 0..len {

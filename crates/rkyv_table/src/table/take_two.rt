@@ -3,8 +3,8 @@
 ghost use Rattle.std.specs.Prelude.{◌≡◌, ℕ, ◌+◌, ◌<◌, ◌≤◌, ◌^◌, List, MatchResult, None, replicate};
 ghost use Rattle.std.specs.Prelude.{length};
 ghost use Rattle.rkyv_table.specs.Controls.Shown.{fresh_controls};
-ghost use Rattle.rkyv_table.specs.Table.Counting.{CountedOn, GaveBoth, Uneven};
-ghost use Rattle.rkyv_table.specs.Table.Taking.{Placed};
+ghost use Rattle.rkyv_table.specs.Table.Counting.{CountedOn};
+ghost use Rattle.rkyv_table.specs.Table.Input.{TakesItems, from_both};
 
 use crate::controls::place::place_one;
 use crate::table::take::{next_item, put};
@@ -43,10 +43,8 @@ pub(crate) fn take_two<G: GroupKind, X: Drop, I: Iterator<Item = X>, J: Iterator
     requires room { len < cap }
     requires fresh { controls.old ≡ fresh_controls cap }
     requires empty { slots.old ≡ replicate cap None }
-    ensures { MatchResult result
-        (λ _. (xs : List (ℕ × X)) × GaveBoth I.next_gives J.next_gives items hashes xs
-        × (length xs ≡ len) × Placed cap xs slots.new controls.new)
-        (Uneven I.next_gives J.next_gives len items hashes) }
+    ensures { TakesItems (from_both I.next_gives J.next_gives items hashes) len cap slots.new
+        controls.new result }
 {
     let mut rest = items;
     let mut marks = hashes;

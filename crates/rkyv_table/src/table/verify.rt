@@ -3,7 +3,7 @@ ghost use Rattle.std.specs.Prelude.{IfErr, IfOk, MatchResult, length, ◌%◌, �
 ghost use Rattle.std.specs.Int.{byte_len};
 ghost use Rattle.rkyv_base.specs.Checking.{Fails, Passes};
 ghost use Rattle.rkyv_table.specs.Controls.Numbers.{control_count};
-ghost use Rattle.rkyv_table.specs.Table.Places.{FirstFails, SomeHold};
+ghost use Rattle.rkyv_table.specs.Table.Places.{ChecksValue, FirstFails, SomeHold};
 ghost use Rattle.rkyv_table.specs.Controls.Placing.{walk};
 ghost use Rattle.rkyv_table.specs.Table.Layout.{FailsInside, IsPart, bucket_at, part_size};
 ghost use Rattle.rkyv_table.specs.Table.Layout.{table_shape};
@@ -30,10 +30,8 @@ fn check_item<T: Element>(
     requires inside { begin + cap * T.shape.size ≤ length bytes.now }
     requires aligned { begin % T.shape.align ≡ 0 }
     requires ordered { lo ≤ begin }
-    ensures { MatchResult result
-        (λ rest. (lo ≤ rest) × (rest ≤ begin)
-        × T.shape.holds bytes.now (bucket_at T.shape.size begin cap bucket) lo begin rest)
-        (λ e. T.shape.fails bytes.now (bucket_at T.shape.size begin cap bucket) lo begin e) }
+    ensures { ChecksValue T.shape bytes.now (bucket_at T.shape.size begin cap bucket) lo begin
+        result }
 {
     let place = bucket_position(begin, cap, bucket, T::size());
     match T::check(bytes, place, PartRange { lo, hi: begin }) {

@@ -1,11 +1,11 @@
 //! What was written of a table, wherever it stands.
 
 ghost use Rattle.std.specs.Prelude.{ℕ};
-ghost use Rattle.rkyv_base.specs.Format.{IsFormat, StandsNear};
+ghost use Rattle.rkyv_base.specs.Format.{StandsNear};
 ghost use Rattle.rkyv_base.specs.Pairs.{written_as};
 ghost use Rattle.rkyv_table.specs.Table.Lending.{lent_stands};
 ghost use Rattle.rkyv_table.specs.Table.Layout.{table_shape};
-ghost use Rattle.rkyv_table.specs.Table.TableFormat.{TableStands, table_format};
+ghost use Rattle.rkyv_table.specs.Table.TableFormat.{TableStands, WrittenTablesStand};
 ghost use Rattle.rkyv_table.specs.Table.Passing.{WrittenTablesPass};
 ghost use Rattle.rkyv_table.specs.Table.WrittenTables.{StandingWereWritten};
 
@@ -17,10 +17,8 @@ use rkyv_base::width::Width;
 /// the table holds; its header tells its length and its capacity, its controls are those of the
 /// hashes, and each item stands in the bucket that is its home.
 pub fn written_tables_stand<W: Width, U: Archive<W>, X: Lend<U>>()
-    ensures { (load_factor : ℕ × ℕ) → let s = U.Archived.shape in
-        IsFormat (table_shape W.word s)
-        (TableStands W.word s (lent_stands X.lent U.Archived.stands) load_factor)
-        (table_format W.word s (written_as X.lent U.format) load_factor) }
+    ensures { (load_factor : ℕ × ℕ) → WrittenTablesStand W.word U.Archived.shape
+        (lent_stands X.lent U.Archived.stands) (written_as X.lent U.format) load_factor }
 {}
 
 /// And it passes the check in each range from where the write began, or before, to where it ended,

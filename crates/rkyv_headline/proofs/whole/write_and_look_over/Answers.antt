@@ -9,8 +9,8 @@ use Rattle.rkyv_table.specs.Table.TableFormat.{table_format}
 use Rattle.rkyv_headline.proofs.Listing.{appended_sits, list_seen, look_lost, not_refused}
 use Rattle.rkyv_headline.proofs.whole.write_and_look_over.Goals as goal
 
-pub returns-in-Ok-look_over : goal.returns-in-Ok-look_over
-returns-in-Ok-look_over g c =
+pub returns-in-Ok-look_over-clause-seen : goal.returns-in-Ok-look_over-clause-seen
+returns-in-Ok-look_over-clause-seen g c =
     let w = g.W.Width.word in
     let s = g.U.Archived.Element.shape in
     let stands = lent_stands g.X.Lend.lent g.U.Archived.StandsFor.stands in
@@ -20,15 +20,14 @@ returns-in-Ok-look_over g c =
     let at = c.in-Ok.at in
     let sits = appended_sits o o' h.3 refl h.4.0 in
     let list = c.written_lists_stand.ensures c.args.load_factor h.1 (end_of o) at.end at.pos h.3 o'.bytes h.5 sits in (
-      h.0,
       h.1,
       h.2,
       list_seen (goal.F-post g c.args.cmp) w s stands c.args.load_factor o o' c.args.hash h.1 h.3 h.4.0 at.end at.pos list.0 list.1
           (c.lookups_answer_the_first.ensures c.args.load_factor) c.ranges.hash.fits c.bytes.result.now c.bytes.ensures c.in-Ok-look_over.seen c.in-Ok-look_over.ensures.2,
     )
 
-pub returns-in-Err-look_over : goal.returns-in-Err-look_over
-returns-in-Err-look_over g c =
+pub returns-in-Err-look_over-clause-lost : goal.returns-in-Err-look_over-clause-lost
+returns-in-Err-look_over-clause-lost g c =
     let w = g.W.Width.word in
     let s = g.U.Archived.Element.shape in
     let f = table_format w s (written_as g.X.Lend.lent g.U.Archive.format) c.args.load_factor in

@@ -1,4 +1,4 @@
-use Rattle.std.proofs.Common.{◌≡◌, ◌∙◌, ◌+◌, ◌≤◌, refl, sym, ap, subst, arith, length, Some, None}
+use Rattle.std.proofs.Common.{◌∙◌, refl, ap, arith, length, Some, None}
 use Rattle.rkyv_scan.specs.Groups.{generic_kind}
 use Rattle.rkyv_table.proofs.Bare.{item_at_found, looks_up_none, looks_up_some, may_ask, table_of}
 use Rattle.rkyv_table.proofs.table.ArchivedHashTable.found_with.Goals as goal
