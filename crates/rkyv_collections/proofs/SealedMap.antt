@@ -1,7 +1,8 @@
 -- What a lookup tells of the map that is read tells of the seal.
-use Rattle.std.proofs.Common.{◌≡◌, ℕ, ◌∙◌, sym, ap, subst, Bool, List, take, drop}
+use Rattle.std.proofs.Common.{◌≡◌, ℕ, ◌+◌, ◌≤◌, ◌∙◌, sym, ap, subst, Bool, List, None, Option, Some, drop, length, take}
 use Rattle.std.specs.Borrow.{Bor}
 use Rattle.std.specs.Int.{Width}
+use Rattle.std.specs.Prelude.{IfSome}
 use Rattle.rkyv_base.specs.Entry.{entry_element, entry_shape, viewed_key, viewed_value}
 use Rattle.rkyv_base.specs.Seal.{bytes_in, seal_pos}
 use Rattle.rkyv_base.specs.Sealing.{value_pos}
@@ -11,8 +12,9 @@ use Rattle.rkyv_base.specs.declared.seal.Seal.{Seal}
 use Rattle.rkyv_base.specs.declared.view.View.{View}
 use Rattle.rkyv_table.proofs.Items.{item_viewed}
 use Rattle.rkyv_table.proofs.SealedTable.{value_kept}
-use Rattle.rkyv_collections.specs.Map.{AnswersKeys, AreUnderHash, AreUnderHashAt, IsKeyPosAt, map_bytes, map_pos, map_shape}
-use Rattle.rkyv_collections.specs.SealedMap.{AnswersKeysAt, IsPairPos, LendsPair}
+use Rattle.rkyv_base.specs.declared.entry.Entry.{Entry}
+use Rattle.rkyv_collections.specs.Map.{AnswersKeys, AreUnderHashAt, FindsBy, FindsFirstBy, FindsFirstKey, FindsFirstKeyAt, FindsKey, FindsKeyAt, IsEntryAt, IsEntryIn, IsKeyPosAt, IsValueIn, map_bytes, map_pos, map_shape}
+use Rattle.rkyv_collections.specs.SealedMap.{AnswersKeysAt, FindsByAt, FindsFirstByAt, IsPairPos, LendsPair}
 use Rattle.rkyv_collections.specs.declared.map.ArchivedHashMap.{ArchivedHashMap}
 
 module _ (w : Width) (k v : Shape) (kl : IsElement k) (vl : IsElement v) (b : List ℕ) (p : ℕ) (view : Viewed (map_shape w k v) b p) where
@@ -32,6 +34,11 @@ module _ (w : Width) (k v : Shape) (kl : IsElement k) (vl : IsElement v) (b : Li
         kept = λ c sealed keeps. value_kept w k v kl vl b p at.0 view at.1 c sealed keeps;
       }
 
+  -- a value behind a key lies in the bytes
+  pub value_inside : (pos : Option ℕ) → IfSome pos (λ q. (key : ℕ) × IsKeyPosAt w k v b p key × (q ≡ value_pos k v key)) → IfSome pos (λ q. q + v.size ≤ length b)
+  value_inside None h = tt
+  value_inside (Some q) h = subst (λ n. n + v.size ≤ length b) (sym h.2) (pair_place h.0 h.1).value.inside
+
 -- a pair that is lent, by where its key stands
 pub pair_lent : {K V : Type 0} (w : Width) (k v : Shape) (b : List ℕ) (p i q : ℕ) (pair : View K × Seal V) → IsPairPos w k v b p i q → pos_of pair.0 ≡ q → IsView k pair.0
     → bytes_of pair.0 ≡ take (value_pos k v q) b → bytes_in pair.1 ≡ drop (value_pos k v q) b → seal_pos pair.1 ≡ 0 → LendsPair w k v b p i pair
@@ -43,16 +50,21 @@ pair_lent w k v b p i q pair at place key front back begin = record {
   begin = begin;
 }
 
+-- what was found, told by where it stands
+found_told : {E : Type 0} (P : View E → Type 0) (Q : ℕ → Type 0) → ((x : View E) → P x → Q (pos_of x)) → (result : Option (View E)) (pos : Option ℕ) → IsEntryAt result pos → IfSome result P → IfSome pos Q
+found_told P Q says None pos at h = subst (λ (o : Option ℕ). IfSome o Q) at tt
+found_told P Q says (Some x) pos at h = subst (λ (o : Option ℕ). IfSome o Q) at (says x h)
+
 -- the map that is read has these bytes and this place
 module _ {K V H W : Type 0} (m : ArchivedHashMap K V H W) (b : List ℕ) (p : ℕ) (bytes : map_bytes m ≡ b) (place : map_pos m ≡ p) where
-  pub as_read : (F : List ℕ → ℕ → Type 0) → F (map_bytes m) (map_pos m) → F b p
+  as_read : (F : List ℕ → ℕ → Type 0) → F (map_bytes m) (map_pos m) → F b p
   as_read F x = subst (F b) place (subst (λ c. F c (map_pos m)) bytes x)
 
-  pub to_read : (F : List ℕ → ℕ → Type 0) → F b p → F (map_bytes m) (map_pos m)
+  to_read : (F : List ℕ → ℕ → Type 0) → F b p → F (map_bytes m) (map_pos m)
   to_read F x = subst (λ c. F c (map_pos m)) (sym bytes) (subst (F b) (sym place) x)
 
   module _ (w : Width) (k v : Shape) where
-    pub answers_read : (post : View K → Bool → Type 0) (accept : ℕ → Bool) → AnswersKeysAt w k v b p post accept → AnswersKeys w k v m post accept
+    answers_read : (post : View K → Bool → Type 0) (accept : ℕ → Bool) → AnswersKeysAt w k v b p post accept → AnswersKeys w k v m post accept
     answers_read post accept answers key r is told =
         answers key r (record {
           bytes = ap (λ (archive : Bor (List ℕ)). archive.now) is.archive ∙ bytes;
@@ -60,5 +72,28 @@ module _ {K V H W : Type 0} (m : ArchivedHashMap K V H W) (b : List ℕ) (p : �
           place = as_read (λ c q. IsKeyPosAt w k v c q (pos_of key)) is.place;
         }) told
 
-    pub under_read : (hash : ℕ) (key_hash : List ℕ → ℕ → ℕ) (accept : ℕ → Bool) → AreUnderHashAt w k v b p hash key_hash accept → AreUnderHash w k v m hash key_hash accept
-    under_read hash key_hash accept under = to_read (λ c q. AreUnderHashAt w k v c q hash key_hash accept) under
+    -- an entry that was found has its key in the map, and a value that was found stands behind one
+    pub entry_read : (result : Option (View (Entry K V))) (pos : Option ℕ) → IsEntryAt result pos → IfSome result (IsEntryIn w k v m) → IfSome pos (IsKeyPosAt w k v b p)
+    entry_read result pos at found =
+        found_told (IsEntryIn w k v m) (IsKeyPosAt w k v b p) (λ x is. as_read (λ c q. IsKeyPosAt w k v c q (pos_of x)) is.2) result pos at found
+
+    pub value_read : (result : Option (View V)) (pos : Option ℕ) → IsEntryAt result pos → IfSome result (IsValueIn w k v m)
+        → IfSome pos (λ q. (key : ℕ) × IsKeyPosAt w k v b p key × (q ≡ value_pos k v key))
+    value_read result pos at found =
+        found_told (IsValueIn w k v m) (λ q. (key : ℕ) × IsKeyPosAt w k v b p key × (q ≡ value_pos k v key))
+        (λ x is. (is.key, as_read (λ c q. IsKeyPosAt w k v c q is.key) is.walked, is.at.1)) result pos at found
+
+    -- what a lookup in the map that is read tells, said of its bytes and its place
+    module _ (Told Said : Option ℕ → Type 0) (says : (found : Option ℕ) → Told found → Said found) where
+      pub key_read : (hash : ℕ) (fits : List ℕ → ℕ → Bool) → FindsKey w k v m hash (fits (map_bytes m)) Told → FindsKeyAt w k v b p hash (fits b) Said
+      key_read hash fits found = says _ (as_read (λ c q. FindsKeyAt w k v c q hash (fits c) Told) found)
+
+      pub first_key_read : (key_hash : List ℕ → ℕ → ℕ) (fits : List ℕ → ℕ → Bool) → FindsFirstKey w k v m key_hash (fits (map_bytes m)) Told → FindsFirstKeyAt w k v b p key_hash (fits b) Said
+      first_key_read key_hash fits found = λ homes written. says _ (as_read (λ c q. FindsFirstKeyAt w k v c q key_hash (fits c) Told) found homes written)
+
+      pub by_read : (post : View K → Bool → Type 0) (hash : ℕ) → FindsBy w k v m post hash Told → FindsByAt w k v b p post hash Said
+      by_read post hash found = λ accept answers. key_read hash (λ c. accept) (found accept (answers_read post accept answers))
+
+      pub first_by_read : (post : View K → Bool → Type 0) (hash : ℕ) (key_hash : List ℕ → ℕ → ℕ) → FindsFirstBy w k v m post hash key_hash Told → FindsFirstByAt w k v b p post hash key_hash Said
+      first_by_read post hash key_hash found = λ accept answers under.
+          first_key_read key_hash (λ c. accept) (found accept (answers_read post accept answers) (to_read (λ c q. AreUnderHashAt w k v c q hash key_hash accept) under))

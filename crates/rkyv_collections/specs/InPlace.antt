@@ -3,14 +3,27 @@ use Rattle.std.specs.Prelude.{◌≡◌, ℕ, ◌+◌, ◌≤◌, Bool, List, []
 use Rattle.std.specs.Prelude.{Some, cond, false, length, true}
 use Rattle.std.specs.Borrow.{MutBor}
 use Rattle.std.specs.Int.{Width}
-use Rattle.std.specs.Option.{is_some}
+use Rattle.std.specs.Option.{is_some, option_map}
 use Rattle.rkyv_base.specs.Scalar.{Encoding, ScalarStands, scalar_shape}
-use Rattle.rkyv_base.specs.Sealing.{with_value}
+use Rattle.rkyv_base.specs.Sealing.{value_pos, with_value}
 use Rattle.rkyv_base.specs.Shape.{Shape}
 use Rattle.rkyv_table.specs.Table.SealedItems.{WrittenBy}
 use Rattle.rkyv_collections.specs.ListedLookups.{first_pair}
+use Rattle.rkyv_collections.specs.Map.{FindsFirstKeyAt, FindsKeyAt}
 use Rattle.rkyv_collections.specs.MapFormat.{MapStands}
 use Rattle.rkyv_collections.specs.ValueWrites.{KeepsMap}
+
+module _ (w : Width) (k v : Shape) (b : List ℕ) (p : ℕ) where
+  -- what is told is told of the position of the value behind the key that a lookup under the hash
+  -- finds
+  abbrev pub FindsValueAt : ℕ → (ℕ → Bool) → (Option ℕ → Type 0) → Type 0
+  FindsValueAt hash accept Told =
+      FindsKeyAt w k v b p hash accept (λ place. Told (option_map (value_pos k v) place))
+
+  -- and on a written map: of the value behind the first accepted key in the order handed in
+  abbrev pub FindsFirstValueAt : (List ℕ → ℕ → ℕ) → (ℕ → Bool) → (Option ℕ → Type 0) → Type 0
+  FindsFirstValueAt key_hash accept Told =
+      FindsFirstKeyAt w k v b p key_hash accept (λ place. Told (option_map (value_pos k v) place))
 
 -- a writer may be given the archive, at each place at which a value fits
 abbrev pub MayWriteFound : {F : Type 0} → Shape → (F → MutBor (List ℕ) → ℕ → Type 0) → List ℕ → F
@@ -38,6 +51,12 @@ module _ {N : Type 0} (w : Width) (k : Shape) (e : Encoding N) where
   SetsFound key_hash b p value result c place = MatchOption place ((result ≡ false) × (c ≡ b))
       (λ q. (result ≡ true) × (c ≡ with_value e b q value)
       × ((i : ℕ) × KeepsMap w k (scalar_shape e) key_hash b c p i))
+
+  -- what is written of the value of the key that a lookup under the hash finds
+  abbrev pub SetsValueAt : (List ℕ → ℕ → ℕ) → List ℕ → ℕ → ℕ → (ℕ → Bool) → N → Bool → List ℕ
+      → Type 0
+  SetsValueAt key_hash b p hash accept value result c =
+      FindsValueAt w k (scalar_shape e) b p hash accept (SetsFound key_hash b p value result c)
 
   -- a map that stands for a list of pairs stands for the list with the new value in the first pair
   -- whose key is asked for

@@ -4,6 +4,7 @@ pub mod Misplaced
 pub mod MapFinder
 pub mod MapFormat
 pub mod Handing
+pub mod Writing
 pub mod Lemmas
 pub mod SetFormat
 pub mod Set

@@ -16,6 +16,7 @@ use Rattle.rkyv_table.specs.Table.Reading.{IsWalked, WrittenAt, home_positions, 
 use Rattle.rkyv_table.specs.Table.Reading.{item_positions, pos_found, pos_of_found}
 use Rattle.rkyv_table.specs.Table.Layout.{table_shape}
 use Rattle.rkyv_collections.specs.declared.map.ArchivedHashMap.{ArchivedHashMap}
+use Rattle.rkyv_collections.specs.declared.map.HashMapOf.{HashMapOf}
 
 -- the header of a map: that of a table of its entries
 abbrev pub map_shape : Width → Shape → Shape → Shape
@@ -29,6 +30,10 @@ module _ {K V H W : Type 0} where
   -- the header of a map stands where the map is
   abbrev pub IsMap : Width → Shape → Shape → ArchivedHashMap K V H W → Type 0
   IsMap w k v m = IsView (map_shape w k v) m.view
+
+  -- the view of the map's header
+  abbrev pub map_view : ArchivedHashMap K V H W → View (HashMapOf K V H W)
+  map_view m = m.view
 
   -- the archive of the map, its bytes, and the position of its header
   abbrev pub map_archive : ArchivedHashMap K V H W → Bor (List ℕ)

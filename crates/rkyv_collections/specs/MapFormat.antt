@@ -2,7 +2,7 @@
 use Rattle.std.specs.Prelude.{◌≡◌, ℕ, List, length, map, slice_get, slice_index, Some}
 use Rattle.std.specs.Int.{Width}
 use Rattle.rkyv_base.specs.Entry.{entry_shape}
-use Rattle.rkyv_base.specs.Format.{Format}
+use Rattle.rkyv_base.specs.Format.{Format, IsFormat}
 use Rattle.rkyv_base.specs.Pairs.{PairStands, pair_format, written_as}
 use Rattle.rkyv_base.specs.Shape.{Shape}
 use Rattle.rkyv_scan.specs.Hash.{Hasher, HasherCall, hash_of_calls}
@@ -10,7 +10,7 @@ use Rattle.rkyv_table.specs.Table.Header.{cap_at, len_at}
 use Rattle.rkyv_table.specs.Controls.Numbers.{capacity}
 use Rattle.rkyv_table.specs.Table.Reading.{home_positions}
 use Rattle.rkyv_table.specs.Table.TableFormat.{TableResolver, table_format}
-use Rattle.rkyv_collections.specs.Map.{MapWrittenAt}
+use Rattle.rkyv_collections.specs.Map.{MapWrittenAt, map_shape}
 
 -- the hash of a value that makes these calls
 abbrev pub hash_of : {State A : Type 0} → Hasher State → (A → List HasherCall) → A → ℕ
@@ -40,3 +40,11 @@ pub record MapStands {A B : Type 0} (w : Width) (k v : Shape) (key : List ℕ �
   pub at : (i : ℕ) (pair : A × B) → slice_get pairs i ≡ Some pair
       → PairStands k v key value b (slice_index (home_positions w (entry_shape k v).size b p homes)
       i) pair
+
+-- In every archive in which what was written of a map sits, and its header, that map stands, under
+-- whatever load factor: `hash` tells the hash of the key at a position, `own` that of a key.
+abbrev pub WrittenMapsStand : {A B R Q : Type 0} → Width → Shape → Shape → (List ℕ → ℕ → A → Type 0)
+    → (List ℕ → ℕ → B → Type 0) → (List ℕ → ℕ → ℕ) → Format A R → Format B Q → (A → ℕ) → Type 0
+WrittenMapsStand w k v key value hash key_format value_format own = (load_factor : ℕ × ℕ)
+    → IsFormat (map_shape w k v) (MapStands w k v key value hash load_factor)
+    (map_format w k v key_format value_format own load_factor)

@@ -52,6 +52,35 @@ module _ {K : Type 0} (w : Width) (k v : Shape) (b : List ℕ) (p : ℕ) where
       → AreUnderHashAt w k v b p hash key_hash accept
       → FindsFirstKeyAt w k v b p key_hash accept Told
 
+-- what is said of a map that is read is said here of the map where a seal is
+module _ {K V H W : Type 0} (w : Width) (k v : Shape) (a : ArchiveSeal (HashMapOf K V H W)) where
+  -- a key of the map stands at the position
+  abbrev pub IsKeyPosIn : ℕ → Type 0
+  IsKeyPosIn q = IsKeyPosAt w k v (archive_in a) (pos_in a) q
+
+  -- the comparison may be asked of each key
+  abbrev pub MayAskKeysIn : (View K → Type 0) → Type 0
+  MayAskKeysIn pre = MayAskKeysAt w k v (archive_in a) (pos_in a) pre
+
+  -- what is told is told of the key that a lookup under the hash finds in the map
+  abbrev pub FindsKeyIn : ℕ → (ℕ → Bool) → (Option ℕ → Type 0) → Type 0
+  FindsKeyIn hash accept Told = FindsKeyAt w k v (archive_in a) (pos_in a) hash accept Told
+
+  -- what is told is told of the first accepted key that was handed in, where the map was written
+  abbrev pub FindsFirstKeyIn : (List ℕ → ℕ → ℕ) → (ℕ → Bool) → (Option ℕ → Type 0) → Type 0
+  FindsFirstKeyIn key_hash accept Told =
+      FindsFirstKeyAt w k v (archive_in a) (pos_in a) key_hash accept Told
+
+  -- what is told of what a lookup by a comparison finds
+  abbrev pub FindsByIn : (View K → Bool → Type 0) → ℕ → (Option ℕ → Type 0) → Type 0
+  FindsByIn post hash Told = FindsByAt w k v (archive_in a) (pos_in a) post hash Told
+
+  -- and on a written map, where it accepts keys under the hash alone
+  abbrev pub FindsFirstByIn : (View K → Bool → Type 0) → ℕ → (List ℕ → ℕ → ℕ) → (Option ℕ → Type 0)
+      → Type 0
+  FindsFirstByIn post hash key_hash Told =
+      FindsFirstByAt w k v (archive_in a) (pos_in a) post hash key_hash Told
+
 -- The key of the pair in bucket i of the map at p stands at q, and the value behind it. Every write
 -- of the value alone that
 -- keeps the value keeps the map: its header, its controls, all keys and all other values.

@@ -12,7 +12,9 @@ use Rattle.rkyv_keys.specs.OfUnits.{unit_same}
 use Rattle.rkyv_collections.specs.Equality.{map_equal}
 use Rattle.rkyv_collections.specs.Map.{FindsFirstKey, FindsKey, IsKeyIn, IsMap, key_positions}
 use Rattle.rkyv_collections.specs.Map.{map_archive, map_bytes, map_len, map_pos, map_shape}
+use Rattle.rkyv_collections.specs.Map.{map_view}
 use Rattle.rkyv_collections.specs.Misplaced.{FindsOneKey, map_misplaced}
+use Rattle.rkyv_collections.specs.declared.map.HashMapOf.{HashMapOf}
 use Rattle.rkyv_collections.specs.declared.set.ArchivedHashSet.{ArchivedHashSet}
 
 -- the header of a set: that of a map to the unit value
@@ -23,6 +25,10 @@ module _ {K H W : Type 0} where
   -- the header of a set stands where the set is
   abbrev pub IsSet : Width → Shape → ArchivedHashSet K H W → Type 0
   IsSet w k s = IsMap w k unit_shape s.map
+
+  -- the view of the set's header, as that of the map of its keys
+  abbrev pub set_view : ArchivedHashSet K H W → View (HashMapOf K (Unit {0}) H W)
+  set_view s = map_view s.map
 
   -- the archive of the set, its bytes, and the position of its header
   abbrev pub set_archive : ArchivedHashSet K H W → Bor (List ℕ)

@@ -2,12 +2,13 @@
 use Rattle.std.specs.Prelude.{ℕ, List}
 use Rattle.std.specs.Int.{Width}
 use Rattle.rkyv_base.specs.Empty.{unit_format, unit_shape, unit_stands}
-use Rattle.rkyv_base.specs.Format.{Format}
+use Rattle.rkyv_base.specs.Format.{Format, IsFormat}
 use Rattle.rkyv_base.specs.Pairs.{written_as}
 use Rattle.rkyv_base.specs.Shape.{Shape}
 use Rattle.rkyv_table.specs.Table.Lent.{with_units}
 use Rattle.rkyv_table.specs.Table.TableFormat.{TableResolver}
 use Rattle.rkyv_collections.specs.MapFormat.{MapStands, map_format}
+use Rattle.rkyv_collections.specs.Set.{set_shape}
 
 -- how a list of keys, in the order handed in, is written as a set under a load factor
 abbrev pub set_format : {A R : Type 0} → Width → Shape → Format A R → (A → ℕ) → ℕ × ℕ
@@ -20,3 +21,11 @@ abbrev pub SetStands : {A : Type 0} → Width → Shape → (List ℕ → ℕ �
     → ℕ × ℕ → List ℕ → ℕ → List A → Type 0
 SetStands w k key hash load_factor b p keys =
     MapStands w k unit_shape key unit_stands hash load_factor b p (with_units keys)
+
+-- in every archive in which what was written of a set sits, and its header, that set stands, under
+-- whatever load factor
+abbrev pub WrittenSetsStand : {A R : Type 0} → Width → Shape → (List ℕ → ℕ → A → Type 0)
+    → (List ℕ → ℕ → ℕ) → Format A R → (A → ℕ) → Type 0
+WrittenSetsStand w k key hash format own = (load_factor : ℕ × ℕ)
+    → IsFormat (set_shape w k) (SetStands w k key hash load_factor)
+    (set_format w k format own load_factor)

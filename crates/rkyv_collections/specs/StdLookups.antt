@@ -1,5 +1,7 @@
 -- What a lookup answers in an archive that was written of a map or a set of std's.
 use Rattle.std.specs.Prelude.{◌≡◌, ℕ, ◌+◌, Bool, List, None, Option, Some}
+use Rattle.std.specs.HashMap.{HashMap}
+use Rattle.std.specs.HashSet.{HashSet}
 use Rattle.std.specs.Int.{Width}
 use Rattle.std.specs.List.{list_any}
 use Rattle.std.specs.Map.{lookup}
@@ -7,9 +9,13 @@ use Rattle.std.specs.Option.{is_some}
 use Rattle.rkyv_scan.specs.Groups.{generic_kind}
 use Rattle.rkyv_base.specs.Empty.{unit_shape}
 use Rattle.rkyv_base.specs.Entry.{entry_shape, value_offset}
+use Rattle.rkyv_base.specs.Format.{Format, IsFormat}
 use Rattle.rkyv_base.specs.Shape.{Shape}
 use Rattle.rkyv_table.specs.Table.Reading.{pos_found}
 use Rattle.rkyv_collections.specs.ListedLookups.{AsksFor}
+use Rattle.rkyv_collections.specs.Map.{map_shape}
+use Rattle.rkyv_collections.specs.Set.{set_shape}
+use Rattle.rkyv_collections.specs.declared.std_maps.hashed.Hashed.{Hashed}
 
 -- the value stands so far behind the place, or there is neither
 abbrev pub IsValueBehind : {B : Type 0} → (List ℕ → ℕ → B → Type 0) → List ℕ → ℕ → Option ℕ
@@ -44,3 +50,14 @@ module _ {Q A : Type 0} (w : Width) (k : Shape) (hash : Q → ℕ) (fits : Q →
           → is_some
           (pos_found generic_kind w (entry_shape k unit_shape).size b p (hash q) (fits q b))
           ≡ list_any asks keys
+
+      -- in every archive in which what was written of a map of std's sits, each query that can be
+      -- read finds what that map has
+      abbrev pub FindsInWrittenMap : {B S H R : Type 0} → Shape → (List ℕ → ℕ → B → Type 0)
+          → Format (Hashed (HashMap A B S) H) R → Type 0
+      FindsInWrittenMap v value f =
+          IsFormat (map_shape w k v) (λ b p x. FindsEntries v value b p x.map.entries) f
+
+      -- and of a set of std's: it is found exactly where that set has a key that is asked for
+      abbrev pub FindsInWrittenSet : {S H R : Type 0} → Format (Hashed (HashSet A S) H) R → Type 0
+      FindsInWrittenSet f = IsFormat (set_shape w k) (λ b p x. FindsMembers b p x.map.keys) f

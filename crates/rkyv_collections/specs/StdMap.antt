@@ -1,5 +1,5 @@
 -- Std's maps, as they stand in archives and as they are written.
-use Rattle.std.specs.Prelude.{◌≡◌, ℕ, ◌⊎◌, Bool, List, None, Some}
+use Rattle.std.specs.Prelude.{◌≡◌, ℕ, ◌⊎◌, Bool, List, MatchResult, None, Result, Some}
 use Rattle.std.specs.HashMap.{HashMap, IsUnique, Updates, hasher_of}
 use Rattle.std.specs.Int.{Width}
 use Rattle.std.specs.List.{AllZip, IsDistinct}
@@ -8,7 +8,10 @@ use Rattle.rkyv_base.specs.Entry.{entry_shape}
 use Rattle.rkyv_base.specs.Format.{Format}
 use Rattle.rkyv_base.specs.Pairs.{PairStands}
 use Rattle.rkyv_base.specs.Shape.{Shape}
+use Rattle.rkyv_base.specs.View.{StandsAt}
+use Rattle.rkyv_base.specs.declared.errors.ReadError.{ReadError}
 use Rattle.rkyv_base.specs.declared.errors.ReadError.TheVariants.{Memory}
+use Rattle.rkyv_base.specs.declared.view.View.{View}
 use Rattle.rkyv_keys.specs.OfEntries.{entry_refuses}
 use Rattle.rkyv_keys.specs.Reading.{Refusals}
 use Rattle.rkyv_table.specs.Table.Reading.{item_positions}
@@ -51,10 +54,11 @@ abbrev pub std_map_refuses : Width → Shape → Shape → Refusals → Refusals
 std_map_refuses w k v key value b p e =
     (e ≡ Memory) ⊎ ((q : ℕ) × IsKeyPosAt w k v b p q × entry_refuses k v key value b q e)
 
--- a map of std's was read back: it stands, and has this state
-abbrev pub ReadsStdMap : {A B S : Type 0} → (List ℕ → ℕ → HashMap A B S → Type 0) → List ℕ → ℕ → S
-    → HashMap A B S → Type 0
-ReadsStdMap stands b p state m = stands b p m × (hasher_of m ≡ state)
+-- a map of std's was read back, which stands at the view and has this state; or reading was refused
+abbrev pub ReadsStdMap : {A B S T : Type 0} → (List ℕ → ℕ → HashMap A B S → Type 0) → Refusals
+    → View T → S → Result (HashMap A B S) ReadError → Type 0
+ReadsStdMap stands refuses view state result = MatchResult result
+    (λ m. StandsAt stands view m × (hasher_of m ≡ state)) (StandsAt refuses view)
 
 -- a pair of which this is told was inserted
 abbrev pub InsertsPair : {A B S : Type 0} → (A → A → Bool) → (A × B → Type 0) → HashMap A B S

@@ -1,5 +1,5 @@
 -- Std's sets: as their keys, each with the unit value.
-use Rattle.std.specs.Prelude.{◌≡◌, ℕ, ◌⊎◌, Bool, true, List, [], ◌∷◌, length}
+use Rattle.std.specs.Prelude.{◌≡◌, ℕ, ◌⊎◌, Bool, true, List, [], ◌∷◌, MatchResult, Result, length}
 use Rattle.std.proofs.Common.{refl, ap, ◌∙◌, arith}
 use Rattle.std.specs.HashSet.{HashSet, IsUnique, Updates, hash_set_len, hasher_of}
 use Rattle.std.specs.List.{All}
@@ -10,7 +10,10 @@ use Rattle.std.specs.Map.{keys_of}
 use Rattle.rkyv_base.specs.Empty.{unit_shape, unit_stands}
 use Rattle.rkyv_base.specs.Format.{Format, IsFormat}
 use Rattle.rkyv_base.specs.Shape.{Shape}
+use Rattle.rkyv_base.specs.View.{StandsAt}
+use Rattle.rkyv_base.specs.declared.errors.ReadError.{ReadError}
 use Rattle.rkyv_base.specs.declared.errors.ReadError.TheVariants.{Memory}
+use Rattle.rkyv_base.specs.declared.view.View.{View}
 use Rattle.rkyv_keys.specs.Reading.{Refusals}
 use Rattle.rkyv_table.specs.Table.Header.{len_at}
 use Rattle.rkyv_collections.specs.Map.{IsKeyPosAt}
@@ -45,10 +48,11 @@ abbrev pub std_set_refuses : Width → Shape → Refusals → Refusals
 std_set_refuses w k key b p e =
     (e ≡ Memory) ⊎ ((q : ℕ) × IsKeyPosAt w k unit_shape b p q × key b q e)
 
--- a set of std's was read back: it stands, and has this state
-abbrev pub ReadsStdSet : {A S : Type 0} → (List ℕ → ℕ → HashSet A S → Type 0) → List ℕ → ℕ → S
-    → HashSet A S → Type 0
-ReadsStdSet stands b p state s = stands b p s × (hasher_of s ≡ state)
+-- a set of std's was read back, which stands at the view and has this state; or reading was refused
+abbrev pub ReadsStdSet : {A S T : Type 0} → (List ℕ → ℕ → HashSet A S → Type 0) → Refusals → View T
+    → S → Result (HashSet A S) ReadError → Type 0
+ReadsStdSet stands refuses view state result = MatchResult result
+    (λ s. StandsAt stands view s × (hasher_of s ≡ state)) (StandsAt refuses view)
 
 -- the set at p has as many keys as the set of std's, each key of which is found in it
 abbrev pub StdSetEquals : {A S : Type 0} → Width → Shape → (A → ℕ) → (A → List ℕ → ℕ → Bool)

@@ -5,6 +5,7 @@ ghost use Rattle.rkyv_base.specs.View.{IsAt, IsView, archive_of, bytes_of, pos_o
 ghost use Rattle.rkyv_keys.specs.Places.{at_views};
 ghost use Rattle.rkyv_collections.specs.Equality.{map_equal, pair_matches};
 ghost use Rattle.rkyv_collections.specs.Map.{IsMap, hash_at, map_bytes, map_pos, map_shape};
+ghost use Rattle.rkyv_collections.specs.Map.{map_view};
 
 use crate::map::{ArchivedHashMap, HashMapOf};
 use rkyv_base::view::View;
@@ -41,8 +42,8 @@ impl<'a, K: KeyElement, V: ElementEq, H: KeyHasher, W: Width> ArchivedHashMap<'a
         requires own { IsMap W.word K.shape V.shape self }
         requires other { IsMap W.word K.shape V.shape other }
         ensures { let key_hash = hash_at H.hasher K.key_calls in
-            result ≡ map_equal W.word K.shape V.shape key_hash K.same V.same (map_bytes self.entry)
-            (map_pos self.entry) (map_bytes other.entry) (map_pos other.entry) }
+            result ≡ at_views (map_equal W.word K.shape V.shape key_hash K.same V.same)
+            (map_view self.entry) (map_view other.entry) }
     {
         if self.len() != other.len() {
             return false;

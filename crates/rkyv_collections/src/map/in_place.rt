@@ -1,20 +1,15 @@
 //! Writing the value of a key over the bare bytes of an archive.
-ghost use Rattle.std.specs.Option.{option_map};
 ghost use Rattle.std.specs.Prelude.{IfSome, length, ℕ, ◌+◌, ◌≡◌, ◌≤◌};
 ghost use Rattle.rkyv_base.specs.Scalar.{scalar_shape};
 ghost use Rattle.rkyv_base.specs.Sealing.{value_pos};
 ghost use Rattle.rkyv_base.specs.Shape.{Viewed};
-ghost use Rattle.rkyv_collections.specs.InPlace.{MayWriteFound, SetsFirst, SetsFound, WritesFound};
-ghost use Rattle.rkyv_collections.specs.Map.{
-  FindsFirstKeyAt,
-  FindsKeyAt,
-  IsKeyPosAt,
-  hash_at,
-  map_shape,
-};
+ghost use Rattle.rkyv_collections.specs.InPlace.{FindsFirstValueAt, FindsValueAt, MayWriteFound};
+ghost use Rattle.rkyv_collections.specs.InPlace.{SetsFirst, SetsValueAt, WritesFound};
+ghost use Rattle.rkyv_collections.specs.Map.{IsKeyPosAt, hash_at, map_shape};
 ghost use Rattle.rkyv_collections.specs.MapFormat.{hash_of};
 
 use crate::map::ArchivedHashMap;
+use crate::map::lookup::found_pos;
 use rkyv_base::element::{Element, StandsFor};
 use rkyv_base::scalars::Scalar;
 use rkyv_base::seal::set_at;
@@ -34,18 +29,15 @@ impl<'a, K: KeyElement, V: Element, H: KeyHasher, W: Width> ArchivedHashMap<'a, 
             × IsKeyPosAt W.word K.shape V.shape archive.now root place
             × (pos ≡ value_pos K.shape V.shape place)) }
         ensures inside { IfSome result (λ pos. pos + V.shape.size ≤ length archive.now) }
-        ensures answer { FindsKeyAt W.word K.shape V.shape archive.now root
+        ensures answer { FindsValueAt W.word K.shape V.shape archive.now root
             (hash_of H.hasher Q.calls key.now) (Q.fits key.now archive.now)
-            (λ place. result ≡ option_map (value_pos K.shape V.shape) place) }
-        ensures first { FindsFirstKeyAt W.word K.shape V.shape archive.now root
+            (λ pos. result ≡ pos) }
+        ensures first { FindsFirstValueAt W.word K.shape V.shape archive.now root
             (hash_at H.hasher K.key_calls) (Q.fits key.now archive.now)
-            (λ place. result ≡ option_map (value_pos K.shape V.shape) place) }
+            (λ pos. result ≡ pos) }
     {
         let map = ArchivedHashMap::<K, V, H, W>::of(View::new(archive, root));
-        match map.get(key) {
-            Some(value) => Some(value.pos()),
-            None => None,
-        }
+        found_pos(map.get(key))
     }
 
     /// What `write` answers of the archive and the place of the value of the key that is asked for,
@@ -62,14 +54,12 @@ impl<'a, K: KeyElement, V: Element, H: KeyHasher, W: Width> ArchivedHashMap<'a, 
         requires map { Viewed (map_shape W.word K.shape V.shape) archive.old root }
         requires query { Q.can_read key.now }
         requires callable { MayWriteFound V.shape F.pre archive.old write }
-        ensures answer { FindsKeyAt W.word K.shape V.shape archive.old root
+        ensures answer { FindsValueAt W.word K.shape V.shape archive.old root
             (hash_of H.hasher Q.calls key.now) (Q.fits key.now archive.old)
-            (λ place. WritesFound F.post write archive.old result archive.new
-            (option_map (value_pos K.shape V.shape) place)) }
-        ensures first { FindsFirstKeyAt W.word K.shape V.shape archive.old root
+            (WritesFound F.post write archive.old result archive.new) }
+        ensures first { FindsFirstValueAt W.word K.shape V.shape archive.old root
             (hash_at H.hasher K.key_calls) (Q.fits key.now archive.old)
-            (λ place. WritesFound F.post write archive.old result archive.new
-            (option_map (value_pos K.shape V.shape) place)) }
+            (WritesFound F.post write archive.old result archive.new) }
     {
         match Self::value_pos_in(&*archive, root, key) {
             Some(pos) => Some(write(archive, pos)),
@@ -91,11 +81,9 @@ pub fn set_value_of<
 >(archive: &mut [u8], root: u64, key: &A, value: N) -> bool
     requires map { Viewed (map_shape W.word K.shape (scalar_shape N.encoding)) archive.old root }
     requires query { A.can_read key.now }
-    ensures answer { FindsKeyAt W.word K.shape (scalar_shape N.encoding) archive.old root
-        (hash_of H.hasher A.calls key.now) (A.fits key.now archive.old)
-        (λ place. SetsFound W.word K.shape N.encoding
-        (hash_at H.hasher K.key_calls) archive.old root value result archive.new
-        (option_map (value_pos K.shape (scalar_shape N.encoding)) place)) }
+    ensures answer { SetsValueAt W.word K.shape N.encoding (hash_at H.hasher K.key_calls)
+        archive.old root (hash_of H.hasher A.calls key.now) (A.fits key.now archive.old) value
+        result archive.new }
     ensures listed { SetsFirst W.word K.shape N.encoding K.stands
         (hash_at H.hasher K.key_calls) (A.eq key.now)
         archive.old root value result archive.new }

@@ -32,6 +32,17 @@ use rkyv_keys::hash::{KeyHash, hash_value};
 use rkyv_keys::keys::{KeyElement, Query};
 use rkyv_scan::hash::KeyHasher;
 
+/// Where it stands that may have been found.
+#[inline]
+pub(crate) fn found_pos<T: Element>(found: Option<View<'_, T>>) -> Option<u64>
+    ensures { IsEntryAt found.entry result }
+{
+    match found {
+        Some(view) => Some(view.pos()),
+        None => None,
+    }
+}
+
 // Every lookup is one call of `find`.
 impl<'a, K: KeyElement, V: Element, H: KeyHasher, W: Width> ArchivedHashMap<'a, K, V, H, W> {
     /// Finds the entry of a key under the hash of `key` that the comparison accepts.

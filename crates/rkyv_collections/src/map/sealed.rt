@@ -1,27 +1,19 @@
 //! Writing the values of a map in place.
 ghost use Rattle.std.specs.Prelude.{IfSome, length, ◌+◌, ◌≡◌, ◌≤◌};
-ghost use Rattle.rkyv_base.specs.Seal.{LiesIn, SealAt, archive_in, bytes_in, seal_pos, pos_in};
+ghost use Rattle.rkyv_base.specs.Seal.{LiesIn, SealAt, archive_in, bytes_in, pos_in, seal_pos};
 ghost use Rattle.rkyv_base.specs.Sealing.{value_pos};
 ghost use Rattle.rkyv_base.specs.Shape.{Viewed};
 ghost use Rattle.rkyv_base.specs.View.{IsView};
-ghost use Rattle.rkyv_collections.specs.Map.{FindsFirstKeyAt, FindsKeyAt, IsKeyPosAt, hash_at};
+ghost use Rattle.rkyv_collections.specs.Map.{IsMap, hash_at, map_bytes, map_pos};
 ghost use Rattle.rkyv_collections.specs.MapFormat.{hash_of};
-ghost use Rattle.rkyv_collections.specs.SealedMap.{
-  FindsByAt,
-  FindsFirstByAt,
-  IsMapSeal,
-  IsPairSeal,
-  IsPairSealAt,
-  IsValueSeal,
-  IsValueSealAt,
-  MayAskKeysAt,
-};
-ghost use Rattle.rkyv_collections.specs.ValueWrites.{
-  ValueWritesKeepAnswers,
-  ValueWritesKeepMaps,
-  ValuesWrittenStand,
-};
+ghost use Rattle.rkyv_collections.specs.SealedMap.{FindsByIn, FindsFirstByIn, FindsFirstKeyIn};
+ghost use Rattle.rkyv_collections.specs.SealedMap.{FindsKeyIn, IsKeyPosIn, IsMapSeal, IsPairSeal};
+ghost use Rattle.rkyv_collections.specs.SealedMap.{IsPairSealAt, IsValueSeal, IsValueSealAt};
+ghost use Rattle.rkyv_collections.specs.SealedMap.{MayAskKeysIn};
+ghost use Rattle.rkyv_collections.specs.ValueWrites.{ValueWritesKeepAnswers, ValueWritesKeepMaps};
+ghost use Rattle.rkyv_collections.specs.ValueWrites.{ValuesWrittenStand};
 
+use crate::map::lookup::found_pos;
 use crate::map::{ArchivedHashMap, HashMapOf};
 use rkyv_base::element::{Element, StandsFor};
 use rkyv_base::entry::value_offset;
@@ -31,6 +23,19 @@ use rkyv_base::width::Width;
 use rkyv_keys::hash::KeyHash;
 use rkyv_keys::keys::{KeyElement, Query};
 use rkyv_scan::hash::KeyHasher;
+
+/// The map that is read where the seal is.
+#[inline]
+fn map_in<'s, K: Element, V: Element, H, W: Width>(
+    this: &'s ArchiveSeal<'_, HashMapOf<K, V, H, W>>,
+) -> ArchivedHashMap<'s, K, V, H, W>
+    requires { IsMapSeal W.word K.shape V.shape this.now }
+    ensures map { IsMap W.word K.shape V.shape result }
+    ensures bytes { map_bytes result ≡ archive_in this.now }
+    ensures pos { map_pos result ≡ pos_in this.now }
+{
+    ArchivedHashMap::of(this.as_view())
+}
 
 /// The value behind the key at a position, to be written.
 #[inline]
@@ -46,7 +51,8 @@ fn value_seal<'a, K: Element, V: Element, H, W>(
     Seal::over(archive, pos as usize + value_offset::<K, V>())
 }
 
-// Every sealed lookup is one of these two, which ask the map that is read where the seal is.
+// Every sealed lookup is one of the first two, which ask the map that is read where the seal is, and
+// then one of the others.
 impl<'a, K: KeyElement, V: Element, H: KeyHasher, W: Width> ArchivedHashMap<'a, K, V, H, W> {
     /// Where the key stands that `find` answers.
     #[inline]
@@ -57,22 +63,16 @@ impl<'a, K: KeyElement, V: Element, H: KeyHasher, W: Width> ArchivedHashMap<'a, 
     ) -> Option<u64>
         requires map { IsMapSeal W.word K.shape V.shape this.now }
         requires query { Q.can_read key.now }
-        requires callable { MayAskKeysAt W.word K.shape V.shape (archive_in this.now)
-            (pos_in this.now) (F.pre cmp key) }
-        ensures walked { IfSome result (IsKeyPosAt W.word K.shape V.shape (archive_in this.now)
-            (pos_in this.now)) }
-        ensures answer { FindsByAt W.word K.shape V.shape (archive_in this.now) (pos_in this.now)
+        requires callable { MayAskKeysIn W.word K.shape V.shape this.now (F.pre cmp key) }
+        ensures walked { IfSome result (IsKeyPosIn W.word K.shape V.shape this.now) }
+        ensures answer { FindsByIn W.word K.shape V.shape this.now
             (F.post cmp key.entry) (hash_of H.hasher Q.calls key.now)
             (λ place. result ≡ place) }
-        ensures first { FindsFirstByAt W.word K.shape V.shape
-            (archive_in this.now) (pos_in this.now)
+        ensures first { FindsFirstByIn W.word K.shape V.shape this.now
             (F.post cmp key.entry) (hash_of H.hasher Q.calls key.now)
             (hash_at H.hasher K.key_calls) (λ place. result ≡ place) }
     {
-        match ArchivedHashMap::of(this.as_view()).find(key, cmp) {
-            Some(entry) => Some(entry.pos()),
-            None => None,
-        }
+        found_pos(map_in(this).find(key, cmp))
     }
 
     /// Where the key stands that is asked for.
@@ -83,18 +83,51 @@ impl<'a, K: KeyElement, V: Element, H: KeyHasher, W: Width> ArchivedHashMap<'a, 
     ) -> Option<u64>
         requires map { IsMapSeal W.word K.shape V.shape this.now }
         requires query { Q.can_read key.now }
-        ensures walked { IfSome result (IsKeyPosAt W.word K.shape V.shape (archive_in this.now)
-            (pos_in this.now)) }
-        ensures answer { FindsKeyAt W.word K.shape V.shape (archive_in this.now) (pos_in this.now)
+        ensures walked { IfSome result (IsKeyPosIn W.word K.shape V.shape this.now) }
+        ensures answer { FindsKeyIn W.word K.shape V.shape this.now
             (hash_of H.hasher Q.calls key.now)
             (Q.fits key.now (archive_in this.now)) (λ place. result ≡ place) }
-        ensures first { FindsFirstKeyAt W.word K.shape V.shape
-            (archive_in this.now) (pos_in this.now)
+        ensures first { FindsFirstKeyIn W.word K.shape V.shape this.now
             (hash_at H.hasher K.key_calls)
             (Q.fits key.now (archive_in this.now)) (λ place. result ≡ place) }
     {
-        match ArchivedHashMap::of(this.as_view()).find_key(key) {
-            Some(found) => Some(found.pos()),
+        found_pos(map_in(this).find_key(key))
+    }
+
+    /// The pair whose key stands at a position that was found.
+    #[inline]
+    fn lend_pair(
+        this: ArchiveSeal<'a, HashMapOf<K, V, H, W>>,
+        found: Option<u64>,
+    ) -> Option<(View<'a, K>, Seal<'a, V>)>
+        requires map { IsMapSeal W.word K.shape V.shape this }
+        requires found { IfSome found (IsKeyPosIn W.word K.shape V.shape this) }
+        ensures inside { IfSome result (λ pair. LiesIn V.shape pair.1) }
+        ensures viewed { IfSome result (λ pair. IsView K.shape pair.0) }
+        ensures walked { IfSome result (IsPairSeal W.word K.shape V.shape this.entry) }
+        ensures at { IsPairSealAt result found }
+    {
+        match found {
+            Some(pos) => Some(this.split_value(pos)),
+            None => None,
+        }
+    }
+
+    /// The value behind a key whose position was found.
+    #[inline]
+    fn lend_value(
+        this: ArchiveSeal<'a, HashMapOf<K, V, H, W>>,
+        found: Option<u64>,
+    ) -> Option<Seal<'a, V>>
+        requires map { IsMapSeal W.word K.shape V.shape this }
+        requires found { IfSome found (IsKeyPosIn W.word K.shape V.shape this) }
+        ensures inside { IfSome result (LiesIn V.shape) }
+        ensures viewed { IfSome result (λ value. Viewed V.shape (bytes_in value) (seal_pos value)) }
+        ensures walked { IfSome result (IsValueSeal W.word K.shape V.shape this.entry) }
+        ensures at { IsValueSealAt K.shape V.shape result found }
+    {
+        match found {
+            Some(pos) => Some(value_seal::<K, V, H, W>(this, pos)),
             None => None,
         }
     }
@@ -113,24 +146,19 @@ impl<'a, K: KeyElement, V: Element, H: KeyHasher, W: Width> ArchivedHashMap<'a, 
     ) -> Option<(View<'a, K>, Seal<'a, V>)>
         requires map { IsMapSeal W.word K.shape V.shape this }
         requires query { Q.can_read key.now }
-        requires callable { MayAskKeysAt W.word K.shape V.shape (archive_in this)
-            (pos_in this) (F.pre cmp key) }
+        requires callable { MayAskKeysIn W.word K.shape V.shape this (F.pre cmp key) }
         ensures inside { IfSome result (λ pair. LiesIn V.shape pair.1) }
         ensures viewed { IfSome result (λ pair. IsView K.shape pair.0) }
         ensures walked { IfSome result (IsPairSeal W.word K.shape V.shape this.entry) }
-        ensures answer { FindsByAt W.word K.shape V.shape
-            (archive_in this.entry) (pos_in this.entry)
+        ensures answer { FindsByIn W.word K.shape V.shape this.entry
             (F.post cmp key.entry) (hash_of H.hasher Q.calls key.now)
             (IsPairSealAt result) }
-        ensures first { FindsFirstByAt W.word K.shape V.shape
-            (archive_in this.entry) (pos_in this.entry)
+        ensures first { FindsFirstByIn W.word K.shape V.shape this.entry
             (F.post cmp key.entry) (hash_of H.hasher Q.calls key.now)
             (hash_at H.hasher K.key_calls) (IsPairSealAt result) }
     {
-        match Self::find_pos(&this, key, cmp) {
-            Some(pos) => Some(this.split_value(pos)),
-            None => None,
-        }
+        let found = Self::find_pos(&this, key, cmp);
+        Self::lend_pair(this, found)
     }
 
     /// As `get_key_value`, and lends the value to be written, by `get_key_value_seal_with`.
@@ -144,19 +172,15 @@ impl<'a, K: KeyElement, V: Element, H: KeyHasher, W: Width> ArchivedHashMap<'a, 
         ensures inside { IfSome result (λ pair. LiesIn V.shape pair.1) }
         ensures viewed { IfSome result (λ pair. IsView K.shape pair.0) }
         ensures walked { IfSome result (IsPairSeal W.word K.shape V.shape this.entry) }
-        ensures answer { FindsKeyAt W.word K.shape V.shape
-            (archive_in this.entry) (pos_in this.entry)
+        ensures answer { FindsKeyIn W.word K.shape V.shape this.entry
             (hash_of H.hasher Q.calls key.now)
             (Q.fits key.now (archive_in this.entry)) (IsPairSealAt result) }
-        ensures first { FindsFirstKeyAt W.word K.shape V.shape
-            (archive_in this.entry) (pos_in this.entry)
+        ensures first { FindsFirstKeyIn W.word K.shape V.shape this.entry
             (hash_at H.hasher K.key_calls)
             (Q.fits key.now (archive_in this.entry)) (IsPairSealAt result) }
     {
-        match Self::find_key_pos(&this, key) {
-            Some(place) => Some(this.split_value(place)),
-            None => None,
-        }
+        let found = Self::find_key_pos(&this, key);
+        Self::lend_pair(this, found)
     }
 
     /// As `get_with`, and lends the value to be written.
@@ -168,24 +192,19 @@ impl<'a, K: KeyElement, V: Element, H: KeyHasher, W: Width> ArchivedHashMap<'a, 
     ) -> Option<Seal<'a, V>>
         requires map { IsMapSeal W.word K.shape V.shape this }
         requires query { Q.can_read key.now }
-        requires callable { MayAskKeysAt W.word K.shape V.shape (archive_in this)
-            (pos_in this) (F.pre cmp key) }
+        requires callable { MayAskKeysIn W.word K.shape V.shape this (F.pre cmp key) }
         ensures inside { IfSome result (LiesIn V.shape) }
         ensures viewed { IfSome result (λ value. Viewed V.shape (bytes_in value) (seal_pos value)) }
         ensures walked { IfSome result (IsValueSeal W.word K.shape V.shape this.entry) }
-        ensures answer { FindsByAt W.word K.shape V.shape
-            (archive_in this.entry) (pos_in this.entry)
+        ensures answer { FindsByIn W.word K.shape V.shape this.entry
             (F.post cmp key.entry) (hash_of H.hasher Q.calls key.now)
             (IsValueSealAt K.shape V.shape result) }
-        ensures first { FindsFirstByAt W.word K.shape V.shape
-            (archive_in this.entry) (pos_in this.entry)
+        ensures first { FindsFirstByIn W.word K.shape V.shape this.entry
             (F.post cmp key.entry) (hash_of H.hasher Q.calls key.now)
             (hash_at H.hasher K.key_calls) (IsValueSealAt K.shape V.shape result) }
     {
-        match Self::find_pos(&this, key, cmp) {
-            Some(pos) => Some(value_seal::<K, V, H, W>(this, pos)),
-            None => None,
-        }
+        let found = Self::find_pos(&this, key, cmp);
+        Self::lend_value(this, found)
     }
 
     /// As `get`, and lends the value to be written, by `get_key_value_seal`.
@@ -199,19 +218,15 @@ impl<'a, K: KeyElement, V: Element, H: KeyHasher, W: Width> ArchivedHashMap<'a, 
         ensures inside { IfSome result (LiesIn V.shape) }
         ensures viewed { IfSome result (λ value. Viewed V.shape (bytes_in value) (seal_pos value)) }
         ensures walked { IfSome result (IsValueSeal W.word K.shape V.shape this.entry) }
-        ensures answer { FindsKeyAt W.word K.shape V.shape
-            (archive_in this.entry) (pos_in this.entry)
+        ensures answer { FindsKeyIn W.word K.shape V.shape this.entry
             (hash_of H.hasher Q.calls key.now)
             (Q.fits key.now (archive_in this.entry)) (IsValueSealAt K.shape V.shape result) }
-        ensures first { FindsFirstKeyAt W.word K.shape V.shape
-            (archive_in this.entry) (pos_in this.entry)
+        ensures first { FindsFirstKeyIn W.word K.shape V.shape this.entry
             (hash_at H.hasher K.key_calls)
             (Q.fits key.now (archive_in this.entry)) (IsValueSealAt K.shape V.shape result) }
     {
-        match Self::find_key_pos(&this, key) {
-            Some(place) => Some(value_seal::<K, V, H, W>(this, place)),
-            None => None,
-        }
+        let found = Self::find_key_pos(&this, key);
+        Self::lend_value(this, found)
     }
 }
 

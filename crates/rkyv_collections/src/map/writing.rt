@@ -1,14 +1,10 @@
 //! Writing hash maps from iterators of pairs.
 
 ghost use Rattle.std.specs.Prelude.{◌≡◌, ◌+◌, ◌<◌, ◌^◌, MatchResult, length};
-ghost use Rattle.std.specs.Iterator.{Drains};
-ghost use Rattle.rkyv_base.specs.Pairs.{written_as};
-ghost use Rattle.rkyv_table.specs.Table.Counting.{GaveOther};
 ghost use Rattle.rkyv_table.specs.Table.Header.{HeaderFar, IsHeader};
 ghost use Rattle.rkyv_table.specs.Controls.Numbers.{capacity};
-ghost use Rattle.rkyv_table.specs.Table.Serializing.{NoItems, WroteItems};
-ghost use Rattle.rkyv_table.specs.Table.Lent.{lent_pairs};
-ghost use Rattle.rkyv_collections.specs.MapFormat.{hash_of, map_format};
+ghost use Rattle.rkyv_collections.specs.MapFormat.{hash_of};
+ghost use Rattle.rkyv_collections.specs.Writing.{WritesMap};
 
 use crate::map::ArchivedHashMap;
 use crate::map::hashing::HashedEntries;
@@ -63,16 +59,9 @@ impl<'a, K: KeyElement, V, H: KeyHasher, W: Width> ArchivedHashMap<'a, K, V, H, 
         K: StandsFor<A>,
         V: StandsFor<B>,
         requires can { I.can_next iter }
-        ensures { let hash = hash_of H.hasher A.calls in
-            let f = written_as (lent_pairs BK.lent BV.lent)
-            (map_format W.word K.shape V.shape A.format B.format hash load_factor) in
-            let gave = Drains I.next_gives iter in
-            let o = S.output serializer.old in
-            let o' = S.output serializer.new in
-            MatchResult result
-            (WroteItems gave len load_factor W.MAX_CAPACITY f o o' W.LIMIT)
-            (NoItems gave len load_factor W.MAX_CAPACITY f o o' W.LIMIT
-            (GaveOther I.next_gives len iter)) }
+        ensures { WritesMap W.word W.MAX_CAPACITY W.LIMIT K.shape V.shape A.format B.format
+            (hash_of H.hasher A.calls) load_factor BK.lent BV.lent len I.next_gives iter
+            S.output serializer.old serializer.new result }
     {
         let entries = HashedEntries::new(iter);
         ArchivedHashTable::<Entry<K, V>, W>::serialize_by::<

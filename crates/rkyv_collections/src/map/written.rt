@@ -1,9 +1,7 @@
 //! What was written of a map, wherever it stands.
 
-ghost use Rattle.std.specs.Prelude.{ℕ};
-ghost use Rattle.rkyv_base.specs.Format.{IsFormat};
-ghost use Rattle.rkyv_collections.specs.Map.{hash_at, map_shape};
-ghost use Rattle.rkyv_collections.specs.MapFormat.{MapStands, hash_of, map_format};
+ghost use Rattle.rkyv_collections.specs.Map.{hash_at};
+ghost use Rattle.rkyv_collections.specs.MapFormat.{WrittenMapsStand, hash_of};
 
 use rkyv_base::archive::Archive;
 use rkyv_base::element::StandsFor;
@@ -22,10 +20,6 @@ pub fn written_maps_stand<
     A: NativeKey<K> + Archive<W, Archived = K>,
     B: Archive<W, Archived = V>,
 >()
-    ensures { (load_factor : ℕ × ℕ) →
-        let hash = hash_at H.hasher K.key_calls in
-        let own = hash_of H.hasher A.calls in
-        IsFormat (map_shape W.word K.shape V.shape)
-        (MapStands W.word K.shape V.shape K.stands V.stands hash load_factor)
-        (map_format W.word K.shape V.shape A.format B.format own load_factor) }
+    ensures { WrittenMapsStand W.word K.shape V.shape K.stands V.stands
+        (hash_at H.hasher K.key_calls) A.format B.format (hash_of H.hasher A.calls) }
 {}

@@ -4,7 +4,7 @@ ghost use Rattle.rkyv_base.specs.View.{IsView};
 ghost use Rattle.rkyv_keys.specs.Places.{at_views};
 ghost use Rattle.rkyv_collections.specs.Map.{hash_at};
 ghost use Rattle.rkyv_collections.specs.Set.{IsSet, set_bytes, set_equal, set_misplaced, set_pos};
-ghost use Rattle.rkyv_collections.specs.Set.{set_shape};
+ghost use Rattle.rkyv_collections.specs.Set.{set_shape, set_view};
 
 use crate::set::{ArchivedHashSet, HashSetOf};
 use rkyv_base::view::View;
@@ -23,8 +23,8 @@ impl<'a, K: KeyElement, H: KeyHasher, W: Width> ArchivedHashSet<'a, K, H, W> {
         requires own { IsSet W.word K.shape self }
         requires other { IsSet W.word K.shape other }
         ensures { let key_hash = hash_at H.hasher K.key_calls in
-            result ≡ set_equal W.word K.shape key_hash K.same (set_bytes self.entry)
-            (set_pos self.entry) (set_bytes other.entry) (set_pos other.entry) }
+            result ≡ at_views (set_equal W.word K.shape key_hash K.same) (set_view self.entry)
+            (set_view other.entry) }
     {
         self.map.eq_map(other.map)
     }

@@ -1,15 +1,11 @@
 //! Writing hash sets from iterators of keys.
 
 ghost use Rattle.std.specs.Prelude.{◌≡◌, ◌+◌, ◌<◌, ◌^◌, MatchResult, length};
-ghost use Rattle.std.specs.Iterator.{Drains};
-ghost use Rattle.rkyv_base.specs.Pairs.{written_as};
-ghost use Rattle.rkyv_table.specs.Table.Counting.{GaveOther};
 ghost use Rattle.rkyv_table.specs.Table.Header.{HeaderFar, IsHeader};
 ghost use Rattle.rkyv_table.specs.Controls.Numbers.{capacity};
-ghost use Rattle.rkyv_table.specs.Table.Serializing.{NoItems, WroteItems};
+ghost use Rattle.rkyv_table.specs.Table.Lent.{UnitStep};
 ghost use Rattle.rkyv_collections.specs.MapFormat.{hash_of};
-ghost use Rattle.rkyv_collections.specs.SetFormat.{set_format};
-ghost use Rattle.rkyv_table.specs.Table.Lent.{UnitStep, lent_keys};
+ghost use Rattle.rkyv_collections.specs.Writing.{WritesSet};
 
 use crate::map::ArchivedHashMap;
 use crate::map::writing::HashMapResolver;
@@ -74,16 +70,9 @@ impl<'a, K: KeyElement, H: KeyHasher, W: Width> ArchivedHashSet<'a, K, H, W> {
     where
         K: StandsFor<A>,
         requires can { I.can_next iter }
-        ensures { let hash = hash_of H.hasher A.calls in
-            let f = written_as (lent_keys BK.lent)
-            (set_format W.word K.shape A.format hash load_factor) in
-            let gave = Drains I.next_gives iter in
-            let o = S.output serializer.old in
-            let o' = S.output serializer.new in
-            MatchResult result
-            (WroteItems gave len load_factor W.MAX_CAPACITY f o o' W.LIMIT)
-            (NoItems gave len load_factor W.MAX_CAPACITY f o o' W.LIMIT
-            (GaveOther I.next_gives len iter)) }
+        ensures { WritesSet W.word W.MAX_CAPACITY W.LIMIT K.shape A.format
+            (hash_of H.hasher A.calls) load_factor BK.lent len I.next_gives iter S.output
+            serializer.old serializer.new result }
     {
         ArchivedHashMap::<K, (), H, W>::serialize_from_iter::<S, A, (), BK, (), WithUnits<I>>(
             alloc,

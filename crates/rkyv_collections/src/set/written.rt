@@ -1,11 +1,8 @@
 //! What was written of a set, wherever it stands.
 
-ghost use Rattle.std.specs.Prelude.{ℕ};
-ghost use Rattle.rkyv_base.specs.Format.{IsFormat};
 ghost use Rattle.rkyv_collections.specs.Map.{hash_at};
 ghost use Rattle.rkyv_collections.specs.MapFormat.{hash_of};
-ghost use Rattle.rkyv_collections.specs.Set.{set_shape};
-ghost use Rattle.rkyv_collections.specs.SetFormat.{SetStands, set_format};
+ghost use Rattle.rkyv_collections.specs.SetFormat.{WrittenSetsStand};
 
 use rkyv_base::archive::Archive;
 use rkyv_base::element::StandsFor;
@@ -22,9 +19,6 @@ pub fn written_sets_stand<
     K: KeyElement + StandsFor<A>,
     A: NativeKey<K> + Archive<W, Archived = K>,
 >()
-    ensures { (load_factor : ℕ × ℕ) →
-        let hash = hash_at H.hasher K.key_calls in
-        let own = hash_of H.hasher A.calls in
-        IsFormat (set_shape W.word K.shape) (SetStands W.word K.shape K.stands hash load_factor)
-        (set_format W.word K.shape A.format own load_factor) }
+    ensures { WrittenSetsStand W.word K.shape K.stands (hash_at H.hasher K.key_calls) A.format
+        (hash_of H.hasher A.calls) }
 {}

@@ -1,7 +1,7 @@
 //! Std's hash sets as what stands in archives.
 
 ghost use Rattle.std.specs.Prelude.{IsTrue, MatchResult, ◌↔◌};
-ghost use Rattle.rkyv_base.specs.View.{IsView, StandsAt, bytes_of, pos_of};
+ghost use Rattle.rkyv_base.specs.View.{IsView, StandsAt};
 ghost use Rattle.rkyv_base.specs.Empty.{unit_element, unit_format, unit_is_format, unit_near};
 ghost use Rattle.rkyv_base.specs.Empty.{unit_shape, unit_stands};
 ghost use Rattle.rkyv_base.specs.Pairs.{written_as, written_as-format};
@@ -9,7 +9,7 @@ ghost use Rattle.rkyv_table.specs.Table.Listed.{listed};
 ghost use Rattle.rkyv_collections.specs.Map.{hash_at};
 ghost use Rattle.rkyv_collections.specs.MapFormat.{hash_of, map_format};
 ghost use Rattle.rkyv_collections.specs.Lemmas.MapSound.{listed_map_sound};
-ghost use Rattle.rkyv_collections.specs.Set.{IsSet, set_bytes, set_pos, set_shape};
+ghost use Rattle.rkyv_collections.specs.Set.{IsSet, set_bytes, set_pos, set_shape, set_view};
 ghost use Rattle.rkyv_table.specs.Table.Lent.{with_units};
 ghost use Rattle.rkyv_collections.specs.Lemmas.StdAlone.{std_set_alone};
 ghost use Rattle.rkyv_collections.specs.Lemmas.StdEqualLaws.{entries_equal};
@@ -126,8 +126,8 @@ fn insert_read<K: Deserialize<A>, A: Eq + Hash + Drop, T: BuildHasher>(
 ) -> Result<(), ReadError>
     requires { IsView K.shape key }
     ensures { MatchResult result
-        (λ _. InsertsKey A.eq (K.stands (bytes_of key.entry) (pos_of key.entry)) set.old set.new)
-        (key_refuses K.refuses (bytes_of key.entry) (pos_of key.entry)) }
+        (λ _. InsertsKey A.eq (StandsAt K.stands key.entry) set.old set.new)
+        (StandsAt (key_refuses K.refuses) key.entry) }
 {
     let read = K::deserialize(alloc, key)?;
     match set.insert(read) {
@@ -149,9 +149,8 @@ impl<'a, K: Element, H, W: Width> ArchivedHashSet<'a, K, H, W> {
     where
         K: Deserialize<A>,
         requires set { IsSet W.word K.shape self }
-        ensures { let stands = StdSetStands K.shape K.stands W.word A.eq in MatchResult result
-            (ReadsStdSet stands (set_bytes self.entry) (set_pos self.entry) state)
-            (std_set_refuses W.word K.shape K.refuses (set_bytes self.entry) (set_pos self.entry)) }
+        ensures { ReadsStdSet (StdSetStands K.shape K.stands W.word A.eq)
+            (std_set_refuses W.word K.shape K.refuses) (set_view self.entry) state result }
     {
         let mut set = HashSet::with_hasher(alloc, state);
         for key in self.iter() {

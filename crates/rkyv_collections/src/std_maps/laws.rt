@@ -1,10 +1,7 @@
 //! Laws of std's maps and sets in archives, over their definitions alone.
 
-ghost use Rattle.rkyv_base.specs.Format.{IsFormat};
-ghost use Rattle.rkyv_collections.specs.Map.{map_shape};
 ghost use Rattle.rkyv_collections.specs.MapFormat.{hash_of};
-ghost use Rattle.rkyv_collections.specs.Set.{set_shape};
-ghost use Rattle.rkyv_collections.specs.StdLookups.{FindsEntries, FindsMembers};
+ghost use Rattle.rkyv_collections.specs.StdLookups.{FindsInWrittenMap, FindsInWrittenSet};
 
 use crate::std_maps::hashed::Hashed;
 use rkyv_base::archive::Archive;
@@ -29,10 +26,8 @@ pub fn written_maps_are_looked_up<
 where
     A::Archived: KeyElement,
     A: NativeKey<A::Archived>,
-    ensures { let hash = hash_of H.hasher Q.calls in
-        IsFormat (map_shape W.word A.Archived.shape B.Archived.shape)
-        (λ b p x. FindsEntries W.word A.Archived.shape hash Q.fits A.Archived.stands Q.can_read
-        B.Archived.shape B.Archived.stands b p x.map.entries)
+    ensures { FindsInWrittenMap W.word A.Archived.shape (hash_of H.hasher Q.calls) Q.fits
+        A.Archived.stands Q.can_read B.Archived.shape B.Archived.stands
         ⟦<Hashed<HashMap<A, B, T>, H> as Archive<W>>⟧.format }
 {}
 
@@ -48,9 +43,6 @@ pub fn written_sets_are_looked_up<
 where
     A::Archived: KeyElement,
     A: NativeKey<A::Archived>,
-    ensures { let hash = hash_of H.hasher Q.calls in
-        IsFormat (set_shape W.word A.Archived.shape)
-        (λ b p x. FindsMembers W.word A.Archived.shape hash Q.fits A.Archived.stands Q.can_read
-        b p x.map.keys)
-        ⟦<Hashed<HashSet<A, T>, H> as Archive<W>>⟧.format }
+    ensures { FindsInWrittenSet W.word A.Archived.shape (hash_of H.hasher Q.calls) Q.fits
+        A.Archived.stands Q.can_read ⟦<Hashed<HashSet<A, T>, H> as Archive<W>>⟧.format }
 {}

@@ -3,8 +3,8 @@
 ghost use Rattle.std.specs.Prelude.{MatchResult, ◌+◌};
 ghost use Rattle.rkyv_base.specs.Entry.{value_offset};
 ghost use Rattle.rkyv_base.specs.Pairs.{PairStands};
-ghost use Rattle.rkyv_base.specs.View.{IsAt, IsView, StandsAt, archive_of, bytes_of, pos_of};
-ghost use Rattle.rkyv_collections.specs.Map.{IsMap, map_bytes, map_pos, map_shape};
+ghost use Rattle.rkyv_base.specs.View.{IsAt, IsView, StandsAt, archive_of, pos_of};
+ghost use Rattle.rkyv_collections.specs.Map.{IsMap, map_shape, map_view};
 ghost use Rattle.rkyv_collections.specs.StdMap.{InsertsPair, ReadsStdMap, StdMapStands};
 ghost use Rattle.rkyv_collections.specs.StdMap.{insert_refuses, std_map_refuses};
 
@@ -30,11 +30,10 @@ fn insert_read<K: Deserialize<A>, V: Deserialize<B>, A: Eq + Hash + Drop, B: Dro
     requires key { IsView K.shape key }
     requires value { IsView V.shape value }
     requires pair { IsAt value (archive_of key) (pos_of key + value_offset K.shape V.shape) }
-    ensures { let stands = PairStands K.shape V.shape K.stands V.stands (bytes_of key.entry)
-        (pos_of key.entry) in MatchResult result
-        (λ _. InsertsPair A.eq stands map.old map.new)
-        (insert_refuses K.shape V.shape K.refuses V.refuses (bytes_of key.entry)
-        (pos_of key.entry)) }
+    ensures { MatchResult result
+        (λ _. InsertsPair A.eq (StandsAt (PairStands K.shape V.shape K.stands V.stands) key.entry)
+        map.old map.new)
+        (StandsAt (insert_refuses K.shape V.shape K.refuses V.refuses) key.entry) }
 {
     let read = K::deserialize(alloc, key)?;
     let mapped = V::deserialize(alloc, value)?;
@@ -59,11 +58,9 @@ impl<'a, K: Element, V: Element, H, W: Width> ArchivedHashMap<'a, K, V, H, W> {
         K: Deserialize<A>,
         V: Deserialize<B>,
         requires map { IsMap W.word K.shape V.shape self }
-        ensures { let stands = StdMapStands K.shape V.shape K.stands V.stands W.word A.eq in
-            MatchResult result
-            (ReadsStdMap stands (map_bytes self.entry) (map_pos self.entry) state)
-            (std_map_refuses W.word K.shape V.shape K.refuses V.refuses (map_bytes self.entry)
-            (map_pos self.entry)) }
+        ensures { ReadsStdMap (StdMapStands K.shape V.shape K.stands V.stands W.word A.eq)
+            (std_map_refuses W.word K.shape V.shape K.refuses V.refuses) (map_view self.entry) state
+            result }
     {
         let mut map = HashMap::with_hasher(alloc, state);
         for (key, value) in self.iter() {

@@ -1,0 +1,42 @@
+-- What writing a map or a set of what an iterator gives answers.
+use Rattle.std.specs.Prelude.{ℕ, List, MatchResult, Option, Result}
+use Rattle.std.specs.Int.{Width}
+use Rattle.std.specs.Iterator.{Drains}
+use Rattle.rkyv_base.specs.Format.{Format}
+use Rattle.rkyv_base.specs.Pairs.{written_as}
+use Rattle.rkyv_base.specs.Shape.{Shape}
+use Rattle.rkyv_base.specs.Writing.{Output}
+use Rattle.rkyv_base.specs.declared.errors.WriteError.{WriteError}
+use Rattle.rkyv_table.specs.Table.Counting.{GaveOther}
+use Rattle.rkyv_table.specs.Table.Lent.{lent_keys, lent_pairs}
+use Rattle.rkyv_table.specs.Table.Serializing.{NoItems, WroteItems}
+use Rattle.rkyv_table.specs.Table.TableFormat.{TableResolver}
+use Rattle.rkyv_collections.specs.MapFormat.{map_format}
+use Rattle.rkyv_collections.specs.SetFormat.{set_format}
+
+-- the items that came were written, or none were, for a cause that stands
+abbrev pub WritesItems : {X R F : Type 0} → (List X → Type 0) → (ℕ → Type 0) → ℕ → ℕ × ℕ → ℕ → ℕ
+    → Format (List X) R → Output → Output → Result R (WriteError F) → Type 0
+WritesItems gave other len load_factor max limit f o o' result = MatchResult result
+    (WroteItems gave len load_factor max f o o' limit)
+    (NoItems gave len load_factor max f o o' limit other)
+
+module _ {Y F : Type 0} (w : Width) (max limit : ℕ) where
+  -- What is lent by the pairs that an iterator gives, which are to be so many, was written as a map
+  -- under the hashes of the keys and the load factor; or nothing was, for a cause that stands.
+  -- `output` tells what a writer holds.
+  abbrev pub WritesMap : {A B R Q BK BV S : Type 0} → Shape → Shape → Format A R → Format B Q
+      → (A → ℕ) → ℕ × ℕ → (BK → A) → (BV → B) → ℕ → (S → Option (BK × BV) → S → Type 0) → S
+      → (Y → Output) → Y → Y → Result TableResolver (WriteError F) → Type 0
+  WritesMap k v key value hash load_factor key_lent value_lent len steps iter output old new =
+      WritesItems (Drains steps iter) (GaveOther steps len iter) len load_factor max limit
+      (written_as (lent_pairs key_lent value_lent) (map_format w k v key value hash load_factor))
+      (output old) (output new)
+
+  -- the same of the keys that an iterator gives, as a set
+  abbrev pub WritesSet : {A R BK S : Type 0} → Shape → Format A R → (A → ℕ) → ℕ × ℕ → (BK → A) → ℕ
+      → (S → Option BK → S → Type 0) → S → (Y → Output) → Y → Y
+      → Result TableResolver (WriteError F) → Type 0
+  WritesSet k key hash load_factor lent len steps iter output old new =
+      WritesItems (Drains steps iter) (GaveOther steps len iter) len load_factor max limit
+      (written_as (lent_keys lent) (set_format w k key hash load_factor)) (output old) (output new)
