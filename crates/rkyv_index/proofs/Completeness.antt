@@ -24,7 +24,7 @@ use Rattle.rkyv_table.proofs.Misplaced.{found_agree, found_walked}
 use Rattle.rkyv_table.proofs.Walks.{walked_full}
 use Rattle.rkyv_index.specs.Complete.{FindsTheOne}
 use Rattle.rkyv_index.specs.Equality.{index_misplaced, own_found}
-use Rattle.rkyv_index.specs.Index.{hash_at, index_found}
+use Rattle.rkyv_index.specs.Index.{Index, hash_at, index_found}
 use Rattle.rkyv_index.specs.IndexLayout.{pair_pos}
 use Rattle.rkyv_index.specs.IndexLayout.{index_shape, place_shape}
 use Rattle.rkyv_index.specs.Lemmas.IndexLaws.{place_element}
@@ -52,10 +52,25 @@ found_somewhere : {A B : Type 0} (f : A → B) (o : Option A) (y : B) → option
 found_somewhere f None y e = absurd (none-some y e)
 found_somewhere f (Some x) y e = (x, refl, same_Some (f x) y e)
 
-module _ {Q : Type 0} (w : Width) (kind : IsArchiveWord w) (k v : Shape) (kl : IsElement k) (vl : IsElement v)
+module _ {K Q : Type 0} (m : Index K) (kind : IsArchiveWord m.word) (kl : IsElement m.key) (vl : IsElement m.value)
     {State : Type 0} (hasher : Hasher State) (same : Comparison) (key_calls : List ℕ → ℕ → List HasherCall) (can_read : Q → Type 0) (calls : Q → List HasherCall) (fits : Q → List ℕ → ℕ → Bool)
-    (query : IsQuery k same key_calls can_read calls fits) (b : List ℕ) (p : ℕ) (view : Viewed (index_shape w (entry_shape k v)) b p) (q : Q) (can : can_read q)
-    (small : hash_of_calls hasher (calls q) < 2 ^ 64) (none : index_misplaced w k v (hash_at hasher key_calls) same b p ≡ 0) where
+    (query : IsQuery m.key same key_calls can_read calls fits) (view : Viewed (index_shape m.word (entry_shape m.key m.value)) m.bytes m.pos) (q : Q) (can : can_read q)
+    (small : hash_of_calls hasher (calls q) < 2 ^ 64) (none : index_misplaced m (hash_at hasher key_calls) same ≡ 0) where
+  abbrev w : Width
+  w = m.word
+
+  abbrev k : Shape
+  k = m.key
+
+  abbrev v : Shape
+  v = m.value
+
+  abbrev b : List ℕ
+  b = m.bytes
+
+  abbrev p : ℕ
+  p = m.pos
+
   abbrev s : Shape
   s = entry_shape k v
 
@@ -104,7 +119,7 @@ module _ {Q : Type 0} (w : Width) (kind : IsArchiveWord w) (k v : Shape) (kl : I
   -- a place whose key fits is found
   found_itself : (i : ℕ) → i < len → accept i ≡ true → index_found w b p (hash_of_calls hasher (calls q)) accept ≡ Some i
   found_itself i below ok =
-      let own = own_found w k v (hash_at hasher key_calls) same b p in
+      let own = own_found m (hash_at hasher key_calls) same in
       let P : ℕ → Bool = λ j. not (is_answer j (own j)) in
       let answered = answer_is i (own i) (not-false (is_answer i (own i)) (none_kept P 0 len none i (omega arith) (omega (arith, below)))) in
       let alike : hash_of_calls hasher (calls q) ≡ hash_at hasher key_calls b (at i) = ap (hash_of_calls hasher) (query.alike q b (at i) can (key_standing i below) ok) in

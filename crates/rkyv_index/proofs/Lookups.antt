@@ -18,7 +18,7 @@ use Rattle.rkyv_base.specs.declared.view.View.{View}
 use Rattle.rkyv_table.specs.Controls.Laws.{IsUnderHash}
 use Rattle.rkyv_table.specs.Table.Reading.{IsItem, IsWalked, WrittenAt, home_positions, item_at, pos_found, pos_of_found, table_bytes, table_pos}
 use Rattle.rkyv_table.specs.declared.table.ArchivedHashTable.{ArchivedHashTable}
-use Rattle.rkyv_index.specs.Index.{AreUnderHash, IsHeld, IsIndexMap, IsPlaceOf, index_archive, index_bytes, index_len, index_pos, key_pos}
+use Rattle.rkyv_index.specs.Index.{AreUnderHash, IsHeld, IsIndexMap, IsPlaceOf, index_archive, index_bytes, index_len, index_of, index_pos, key_pos}
 use Rattle.rkyv_index.specs.IndexFormat.{IndexWrittenAt}
 use Rattle.rkyv_index.specs.IndexLayout.{places_of}
 use Rattle.rkyv_index.specs.declared.map.ArchivedIndexMap.{ArchivedIndexMap}
@@ -102,7 +102,7 @@ module _ {K V H W P N : Type 0} (w : Width) (kind : IsArchiveWord w) (k v : Shap
     pub written_there : WrittenAt w (table_bytes t) (table_pos t) hashes homes
     written_there = subst (λ q. WrittenAt w (table_bytes t) q hashes homes) (sym at.1) (subst (λ (x : List ℕ). WrittenAt w x (index_pos m) hashes homes) (sym bytes_same) written.table)
 
-    pub under_there : (hash : ℕ) (accept : ℕ → Bool) → AreUnderHash w k v m hash key_hash accept
+    pub under_there : (hash : ℕ) (accept : ℕ → Bool) → AreUnderHash (index_of w k v m) hash key_hash accept
         → IsUnderHash hash hashes (home_positions w (scalar_shape e).size (table_bytes t) (table_pos t) homes) (λ q. accept (number_at w (index_bytes m) q))
     under_there hash accept under i h accepted =
         let n = index_len w m in

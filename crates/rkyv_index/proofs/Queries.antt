@@ -8,7 +8,7 @@ use Rattle.rkyv_base.specs.Text.{IsArchiveWord}
 use Rattle.rkyv_keys.specs.Equality.{Comparison}
 use Rattle.rkyv_keys.specs.Keys.{IsQuery}
 use Rattle.rkyv_keys.specs.OfEntries.{standing_key}
-use Rattle.rkyv_index.specs.Index.{AreUnderHash, IsIndexMap, fits_at, hash_at, index_bytes, index_pos, key_pos}
+use Rattle.rkyv_index.specs.Index.{AreUnderHash, IsIndexMap, fits_at, hash_at, index_bytes, index_of, index_pos, key_pos}
 use Rattle.rkyv_index.specs.declared.map.ArchivedIndexMap.{ArchivedIndexMap}
 use Rattle.rkyv_index.proofs.Held.{entry_viewed}
 
@@ -16,7 +16,7 @@ module _ {K V H W : Type 0} (w : Width) (kind : IsArchiveWord w) (k v : Shape) (
   -- a query accepts keys under its own hash alone
   pub query_under_hash : {Q : Type 0} {State : Type 0} (hasher : Hasher State) (same : Comparison) (key_calls : List ℕ → ℕ → List HasherCall) (can_read : Q → Type 0) (calls : Q → List HasherCall) (fits : Q → List ℕ → ℕ → Bool)
       → IsQuery k same key_calls can_read calls fits → IsIndexMap w k v m → (q : Q) → can_read q
-      → AreUnderHash w k v m (hash_of_calls hasher (calls q)) (hash_at hasher key_calls) (fits_at w k v m (fits q))
+      → AreUnderHash (index_of w k v m) (hash_of_calls hasher (calls q)) (hash_at hasher key_calls) (fits_at (index_of w k v m) (fits q))
   query_under_hash hasher same key_calls can_read calls fits query is q can i below accepted =
       let b = index_bytes m in
       let p = key_pos w k v m i in

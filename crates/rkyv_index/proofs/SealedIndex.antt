@@ -1,7 +1,8 @@
 -- What a lookup tells of the index map that is read tells of the seal.
-use Rattle.std.proofs.Common.{◌≡◌, ℕ, ◌<◌, ◌∙◌, sym, ap, subst, Bool, List, take, drop}
+use Rattle.std.proofs.Common.{◌≡◌, ℕ, ◌<◌, ◌∙◌, sym, ap, subst, Bool, List, Option, take, drop}
 use Rattle.std.specs.Borrow.{Bor}
 use Rattle.std.specs.Int.{Width}
+use Rattle.rkyv_scan.specs.Hash.{Hasher, HasherCall}
 use Rattle.rkyv_base.specs.Seal.{bytes_in, seal_pos}
 use Rattle.rkyv_base.specs.Sealing.{value_pos}
 use Rattle.rkyv_base.specs.Shape.{Shape}
@@ -9,8 +10,8 @@ use Rattle.rkyv_base.specs.View.{IsView, bytes_of, pos_of}
 use Rattle.rkyv_base.specs.declared.seal.Seal.{Seal}
 use Rattle.rkyv_base.specs.declared.view.View.{View}
 use Rattle.rkyv_table.specs.Table.Header.{len_at}
-use Rattle.rkyv_index.specs.Index.{AnswersKeys, AreUnderHash, AreUnderHashAt, IsKeyOf, index_bytes, index_pos}
-use Rattle.rkyv_index.specs.SealedIndex.{AnswersKeysAt, IsKeyAt, IsPairPos, LendsPair}
+use Rattle.rkyv_index.specs.Index.{AnswersKeys, AreUnderHash, FindsFirstKey, FindsFirstPlace, FindsKey, FindsPlace, IsKeyOf, index_bytes, index_of, index_pos}
+use Rattle.rkyv_index.specs.SealedIndex.{IsKeyAt, IsPairPos, LendsPair, index_at}
 use Rattle.rkyv_index.specs.ValueWrites.{pair_at}
 use Rattle.rkyv_index.specs.declared.map.ArchivedIndexMap.{ArchivedIndexMap}
 
@@ -43,8 +44,24 @@ module _ {K V H W : Type 0} (m : ArchivedIndexMap K V H W) (b : List ℕ) (p : �
       viewed = is.viewed;
     }
 
-    pub answers_read : (post : View K → Bool → Type 0) (accept : ℕ → Bool) → AnswersKeysAt w k v b p post accept → AnswersKeys w k v m post accept
+    pub answers_read : (post : View K → Bool → Type 0) (accept : ℕ → Bool) → AnswersKeys (index_at w k v b p) post accept → AnswersKeys (index_of w k v m) post accept
     answers_read post accept answers i key r is told = answers i key r (key_read i key is) told
 
-    pub under_read : (hash : ℕ) (key_hash : List ℕ → ℕ → ℕ) (accept : ℕ → Bool) → AreUnderHashAt w k v b p hash key_hash accept → AreUnderHash w k v m hash key_hash accept
-    under_read hash key_hash accept under = to_read (λ c q. AreUnderHashAt w k v c q hash key_hash accept) under
+    pub under_read : (hash : ℕ) (key_hash : List ℕ → ℕ → ℕ) (accept : ℕ → Bool) → AreUnderHash (index_at {K = K} w k v b p) hash key_hash accept → AreUnderHash (index_of w k v m) hash key_hash accept
+    under_read hash key_hash accept under = to_read (λ c q. AreUnderHash (index_at {K = K} w k v c q) hash key_hash accept) under
+
+    -- what is told of what is found in it is told where the seal is
+    pub finds_read : (hash : ℕ) (accept : ℕ → Bool) (Told : Option ℕ → Type 0) → FindsPlace (index_of w k v m) hash accept Told → FindsPlace (index_at {K = K} w k v b p) hash accept Told
+    finds_read hash accept Told = as_read (λ d r. FindsPlace (index_at {K = K} w k v d r) hash accept Told)
+
+    pub finds_first_read : (key_hash : List ℕ → ℕ → ℕ) (accept : ℕ → Bool) (Told : Option ℕ → Type 0) → FindsFirstPlace (index_of w k v m) key_hash accept Told
+        → FindsFirstPlace (index_at {K = K} w k v b p) key_hash accept Told
+    finds_first_read key_hash accept Told = as_read (λ d r. FindsFirstPlace (index_at {K = K} w k v d r) key_hash accept Told)
+
+    module _ {State : Type 0} (hasher : Hasher State) (fits : List ℕ → ℕ → Bool) (Told : Option ℕ → Type 0) where
+      pub finds_key_read : (calls : List HasherCall) → FindsKey (index_of w k v m) hasher calls fits Told → FindsKey (index_at {K = K} w k v b p) hasher calls fits Told
+      finds_key_read calls = as_read (λ d r. FindsKey (index_at {K = K} w k v d r) hasher calls fits Told)
+
+      pub finds_first_key_read : (key_calls : List ℕ → ℕ → List HasherCall) → FindsFirstKey (index_of w k v m) hasher key_calls fits Told
+          → FindsFirstKey (index_at {K = K} w k v b p) hasher key_calls fits Told
+      finds_first_key_read key_calls = as_read (λ d r. FindsFirstKey (index_at {K = K} w k v d r) hasher key_calls fits Told)

@@ -1,14 +1,15 @@
 -- When two index maps are equal, and how many places a lookup of their own key doesn't answer.
-use Rattle.std.specs.Prelude.{ℕ, List, Bool, Option, ◌&&◌, ◌==◌, not, length, filter}
+use Rattle.std.specs.Prelude.{◌≡◌, ℕ, List, Bool, Option, ◌&&◌, ◌==◌, not, length, filter}
 use Rattle.std.specs.Int.{Width}
 use Rattle.std.specs.List.{find, list_all}
 use Rattle.std.specs.Option.{is_some}
 use Rattle.rkyv_base.specs.Entry.{entry_shape}
 use Rattle.rkyv_base.specs.Shape.{Shape}
 use Rattle.rkyv_keys.specs.Equality.{Comparison}
+use Rattle.rkyv_keys.specs.OfEntries.{entry_same}
 use Rattle.rkyv_table.specs.Table.Header.{len_at}
 use Rattle.rkyv_table.specs.Table.Misplaced.{is_answer}
-use Rattle.rkyv_index.specs.Index.{index_found}
+use Rattle.rkyv_index.specs.Index.{Index, IsWritten, index_found, index_places, key_at}
 use Rattle.rkyv_index.specs.IndexLayout.{pair_pos}
 use Rattle.rkyv_index.specs.IndexLayout.{places_of}
 
@@ -22,25 +23,41 @@ module _ (w : Width) (s : Shape) (same : Comparison) where
   index_equal b p c r = (len_at w b p == len_at w c r) && list_all (same_at b p c r)
       (places_of (len_at w b p))
 
-module _ (w : Width) (k v : Shape) (key_hash : List ℕ → ℕ → ℕ) (same_key : Comparison) (b : List ℕ)
-    (p : ℕ) where
+-- the maps have equally many pairs, and the same ones in order
+abbrev pub index_map_equal : Width → Shape → Shape → Comparison → Comparison → Comparison
+index_map_equal w k v same_key same_value =
+    index_equal w (entry_shape k v) (entry_same k v same_key same_value)
+
+module _ {K : Type 0} (m : Index K) (key_hash : List ℕ → ℕ → ℕ) (same_key : Comparison) where
+  -- whether the key of place i is the same as that of place j
+  abbrev pub same_keys : ℕ → ℕ → Bool
+  same_keys i j = same_key m.bytes (key_at m i) m.bytes (key_at m j)
+
   -- the place that a lookup of the key of place i answers
   abbrev pub own_found : ℕ → Option ℕ
-  own_found i =
-      let at : ℕ → ℕ = pair_pos w (entry_shape k v).size b p in
-      index_found w b p (key_hash b (at i)) (λ j. same_key b (at i) b (at j))
+  own_found i = index_found m.word m.bytes m.pos (key_hash m.bytes (key_at m i)) (same_keys i)
 
-  -- of how many places a lookup of their own key answers another place, or none
+  -- whether a lookup of the key of place i answers another place, or none
+  abbrev pub is_misplaced : ℕ → Bool
+  is_misplaced i = not (is_answer i (own_found i))
+
+  -- of how many places it does
   abbrev pub index_misplaced : ℕ
-  index_misplaced = length (filter (λ i. not (is_answer i (own_found i)))
-      (places_of (len_at w b p)))
+  index_misplaced = length (filter is_misplaced (index_places m))
 
   -- whether the key of an earlier place is the same as that of place i
   abbrev pub is_repeated : ℕ → Bool
-  is_repeated i =
-      let at : ℕ → ℕ = pair_pos w (entry_shape k v).size b p in
-      is_some (find (λ j. same_key b (at i) b (at j)) (places_of i))
+  is_repeated i = is_some (find (same_keys i) (places_of i))
 
   -- of how many places an earlier one has the same key
   abbrev pub index_repeated : ℕ
-  index_repeated = length (filter is_repeated (places_of (len_at w b p)))
+  index_repeated = length (filter is_repeated (index_places m))
+
+  -- in a map that was written, the answer tells whether the key of place i is a repeated one
+  abbrev pub TellsRepeated : ℕ → Bool → Type 0
+  TellsRepeated i result = (homes : List ℕ) → IsWritten m key_hash homes → result ≡ is_repeated i
+
+  -- in a map that was written, the answer counts the places whose keys are repeated
+  abbrev pub CountsRepeated : ℕ → Type 0
+  CountsRepeated result =
+      (homes : List ℕ) → IsWritten m key_hash homes → result ≡ index_repeated

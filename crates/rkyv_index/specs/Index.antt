@@ -129,74 +129,117 @@ module _ {K V H W : Type 0} where
   ReadsFew w m before after = ReadsWithin (index_len w m) (probe_capacity (cap_at w (index_bytes m)
       (index_pos m)) / 16) before after
 
+-- what was found is what stands at the place, or none was found
+abbrev pub IsThere : {X : Type 0} → (ℕ → X → Type 0) → Option X → Option ℕ → Type 0
+IsThere {X} Stands result place =
+    MatchOption place (result ≡ None) (λ i. (x : X) × (result ≡ Some x) × Stands i x)
+
 -- whether the key of a place of the map at p fits
 abbrev pub fits_in : Width → Shape → Shape → List ℕ → ℕ → (List ℕ → ℕ → Bool) → ℕ → Bool
 fits_in w k v b p fits i = fits b (pair_pos w (entry_shape k v).size b p i)
 
-module _ (w : Width) (k v : Shape) (b : List ℕ) (p : ℕ) where
-  -- only keys under the hash are accepted, in the map at p
-  abbrev pub AreUnderHashAt : ℕ → (List ℕ → ℕ → ℕ) → (ℕ → Bool) → Type 0
-  AreUnderHashAt hash key_hash accept = (i : ℕ) → i < len_at w b p → accept i ≡ true
-      → key_hash b (pair_pos w (entry_shape k v).size b p i) ≡ hash
+-- An index map in an archive, as lookups see it, whether it is read, lent to be written, or that of
+-- a set: its width, the shapes of its keys and values, the bytes, where its header stands, and
+-- which views are those of the key of a place.
+pub record Index (K : Type 0) : Type 1 where
+  pub word : Width
+  pub key : Shape
+  pub value : Shape
+  pub bytes : List ℕ
+  pub pos : ℕ
+  pub is_key : ℕ → View K → Type 0
 
-  -- what is told is told of the place that a lookup under the hash answers, on any accepted map
-  abbrev pub FindsPlaceAt : ℕ → (ℕ → Bool) → (Option ℕ → Type 0) → Type 0
-  FindsPlaceAt hash accept Told = Told (index_found w b p hash accept)
+-- the index map that is read
+abbrev pub index_of : {K V H W : Type 0} → Width → Shape → Shape → ArchivedIndexMap K V H W
+    → Index K
+index_of w k v m = record {
+  word = w;
+  key = k;
+  value = v;
+  bytes = index_bytes m;
+  pos = index_pos m;
+  is_key = IsKeyOf w k v m;
+}
 
-  -- and on a written one: of the first place whose key is accepted
-  abbrev pub FindsFirstPlaceAt : (List ℕ → ℕ → ℕ) → (ℕ → Bool) → (Option ℕ → Type 0) → Type 0
-  FindsFirstPlaceAt key_hash accept Told = (homes : List ℕ)
-      → IndexWrittenAt w (entry_shape k v).size key_hash b p homes
-      → Told (find accept (places_of (len_at w b p)))
+module _ {K : Type 0} (m : Index K) where
+  -- the places of its pairs, in order
+  abbrev pub index_places : List ℕ
+  index_places = places_of (len_at m.word m.bytes m.pos)
 
-module _ {K V H W : Type 0} (w : Width) (k v : Shape) (m : ArchivedIndexMap K V H W) where
+  -- where the key of a place stands
+  abbrev pub key_at : ℕ → ℕ
+  key_at i = pair_pos m.word (entry_shape m.key m.value).size m.bytes m.pos i
+
+  -- whether the key of a place fits
+  abbrev pub fits_at : (List ℕ → ℕ → Bool) → ℕ → Bool
+  fits_at fits i = fits m.bytes (key_at i)
+
+  -- its table was written of the places in order, each under the hash of its key, and they have
+  -- these homes
+  abbrev pub IsWritten : (List ℕ → ℕ → ℕ) → List ℕ → Type 0
+  IsWritten key_hash homes =
+      IndexWrittenAt m.word (entry_shape m.key m.value).size key_hash m.bytes m.pos homes
+
   -- the comparison may be asked of each key
   abbrev pub MayAskKeys : (View K → Type 0) → Type 0
-  MayAskKeys pre = (i : ℕ) (key : View K) → IsKeyOf w k v m i key → pre key
+  MayAskKeys pre = (i : ℕ) (key : View K) → m.is_key i key → pre key
 
   -- of each key the comparison answers what accept tells of its place
   abbrev pub AnswersKeys : (View K → Bool → Type 0) → (ℕ → Bool) → Type 0
-  AnswersKeys post accept = (i : ℕ) (key : View K) (r : Bool) → IsKeyOf w k v m i key → post key r
+  AnswersKeys post accept = (i : ℕ) (key : View K) (r : Bool) → m.is_key i key → post key r
       → r ≡ accept i
 
   -- only keys under the hash are accepted
   abbrev pub AreUnderHash : ℕ → (List ℕ → ℕ → ℕ) → (ℕ → Bool) → Type 0
-  AreUnderHash hash key_hash accept = AreUnderHashAt w k v (index_bytes m) (index_pos m) hash
-      key_hash accept
-
-  -- whether the key of a place fits
-  abbrev pub fits_at : (List ℕ → ℕ → Bool) → ℕ → Bool
-  fits_at fits i = fits_in w k v (index_bytes m) (index_pos m) fits i
+  AreUnderHash hash key_hash accept = (i : ℕ) → i < len_at m.word m.bytes m.pos → accept i ≡ true
+      → key_hash m.bytes (key_at i) ≡ hash
 
   -- what is told is told of the place that a lookup under the hash answers, on any accepted map
   abbrev pub FindsPlace : ℕ → (ℕ → Bool) → (Option ℕ → Type 0) → Type 0
-  FindsPlace hash accept Told = FindsPlaceAt w k v (index_bytes m) (index_pos m) hash accept Told
+  FindsPlace hash accept Told = Told (index_found m.word m.bytes m.pos hash accept)
 
-  -- and on a written one: of the first place whose key is accepted
+  -- what is told is told of the first place whose key is accepted, where the map was written
   abbrev pub FindsFirstPlace : (List ℕ → ℕ → ℕ) → (ℕ → Bool) → (Option ℕ → Type 0) → Type 0
-  FindsFirstPlace key_hash accept Told = FindsFirstPlaceAt w k v (index_bytes m) (index_pos m)
-      key_hash accept Told
+  FindsFirstPlace key_hash accept Told = (homes : List ℕ) → IsWritten key_hash homes
+      → Told (find accept index_places)
 
-  -- the same where the comparison tells of keys
-  abbrev pub FindsBy : (View K → Bool → Type 0) → ℕ → (Option ℕ → Type 0) → Type 0
-  FindsBy post hash Told = (accept : ℕ → Bool) → AnswersKeys post accept → FindsPlace hash accept
-      Told
+  module _ {State : Type 0} where
+    -- What is told of the place that a lookup by a comparison answers, under the hash of the calls
+    -- that its key makes: for each function of places as which the comparison answers.
+    abbrev pub FindsBy : (View K → Bool → Type 0) → Hasher State → List HasherCall
+        → (Option ℕ → Type 0) → Type 0
+    FindsBy post hasher calls Told = (accept : ℕ → Bool) → AnswersKeys post accept
+        → FindsPlace (hash_of_calls hasher calls) accept Told
 
-  -- told tells of the first place whose key a comparison accepts, where the index map was written
-  abbrev pub FindsFirstBy : (View K → Bool → Type 0) → ℕ → (List ℕ → ℕ → ℕ) → (Option ℕ → Type 0)
-      → Type 0
-  FindsFirstBy post hash key_hash Told = (accept : ℕ → Bool) → AnswersKeys post accept
-      → AreUnderHash hash key_hash accept → FindsFirstPlace key_hash accept Told
+    -- What is told of the first place whose key the comparison accepts, where the map was written
+    -- and the comparison accepts keys under that hash alone. `key_calls b q` are the calls that the
+    -- key makes that stands at q.
+    abbrev pub FindsFirstBy : (View K → Bool → Type 0) → Hasher State → List HasherCall
+        → (List ℕ → ℕ → List HasherCall) → (Option ℕ → Type 0) → Type 0
+    FindsFirstBy post hasher calls key_calls Told = (accept : ℕ → Bool) → AnswersKeys post accept
+        → AreUnderHash (hash_of_calls hasher calls) (hash_at hasher key_calls) accept
+        → FindsFirstPlace (hash_at hasher key_calls) accept Told
 
+    -- what is told of the place that a lookup of a query answers, which makes these calls and tells
+    -- which keys fit
+    abbrev pub FindsKey : Hasher State → List HasherCall → (List ℕ → ℕ → Bool)
+        → (Option ℕ → Type 0) → Type 0
+    FindsKey hasher calls fits Told = FindsPlace (hash_of_calls hasher calls) (fits_at fits) Told
+
+    -- what is told of the first place whose key fits, where the map was written
+    abbrev pub FindsFirstKey : Hasher State → (List ℕ → ℕ → List HasherCall)
+        → (List ℕ → ℕ → Bool) → (Option ℕ → Type 0) → Type 0
+    FindsFirstKey hasher key_calls fits Told =
+        FindsFirstPlace (hash_at hasher key_calls) (fits_at fits) Told
+
+module _ {K V H W : Type 0} (w : Width) (k v : Shape) (m : ArchivedIndexMap K V H W) where
   -- the pair that was found is that of the place, or none was found
   abbrev pub IsPairAt : Option (View K × View V) → Option ℕ → Type 0
-  IsPairAt result place = MatchOption place (result ≡ None) (λ i. (pair : View K × View V)
-      × (result ≡ Some pair) × IsPairOf w k v m i pair)
+  IsPairAt result place = IsThere (IsPairOf w k v m) result place
 
   -- the value that was found is that of the place, or none was found
   abbrev pub IsValueAt : Option (View V) → Option ℕ → Type 0
-  IsValueAt result place = MatchOption place (result ≡ None) (λ i. (value : View V)
-      × (result ≡ Some value) × IsValueOf w k v m i value)
+  IsValueAt result place = IsThere (IsValueOf w k v m) result place
 
 -- the place that was found is the place
 abbrev pub IsPlace : Option ℕ → Option ℕ → Type 0

@@ -1,12 +1,16 @@
 -- What an index set is in an archive: all of it is said of the map of its keys.
-use Rattle.std.specs.Prelude.{◌≡◌, ℕ, Option, Some, None, MatchOption}
+use Rattle.std.specs.Prelude.{◌≡◌, ℕ, List, Option}
 use Rattle.std.specs.Int.{Width}
 use Rattle.std.specs.Option.{option_map}
 use Rattle.rkyv_base.specs.Empty.{unit_shape}
 use Rattle.rkyv_base.specs.Entry.{entry_shape}
 use Rattle.rkyv_base.specs.Shape.{Shape}
 use Rattle.rkyv_base.specs.declared.view.View.{View}
-use Rattle.rkyv_index.specs.Index.{IsHeld, IsIndexMap, IsKeyOf}
+use Rattle.rkyv_keys.specs.Equality.{Comparison}
+use Rattle.rkyv_keys.specs.OfUnits.{unit_same}
+use Rattle.rkyv_index.specs.Equality.{index_map_equal}
+use Rattle.rkyv_index.specs.Index.{Index, IsHeld, IsIndexMap, IsKeyOf, IsThere, index_bytes}
+use Rattle.rkyv_index.specs.Index.{index_of, index_pos}
 use Rattle.rkyv_index.specs.IndexLayout.{index_shape}
 use Rattle.rkyv_index.specs.declared.map.ArchivedIndexMap.{ArchivedIndexMap}
 use Rattle.rkyv_index.specs.declared.set.ArchivedIndexSet.{ArchivedIndexSet}
@@ -15,14 +19,30 @@ use Rattle.rkyv_index.specs.declared.set.ArchivedIndexSet.{ArchivedIndexSet}
 abbrev pub index_set_shape : Width → Shape → Shape
 index_set_shape w k = index_shape w (entry_shape k unit_shape)
 
+-- the sets have equally many keys, and the same ones in order
+abbrev pub index_set_equal : Width → Shape → Comparison → Comparison
+index_set_equal w k same = index_map_equal w k unit_shape same unit_same
+
 module _ {K H W : Type 0} where
   -- the map of the set's keys to the unit value
   abbrev pub keys_of : ArchivedIndexSet K H W → ArchivedIndexMap K (Unit {0}) H W
   keys_of s = s.map
 
+  -- the bytes of the set's archive
+  abbrev pub set_bytes : ArchivedIndexSet K H W → List ℕ
+  set_bytes s = index_bytes (keys_of s)
+
+  -- the position of the set's header
+  abbrev pub set_pos : ArchivedIndexSet K H W → ℕ
+  set_pos s = index_pos (keys_of s)
+
   -- the header of an index set stands where the set is
   abbrev pub IsIndexSet : Width → Shape → ArchivedIndexSet K H W → Type 0
   IsIndexSet w k s = IsIndexMap w k unit_shape (keys_of s)
+
+  -- the set as lookups see it: the map of its keys
+  abbrev pub index_of_set : Width → Shape → ArchivedIndexSet K H W → Index K
+  index_of_set w k s = index_of w k unit_shape (keys_of s)
 
   -- the key of a place that a bucket holds
   abbrev pub IsMemberIn : Width → Shape → ArchivedIndexSet K H W → View K → Type 0
@@ -36,8 +56,7 @@ module _ {K H W : Type 0} where
   -- the key that was found is that of the place, or none was found
   abbrev pub IsMemberAt : Width → Shape → ArchivedIndexSet K H W → Option (View K) → Option ℕ
       → Type 0
-  IsMemberAt w k s result place = MatchOption place (result ≡ None) (λ i. (key : View K)
-      × (result ≡ Some key) × IsKeyOf w k unit_shape (keys_of s) i key)
+  IsMemberAt w k s result place = IsThere (IsKeyOf w k unit_shape (keys_of s)) result place
 
 -- the place of a key that was found
 abbrev pub full_member_place : {K : Type 0} → Option (ℕ × View K) → Option ℕ

@@ -1,5 +1,5 @@
 -- What a lookup in an index map answers that lends the value to be written.
-use Rattle.std.specs.Prelude.{◌≡◌, ℕ, ◌<◌, List, Bool, Option, Some, None, MatchOption, take, drop}
+use Rattle.std.specs.Prelude.{◌≡◌, ℕ, ◌<◌, List, Option, take, drop}
 use Rattle.std.specs.Int.{Width}
 use Rattle.std.specs.Option.{option_map}
 use Rattle.rkyv_base.specs.Entry.{entry_shape}
@@ -11,7 +11,7 @@ use Rattle.rkyv_base.specs.declared.seal.ArchiveSeal.{ArchiveSeal}
 use Rattle.rkyv_base.specs.declared.seal.Seal.{Seal}
 use Rattle.rkyv_base.specs.declared.view.View.{View}
 use Rattle.rkyv_table.specs.Table.Header.{len_at}
-use Rattle.rkyv_index.specs.Index.{AreUnderHashAt, FindsFirstPlaceAt, FindsPlaceAt, IsHeldAt}
+use Rattle.rkyv_index.specs.Index.{Index, IsHeldAt, IsThere}
 use Rattle.rkyv_index.specs.IndexLayout.{index_shape}
 use Rattle.rkyv_index.specs.ValueWrites.{KeptByWrites, pair_at}
 use Rattle.rkyv_index.specs.declared.map.IndexMapOf.{IndexMapOf}
@@ -29,28 +29,21 @@ pub record IsKeyAt {K : Type 0} (w : Width) (k v : Shape) (b : List ℕ) (p i : 
   pub place : pos_of key ≡ pair_at w k v b p i
   pub viewed : IsView k key
 
-module _ {K : Type 0} (w : Width) (k v : Shape) (b : List ℕ) (p : ℕ) where
-  -- the comparison may be asked of each key
-  abbrev pub MayAskKeysAt : (View K → Type 0) → Type 0
-  MayAskKeysAt pre = (i : ℕ) (key : View K) → IsKeyAt w k v b p i key → pre key
+-- the index map at p in these bytes, whose keys are viewed in any archive of the same bytes
+abbrev pub index_at : {K : Type 0} → Width → Shape → Shape → List ℕ → ℕ → Index K
+index_at w k v b p = record {
+  word = w;
+  key = k;
+  value = v;
+  bytes = b;
+  pos = p;
+  is_key = IsKeyAt w k v b p;
+}
 
-  -- of each key the comparison answers what accept tells of its place
-  abbrev pub AnswersKeysAt : (View K → Bool → Type 0) → (ℕ → Bool) → Type 0
-  AnswersKeysAt post accept = (i : ℕ) (key : View K) (r : Bool) → IsKeyAt w k v b p i key
-      → post key r → r ≡ accept i
-
-  -- what is told of what a lookup by a comparison finds, for each function of places as which the
-  -- comparison answers
-  abbrev pub FindsByAt : (View K → Bool → Type 0) → ℕ → (Option ℕ → Type 0) → Type 0
-  FindsByAt post hash Told = (accept : ℕ → Bool) → AnswersKeysAt post accept
-      → FindsPlaceAt w k v b p hash accept Told
-
-  -- and on an index map that was written, where it accepts keys under the hash alone
-  abbrev pub FindsFirstByAt : (View K → Bool → Type 0) → ℕ → (List ℕ → ℕ → ℕ)
-      → (Option ℕ → Type 0) → Type 0
-  FindsFirstByAt post hash key_hash Told = (accept : ℕ → Bool) → AnswersKeysAt post accept
-      → AreUnderHashAt w k v b p hash key_hash accept
-      → FindsFirstPlaceAt w k v b p key_hash accept Told
+-- the index map where the seal is
+abbrev pub index_of_seal : {K V H W : Type 0} → Width → Shape → Shape
+    → ArchiveSeal (IndexMapOf K V H W) → Index K
+index_of_seal w k v a = index_at w k v (archive_in a) (pos_in a)
 
 -- The key of place i of the index map at p stands at q, and the value behind it. Every write of the
 -- value alone that keeps the value keeps the index map.
@@ -97,13 +90,11 @@ module _ {K V H W : Type 0} (w : Width) (k v : Shape) (a : ArchiveSeal (IndexMap
 
   -- what was lent is the pair of the place, or none was found
   abbrev pub IsPairSealAt : Option (View K × Seal V) → Option ℕ → Type 0
-  IsPairSealAt result place = MatchOption place (result ≡ None) (λ i. (pair : View K × Seal V)
-      × (result ≡ Some pair) × LendsPair w k v (archive_in a) (pos_in a) i pair)
+  IsPairSealAt result place = IsThere (LendsPair w k v (archive_in a) (pos_in a)) result place
 
   -- what was lent is the value of the place, or none was found
   abbrev pub IsValueSealAt : Option (Seal V) → Option ℕ → Type 0
-  IsValueSealAt result place = MatchOption place (result ≡ None) (λ i. (value : Seal V)
-      × (result ≡ Some value) × LendsValue w k v (archive_in a) (pos_in a) i value)
+  IsValueSealAt result place = IsThere (LendsValue w k v (archive_in a) (pos_in a)) result place
 
 -- the place of a pair that was lent
 abbrev pub full_seal_place : {K V : Type 0} → Option (ℕ × View K × Seal V) → Option ℕ

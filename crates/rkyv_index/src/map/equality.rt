@@ -2,10 +2,10 @@
 ghost use Rattle.std.specs.Prelude.{◌<◌, ◌≡◌};
 ghost use Rattle.rkyv_base.specs.Entry.{entry_element, entry_shape};
 ghost use Rattle.rkyv_base.specs.View.{IsView};
-ghost use Rattle.rkyv_keys.specs.OfEntries.{entry_equivalence, entry_same};
+ghost use Rattle.rkyv_keys.specs.OfEntries.{entry_equivalence};
 ghost use Rattle.rkyv_keys.specs.Places.{at_views};
 ghost use Rattle.rkyv_index.specs.Lemmas.EqualLaws.{index_equivalence};
-ghost use Rattle.rkyv_index.specs.Equality.{index_equal};
+ghost use Rattle.rkyv_index.specs.Equality.{index_map_equal};
 ghost use Rattle.rkyv_index.specs.Index.{IsIndexMap, index_bytes, index_pos};
 ghost use Rattle.rkyv_index.specs.IndexLayout.{index_shape};
 
@@ -20,9 +20,9 @@ impl<'a, K: ElementEq, V: ElementEq, H, W: Width> ArchivedIndexMap<'a, K, V, H, 
     pub fn eq_index(self, other: ArchivedIndexMap<'_, K, V, H, W>) -> bool
         requires own { IsIndexMap W.word K.shape V.shape self }
         requires other { IsIndexMap W.word K.shape V.shape other }
-        ensures { result ≡ index_equal W.word (entry_shape K.shape V.shape)
-            (entry_same K.shape V.shape K.same V.same) (index_bytes self.entry)
-            (index_pos self.entry) (index_bytes other.entry) (index_pos other.entry) }
+        ensures { result ≡ index_map_equal W.word K.shape V.shape K.same V.same
+            (index_bytes self.entry) (index_pos self.entry)
+            (index_bytes other.entry) (index_pos other.entry) }
     {
         let len = self.len();
         if len != other.len() {
@@ -40,15 +40,14 @@ impl<'a, K: ElementEq, V: ElementEq, H, W: Width> ArchivedIndexMap<'a, K, V, H, 
 }
 
 impl<K: ElementEq, V: ElementEq, H, W: Width> ElementEq for IndexMapOf<K, V, H, W> {
-    ghost same = { index_equal W.word (entry_shape K.shape V.shape) (entry_same K.shape V.shape
-        K.same V.same) };
+    ghost same = { index_map_equal W.word K.shape V.shape K.same V.same };
 
     #[inline]
     fn same(a: View<'_, IndexMapOf<K, V, H, W>>, b: View<'_, IndexMapOf<K, V, H, W>>) -> bool
         requires a { IsView (index_shape W.word (entry_shape K.shape V.shape)) a }
         requires b { IsView (index_shape W.word (entry_shape K.shape V.shape)) b }
-        ensures { result ≡ at_views (index_equal W.word (entry_shape K.shape V.shape)
-            (entry_same K.shape V.shape K.same V.same)) a.entry b.entry }
+        ensures { result ≡ at_views (index_map_equal W.word K.shape V.shape K.same V.same)
+            a.entry b.entry }
     {
         ArchivedIndexMap::of(a).eq_index(ArchivedIndexMap::of(b))
     }

@@ -6,14 +6,13 @@ ghost use Rattle.rkyv_scan.specs.Hash.{hash_of_calls};
 ghost use Rattle.rkyv_base.specs.View.{IsAt, IsView, bytes_of, pos_of};
 ghost use Rattle.rkyv_base.specs.declared.view.View.{View};
 ghost use Rattle.rkyv_table.specs.Table.Reading.{IsItem};
-ghost use Rattle.rkyv_index.specs.Complete.{FindsTheOne};
-ghost use Rattle.rkyv_index.specs.Equality.{index_misplaced};
-ghost use Rattle.rkyv_index.specs.Index.{AreEntries, FindsBy, FindsFirstBy, FindsFirstPlace};
-ghost use Rattle.rkyv_index.specs.Index.{FindsPlace, IsFoundAt, IsFullAt, IsFullIn, IsHeld};
+ghost use Rattle.rkyv_index.specs.Complete.{FindsOneKey};
+ghost use Rattle.rkyv_index.specs.Index.{AreEntries, FindsBy, FindsFirstBy, FindsFirstKey};
+ghost use Rattle.rkyv_index.specs.Index.{FindsKey, IsFoundAt, IsFullAt, IsFullIn, IsHeld};
 ghost use Rattle.rkyv_index.specs.Index.{IsIndexMap, IsKeyOf, IsPairAt, IsPairIn, IsPlace};
-ghost use Rattle.rkyv_index.specs.Index.{IsValueAt, IsValueIn, MayAskKeys, ReadsFew, fits_at};
-ghost use Rattle.rkyv_index.specs.Index.{full_place, hash_at, index_archive, index_bytes};
-ghost use Rattle.rkyv_index.specs.Index.{index_len, index_pos};
+ghost use Rattle.rkyv_index.specs.Index.{IsValueAt, IsValueIn, MayAskKeys, ReadsFew};
+ghost use Rattle.rkyv_index.specs.Index.{full_place, index_archive, index_len, index_of};
+ghost use Rattle.rkyv_index.specs.Index.{index_pos};
 
 use crate::map::ArchivedIndexMap;
 use rkyv_base::element::Element;
@@ -38,15 +37,13 @@ impl<'a, K: KeyElement, V: Element, H: KeyHasher, W: Width> ArchivedIndexMap<'a,
         requires map { IsIndexMap W.word K.shape V.shape self }
         requires query { Q.can_read key.now }
         requires room { strides.old ≤ 2 ^ 63 }
-        requires callable { MayAskKeys W.word K.shape V.shape self (F.pre cmp key) }
+        requires callable { MayAskKeys (index_of W.word K.shape V.shape self) (F.pre cmp key) }
         ensures walked { IfSome result (IsHeld W.word self.entry) }
         ensures below { IfSome result (λ i. i < index_len W.word self.entry) }
-        ensures answer { let hash = hash_of_calls H.hasher (Q.calls key.now) in
-            FindsBy W.word K.shape V.shape self.entry (F.post cmp key.entry) hash (IsPlace result) }
-        ensures first { let hash = hash_of_calls H.hasher (Q.calls key.now) in
-            let key_hash = hash_at H.hasher K.key_calls in
-            FindsFirstBy W.word K.shape V.shape self.entry (F.post cmp key.entry) hash key_hash
-            (IsPlace result) }
+        ensures answer { FindsBy (index_of W.word K.shape V.shape self.entry)
+            (F.post cmp key.entry) H.hasher (Q.calls key.now) (IsPlace result) }
+        ensures first { FindsFirstBy (index_of W.word K.shape V.shape self.entry)
+            (F.post cmp key.entry) H.hasher (Q.calls key.now) K.key_calls (IsPlace result) }
         ensures hash { hash_of_calls H.hasher (Q.calls key.now) < 2 ^ 64 }
         ensures bounded { ReadsFew W.word self.entry strides.old strides.new }
     {
@@ -59,7 +56,8 @@ impl<'a, K: KeyElement, V: Element, H: KeyHasher, W: Width> ArchivedIndexMap<'a,
                 requires entries { AreEntries W.word K.shape V.shape entries }
                 requires at { IsAt table.view (index_archive entries.map) (index_pos entries.map) }
                 requires held { IsItem W.word (scalar_shape W.Place.encoding) table held }
-                requires callable { MayAskKeys W.word K.shape V.shape entries.map (F.pre cmp key) }
+                requires callable { MayAskKeys (index_of W.word K.shape V.shape entries.map)
+                    (F.pre cmp key) }
                 ensures { (k : View K) × IsKeyOf W.word K.shape V.shape entries.entry.map
                     (number_at W.word (bytes_of held.entry) (pos_of held.entry)) k × F.post cmp
                     key.entry k result }
@@ -86,15 +84,12 @@ impl<'a, K: KeyElement, V: Element, H: KeyHasher, W: Width> ArchivedIndexMap<'a,
     ) -> Option<(usize, View<'a, K>, View<'a, V>)>
         requires map { IsIndexMap W.word K.shape V.shape self }
         requires query { Q.can_read key.now }
-        requires callable { MayAskKeys W.word K.shape V.shape self (F.pre cmp key) }
+        requires callable { MayAskKeys (index_of W.word K.shape V.shape self) (F.pre cmp key) }
         ensures walked { IfSome result (IsFullIn W.word K.shape V.shape self.entry) }
-        ensures answer { let hash = hash_of_calls H.hasher (Q.calls key.now) in
-            FindsBy W.word K.shape V.shape self.entry (F.post cmp key.entry) hash
-            (IsFullAt result) }
-        ensures first { let hash = hash_of_calls H.hasher (Q.calls key.now) in
-            let key_hash = hash_at H.hasher K.key_calls in
-            FindsFirstBy W.word K.shape V.shape self.entry (F.post cmp key.entry) hash key_hash
-            (IsFullAt result) }
+        ensures answer { FindsBy (index_of W.word K.shape V.shape self.entry)
+            (F.post cmp key.entry) H.hasher (Q.calls key.now) (IsFullAt result) }
+        ensures first { FindsFirstBy (index_of W.word K.shape V.shape self.entry)
+            (F.post cmp key.entry) H.hasher (Q.calls key.now) K.key_calls (IsFullAt result) }
     {
         match self.find(key, cmp, &mut Strides::new()) {
             Some(place) => {
@@ -112,17 +107,12 @@ impl<'a, K: KeyElement, V: Element, H: KeyHasher, W: Width> ArchivedIndexMap<'a,
         requires query { Q.can_read key.now }
         ensures walked { IfSome result (IsHeld W.word self.entry) }
         ensures below { IfSome result (λ i. i < index_len W.word self.entry) }
-        ensures answer { let hash = hash_of_calls H.hasher (Q.calls key.now) in
-            FindsPlace W.word K.shape V.shape self.entry hash (fits_at W.word K.shape V.shape
-            self.entry (Q.fits key.now)) (IsPlace result) }
-        ensures first { let key_hash = hash_at H.hasher K.key_calls in
-            FindsFirstPlace W.word K.shape V.shape self.entry key_hash (fits_at W.word K.shape
-            V.shape self.entry (Q.fits key.now)) (IsPlace result) }
-        ensures complete { let key_hash = hash_at H.hasher K.key_calls in
-            index_misplaced W.word K.shape V.shape key_hash K.same (index_bytes self.entry)
-            (index_pos self.entry) ≡ 0
-            → FindsTheOne (index_len W.word self.entry) (fits_at W.word K.shape V.shape self.entry
-            (Q.fits key.now)) result }
+        ensures answer { FindsKey (index_of W.word K.shape V.shape self.entry) H.hasher
+            (Q.calls key.now) (Q.fits key.now) (IsPlace result) }
+        ensures first { FindsFirstKey (index_of W.word K.shape V.shape self.entry) H.hasher
+            K.key_calls (Q.fits key.now) (IsPlace result) }
+        ensures complete { FindsOneKey (index_of W.word K.shape V.shape self.entry) H.hasher
+            K.key_calls K.same (Q.fits key.now) result }
     {
         self.find(
             key,
@@ -146,17 +136,12 @@ impl<'a, K: KeyElement, V: Element, H: KeyHasher, W: Width> ArchivedIndexMap<'a,
         requires map { IsIndexMap W.word K.shape V.shape self }
         requires query { Q.can_read key.now }
         ensures walked { IfSome result (IsFullIn W.word K.shape V.shape self.entry) }
-        ensures answer { let hash = hash_of_calls H.hasher (Q.calls key.now) in
-            FindsPlace W.word K.shape V.shape self.entry hash (fits_at W.word K.shape V.shape
-            self.entry (Q.fits key.now)) (IsFullAt result) }
-        ensures first { let key_hash = hash_at H.hasher K.key_calls in
-            FindsFirstPlace W.word K.shape V.shape self.entry key_hash (fits_at W.word K.shape
-            V.shape self.entry (Q.fits key.now)) (IsFullAt result) }
-        ensures complete { let key_hash = hash_at H.hasher K.key_calls in
-            index_misplaced W.word K.shape V.shape key_hash K.same (index_bytes self.entry)
-            (index_pos self.entry) ≡ 0
-            → FindsTheOne (index_len W.word self.entry) (fits_at W.word K.shape V.shape self.entry
-            (Q.fits key.now)) (full_place result) }
+        ensures answer { FindsKey (index_of W.word K.shape V.shape self.entry) H.hasher
+            (Q.calls key.now) (Q.fits key.now) (IsFullAt result) }
+        ensures first { FindsFirstKey (index_of W.word K.shape V.shape self.entry) H.hasher
+            K.key_calls (Q.fits key.now) (IsFullAt result) }
+        ensures complete { FindsOneKey (index_of W.word K.shape V.shape self.entry) H.hasher
+            K.key_calls K.same (Q.fits key.now) (full_place result) }
     {
         match self.find_key(key) {
             Some(place) => {
@@ -209,14 +194,13 @@ impl<'a, K: KeyElement, V: Element, H: KeyHasher, W: Width> ArchivedIndexMap<'a,
     ) -> Option<(View<'a, K>, View<'a, V>)>
         requires map { IsIndexMap W.word K.shape V.shape self }
         requires query { Q.can_read key.now }
-        requires callable { MayAskKeys W.word K.shape V.shape self (F.pre cmp key) }
+        requires callable { MayAskKeys (index_of W.word K.shape V.shape self) (F.pre cmp key) }
         ensures walked { IfSome result (IsPairIn W.word K.shape V.shape self.entry) }
-        ensures answer { let hash = hash_of_calls H.hasher (Q.calls key.now) in
-            FindsBy W.word K.shape V.shape self.entry (F.post cmp key.entry) hash
+        ensures answer { FindsBy (index_of W.word K.shape V.shape self.entry)
+            (F.post cmp key.entry) H.hasher (Q.calls key.now)
             (IsPairAt W.word K.shape V.shape self.entry result) }
-        ensures first { let hash = hash_of_calls H.hasher (Q.calls key.now) in
-            let key_hash = hash_at H.hasher K.key_calls in
-            FindsFirstBy W.word K.shape V.shape self.entry (F.post cmp key.entry) hash key_hash
+        ensures first { FindsFirstBy (index_of W.word K.shape V.shape self.entry)
+            (F.post cmp key.entry) H.hasher (Q.calls key.now) K.key_calls
             (IsPairAt W.word K.shape V.shape self.entry result) }
     {
         self.pair_of(self.find(key, cmp, &mut Strides::new()))
@@ -228,13 +212,10 @@ impl<'a, K: KeyElement, V: Element, H: KeyHasher, W: Width> ArchivedIndexMap<'a,
         requires map { IsIndexMap W.word K.shape V.shape self }
         requires query { Q.can_read key.now }
         ensures walked { IfSome result (IsPairIn W.word K.shape V.shape self.entry) }
-        ensures answer { let hash = hash_of_calls H.hasher (Q.calls key.now) in
-            FindsPlace W.word K.shape V.shape self.entry hash (fits_at W.word K.shape V.shape
-            self.entry (Q.fits key.now)) (IsPairAt W.word K.shape V.shape self.entry result) }
-        ensures first { let key_hash = hash_at H.hasher K.key_calls in
-            FindsFirstPlace W.word K.shape V.shape self.entry key_hash (fits_at W.word K.shape
-            V.shape self.entry (Q.fits key.now)) (IsPairAt W.word K.shape V.shape self.entry
-            result) }
+        ensures answer { FindsKey (index_of W.word K.shape V.shape self.entry) H.hasher
+            (Q.calls key.now) (Q.fits key.now) (IsPairAt W.word K.shape V.shape self.entry result) }
+        ensures first { FindsFirstKey (index_of W.word K.shape V.shape self.entry) H.hasher
+            K.key_calls (Q.fits key.now) (IsPairAt W.word K.shape V.shape self.entry result) }
     {
         self.pair_of(self.find_key(key))
     }
@@ -248,14 +229,13 @@ impl<'a, K: KeyElement, V: Element, H: KeyHasher, W: Width> ArchivedIndexMap<'a,
     ) -> Option<View<'a, V>>
         requires map { IsIndexMap W.word K.shape V.shape self }
         requires query { Q.can_read key.now }
-        requires callable { MayAskKeys W.word K.shape V.shape self (F.pre cmp key) }
+        requires callable { MayAskKeys (index_of W.word K.shape V.shape self) (F.pre cmp key) }
         ensures walked { IfSome result (IsValueIn W.word K.shape V.shape self.entry) }
-        ensures answer { let hash = hash_of_calls H.hasher (Q.calls key.now) in
-            FindsBy W.word K.shape V.shape self.entry (F.post cmp key.entry) hash
+        ensures answer { FindsBy (index_of W.word K.shape V.shape self.entry)
+            (F.post cmp key.entry) H.hasher (Q.calls key.now)
             (IsValueAt W.word K.shape V.shape self.entry result) }
-        ensures first { let hash = hash_of_calls H.hasher (Q.calls key.now) in
-            let key_hash = hash_at H.hasher K.key_calls in
-            FindsFirstBy W.word K.shape V.shape self.entry (F.post cmp key.entry) hash key_hash
+        ensures first { FindsFirstBy (index_of W.word K.shape V.shape self.entry)
+            (F.post cmp key.entry) H.hasher (Q.calls key.now) K.key_calls
             (IsValueAt W.word K.shape V.shape self.entry result) }
     {
         self.value_of(self.find(key, cmp, &mut Strides::new()))
@@ -267,13 +247,11 @@ impl<'a, K: KeyElement, V: Element, H: KeyHasher, W: Width> ArchivedIndexMap<'a,
         requires map { IsIndexMap W.word K.shape V.shape self }
         requires query { Q.can_read key.now }
         ensures walked { IfSome result (IsValueIn W.word K.shape V.shape self.entry) }
-        ensures answer { let hash = hash_of_calls H.hasher (Q.calls key.now) in
-            FindsPlace W.word K.shape V.shape self.entry hash (fits_at W.word K.shape V.shape
-            self.entry (Q.fits key.now)) (IsValueAt W.word K.shape V.shape self.entry result) }
-        ensures first { let key_hash = hash_at H.hasher K.key_calls in
-            FindsFirstPlace W.word K.shape V.shape self.entry key_hash (fits_at W.word K.shape
-            V.shape self.entry (Q.fits key.now)) (IsValueAt W.word K.shape V.shape self.entry
-            result) }
+        ensures answer { FindsKey (index_of W.word K.shape V.shape self.entry) H.hasher
+            (Q.calls key.now) (Q.fits key.now)
+            (IsValueAt W.word K.shape V.shape self.entry result) }
+        ensures first { FindsFirstKey (index_of W.word K.shape V.shape self.entry) H.hasher
+            K.key_calls (Q.fits key.now) (IsValueAt W.word K.shape V.shape self.entry result) }
     {
         self.value_of(self.find_key(key))
     }
@@ -287,15 +265,13 @@ impl<'a, K: KeyElement, V: Element, H: KeyHasher, W: Width> ArchivedIndexMap<'a,
     ) -> Option<usize>
         requires map { IsIndexMap W.word K.shape V.shape self }
         requires query { Q.can_read key.now }
-        requires callable { MayAskKeys W.word K.shape V.shape self (F.pre cmp key) }
+        requires callable { MayAskKeys (index_of W.word K.shape V.shape self) (F.pre cmp key) }
         ensures walked { IfSome result (IsHeld W.word self.entry) }
         ensures below { IfSome result (λ i. i < index_len W.word self.entry) }
-        ensures answer { let hash = hash_of_calls H.hasher (Q.calls key.now) in
-            FindsBy W.word K.shape V.shape self.entry (F.post cmp key.entry) hash (IsPlace result) }
-        ensures first { let hash = hash_of_calls H.hasher (Q.calls key.now) in
-            let key_hash = hash_at H.hasher K.key_calls in
-            FindsFirstBy W.word K.shape V.shape self.entry (F.post cmp key.entry) hash key_hash
-            (IsPlace result) }
+        ensures answer { FindsBy (index_of W.word K.shape V.shape self.entry)
+            (F.post cmp key.entry) H.hasher (Q.calls key.now) (IsPlace result) }
+        ensures first { FindsFirstBy (index_of W.word K.shape V.shape self.entry)
+            (F.post cmp key.entry) H.hasher (Q.calls key.now) K.key_calls (IsPlace result) }
     {
         self.find(key, cmp, &mut Strides::new())
     }
@@ -315,15 +291,13 @@ impl<'a, K: KeyElement, V: Element, H: KeyHasher, W: Width> ArchivedIndexMap<'a,
         requires map { IsIndexMap W.word K.shape V.shape self }
         requires query { Q.can_read key.now }
         requires room { strides.old ≤ 2 ^ 63 }
-        requires callable { MayAskKeys W.word K.shape V.shape self (F.pre cmp key) }
+        requires callable { MayAskKeys (index_of W.word K.shape V.shape self) (F.pre cmp key) }
         ensures walked { IfSome result (IsHeld W.word self.entry) }
         ensures below { IfSome result (λ i. i < index_len W.word self.entry) }
-        ensures answer { let hash = hash_of_calls H.hasher (Q.calls key.now) in
-            FindsBy W.word K.shape V.shape self.entry (F.post cmp key.entry) hash (IsPlace result) }
-        ensures first { let hash = hash_of_calls H.hasher (Q.calls key.now) in
-            let key_hash = hash_at H.hasher K.key_calls in
-            FindsFirstBy W.word K.shape V.shape self.entry (F.post cmp key.entry) hash key_hash
-            (IsPlace result) }
+        ensures answer { FindsBy (index_of W.word K.shape V.shape self.entry)
+            (F.post cmp key.entry) H.hasher (Q.calls key.now) (IsPlace result) }
+        ensures first { FindsFirstBy (index_of W.word K.shape V.shape self.entry)
+            (F.post cmp key.entry) H.hasher (Q.calls key.now) K.key_calls (IsPlace result) }
         ensures bounded { ReadsFew W.word self.entry strides.old strides.new }
     {
         self.find(key, cmp, strides)
@@ -336,12 +310,10 @@ impl<'a, K: KeyElement, V: Element, H: KeyHasher, W: Width> ArchivedIndexMap<'a,
         requires query { Q.can_read key.now }
         ensures walked { IfSome result (IsHeld W.word self.entry) }
         ensures below { IfSome result (λ i. i < index_len W.word self.entry) }
-        ensures answer { let hash = hash_of_calls H.hasher (Q.calls key.now) in
-            FindsPlace W.word K.shape V.shape self.entry hash (fits_at W.word K.shape V.shape
-            self.entry (Q.fits key.now)) (IsPlace result) }
-        ensures first { let key_hash = hash_at H.hasher K.key_calls in
-            FindsFirstPlace W.word K.shape V.shape self.entry key_hash (fits_at W.word K.shape
-            V.shape self.entry (Q.fits key.now)) (IsPlace result) }
+        ensures answer { FindsKey (index_of W.word K.shape V.shape self.entry) H.hasher
+            (Q.calls key.now) (Q.fits key.now) (IsPlace result) }
+        ensures first { FindsFirstKey (index_of W.word K.shape V.shape self.entry) H.hasher
+            K.key_calls (Q.fits key.now) (IsPlace result) }
     {
         self.find_key(key)
     }
@@ -351,12 +323,10 @@ impl<'a, K: KeyElement, V: Element, H: KeyHasher, W: Width> ArchivedIndexMap<'a,
     pub fn contains_key<Q: Query<K>>(self, key: &Q) -> bool
         requires map { IsIndexMap W.word K.shape V.shape self }
         requires query { Q.can_read key.now }
-        ensures answer { let hash = hash_of_calls H.hasher (Q.calls key.now) in
-            FindsPlace W.word K.shape V.shape self.entry hash (fits_at W.word K.shape V.shape
-            self.entry (Q.fits key.now)) (IsFoundAt result) }
-        ensures first { let key_hash = hash_at H.hasher K.key_calls in
-            FindsFirstPlace W.word K.shape V.shape self.entry key_hash (fits_at W.word K.shape
-            V.shape self.entry (Q.fits key.now)) (IsFoundAt result) }
+        ensures answer { FindsKey (index_of W.word K.shape V.shape self.entry) H.hasher
+            (Q.calls key.now) (Q.fits key.now) (IsFoundAt result) }
+        ensures first { FindsFirstKey (index_of W.word K.shape V.shape self.entry) H.hasher
+            K.key_calls (Q.fits key.now) (IsFoundAt result) }
     {
         self.find_key(key).is_some()
     }

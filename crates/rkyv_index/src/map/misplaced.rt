@@ -1,12 +1,9 @@
 //! Counting the places that a lookup of their own key doesn't answer.
-ghost use Rattle.std.specs.Prelude.{List, not, ℕ, ◌<◌, ◌≡◌};
+ghost use Rattle.std.specs.Prelude.{not, ◌<◌, ◌≡◌};
 ghost use Rattle.rkyv_table.specs.Table.Misplaced.{is_answer};
-ghost use Rattle.rkyv_base.specs.Entry.{entry_shape};
-ghost use Rattle.rkyv_index.specs.Equality.{index_misplaced, index_repeated, is_repeated};
-ghost use Rattle.rkyv_index.specs.Equality.{own_found};
-ghost use Rattle.rkyv_index.specs.IndexFormat.{IndexWrittenAt};
-ghost use Rattle.rkyv_index.specs.Index.{AreEntries, IsIndexMap, hash_at, index_bytes, index_len};
-ghost use Rattle.rkyv_index.specs.Index.{index_pos};
+ghost use Rattle.rkyv_index.specs.Equality.{CountsRepeated, TellsRepeated, index_misplaced};
+ghost use Rattle.rkyv_index.specs.Equality.{is_misplaced};
+ghost use Rattle.rkyv_index.specs.Index.{AreEntries, IsIndexMap, hash_at, index_len, index_of};
 
 use crate::map::ArchivedIndexMap;
 use crate::map::entries::Entries;
@@ -32,15 +29,10 @@ impl<'a, K: KeyElement, V: Element, H: KeyHasher, W: Width> Entries<'a, K, V, H,
     fn is_misplaced(self, place: usize) -> bool
         requires entries { AreEntries W.word K.shape V.shape self }
         requires below { place < index_len W.word self.map }
-        ensures told { let key_hash = hash_at H.hasher K.key_calls in
-            let own = own_found W.word K.shape V.shape key_hash K.same
-            (index_bytes self.entry.map) (index_pos self.entry.map) place in
-            result ≡ not (is_answer place own) }
-        ensures repeated { let key_hash = hash_at H.hasher K.key_calls in
-            let b = index_bytes self.entry.map in let p = index_pos self.entry.map in
-            (homes : List ℕ) → IndexWrittenAt W.word (entry_shape K.shape V.shape).size key_hash b p
-            homes
-            → result ≡ is_repeated W.word K.shape V.shape key_hash K.same b p place }
+        ensures told { result ≡ is_misplaced (index_of W.word K.shape V.shape self.entry.map)
+            (hash_at H.hasher K.key_calls) K.same place }
+        ensures repeated { TellsRepeated (index_of W.word K.shape V.shape self.entry.map)
+            (hash_at H.hasher K.key_calls) K.same place result }
     {
         let key = self.entry(place).key();
         is_elsewhere(place, self.map.find_key(&key))
@@ -54,14 +46,10 @@ impl<'a, K: KeyElement, V: Element, H: KeyHasher, W: Width> ArchivedIndexMap<'a,
     /// In a map that was written these are the keys that are the same as one handed in earlier.
     pub fn misplaced(self) -> usize
         requires { IsIndexMap W.word K.shape V.shape self }
-        ensures told { let key_hash = hash_at H.hasher K.key_calls in
-            result ≡ index_misplaced W.word K.shape V.shape key_hash K.same
-            (index_bytes self.entry) (index_pos self.entry) }
-        ensures repeated { let key_hash = hash_at H.hasher K.key_calls in
-            let b = index_bytes self.entry in let p = index_pos self.entry in
-            (homes : List ℕ) → IndexWrittenAt W.word (entry_shape K.shape V.shape).size key_hash b p
-            homes
-            → result ≡ index_repeated W.word K.shape V.shape key_hash K.same b p }
+        ensures told { result ≡ index_misplaced (index_of W.word K.shape V.shape self.entry)
+            (hash_at H.hasher K.key_calls) K.same }
+        ensures repeated { CountsRepeated (index_of W.word K.shape V.shape self.entry)
+            (hash_at H.hasher K.key_calls) K.same result }
     {
         let entries = self.entries();
         let mut count = 0;

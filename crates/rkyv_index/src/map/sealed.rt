@@ -5,22 +5,22 @@ ghost use Rattle.rkyv_base.specs.Seal.{LiesIn, SealAt, archive_in, bytes_in, pos
 ghost use Rattle.rkyv_base.specs.Sealing.{value_pos};
 ghost use Rattle.rkyv_base.specs.Shape.{Viewed};
 ghost use Rattle.rkyv_base.specs.View.{IsView};
-ghost use Rattle.rkyv_scan.specs.Hash.{hash_of_calls};
 ghost use Rattle.rkyv_table.specs.Table.Header.{len_at};
-ghost use Rattle.rkyv_index.specs.Index.{FindsFirstPlaceAt, FindsPlaceAt, IsHeldAt, IsPlace};
-ghost use Rattle.rkyv_index.specs.Index.{fits_in, hash_at};
-ghost use Rattle.rkyv_index.specs.IndexLayout.{pair_pos};
+ghost use Rattle.rkyv_index.specs.Index.{FindsBy, FindsFirstBy, FindsFirstKey, FindsKey};
+ghost use Rattle.rkyv_index.specs.Index.{IsHeldAt, IsIndexMap, IsPlace, MayAskKeys};
+ghost use Rattle.rkyv_index.specs.Index.{index_bytes, index_pos};
 ghost use Rattle.rkyv_index.specs.SealedIndex.{
-  FindsByAt,
-  FindsFirstByAt,
   IsFullSeal,
   IsFullSealAt,
   IsIndexSeal,
+  IsPairPos,
   IsPairSeal,
   IsPairSealAt,
   IsValueSeal,
   IsValueSealAt,
-  MayAskKeysAt,
+  LendsPair,
+  LendsValue,
+  index_of_seal,
 };
 
 use crate::map::{ArchivedIndexMap, IndexMapOf};
@@ -50,6 +50,19 @@ fn value_seal<'a, K: Element, V: Element, H, W>(
 
 // The places of pairs, in the map that is read where a seal is, and what is lent there.
 impl<'a, K: KeyElement, V: Element, H: KeyHasher, W: Width> ArchivedIndexMap<'a, K, V, H, W> {
+    /// The map that is read where a seal is.
+    #[inline]
+    fn read<'s>(
+        this: &'s ArchiveSeal<'_, IndexMapOf<K, V, H, W>>,
+    ) -> ArchivedIndexMap<'s, K, V, H, W>
+        requires { IsIndexSeal W.word K.shape V.shape this.now }
+        ensures map { IsIndexMap W.word K.shape V.shape result }
+        ensures bytes { index_bytes result ≡ archive_in this.now }
+        ensures pos { index_pos result ≡ pos_in this.now }
+    {
+        ArchivedIndexMap::of(this.as_view())
+    }
+
     /// The place that `find` answers.
     #[inline]
     fn find_in<Q: KeyHash, F: Fn(&Q, View<'_, K>) -> bool>(
@@ -59,20 +72,17 @@ impl<'a, K: KeyElement, V: Element, H: KeyHasher, W: Width> ArchivedIndexMap<'a,
     ) -> Option<usize>
         requires map { IsIndexSeal W.word K.shape V.shape this.now }
         requires query { Q.can_read key.now }
-        requires callable { MayAskKeysAt W.word K.shape V.shape
-            (archive_in this.now) (pos_in this.now) (F.pre cmp key) }
+        requires callable { MayAskKeys (index_of_seal W.word K.shape V.shape this.now)
+            (F.pre cmp key) }
         ensures held { IfSome result (IsHeldAt W.word (archive_in this.now) (pos_in this.now)) }
         ensures below { IfSome result
             (λ i. i < len_at W.word (archive_in this.now) (pos_in this.now)) }
-        ensures answer { let hash = hash_of_calls H.hasher (Q.calls key.now) in
-            FindsByAt W.word K.shape V.shape (archive_in this.now) (pos_in this.now)
-            (F.post cmp key.entry) hash (IsPlace result) }
-        ensures first { let hash = hash_of_calls H.hasher (Q.calls key.now) in
-            let key_hash = hash_at H.hasher K.key_calls in
-            FindsFirstByAt W.word K.shape V.shape (archive_in this.now) (pos_in this.now)
-            (F.post cmp key.entry) hash key_hash (IsPlace result) }
+        ensures answer { FindsBy (index_of_seal W.word K.shape V.shape this.now)
+            (F.post cmp key.entry) H.hasher (Q.calls key.now) (IsPlace result) }
+        ensures first { FindsFirstBy (index_of_seal W.word K.shape V.shape this.now)
+            (F.post cmp key.entry) H.hasher (Q.calls key.now) K.key_calls (IsPlace result) }
     {
-        ArchivedIndexMap::of(this.as_view()).find(key, cmp, &mut Strides::new())
+        Self::read(this).find(key, cmp, &mut Strides::new())
     }
 
     /// The place of the key that is asked for.
@@ -86,16 +96,12 @@ impl<'a, K: KeyElement, V: Element, H: KeyHasher, W: Width> ArchivedIndexMap<'a,
         ensures held { IfSome result (IsHeldAt W.word (archive_in this.now) (pos_in this.now)) }
         ensures below { IfSome result
             (λ i. i < len_at W.word (archive_in this.now) (pos_in this.now)) }
-        ensures answer { let hash = hash_of_calls H.hasher (Q.calls key.now) in
-            FindsPlaceAt W.word K.shape V.shape (archive_in this.now) (pos_in this.now) hash
-            (fits_in W.word K.shape V.shape (archive_in this.now) (pos_in this.now)
-            (Q.fits key.now)) (IsPlace result) }
-        ensures first { let key_hash = hash_at H.hasher K.key_calls in
-            FindsFirstPlaceAt W.word K.shape V.shape (archive_in this.now) (pos_in this.now)
-            key_hash (fits_in W.word K.shape V.shape (archive_in this.now) (pos_in this.now)
-            (Q.fits key.now)) (IsPlace result) }
+        ensures answer { FindsKey (index_of_seal W.word K.shape V.shape this.now) H.hasher
+            (Q.calls key.now) (Q.fits key.now) (IsPlace result) }
+        ensures first { FindsFirstKey (index_of_seal W.word K.shape V.shape this.now) H.hasher
+            K.key_calls (Q.fits key.now) (IsPlace result) }
     {
-        ArchivedIndexMap::of(this.as_view()).find_key(key)
+        Self::read(this).find_key(key)
     }
 
     /// Where the pair of a place stands.
@@ -103,13 +109,41 @@ impl<'a, K: KeyElement, V: Element, H: KeyHasher, W: Width> ArchivedIndexMap<'a,
     fn pair_pos_in(this: &ArchiveSeal<'_, IndexMapOf<K, V, H, W>>, place: usize) -> u64
         requires map { IsIndexSeal W.word K.shape V.shape this.now }
         requires below { place < len_at W.word (archive_in this.now) (pos_in this.now) }
-        ensures { result ≡ pair_pos W.word (entry_shape K.shape V.shape).size
-            (archive_in this.now) (pos_in this.now) place }
+        ensures at { IsPairPos W.word K.shape V.shape (archive_in this.now) (pos_in this.now) place
+            result }
+        ensures entry { Viewed (entry_shape K.shape V.shape) (archive_in this.now) result }
     {
-        ArchivedIndexMap::of(this.as_view())
-            .entries()
-            .entry(place)
-            .pos()
+        Self::read(this).entries().entry(place).pos()
+    }
+
+    /// Lends the pair of a place.
+    #[inline]
+    fn lend_pair(
+        this: ArchiveSeal<'a, IndexMapOf<K, V, H, W>>,
+        place: usize,
+    ) -> (View<'a, K>, Seal<'a, V>)
+        requires map { IsIndexSeal W.word K.shape V.shape this }
+        requires below { place < len_at W.word (archive_in this) (pos_in this) }
+        ensures inside { LiesIn V.shape result.1 }
+        ensures lent { LendsPair W.word K.shape V.shape (archive_in this.entry) (pos_in this.entry)
+            place result }
+    {
+        let pos = Self::pair_pos_in(&this, place);
+        this.split_value(pos)
+    }
+
+    /// Lends the value of a place.
+    #[inline]
+    fn lend_value(this: ArchiveSeal<'a, IndexMapOf<K, V, H, W>>, place: usize) -> Seal<'a, V>
+        requires map { IsIndexSeal W.word K.shape V.shape this }
+        requires below { place < len_at W.word (archive_in this) (pos_in this) }
+        ensures inside { LiesIn V.shape result }
+        ensures viewed { Viewed V.shape (bytes_in result) (seal_pos result) }
+        ensures lent { LendsValue W.word K.shape V.shape (archive_in this.entry) (pos_in this.entry)
+            place result }
+    {
+        let pos = Self::pair_pos_in(&this, place);
+        value_seal::<K, V, H, W>(this, pos)
     }
 
     /// Lends the pair of a place that was found, with the place.
@@ -129,8 +163,7 @@ impl<'a, K: KeyElement, V: Element, H: KeyHasher, W: Width> ArchivedIndexMap<'a,
     {
         match place {
             Some(place) => {
-                let pos = Self::pair_pos_in(&this, place);
-                let (key, value) = this.split_value(pos);
+                let (key, value) = Self::lend_pair(this, place);
                 Some((place, key, value))
             }
             None => None,
@@ -153,10 +186,7 @@ impl<'a, K: KeyElement, V: Element, H: KeyHasher, W: Width> ArchivedIndexMap<'a,
         ensures at { IsPairSealAt W.word K.shape V.shape this.entry result place }
     {
         match place {
-            Some(place) => {
-                let pos = Self::pair_pos_in(&this, place);
-                Some(this.split_value(pos))
-            }
+            Some(place) => Some(Self::lend_pair(this, place)),
             None => None,
         }
     }
@@ -177,10 +207,7 @@ impl<'a, K: KeyElement, V: Element, H: KeyHasher, W: Width> ArchivedIndexMap<'a,
         ensures at { IsValueSealAt W.word K.shape V.shape this.entry result place }
     {
         match place {
-            Some(place) => {
-                let pos = Self::pair_pos_in(&this, place);
-                Some(value_seal::<K, V, H, W>(this, pos))
-            }
+            Some(place) => Some(Self::lend_value(this, place)),
             None => None,
         }
     }
@@ -199,18 +226,14 @@ impl<'a, K: KeyElement, V: Element, H: KeyHasher, W: Width> ArchivedIndexMap<'a,
     ) -> Option<(usize, View<'a, K>, Seal<'a, V>)>
         requires map { IsIndexSeal W.word K.shape V.shape this }
         requires query { Q.can_read key.now }
-        requires callable { MayAskKeysAt W.word K.shape V.shape (archive_in this) (pos_in this)
-            (F.pre cmp key) }
+        requires callable { MayAskKeys (index_of_seal W.word K.shape V.shape this) (F.pre cmp key) }
         ensures inside { IfSome result (λ full. LiesIn V.shape full.2) }
         ensures viewed { IfSome result (λ full. IsView K.shape full.1) }
         ensures walked { IfSome result (IsFullSeal W.word K.shape V.shape this.entry) }
-        ensures answer { let hash = hash_of_calls H.hasher (Q.calls key.now) in
-            FindsByAt W.word K.shape V.shape (archive_in this.entry) (pos_in this.entry)
-            (F.post cmp key.entry) hash (IsFullSealAt result) }
-        ensures first { let hash = hash_of_calls H.hasher (Q.calls key.now) in
-            let key_hash = hash_at H.hasher K.key_calls in
-            FindsFirstByAt W.word K.shape V.shape (archive_in this.entry) (pos_in this.entry)
-            (F.post cmp key.entry) hash key_hash (IsFullSealAt result) }
+        ensures answer { FindsBy (index_of_seal W.word K.shape V.shape this.entry)
+            (F.post cmp key.entry) H.hasher (Q.calls key.now) (IsFullSealAt result) }
+        ensures first { FindsFirstBy (index_of_seal W.word K.shape V.shape this.entry)
+            (F.post cmp key.entry) H.hasher (Q.calls key.now) K.key_calls (IsFullSealAt result) }
     {
         let place = Self::find_in(&this, key, cmp);
         Self::full_seal_of(this, place)
@@ -227,14 +250,10 @@ impl<'a, K: KeyElement, V: Element, H: KeyHasher, W: Width> ArchivedIndexMap<'a,
         ensures inside { IfSome result (λ full. LiesIn V.shape full.2) }
         ensures viewed { IfSome result (λ full. IsView K.shape full.1) }
         ensures walked { IfSome result (IsFullSeal W.word K.shape V.shape this.entry) }
-        ensures answer { let hash = hash_of_calls H.hasher (Q.calls key.now) in
-            FindsPlaceAt W.word K.shape V.shape (archive_in this.entry) (pos_in this.entry) hash
-            (fits_in W.word K.shape V.shape (archive_in this.entry) (pos_in this.entry)
-            (Q.fits key.now)) (IsFullSealAt result) }
-        ensures first { let key_hash = hash_at H.hasher K.key_calls in
-            FindsFirstPlaceAt W.word K.shape V.shape (archive_in this.entry) (pos_in this.entry)
-            key_hash (fits_in W.word K.shape V.shape (archive_in this.entry) (pos_in this.entry)
-            (Q.fits key.now)) (IsFullSealAt result) }
+        ensures answer { FindsKey (index_of_seal W.word K.shape V.shape this.entry) H.hasher
+            (Q.calls key.now) (Q.fits key.now) (IsFullSealAt result) }
+        ensures first { FindsFirstKey (index_of_seal W.word K.shape V.shape this.entry) H.hasher
+            K.key_calls (Q.fits key.now) (IsFullSealAt result) }
     {
         let place = Self::find_key_in(&this, key);
         Self::full_seal_of(this, place)
@@ -249,20 +268,16 @@ impl<'a, K: KeyElement, V: Element, H: KeyHasher, W: Width> ArchivedIndexMap<'a,
     ) -> Option<(View<'a, K>, Seal<'a, V>)>
         requires map { IsIndexSeal W.word K.shape V.shape this }
         requires query { Q.can_read key.now }
-        requires callable { MayAskKeysAt W.word K.shape V.shape (archive_in this) (pos_in this)
-            (F.pre cmp key) }
+        requires callable { MayAskKeys (index_of_seal W.word K.shape V.shape this) (F.pre cmp key) }
         ensures inside { IfSome result (λ pair. LiesIn V.shape pair.1) }
         ensures viewed { IfSome result (λ pair. IsView K.shape pair.0) }
         ensures walked { IfSome result (IsPairSeal W.word K.shape V.shape this.entry) }
-        ensures answer { let hash = hash_of_calls H.hasher (Q.calls key.now) in
-            FindsByAt W.word K.shape V.shape (archive_in this.entry) (pos_in this.entry)
-            (F.post cmp key.entry) hash (IsPairSealAt W.word K.shape V.shape this.entry
-            result) }
-        ensures first { let hash = hash_of_calls H.hasher (Q.calls key.now) in
-            let key_hash = hash_at H.hasher K.key_calls in
-            FindsFirstByAt W.word K.shape V.shape (archive_in this.entry) (pos_in this.entry)
-            (F.post cmp key.entry) hash key_hash (IsPairSealAt W.word K.shape V.shape this.entry
-            result) }
+        ensures answer { FindsBy (index_of_seal W.word K.shape V.shape this.entry)
+            (F.post cmp key.entry) H.hasher (Q.calls key.now)
+            (IsPairSealAt W.word K.shape V.shape this.entry result) }
+        ensures first { FindsFirstBy (index_of_seal W.word K.shape V.shape this.entry)
+            (F.post cmp key.entry) H.hasher (Q.calls key.now) K.key_calls
+            (IsPairSealAt W.word K.shape V.shape this.entry result) }
     {
         let place = Self::find_in(&this, key, cmp);
         Self::pair_seal_of(this, place)
@@ -279,16 +294,11 @@ impl<'a, K: KeyElement, V: Element, H: KeyHasher, W: Width> ArchivedIndexMap<'a,
         ensures inside { IfSome result (λ pair. LiesIn V.shape pair.1) }
         ensures viewed { IfSome result (λ pair. IsView K.shape pair.0) }
         ensures walked { IfSome result (IsPairSeal W.word K.shape V.shape this.entry) }
-        ensures answer { let hash = hash_of_calls H.hasher (Q.calls key.now) in
-            FindsPlaceAt W.word K.shape V.shape (archive_in this.entry) (pos_in this.entry) hash
-            (fits_in W.word K.shape V.shape (archive_in this.entry) (pos_in this.entry)
-            (Q.fits key.now)) (IsPairSealAt W.word K.shape V.shape this.entry
-            result) }
-        ensures first { let key_hash = hash_at H.hasher K.key_calls in
-            FindsFirstPlaceAt W.word K.shape V.shape (archive_in this.entry) (pos_in this.entry)
-            key_hash (fits_in W.word K.shape V.shape (archive_in this.entry) (pos_in this.entry)
-            (Q.fits key.now)) (IsPairSealAt W.word K.shape V.shape this.entry
-            result) }
+        ensures answer { FindsKey (index_of_seal W.word K.shape V.shape this.entry) H.hasher
+            (Q.calls key.now) (Q.fits key.now)
+            (IsPairSealAt W.word K.shape V.shape this.entry result) }
+        ensures first { FindsFirstKey (index_of_seal W.word K.shape V.shape this.entry) H.hasher
+            K.key_calls (Q.fits key.now) (IsPairSealAt W.word K.shape V.shape this.entry result) }
     {
         let place = Self::find_key_in(&this, key);
         Self::pair_seal_of(this, place)
@@ -303,20 +313,16 @@ impl<'a, K: KeyElement, V: Element, H: KeyHasher, W: Width> ArchivedIndexMap<'a,
     ) -> Option<Seal<'a, V>>
         requires map { IsIndexSeal W.word K.shape V.shape this }
         requires query { Q.can_read key.now }
-        requires callable { MayAskKeysAt W.word K.shape V.shape (archive_in this) (pos_in this)
-            (F.pre cmp key) }
+        requires callable { MayAskKeys (index_of_seal W.word K.shape V.shape this) (F.pre cmp key) }
         ensures inside { IfSome result (LiesIn V.shape) }
         ensures viewed { IfSome result (λ value. Viewed V.shape (bytes_in value) (seal_pos value)) }
         ensures walked { IfSome result (IsValueSeal W.word K.shape V.shape this.entry) }
-        ensures answer { let hash = hash_of_calls H.hasher (Q.calls key.now) in
-            FindsByAt W.word K.shape V.shape (archive_in this.entry) (pos_in this.entry)
-            (F.post cmp key.entry) hash (IsValueSealAt W.word K.shape V.shape this.entry
-            result) }
-        ensures first { let hash = hash_of_calls H.hasher (Q.calls key.now) in
-            let key_hash = hash_at H.hasher K.key_calls in
-            FindsFirstByAt W.word K.shape V.shape (archive_in this.entry) (pos_in this.entry)
-            (F.post cmp key.entry) hash key_hash (IsValueSealAt W.word K.shape V.shape this.entry
-            result) }
+        ensures answer { FindsBy (index_of_seal W.word K.shape V.shape this.entry)
+            (F.post cmp key.entry) H.hasher (Q.calls key.now)
+            (IsValueSealAt W.word K.shape V.shape this.entry result) }
+        ensures first { FindsFirstBy (index_of_seal W.word K.shape V.shape this.entry)
+            (F.post cmp key.entry) H.hasher (Q.calls key.now) K.key_calls
+            (IsValueSealAt W.word K.shape V.shape this.entry result) }
     {
         let place = Self::find_in(&this, key, cmp);
         Self::value_seal_of(this, place)
@@ -333,16 +339,11 @@ impl<'a, K: KeyElement, V: Element, H: KeyHasher, W: Width> ArchivedIndexMap<'a,
         ensures inside { IfSome result (LiesIn V.shape) }
         ensures viewed { IfSome result (λ value. Viewed V.shape (bytes_in value) (seal_pos value)) }
         ensures walked { IfSome result (IsValueSeal W.word K.shape V.shape this.entry) }
-        ensures answer { let hash = hash_of_calls H.hasher (Q.calls key.now) in
-            FindsPlaceAt W.word K.shape V.shape (archive_in this.entry) (pos_in this.entry) hash
-            (fits_in W.word K.shape V.shape (archive_in this.entry) (pos_in this.entry)
-            (Q.fits key.now)) (IsValueSealAt W.word K.shape V.shape this.entry
-            result) }
-        ensures first { let key_hash = hash_at H.hasher K.key_calls in
-            FindsFirstPlaceAt W.word K.shape V.shape (archive_in this.entry) (pos_in this.entry)
-            key_hash (fits_in W.word K.shape V.shape (archive_in this.entry) (pos_in this.entry)
-            (Q.fits key.now)) (IsValueSealAt W.word K.shape V.shape this.entry
-            result) }
+        ensures answer { FindsKey (index_of_seal W.word K.shape V.shape this.entry) H.hasher
+            (Q.calls key.now) (Q.fits key.now)
+            (IsValueSealAt W.word K.shape V.shape this.entry result) }
+        ensures first { FindsFirstKey (index_of_seal W.word K.shape V.shape this.entry) H.hasher
+            K.key_calls (Q.fits key.now) (IsValueSealAt W.word K.shape V.shape this.entry result) }
     {
         let place = Self::find_key_in(&this, key);
         Self::value_seal_of(this, place)

@@ -1,16 +1,16 @@
 //! Equality of index sets, and the places that a lookup doesn't answer.
-ghost use Rattle.std.specs.Prelude.{List, ℕ, ◌≡◌};
+ghost use Rattle.std.specs.Prelude.{◌≡◌};
 ghost use Rattle.rkyv_base.specs.Empty.{unit_element, unit_shape};
 ghost use Rattle.rkyv_base.specs.Entry.{entry_element, entry_shape};
 ghost use Rattle.rkyv_base.specs.View.{IsView};
-ghost use Rattle.rkyv_keys.specs.OfEntries.{entry_equivalence, entry_same};
-ghost use Rattle.rkyv_keys.specs.OfUnits.{unit_equivalence, unit_same};
+ghost use Rattle.rkyv_keys.specs.OfEntries.{entry_equivalence};
+ghost use Rattle.rkyv_keys.specs.OfUnits.{unit_equivalence};
 ghost use Rattle.rkyv_keys.specs.Places.{at_views};
 ghost use Rattle.rkyv_index.specs.Lemmas.EqualLaws.{index_equivalence};
-ghost use Rattle.rkyv_index.specs.Equality.{index_equal, index_misplaced, index_repeated};
-ghost use Rattle.rkyv_index.specs.Index.{hash_at, index_bytes, index_pos};
-ghost use Rattle.rkyv_index.specs.IndexFormat.{IndexWrittenAt};
-ghost use Rattle.rkyv_index.specs.IndexSet.{IsIndexSet, index_set_shape, keys_of};
+ghost use Rattle.rkyv_index.specs.Equality.{CountsRepeated, index_misplaced};
+ghost use Rattle.rkyv_index.specs.Index.{hash_at};
+ghost use Rattle.rkyv_index.specs.IndexSet.{IsIndexSet, index_of_set, index_set_equal};
+ghost use Rattle.rkyv_index.specs.IndexSet.{index_set_shape, set_bytes, set_pos};
 
 use crate::set::{ArchivedIndexSet, IndexSetOf};
 use rkyv_base::view::View;
@@ -24,10 +24,8 @@ impl<'a, K: ElementEq, H, W: Width> ArchivedIndexSet<'a, K, H, W> {
     pub fn eq_index(self, other: ArchivedIndexSet<'_, K, H, W>) -> bool
         requires own { IsIndexSet W.word K.shape self }
         requires other { IsIndexSet W.word K.shape other }
-        ensures { result ≡ index_equal W.word (entry_shape K.shape unit_shape)
-            (entry_same K.shape unit_shape K.same unit_same) (index_bytes (keys_of self.entry))
-            (index_pos (keys_of self.entry)) (index_bytes (keys_of other.entry))
-            (index_pos (keys_of other.entry)) }
+        ensures { result ≡ index_set_equal W.word K.shape K.same (set_bytes self.entry)
+            (set_pos self.entry) (set_bytes other.entry) (set_pos other.entry) }
     {
         self.map.eq_index(other.map)
     }
@@ -38,29 +36,23 @@ impl<'a, K: KeyElement, H: KeyHasher, W: Width> ArchivedIndexSet<'a, K, H, W> {
     /// of how many an earlier place has the same key.
     pub fn misplaced(self) -> usize
         requires { IsIndexSet W.word K.shape self }
-        ensures told { let key_hash = hash_at H.hasher K.key_calls in
-            result ≡ index_misplaced W.word K.shape unit_shape key_hash K.same
-            (index_bytes (keys_of self.entry)) (index_pos (keys_of self.entry)) }
-        ensures repeated { let key_hash = hash_at H.hasher K.key_calls in
-            let b = index_bytes (keys_of self.entry) in let p = index_pos (keys_of self.entry) in
-            (homes : List ℕ) → IndexWrittenAt W.word (entry_shape K.shape unit_shape).size key_hash
-            b p homes
-            → result ≡ index_repeated W.word K.shape unit_shape key_hash K.same b p }
+        ensures told { result ≡ index_misplaced (index_of_set W.word K.shape self.entry)
+            (hash_at H.hasher K.key_calls) K.same }
+        ensures repeated { CountsRepeated (index_of_set W.word K.shape self.entry)
+            (hash_at H.hasher K.key_calls) K.same result }
     {
         self.map.misplaced()
     }
 }
 
 impl<K: ElementEq, H, W: Width> ElementEq for IndexSetOf<K, H, W> {
-    ghost same = { index_equal W.word (entry_shape K.shape unit_shape)
-        (entry_same K.shape unit_shape K.same unit_same) };
+    ghost same = { index_set_equal W.word K.shape K.same };
 
     #[inline]
     fn same(a: View<'_, IndexSetOf<K, H, W>>, b: View<'_, IndexSetOf<K, H, W>>) -> bool
         requires a { IsView (index_set_shape W.word K.shape) a }
         requires b { IsView (index_set_shape W.word K.shape) b }
-        ensures { result ≡ at_views (index_equal W.word (entry_shape K.shape unit_shape)
-            (entry_same K.shape unit_shape K.same unit_same)) a.entry b.entry }
+        ensures { result ≡ at_views (index_set_equal W.word K.shape K.same) a.entry b.entry }
     {
         ArchivedIndexSet::of(a).eq_index(ArchivedIndexSet::of(b))
     }

@@ -2,14 +2,11 @@
 ghost use Rattle.std.specs.Prelude.{IfSome, IsTrue, MatchOption, length, ◌<◌, ◌↔◌, ◌≡◌, ◌≤◌};
 ghost use Rattle.rkyv_base.specs.Empty.{unit_shape};
 ghost use Rattle.rkyv_base.specs.Entry.{entry_shape};
-ghost use Rattle.rkyv_scan.specs.Hash.{hash_of_calls};
 ghost use Rattle.rkyv_base.specs.View.{IsAt, IsView, archive_of, pos_of};
 ghost use Rattle.rkyv_table.specs.Table.RawItems.{AllStand};
-ghost use Rattle.rkyv_index.specs.Complete.{FindsTheOne};
-ghost use Rattle.rkyv_index.specs.Equality.{index_misplaced};
-ghost use Rattle.rkyv_index.specs.Index.{FindsFirstPlace, FindsPlace, IsFoundAt, IsHeld, IsKeyOf};
-ghost use Rattle.rkyv_index.specs.Index.{IsPlace, fits_at, hash_at, index_archive, index_bytes};
-ghost use Rattle.rkyv_index.specs.Index.{index_len, index_pos, key_positions};
+ghost use Rattle.rkyv_index.specs.Complete.{FindsOneKey};
+ghost use Rattle.rkyv_index.specs.Index.{FindsFirstKey, FindsKey, IsFoundAt, IsHeld, IsKeyOf};
+ghost use Rattle.rkyv_index.specs.Index.{IsPlace, index_archive, index_len, key_positions};
 ghost use Rattle.rkyv_index.specs.IndexSet.{
   IsFullMemberAt,
   IsFullMemberIn,
@@ -17,6 +14,7 @@ ghost use Rattle.rkyv_index.specs.IndexSet.{
   IsMemberAt,
   IsMemberIn,
   full_member_place,
+  index_of_set,
   index_set_shape,
   keys_of,
 };
@@ -96,18 +94,12 @@ impl<'a, K: KeyElement, H: KeyHasher, W: Width> ArchivedIndexSet<'a, K, H, W> {
         requires set { IsIndexSet W.word K.shape self }
         requires query { Q.can_read key.now }
         ensures walked { IfSome result (IsFullMemberIn W.word K.shape self.entry) }
-        ensures answer { let hash = hash_of_calls H.hasher (Q.calls key.now) in
-            FindsPlace W.word K.shape unit_shape (keys_of self.entry) hash (fits_at W.word K.shape
-            unit_shape (keys_of self.entry) (Q.fits key.now)) (IsFullMemberAt result) }
-        ensures first { let key_hash = hash_at H.hasher K.key_calls in
-            FindsFirstPlace W.word K.shape unit_shape (keys_of self.entry) key_hash
-            (fits_at W.word K.shape unit_shape (keys_of self.entry) (Q.fits key.now))
-            (IsFullMemberAt result) }
-        ensures complete { let key_hash = hash_at H.hasher K.key_calls in
-            index_misplaced W.word K.shape unit_shape key_hash K.same
-            (index_bytes (keys_of self.entry)) (index_pos (keys_of self.entry)) ≡ 0
-            → FindsTheOne (index_len W.word (keys_of self.entry)) (fits_at W.word K.shape unit_shape
-            (keys_of self.entry) (Q.fits key.now)) (full_member_place result) }
+        ensures answer { FindsKey (index_of_set W.word K.shape self.entry) H.hasher
+            (Q.calls key.now) (Q.fits key.now) (IsFullMemberAt result) }
+        ensures first { FindsFirstKey (index_of_set W.word K.shape self.entry) H.hasher
+            K.key_calls (Q.fits key.now) (IsFullMemberAt result) }
+        ensures complete { FindsOneKey (index_of_set W.word K.shape self.entry) H.hasher
+            K.key_calls K.same (Q.fits key.now) (full_member_place result) }
     {
         match self.map.get_full(key) {
             Some((place, stored, _)) => Some((place, stored)),
@@ -121,14 +113,10 @@ impl<'a, K: KeyElement, H: KeyHasher, W: Width> ArchivedIndexSet<'a, K, H, W> {
         requires set { IsIndexSet W.word K.shape self }
         requires query { Q.can_read key.now }
         ensures walked { IfSome result (IsMemberIn W.word K.shape self.entry) }
-        ensures answer { let hash = hash_of_calls H.hasher (Q.calls key.now) in
-            FindsPlace W.word K.shape unit_shape (keys_of self.entry) hash (fits_at W.word K.shape
-            unit_shape (keys_of self.entry) (Q.fits key.now)) (IsMemberAt W.word K.shape
-            self.entry result) }
-        ensures first { let key_hash = hash_at H.hasher K.key_calls in
-            FindsFirstPlace W.word K.shape unit_shape (keys_of self.entry) key_hash
-            (fits_at W.word K.shape unit_shape (keys_of self.entry) (Q.fits key.now))
-            (IsMemberAt W.word K.shape self.entry result) }
+        ensures answer { FindsKey (index_of_set W.word K.shape self.entry) H.hasher
+            (Q.calls key.now) (Q.fits key.now) (IsMemberAt W.word K.shape self.entry result) }
+        ensures first { FindsFirstKey (index_of_set W.word K.shape self.entry) H.hasher
+            K.key_calls (Q.fits key.now) (IsMemberAt W.word K.shape self.entry result) }
     {
         self.key_of(self.map.find_key(key))
     }
@@ -155,13 +143,10 @@ impl<'a, K: KeyElement, H: KeyHasher, W: Width> ArchivedIndexSet<'a, K, H, W> {
         requires query { Q.can_read key.now }
         ensures walked { IfSome result (IsHeld W.word (keys_of self.entry)) }
         ensures below { IfSome result (λ i. i < index_len W.word (keys_of self.entry)) }
-        ensures answer { let hash = hash_of_calls H.hasher (Q.calls key.now) in
-            FindsPlace W.word K.shape unit_shape (keys_of self.entry) hash (fits_at W.word K.shape
-            unit_shape (keys_of self.entry) (Q.fits key.now)) (IsPlace result) }
-        ensures first { let key_hash = hash_at H.hasher K.key_calls in
-            FindsFirstPlace W.word K.shape unit_shape (keys_of self.entry) key_hash
-            (fits_at W.word K.shape unit_shape (keys_of self.entry) (Q.fits key.now))
-            (IsPlace result) }
+        ensures answer { FindsKey (index_of_set W.word K.shape self.entry) H.hasher
+            (Q.calls key.now) (Q.fits key.now) (IsPlace result) }
+        ensures first { FindsFirstKey (index_of_set W.word K.shape self.entry) H.hasher
+            K.key_calls (Q.fits key.now) (IsPlace result) }
     {
         self.map.get_index_of(key)
     }
@@ -171,13 +156,10 @@ impl<'a, K: KeyElement, H: KeyHasher, W: Width> ArchivedIndexSet<'a, K, H, W> {
     pub fn contains<Q: Query<K>>(self, key: &Q) -> bool
         requires set { IsIndexSet W.word K.shape self }
         requires query { Q.can_read key.now }
-        ensures answer { let hash = hash_of_calls H.hasher (Q.calls key.now) in
-            FindsPlace W.word K.shape unit_shape (keys_of self.entry) hash (fits_at W.word K.shape
-            unit_shape (keys_of self.entry) (Q.fits key.now)) (IsFoundAt result) }
-        ensures first { let key_hash = hash_at H.hasher K.key_calls in
-            FindsFirstPlace W.word K.shape unit_shape (keys_of self.entry) key_hash
-            (fits_at W.word K.shape unit_shape (keys_of self.entry) (Q.fits key.now))
-            (IsFoundAt result) }
+        ensures answer { FindsKey (index_of_set W.word K.shape self.entry) H.hasher
+            (Q.calls key.now) (Q.fits key.now) (IsFoundAt result) }
+        ensures first { FindsFirstKey (index_of_set W.word K.shape self.entry) H.hasher
+            K.key_calls (Q.fits key.now) (IsFoundAt result) }
     {
         self.map.contains_key(key)
     }

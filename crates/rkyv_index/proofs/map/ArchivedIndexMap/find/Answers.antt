@@ -2,7 +2,7 @@ use Rattle.std.proofs.Common.{Some, None, ap, sym, subst, ◌∙◌, ◌≡◌, 
 use Rattle.rkyv_base.specs.Bytes.{number_at}
 use Rattle.rkyv_base.specs.View.{bytes_of}
 use Rattle.rkyv_scan.specs.Hash.{hash_of_calls}
-use Rattle.rkyv_index.specs.Index.{AreUnderHash, IsKeyOf, hash_at, index_bytes, index_found, index_len, index_pos, key_pos}
+use Rattle.rkyv_index.specs.Index.{AreUnderHash, IsKeyOf, hash_at, index_bytes, index_found, index_len, index_of, index_pos, key_pos}
 use Rattle.rkyv_index.specs.IndexLayout.{places_of}
 use Rattle.rkyv_index.proofs.Lookups.{first_is, place_is, read_there, under_there, written_there}
 use Rattle.rkyv_index.proofs.map.ArchivedIndexMap.find.Goals as goal
@@ -48,7 +48,7 @@ returns-in-Some-clause-first g c = λ accept alone under homes written.
     let h = c.in-Some.held in
     let value : c.place_held.result ≡ number_at w b h.pos =
     c.place_held.ensures.value ∙ ap (λ (x : List ℕ). number_at w x h.pos) (read_there w kind k v kl vl m c.requires.map e is t c.table-table.ensures.at h c.in-Some.ensures.walked) in
-    let under' : AreUnderHash w k v m c.hash_value-hash.result (hash_at g.H.KeyHasher.hasher g.K.KeyElement.key_calls) accept = λ i below accepted. under i below accepted ∙ sym hash in
+    let under' : AreUnderHash (index_of w k v m) c.hash_value-hash.result (hash_at g.H.KeyHasher.hasher g.K.KeyElement.key_calls) accept = λ i below accepted. under i below accepted ∙ sym hash in
     let at = c.table-table.ensures.at in
     let key_hash = hash_at g.H.KeyHasher.hasher g.K.KeyElement.key_calls in
     let hashes = map (λ i. key_hash b (key_pos w k v m i)) (places_of (index_len w m)) in
@@ -94,7 +94,7 @@ returns-clause-first g c = λ accept alone under homes written.
     let kind = g.met.W.Width.layout.kind in
     let is = g.met.W.Width.place in
     let hash : c.hash_value-hash.result ≡ hash_of_calls g.H.KeyHasher.hasher (g.Q.KeyHash.calls c.args.key.now) = c.hash_value-hash.ensures in
-    let under' : AreUnderHash w k v m c.hash_value-hash.result (hash_at g.H.KeyHasher.hasher g.K.KeyElement.key_calls) accept = λ i below accepted. under i below accepted ∙ sym hash in
+    let under' : AreUnderHash (index_of w k v m) c.hash_value-hash.result (hash_at g.H.KeyHasher.hasher g.K.KeyElement.key_calls) accept = λ i below accepted. under i below accepted ∙ sym hash in
     let at = c.table-table.ensures.at in
     let key_hash = hash_at g.H.KeyHasher.hasher g.K.KeyElement.key_calls in
     let hashes = map (λ i. key_hash b (key_pos w k v m i)) (places_of (index_len w m)) in
