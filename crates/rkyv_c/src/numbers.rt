@@ -4,10 +4,14 @@ ghost use Rattle.std.specs.Prelude.{◌≡◌};
 ghost use Rattle.rkyv_c_calls.specs.Archives.{IsNumberArchive, Opens, limit_of, number_key};
 ghost use Rattle.rkyv_c_calls.specs.Archives.{number_map, value_shape, word_of};
 ghost use Rattle.rkyv_c_calls.specs.Calls.{Counts, GivesNumber, SetsNumber, StepsNumbers};
+ghost use Rattle.rkyv_c_calls.specs.Items.{HandsOut, IsArchiveOfNumbers, NoArchiveOfNumbers};
 
+use rkyv_c_calls::building::Built;
+use rkyv_c_calls::number_items::{NumberItem, build_numbers};
 use rkyv_c_calls::numbers::{
     NumberPair, count_numbers, get_number, next_number, open_numbers, set_number,
 };
+use std::alloc::Global;
 
 /// Whether the bytes are the archive of such a map: 0, or from 16 on the first point at which they
 /// are none.
@@ -80,4 +84,22 @@ pub extern "C" fn rkyv_c_next_number(
     ensures { StepsNumbers long_values wide archive.now pair.old result pair.new }
 {
     next_number(archive, long_values, wide, pair)
+}
+
+/// Makes the archive of the items, in their order, under the load factor 7 / 8: 0, and `built` has
+/// its bytes, which are a block of `rattle_alloc` or `rattle_realloc` and the caller's to free; or
+/// 3 where a value has more bits than the map's, 12 where a growth is refused, or from 23 on why
+/// there is no archive, and then `built` is kept.
+#[unsafe(no_mangle)]
+pub extern "C" fn rkyv_c_build_numbers(
+    alloc: Global,
+    items: &[NumberItem],
+    long_values: bool,
+    wide: bool,
+    built: &mut Built<'_>,
+) -> u32
+    ensures { HandsOut (IsArchiveOfNumbers long_values wide items.now)
+        (NoArchiveOfNumbers long_values wide items.now) built.old result built.new }
+{
+    build_numbers(alloc, items, long_values, wide, built)
 }

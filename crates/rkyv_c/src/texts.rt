@@ -1,11 +1,18 @@
 //! The calls for maps of texts.
 
-ghost use Rattle.std.specs.Prelude.{◌≡◌};
+ghost use Rattle.std.specs.Prelude.{IsTrue, ◌↔◌, ◌≡◌};
+ghost use Rattle.std.specs.Str.{IsUtf8};
 ghost use Rattle.rkyv_c_calls.specs.Archives.{IsTextArchive, Opens, limit_of, text_key, text_map};
 ghost use Rattle.rkyv_c_calls.specs.Archives.{value_shape, word_of};
 ghost use Rattle.rkyv_c_calls.specs.Calls.{Counts, GivesText, SetsText, StepsTexts};
+ghost use Rattle.rkyv_c_calls.specs.Items.{HandsOut, IsArchiveOfTexts, NoArchiveOfTexts};
 
-use rkyv_c_calls::texts::{TextPair, count_texts, get_text, next_text, open_texts, set_text};
+use rkyv_c_calls::building::Built;
+use rkyv_c_calls::text_items::{TextItem, build_texts};
+use rkyv_c_calls::texts::{
+    TextPair, count_texts, get_text, is_text, next_text, open_texts, set_text,
+};
+use std::alloc::Global;
 
 /// Whether the bytes are the archive of such a map: 0, or from 16 on the first point at which they
 /// are none.
@@ -81,4 +88,28 @@ pub extern "C" fn rkyv_c_next_text<'a>(
     ensures { StepsTexts long_values wide archive.now pair.old result pair.new }
 {
     next_text(archive, long_values, wide, pair)
+}
+
+/// Whether the bytes are a text: UTF-8.
+#[unsafe(no_mangle)]
+pub extern "C" fn rkyv_c_is_text(bytes: &[u8]) -> bool
+    ensures { IsTrue result ↔ IsUtf8 bytes.now }
+{
+    is_text(bytes)
+}
+
+/// Makes the archive of the items, as `rkyv_c_build_numbers` does; 4 where a key isn't UTF-8, 27
+/// where one is too long.
+#[unsafe(no_mangle)]
+pub extern "C" fn rkyv_c_build_texts(
+    alloc: Global,
+    items: &[TextItem<'_>],
+    long_values: bool,
+    wide: bool,
+    built: &mut Built<'_>,
+) -> u32
+    ensures { HandsOut (IsArchiveOfTexts long_values wide items.now)
+        (NoArchiveOfTexts long_values wide items.now) built.old result built.new }
+{
+    build_texts(alloc, items, long_values, wide, built)
 }

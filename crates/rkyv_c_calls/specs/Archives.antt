@@ -29,6 +29,11 @@ abbrev pub limit_of : Bool → ℕ
 limit_of false = 4_294_967_295
 limit_of true = 9_223_372_036_854_775_807
 
+-- the greatest number of buckets, narrow or wide
+abbrev pub most_of : Bool → ℕ
+most_of false = 4_294_967_295
+most_of true = 4_611_686_018_427_387_904
+
 -- a number of 32 bits as a key
 abbrev pub number_key : Shape
 number_key = scalar_shape (unsigned w32)

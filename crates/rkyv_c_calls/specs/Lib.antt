@@ -1,4 +1,6 @@
 pub mod Status
 pub mod Archives
+pub mod Lists
+pub mod Items
 pub mod Walking
 pub mod Calls

@@ -7,6 +7,8 @@ use Rattle.rkyv_base.specs.declared.errors.VerifyError.TheVariants.{WrongNumberO
 use Rattle.rkyv_base.specs.declared.errors.VerifyError.TheVariants.{UnwrappedControlByte}
 use Rattle.rkyv_base.specs.declared.errors.VerifyError.TheVariants.{PlaceOutOfRange, InvalidValue}
 use Rattle.rkyv_base.specs.declared.errors.VerifyError.TheVariants.{Refused}
+use Rattle.rkyv_base.specs.declared.errors.WriteError.{WriteError}
+use Rattle.rkyv_base.specs.declared.errors.WriteError.TheVariants as write
 
 -- why bytes are no archive
 unfoldable pub refusal : VerifyError → ℕ
@@ -18,3 +20,15 @@ refusal (UnwrappedControlByte index) = 20
 refusal (PlaceOutOfRange place len) = 21
 refusal (InvalidValue pos) = 22
 refusal (Refused reason) = 23
+
+-- why no archive was made
+unfoldable pub write_refusal : {F : Type 0} → WriteError F → ℕ
+write_refusal write.Memory = 12
+write_refusal (write.Writer fault) = 12
+write_refusal (write.Refused reason) = 23
+write_refusal (write.CapacityTooLarge len) = 24
+write_refusal write.PositionTooLarge = 25
+write_refusal write.DistanceTooLarge = 26
+write_refusal write.TextTooLong = 27
+write_refusal (write.InvalidLoadFactor numerator denominator) = 28
+write_refusal (write.IteratorLengthMismatch mismatch) = 29

@@ -5,9 +5,12 @@
 #![tactic(auto)]
 
 mod archives;
+pub mod building;
 mod lookup;
+pub mod number_items;
 pub mod numbers;
 pub mod status;
+pub mod text_items;
 pub mod texts;
 mod value;
 mod walk;

@@ -1,9 +1,10 @@
 //! What a call answers: that it did what it says, or why not.
 
 ghost use Rattle.std.specs.Prelude.{◌≡◌};
-ghost use Rattle.rkyv_c_calls.specs.Status.{refusal};
+ghost use Rattle.rkyv_c_calls.specs.Status.{refusal, write_refusal};
 
-use rkyv_base::errors::VerifyError;
+use rkyv_base::errors::{VerifyError, WriteError};
+use rkyv_base::writer::NoMemory;
 
 /// The call did what it says.
 pub const DONE: u32 = 0;
@@ -20,6 +21,9 @@ pub const VALUE_TOO_LARGE: u32 = 3;
 /// The key is no text: its bytes aren't UTF-8.
 pub const NOT_TEXT: u32 = 4;
 
+/// A growth of the memory that a call takes was refused.
+pub const NO_MEMORY: u32 = 12;
+
 /// Why bytes are no archive: from 16 on.
 #[tactic(auto, unfolding(crate::specs::Status::refusal))]
 pub(crate) fn refusal(error: &VerifyError) -> u32
@@ -34,5 +38,23 @@ pub(crate) fn refusal(error: &VerifyError) -> u32
         VerifyError::PlaceOutOfRange { .. } => 21,
         VerifyError::InvalidValue { .. } => 22,
         VerifyError::Refused(_) => 23,
+    }
+}
+
+/// Why no archive was made: that there is no memory, or one of the causes from 23 on.
+#[tactic(auto, unfolding(crate::specs::Status::write_refusal))]
+pub(crate) fn write_refusal(error: &WriteError<NoMemory>) -> u32
+    ensures { result ≡ write_refusal error.now }
+{
+    match error {
+        WriteError::Memory => NO_MEMORY,
+        WriteError::Writer(_) => NO_MEMORY,
+        WriteError::Refused(_) => 23,
+        WriteError::CapacityTooLarge { .. } => 24,
+        WriteError::PositionTooLarge => 25,
+        WriteError::DistanceTooLarge => 26,
+        WriteError::TextTooLong => 27,
+        WriteError::InvalidLoadFactor { .. } => 28,
+        WriteError::IteratorLengthMismatch(_) => 29,
     }
 }

@@ -1,6 +1,6 @@
 //! Maps of texts.
 
-ghost use Rattle.std.specs.Prelude.{MatchOption, ◌≡◌};
+ghost use Rattle.std.specs.Prelude.{IsTrue, ◌↔◌, MatchOption, ◌≡◌};
 ghost use Rattle.std.specs.Str.{IsUtf8};
 ghost use Rattle.rkyv_base.specs.Access.{Accepted};
 ghost use Rattle.rkyv_base.specs.Entry.{entry_shape};
@@ -35,13 +35,23 @@ pub struct TextPair<'a> {
 }
 
 /// The text of some bytes, where they are one.
-fn text_of(bytes: &[u8]) -> Option<&str>
+pub(crate) fn text_of(bytes: &[u8]) -> Option<&str>
     ensures { MatchOption result (IsUtf8 bytes.now → ⊥)
         (λ text. IsUtf8 bytes.now × (text.now ≡ bytes.now)) }
 {
     match str::from_utf8(bytes) {
         Ok(text) => Some(text),
         Err(_) => None,
+    }
+}
+
+/// Whether the bytes are a text: UTF-8.
+pub fn is_text(bytes: &[u8]) -> bool
+    ensures { IsTrue result ↔ IsUtf8 bytes.now }
+{
+    match text_of(bytes) {
+        Some(_) => true,
+        None => false,
     }
 }
 

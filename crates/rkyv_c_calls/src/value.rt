@@ -1,6 +1,6 @@
 //! The values of maps, as numbers of 64 bits.
 
-ghost use Rattle.std.specs.Prelude.{MatchOption, ℕ, ◌^◌, ◌≡◌, ◌≤◌};
+ghost use Rattle.std.specs.Prelude.{IfSome, MatchOption, ℕ, ◌<◌, ◌^◌, ◌≡◌, ◌≤◌};
 ghost use mir.Val.{bits};
 
 use rkyv_base::scalars::Scalar;
@@ -13,8 +13,10 @@ pub(crate) trait Value: Scalar {
 
     /// The value that is a number, where it has no more bits.
     fn of_number(number: u64) -> Option<Self>
-        ensures { MatchOption result (2 ^ bits Self.encoding.word ≤ number)
-            (λ value. Self.encoding.code value ≡ number) };
+        ensures told { MatchOption result (2 ^ bits Self.encoding.word ≤ number)
+            (λ value. Self.encoding.code value ≡ number) }
+        ensures read { IfSome result (λ value. (number < 2 ^ bits Self.encoding.word)
+            × (value ≡ Self.encoding.value number)) };
 }
 
 impl Value for u32 {

@@ -13,7 +13,7 @@ use Rattle.rkyv_c_calls.proofs.Writing.{accepted_again, stands_after_set, status
 use Rattle.rkyv_c_calls.proofs.lookup.set_in.Goals as goal
 
 pub returns-in-None-clause-sets : goal.returns-in-None-clause-sets
-returns-in-None-clause-sets g c = inl (c.in-None.ensures, refl, refl)
+returns-in-None-clause-sets g c = inl (c.in-None.ensures.told, refl, refl)
 
 pub returns-clause-kept : goal.returns-clause-kept
 returns-clause-kept g c =
@@ -39,4 +39,4 @@ returns-clause-sets g c =
     let place : ℕ → Option ℕ = λ p. option_map (value_pos k v) (pos_found generic_kind w (entry_shape k v).size b p (hash_by (g.A.KeyHash.calls c.args.key.now)) (g.A.Query.fits c.args.key.now b)) in
     let status = status_of_set w k e (hash_at (fx_hasher low_halves) g.K.KeyElement.key_calls) b c.root_of-root.result c.in-Some.number set.result set.new.archive c.status_of.result (place c.root_of-root.result) c.status_of.ensures.yes c.status_of.ensures.no set.ensures.answer in
     let Told : Option ℕ → Type 0 = λ o. MatchOption o ((c.status_of.result ≡ 1) × (set.new.archive ≡ b)) (λ q. (c.status_of.result ≡ 0) × (set.new.archive ≡ with_value e b q c.in-Some.number)) in
-    inr (c.in-Some.number, c.in-Some.ensures, subst Told (ap place c.root_of-root.ensures.at) status)
+    inr (c.in-Some.number, c.in-Some.ensures.told, subst Told (ap place c.root_of-root.ensures.at) status)

@@ -1,0 +1,33 @@
+-- A loop that takes one item after the other, and keeps what is seen of each.
+use Rattle.std.proofs.Common.{◌≡◌, ◌∙◌, ℕ, ◌+◌, ◌<◌, ◌++◌, List, [], ◌∷◌, ap, arith, get_or, length, map, subst, suc, sym, take}
+use Rattle.std.specs.Prelude.{All}
+use Rattle.std.proofs.Math.Seq.{take-suc}
+use Rattle.std.proofs.lemmas.List.{map-append, take_all}
+use Rattle.std.proofs.lemmas.List.Elements.{All-append}
+
+module _ {I Q : Type 0} (Fits : I → Type 0) (pair : I → Q) (items : List I) where
+  -- the first n items fit, and these are what is seen of them
+  abbrev pub Collected : ℕ → List Q → Type 0
+  Collected n seen = All Fits (take n items) × (seen ≡ map pair (take n items))
+
+  pub nothing_yet : (seen : List Q) → seen ≡ [] → Collected 0 seen
+  nothing_yet seen e = (λ k d h. absurd (omega arith), e)
+
+  one_fits : (x : I) → Fits x → All Fits (x ∷ [])
+  one_fits x fits k d small = let first : 0 ≡ k = omega arith in subst (λ j. Fits (get_or (x ∷ []) j d)) first fits
+
+  pub one_more : (n : ℕ) (d : I) (seen after : List Q) → n < length items → Fits (get_or items n d) → after ≡ seen ++ (pair (get_or items n d) ∷ []) → Collected n seen → Collected (n + 1) after
+  one_more n d seen after small fits e h =
+      let x = get_or items n d in
+      let next : suc n ≡ n + 1 = omega arith in
+      let longer : take n items ++ (x ∷ []) ≡ take (n + 1) items = sym (take-suc items n d small) ∙ ap (λ m. take m items) next in (
+        subst (All Fits) longer (All-append Fits (take n items) (x ∷ []) h.0 (one_fits x fits)),
+        e ∙ ap (λ s. s ++ (pair x ∷ [])) h.1 ∙ sym (map-append pair (take n items) (x ∷ [])) ∙ ap (map pair) longer,
+      )
+
+  pub all_of_them : (n : ℕ) (seen : List Q) → n ≡ length items → Collected n seen → All Fits items × (seen ≡ map pair items)
+  all_of_them n seen e h = let all = take_all n items (omega arith) in (subst (All Fits) all h.0, h.1 ∙ ap (map pair) all)
+
+-- one pair more, of which both halves are known otherwise
+pub same_pair : {A B : Type 0} (before : List (A × B)) (a x : A) (b y : B) → a ≡ x → b ≡ y → before ++ ((a, b) ∷ []) ≡ before ++ ((x, y) ∷ [])
+same_pair before a x b y e f = ap (λ k. before ++ ((k, b) ∷ [])) e ∙ ap (λ v. before ++ ((x, v) ∷ [])) f

@@ -1,0 +1,149 @@
+-- The pairs that are handed in to be archived, and what is answered of them.
+use Rattle.std.specs.Prelude.{◌≡◌, ℕ, ◌<◌, ◌^◌, ◌≤◌, ◌⊎◌, All, Bool, Contains, List, [], ◌∷◌, map}
+use Rattle.std.specs.Borrow.{Bor}
+use Rattle.std.specs.Int.{Width, w32}
+use Rattle.std.specs.Str.{IsUtf8}
+use mir.Val.{bits}
+use Rattle.rkyv_scan.specs.Hash.{HasherCall, U32}
+use Rattle.rkyv_base.specs.Bytes.{number_at}
+use Rattle.rkyv_base.specs.Numbers.{unsigned}
+use Rattle.rkyv_base.specs.Scalar.{Encoding, ScalarStands, scalar_format}
+use Rattle.rkyv_base.specs.Pairs.{written_as}
+use Rattle.rkyv_base.specs.Text.{text_shape}
+use Rattle.rkyv_base.specs.TextWriting.{text_format}
+use Rattle.rkyv_base.specs.declared.errors.WriteError.{WriteError}
+use Rattle.rkyv_base.specs.declared.writer.NoMemory.{NoMemory}
+use Rattle.rkyv_keys.specs.Calls.{text_calls}
+use Rattle.rkyv_keys.specs.OfTexts.{IsTextOf, text_key_calls}
+use Rattle.rkyv_c_calls.specs.Archives.{limit_of, most_of, number_key, word_of}
+use Rattle.rkyv_c_calls.specs.Lists.{IsArchiveOf, NoArchiveOf, PairsStandAt}
+use Rattle.rkyv_c_calls.specs.Status.{write_refusal}
+use Rattle.rkyv_c_calls.specs.declared.building.Built.{Built}
+use Rattle.rkyv_c_calls.specs.declared.number_items.NumberItem.{NumberItem}
+use Rattle.rkyv_c_calls.specs.declared.text_items.TextItem.{TextItem}
+
+-- the calls of a number of 32 bits, and of the one at a position
+abbrev pub number_calls : ℕ → List HasherCall
+number_calls n = U32 n ∷ []
+
+abbrev pub calls_of_number_at : List ℕ → ℕ → List HasherCall
+calls_of_number_at b q = number_calls (number_at w32 b q)
+
+module _ {N : Type 0} (w : Width) (e : Encoding N) where
+  -- a map of pairs of numbers stands at the position
+  abbrev pub NumbersStandAt : ℕ × ℕ → List ℕ → ℕ → List (ℕ × N) → Type 0
+  NumbersStandAt = PairsStandAt w number_key (ScalarStands (unsigned w32)) calls_of_number_at e
+
+  -- the bytes are the archive of pairs of numbers
+  abbrev pub AreNumbers : ℕ → ℕ → List (ℕ × N) → List ℕ → Type 0
+  AreNumbers limit most = IsArchiveOf w number_key (ScalarStands (unsigned w32)) calls_of_number_at
+      e limit most (scalar_format (unsigned w32)) number_calls
+
+  -- why there is no archive of pairs of numbers
+  abbrev pub AreNoNumbers : ℕ → ℕ → List (ℕ × N) → WriteError NoMemory → Type 0
+  AreNoNumbers limit most = NoArchiveOf w number_key (ScalarStands (unsigned w32))
+      calls_of_number_at e limit most (scalar_format (unsigned w32)) number_calls
+
+  -- a map of pairs of texts stands at the position
+  abbrev pub TextsStandAt : ℕ × ℕ → List ℕ → ℕ → List (Bor (List ℕ) × N) → Type 0
+  TextsStandAt = PairsStandAt w (text_shape w) (IsTextOf w (λ text. text.now)) (text_key_calls w) e
+
+  -- the bytes are the archive of pairs of texts
+  abbrev pub AreTexts : ℕ → ℕ → List (Bor (List ℕ) × N) → List ℕ → Type 0
+  AreTexts limit most = IsArchiveOf w (text_shape w) (IsTextOf w (λ text. text.now))
+      (text_key_calls w) e limit most (written_as (λ text. text.now) (text_format w))
+      (λ text. text_calls text.now)
+
+  -- why there is no archive of pairs of texts
+  abbrev pub AreNoTexts : ℕ → ℕ → List (Bor (List ℕ) × N) → WriteError NoMemory → Type 0
+  AreNoTexts limit most = NoArchiveOf w (text_shape w) (IsTextOf w (λ text. text.now))
+      (text_key_calls w) e limit most (written_as (λ text. text.now) (text_format w))
+      (λ text. text_calls text.now)
+
+module _ {N : Type 0} (e : Encoding N) where
+  -- the value has no more bits than the word
+  abbrev pub NumberFits : NumberItem → Type 0
+  NumberFits item = item.value < 2 ^ bits e.word
+
+  -- the key, and the value
+  abbrev pub number_pair : NumberItem → ℕ × N
+  number_pair item = (item.key, e.value item.value)
+
+  -- these are the pairs of the items, in their order, whose values have no more bits than the word
+  abbrev pub ArePairsOfNumbers : List NumberItem → List (ℕ × N) → Type 0
+  ArePairsOfNumbers items pairs = All NumberFits items × (pairs ≡ map number_pair items)
+
+  -- there are no pairs for want of memory, or since a value has more bits than the word
+  abbrev pub NoPairsOfNumbers : List NumberItem → ℕ → Type 0
+  NoPairsOfNumbers items status = (status ≡ 12)
+      ⊎ ((item : NumberItem) × Contains items item × (2 ^ bits e.word ≤ item.value) × (status ≡ 3))
+
+  -- the key is a text, and the value has no more bits than the word
+  abbrev pub TextFits : TextItem → Type 0
+  TextFits item = IsUtf8 item.key.now × (item.value < 2 ^ bits e.word)
+
+  -- the bytes of the key, and the value
+  abbrev pub text_pair : TextItem → List ℕ × N
+  text_pair item = (item.key.now, e.value item.value)
+
+  abbrev pub text_seen : Bor (List ℕ) × N → List ℕ × N
+  text_seen pair = (pair.0.now, pair.1)
+
+  -- these are the pairs of the items, in their order, whose keys are texts and whose values have no
+  -- more bits than the word
+  abbrev pub ArePairsOfTexts : List TextItem → List (Bor (List ℕ) × N) → Type 0
+  ArePairsOfTexts items pairs =
+      All TextFits items × (map text_seen pairs ≡ map text_pair items)
+
+  -- there are no pairs for want of memory, or since a key is no text, or a value has more bits than
+  -- the word
+  abbrev pub NoPairsOfTexts : List TextItem → ℕ → Type 0
+  NoPairsOfTexts items status = (status ≡ 12)
+      ⊎ ((item : TextItem) × Contains items item × (IsUtf8 item.key.now → ⊥) × (status ≡ 4))
+      ⊎ ((item : TextItem) × Contains items item × (2 ^ bits e.word ≤ item.value) × (status ≡ 3))
+
+module _ {N : Type 0} (w : Width) (e : Encoding N) (limit most : ℕ) where
+  -- the bytes are the archive of the pairs of the items
+  abbrev pub NumbersMade : List NumberItem → List ℕ → Type 0
+  NumbersMade items b = (pairs : List (ℕ × N)) × ArePairsOfNumbers e items pairs
+      × AreNumbers w e limit most pairs b
+
+  -- there are no pairs, or the cause stands for which there is no archive of them
+  abbrev pub NumbersRefused : List NumberItem → ℕ → Type 0
+  NumbersRefused items status = NoPairsOfNumbers e items status
+      ⊎ ((pairs : List (ℕ × N)) × (error : WriteError NoMemory) × ArePairsOfNumbers e items pairs
+      × AreNoNumbers w e limit most pairs error × (status ≡ write_refusal error))
+
+  -- the same of texts
+  abbrev pub TextsMade : List TextItem → List ℕ → Type 0
+  TextsMade items b = (pairs : List (Bor (List ℕ) × N)) × ArePairsOfTexts e items pairs
+      × AreTexts w e limit most pairs b
+
+  abbrev pub TextsRefused : List TextItem → ℕ → Type 0
+  TextsRefused items status = NoPairsOfTexts e items status
+      ⊎ ((pairs : List (Bor (List ℕ) × N)) × (error : WriteError NoMemory)
+      × ArePairsOfTexts e items pairs × AreNoTexts w e limit most pairs error
+      × (status ≡ write_refusal error))
+
+-- the bytes are the archive of the pairs of the items, in one of the forms, and nothing else
+abbrev pub IsArchiveOfNumbers : Bool → Bool → List NumberItem → List ℕ → Type 0
+IsArchiveOfNumbers long_values wide = NumbersMade (word_of wide) (unsigned (word_of long_values))
+    (limit_of wide) (most_of wide)
+
+abbrev pub IsArchiveOfTexts : Bool → Bool → List TextItem → List ℕ → Type 0
+IsArchiveOfTexts long_values wide = TextsMade (word_of wide) (unsigned (word_of long_values))
+    (limit_of wide) (most_of wide)
+
+-- the status tells why there is no archive of the items
+abbrev pub NoArchiveOfNumbers : Bool → Bool → List NumberItem → ℕ → Type 0
+NoArchiveOfNumbers long_values wide = NumbersRefused (word_of wide)
+    (unsigned (word_of long_values)) (limit_of wide) (most_of wide)
+
+abbrev pub NoArchiveOfTexts : Bool → Bool → List TextItem → ℕ → Type 0
+NoArchiveOfTexts long_values wide = TextsRefused (word_of wide) (unsigned (word_of long_values))
+    (limit_of wide) (most_of wide)
+
+-- the archive is handed out; or the status tells why there is none, and what was there is kept
+abbrev pub HandsOut : (List ℕ → Type 0) → (ℕ → Type 0) → Built → ℕ → Built → Type 0
+HandsOut IsMade IsRefused before status after =
+    ((status ≡ 0) × IsMade after.bytes.now) ⊎ (IsRefused status × (after ≡ before))

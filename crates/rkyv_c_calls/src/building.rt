@@ -1,0 +1,53 @@
+//! Archives of lists of pairs.
+
+ghost use Rattle.std.specs.Prelude.{MatchResult, ◌≡◌};
+ghost use Rattle.rkyv_c_calls.specs.Lists.{IsArchiveOf, NoArchiveOf};
+
+use crate::status::DONE;
+use crate::value::Value;
+use rkyv_base::archive::Serialize;
+use rkyv_base::errors::WriteError;
+use rkyv_base::root::to_bytes_in;
+use rkyv_base::width::Width;
+use rkyv_base::writer::{NoMemory, VecWriter};
+use rkyv_collections::{KeyElement, MapPairs, NativeKey};
+use std::alloc::Global;
+
+/// The archive of the pairs.
+pub(crate) fn archive_of<A: NativeKey<A::Archived> + Serialize<VecWriter, W>, V: Value, W: Width>(
+    alloc: Global,
+    pairs: &[(A, V)],
+) -> Result<Vec<u8>, WriteError<NoMemory>>
+where
+    A::Archived: KeyElement,
+    ensures { MatchResult result
+        (λ v. IsArchiveOf W.word A.Archived.shape A.Archived.stands A.Archived.key_calls V.encoding
+        W.LIMIT W.MAX_CAPACITY A.format A.calls pairs.now v.items)
+        (NoArchiveOf W.word A.Archived.shape A.Archived.stands A.Archived.key_calls V.encoding
+        W.LIMIT W.MAX_CAPACITY A.format A.calls pairs.now) }
+{
+    let list: MapPairs<'_, A, V> = MapPairs::new(pairs);
+    to_bytes_in::<W, MapPairs<'_, A, V>>(alloc, &list)
+}
+
+/// The bytes of an archive, which are handed out for good: this crate neither reads nor frees them
+/// again.
+#[repr(C)]
+pub struct Built<'a> {
+    pub bytes: &'a mut [u8],
+}
+
+/// Hands out the bytes of an archive, where there is one.
+pub(crate) fn hand_out<'a>(archive: Result<Vec<u8>, u32>, built: &mut Built<'a>) -> u32
+    ensures { MatchResult archive
+        (λ v. (result ≡ 0) × (built.new.bytes.now ≡ v.items))
+        (λ status. (result ≡ status) × (built.new ≡ built.old)) }
+{
+    match archive {
+        Ok(bytes) => {
+            built.bytes = bytes.leak();
+            DONE
+        }
+        Err(status) => status,
+    }
+}

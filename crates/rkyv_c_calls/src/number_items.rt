@@ -1,0 +1,95 @@
+//! Archives of pairs of numbers.
+
+ghost use Rattle.std.specs.Prelude.{MatchResult};
+ghost use Rattle.rkyv_c_calls.specs.Items.{ArePairsOfNumbers, HandsOut, IsArchiveOfNumbers};
+ghost use Rattle.rkyv_c_calls.specs.Items.{NoArchiveOfNumbers, NoPairsOfNumbers, NumbersMade, NumbersRefused};
+
+use crate::building::{Built, archive_of, hand_out};
+use crate::status::{NO_MEMORY, VALUE_TOO_LARGE, write_refusal};
+use crate::value::Value;
+use rkyv_base::width::{Narrow, Wide, Width};
+use std::alloc::Global;
+
+/// A pair that is to be archived.
+#[repr(C)]
+#[derive(Clone, Copy)]
+pub struct NumberItem {
+    pub value: u64,
+    pub key: u32,
+}
+
+/// The pairs of the items.
+fn pairs_of<V: Value>(alloc: Global, items: &[NumberItem]) -> Result<Vec<(u32, V)>, u32>
+    ensures { MatchResult result
+        (λ pairs. ArePairsOfNumbers V.encoding items.now pairs.items)
+        (NoPairsOfNumbers V.encoding items.now) }
+{
+    let mut pairs = match Vec::with_capacity(alloc, items.len()) {
+        Ok(pairs) => pairs,
+        Err(_) => return Err(NO_MEMORY),
+    };
+    for item in items {
+        let value = match V::of_number(item.value) {
+            Some(value) => value,
+            None => return Err(VALUE_TOO_LARGE),
+        };
+        match pairs.push((item.key, value)) {
+            Ok(()) => {}
+            Err(_) => return Err(NO_MEMORY),
+        }
+    }
+    Ok(pairs)
+}
+
+/// The archive of the items.
+fn archive_in<V: Value, W: Width>(alloc: Global, items: &[NumberItem]) -> Result<Vec<u8>, u32>
+    ensures { MatchResult result
+        (λ v. NumbersMade W.word V.encoding W.LIMIT W.MAX_CAPACITY items.now v.items)
+        (NumbersRefused W.word V.encoding W.LIMIT W.MAX_CAPACITY items.now) }
+{
+    let pairs = match pairs_of::<V>(alloc, items) {
+        Ok(pairs) => pairs,
+        Err(status) => return Err(status),
+    };
+    match archive_of::<u32, V, W>(alloc, pairs.as_slice()) {
+        Ok(archive) => Ok(archive),
+        Err(error) => Err(write_refusal(&error)),
+    }
+}
+
+/// The archive of the items, in one of the forms.
+fn archive_by(
+    alloc: Global,
+    items: &[NumberItem],
+    long_values: bool,
+    wide: bool,
+) -> Result<Vec<u8>, u32>
+    ensures { MatchResult result
+        (λ v. IsArchiveOfNumbers long_values wide items.now v.items)
+        (NoArchiveOfNumbers long_values wide items.now) }
+{
+    match (long_values, wide) {
+        (false, false) => archive_in::<u32, Narrow>(alloc, items),
+        (true, false) => archive_in::<u64, Narrow>(alloc, items),
+        (false, true) => archive_in::<u32, Wide>(alloc, items),
+        (true, true) => archive_in::<u64, Wide>(alloc, items),
+    }
+}
+
+/// Makes the archive of the items, in their order, as a map under the load factor 7 / 8, and hands
+/// out its bytes.
+///
+/// `VALUE_TOO_LARGE` where a value has more bits than the map's,
+/// `NO_MEMORY` where a growth is refused, and each other cause of a write; `built` is kept then.
+pub fn build_numbers(
+    alloc: Global,
+    items: &[NumberItem],
+    long_values: bool,
+    wide: bool,
+    built: &mut Built<'_>,
+) -> u32
+    ensures { HandsOut (IsArchiveOfNumbers long_values wide items.now)
+        (NoArchiveOfNumbers long_values wide items.now) built.old result built.new }
+{
+    hand_out(archive_by(alloc, items, long_values, wide), built)
+}

@@ -1,0 +1,100 @@
+//! Archives of pairs of texts.
+
+ghost use Rattle.std.specs.Prelude.{MatchResult};
+ghost use Rattle.rkyv_c_calls.specs.Items.{ArePairsOfTexts, HandsOut, IsArchiveOfTexts};
+ghost use Rattle.rkyv_c_calls.specs.Items.{NoArchiveOfTexts, NoPairsOfTexts, TextsMade, TextsRefused};
+
+use crate::building::{Built, archive_of, hand_out};
+use crate::status::{NO_MEMORY, NOT_TEXT, VALUE_TOO_LARGE, write_refusal};
+use crate::texts::text_of;
+use crate::value::Value;
+use rkyv_base::width::{Narrow, Wide, Width};
+use std::alloc::Global;
+
+/// A pair that is to be archived, of a key that may be no text.
+#[repr(C)]
+#[derive(Clone, Copy)]
+pub struct TextItem<'a> {
+    pub key: &'a [u8],
+    pub value: u64,
+}
+
+/// The pairs of the items.
+fn pairs_of<'a, V: Value>(alloc: Global, items: &[TextItem<'a>]) -> Result<Vec<(&'a str, V)>, u32>
+    ensures { MatchResult result
+        (λ pairs. ArePairsOfTexts V.encoding items.now pairs.items)
+        (NoPairsOfTexts V.encoding items.now) }
+{
+    let mut pairs = match Vec::with_capacity(alloc, items.len()) {
+        Ok(pairs) => pairs,
+        Err(_) => return Err(NO_MEMORY),
+    };
+    for item in items {
+        let key = match text_of(item.key) {
+            Some(key) => key,
+            None => return Err(NOT_TEXT),
+        };
+        let value = match V::of_number(item.value) {
+            Some(value) => value,
+            None => return Err(VALUE_TOO_LARGE),
+        };
+        match pairs.push((key, value)) {
+            Ok(()) => {}
+            Err(_) => return Err(NO_MEMORY),
+        }
+    }
+    Ok(pairs)
+}
+
+/// The archive of the items.
+fn archive_in<V: Value, W: Width>(alloc: Global, items: &[TextItem<'_>]) -> Result<Vec<u8>, u32>
+    ensures { MatchResult result
+        (λ v. TextsMade W.word V.encoding W.LIMIT W.MAX_CAPACITY items.now v.items)
+        (TextsRefused W.word V.encoding W.LIMIT W.MAX_CAPACITY items.now) }
+{
+    let pairs = match pairs_of::<V>(alloc, items) {
+        Ok(pairs) => pairs,
+        Err(status) => return Err(status),
+    };
+    match archive_of::<&str, V, W>(alloc, pairs.as_slice()) {
+        Ok(archive) => Ok(archive),
+        Err(error) => Err(write_refusal(&error)),
+    }
+}
+
+/// The archive of the items, in one of the forms.
+fn archive_by(
+    alloc: Global,
+    items: &[TextItem<'_>],
+    long_values: bool,
+    wide: bool,
+) -> Result<Vec<u8>, u32>
+    ensures { MatchResult result
+        (λ v. IsArchiveOfTexts long_values wide items.now v.items)
+        (NoArchiveOfTexts long_values wide items.now) }
+{
+    match (long_values, wide) {
+        (false, false) => archive_in::<u32, Narrow>(alloc, items),
+        (true, false) => archive_in::<u64, Narrow>(alloc, items),
+        (false, true) => archive_in::<u32, Wide>(alloc, items),
+        (true, true) => archive_in::<u64, Wide>(alloc, items),
+    }
+}
+
+/// Makes the archive of the items, in their order, as a map under the load factor 7 / 8, and hands
+/// out its bytes.
+///
+/// `VALUE_TOO_LARGE` where a value has more bits than the map's, `NOT_TEXT` where a key isn't UTF-8,
+/// `NO_MEMORY` where a growth is refused, and each other cause of a write; `built` is kept then.
+pub fn build_texts(
+    alloc: Global,
+    items: &[TextItem<'_>],
+    long_values: bool,
+    wide: bool,
+    built: &mut Built<'_>,
+) -> u32
+    ensures { HandsOut (IsArchiveOfTexts long_values wide items.now)
+        (NoArchiveOfTexts long_values wide items.now) built.old result built.new }
+{
+    hand_out(archive_by(alloc, items, long_values, wide), built)
+}
