@@ -1,6 +1,5 @@
 //! The text of each error.
-use rkyv_base::errors::{IteratorLengthMismatch, ReadError, VerifyError, WriteError};
-use rkyv_base::writer::NoMemory;
+use rkyv_base::{IteratorLengthMismatch, NoMemory, ReadError, VerifyError, WriteError};
 use std::alloc::Global;
 use std::fmt::Display;
 

@@ -6,11 +6,10 @@ ghost use Rattle.rkyv_base.specs.Access.{Accepted};
 ghost use Rattle.rkyv_base.specs.Scalar.{scalar_shape};
 ghost use Rattle.rkyv_base.specs.Sealing.{with_value};
 
-use rkyv_base::access::{access_mut_with, access_mut_with_in};
-use rkyv_base::errors::VerifyError;
-use rkyv_base::scalars::Scalar;
-use rkyv_base::seal::{ArchiveSeal, Seal, set_at};
-use rkyv_base::width::{Narrow, Wide, Width};
+use rkyv_base::{
+    ArchiveSeal, Narrow, Scalar, Seal, VerifyError, Wide, Width, access_mut_with,
+    access_mut_with_in, set_at,
+};
 
 // Writes the root of an archive of a scalar: where it is none, no byte is changed.
 fn root_written<W: Width, N: Scalar>(bytes: &mut [u8], value: N) -> Result<(), VerifyError>

@@ -8,6 +8,8 @@ mod lending;
 #[cfg(test)]
 mod own;
 #[cfg(test)]
+mod parts;
+#[cfg(test)]
 mod refusals;
 #[cfg(test)]
 mod roots;

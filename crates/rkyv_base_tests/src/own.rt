@@ -8,14 +8,10 @@ ghost use Rattle.rkyv_base.specs.Format.{nothing_far, nothing_next};
 use crate::refusals::{Refusal, refused};
 use crate::roots::is_archived_as;
 use rkyv_base::access::access;
-use rkyv_base::archive::{Archive, Serialize};
-use rkyv_base::element::{Element, PartRange, StandsFor};
-use rkyv_base::entry::{Entry, whole_size};
-use rkyv_base::errors::{DistanceTooLarge, VerifyError, WriteError};
-use rkyv_base::root::to_bytes;
-use rkyv_base::scalars::Scalar;
-use rkyv_base::width::{Narrow, Width};
-use rkyv_base::writer::{VecWriter, Writer};
+use rkyv_base::{
+    Archive, DistanceTooLarge, Element, Entry, Narrow, PartRange, Scalar, Serialize, StandsFor,
+    VecWriter, VerifyError, Width, WriteError, Writer, to_bytes, whole_size,
+};
 use std::alloc::Global;
 
 // A scalar of one's own.

@@ -1,9 +1,6 @@
 //! Why archives are refused.
 
-use rkyv_base::access::{access_in, access_mut_in};
-use rkyv_base::element::Element;
-use rkyv_base::errors::VerifyError;
-use rkyv_base::width::Width;
+use rkyv_base::{Element, VerifyError, Width, access_in, access_mut_in};
 
 /// Why an archive is refused.
 #[derive(Clone, Copy, Debug, PartialEq, Eq)]

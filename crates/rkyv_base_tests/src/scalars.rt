@@ -1,11 +1,8 @@
 //! Scalars, widths and entries at their limits.
 use crate::refusals::{Refusal, refused};
-use rkyv_base::access::access_in;
-use rkyv_base::element::Element;
-use rkyv_base::entry::{Entry, value_offset, whole_size};
-use rkyv_base::root::to_bytes_in;
-use rkyv_base::scalars::Scalar;
-use rkyv_base::width::{Narrow, Wide, Width};
+use rkyv_base::{
+    Element, Entry, Narrow, Scalar, Wide, Width, access_in, to_bytes_in, value_offset, whole_size,
+};
 use std::alloc::Global;
 
 // Whether a scalar is archived as these bytes in this width, and read back.

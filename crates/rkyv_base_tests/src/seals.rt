@@ -11,14 +11,11 @@ ghost use Rattle.rkyv_base.specs.Shape.{Viewed};
 
 use crate::refusals::{Refusal, refused_to_write};
 use crate::roots::is_archived_as;
-use rkyv_base::access::{access, access_mut, access_mut_in};
-use rkyv_base::entry::Entry;
-use rkyv_base::errors::VerifyError;
-use rkyv_base::root::to_bytes;
-use rkyv_base::seal::{ArchiveSeal, Seal, halves, set_at, set_value};
-use rkyv_base::text::Text;
-use rkyv_base::view::View;
-use rkyv_base::width::{Narrow, Wide, Width};
+use rkyv_base::access::access;
+use rkyv_base::{
+    ArchiveSeal, Entry, Narrow, Seal, Text, VerifyError, View, Wide, Width, access_mut,
+    access_mut_in, halves, set_at, set_value, to_bytes,
+};
 use std::test::Fail;
 
 // A caller of `Seal::over` knows all bytes after the write.

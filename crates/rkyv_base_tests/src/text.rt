@@ -1,14 +1,9 @@
 //! Text: its bytes, what is refused, and what is read in place.
 use crate::refusals::{Refusal, refused};
 use crate::roots::is_archived_as;
-use rkyv_base::access::access_in;
-use rkyv_base::archive::Archive;
-use rkyv_base::entry::Entry;
-use rkyv_base::errors::VerifyError;
-use rkyv_base::root::to_bytes_in;
-use rkyv_base::strings::TextResolver;
-use rkyv_base::text::Text;
-use rkyv_base::width::{Narrow, Wide, Width};
+use rkyv_base::{
+    Archive, Entry, Narrow, Text, TextResolver, VerifyError, Wide, Width, access_in, to_bytes_in,
+};
 use std::alloc::{AllocError, Global};
 
 /// The text at the root of an archive.

@@ -2,13 +2,10 @@
 ghost use Rattle.std.specs.Prelude.{[]};
 
 use crate::roots::is_archived_as;
-use rkyv_base::adapter::EntryAdapter;
-use rkyv_base::errors::WriteError;
-use rkyv_base::lend::Lend;
-use rkyv_base::limit::{LimitFault, LimitWriter};
-use rkyv_base::root::{write_root, write_root_in};
-use rkyv_base::width::Wide;
-use rkyv_base::writer::{NoMemory, VecWriter, Writer, align_for, align_for_in, append, append_in};
+use rkyv_base::{
+    EntryAdapter, Lend, LimitFault, LimitWriter, NoMemory, VecWriter, Wide, WriteError, Writer,
+    align_for, align_for_in, append, append_in, write_root, write_root_in,
+};
 use std::alloc::Global;
 
 // A writer into memory whose position begins at 4,294,967,290.

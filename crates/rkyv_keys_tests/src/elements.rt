@@ -1,14 +1,10 @@
 //! Values that stand in archives: read back, compared, hashed and printed.
 use rkyv_base::access::access;
-use rkyv_base::errors::VerifyError;
-use rkyv_base::root::to_bytes;
-use rkyv_keys::debug::Shown;
-use rkyv_keys::equality::{ElementEq, MatchesNative};
-use rkyv_keys::hash::hash_value;
-use rkyv_keys::keys::{KeyElement, Query};
-use rkyv_keys::reading::Deserialize;
-use rkyv_keys::scalars::ScalarKey;
-use rkyv_scan::hash::{FxHasher64, KeyHasher};
+use rkyv_base::{VerifyError, to_bytes};
+use rkyv_keys::{
+    Deserialize, ElementEq, KeyElement, MatchesNative, Query, ScalarKey, Shown, hash_value,
+};
+use rkyv_scan::{FxHasher64, KeyHasher};
 use std::alloc::Global;
 use std::fmt::Debug;
 

@@ -1,6 +1,7 @@
 //! Hashes of native values.
-use rkyv_keys::hash::{KeyHash, hash_value};
-use rkyv_scan::hash::{FxHasher64, FxHasher64Wide, KeyHasher};
+
+use rkyv_keys::{KeyHash, hash_value};
+use rkyv_scan::{FxHasher64, FxHasher64Wide, KeyHasher};
 
 const OF_ONE: u64 = 0x517c_c1b7_2722_0a95;
 

@@ -21,14 +21,9 @@ ghost use Rattle.rkyv_keys_tests.specs.LowByte.{
 };
 
 use rkyv_base::access::access;
-use rkyv_base::element::{Element, PartRange, StandsFor};
-use rkyv_base::errors::{ReadError, VerifyError};
-use rkyv_base::view::View;
-use rkyv_keys::equality::{ElementEq, ElementEquiv};
-use rkyv_keys::hash::{KeyHash, hash_value};
-use rkyv_keys::keys::{KeyElement, Query};
-use rkyv_keys::reading::Deserialize;
-use rkyv_scan::hash::{FxHasher64, KeyHasher};
+use rkyv_base::{Element, PartRange, ReadError, StandsFor, VerifyError, View};
+use rkyv_keys::{Deserialize, ElementEq, ElementEquiv, KeyElement, KeyHash, Query, hash_value};
+use rkyv_scan::{FxHasher64, KeyHasher};
 use std::alloc::Global;
 
 struct LowByte;

@@ -1,16 +1,10 @@
 //! Keys that stand in archives, asked for by native values and by keys of other archives.
 use rkyv_base::access::access;
-use rkyv_base::entry::Entry;
-use rkyv_base::errors::{ReadError, VerifyError};
-use rkyv_base::text::Text;
-use rkyv_base::view::View;
-use rkyv_base::width::Wide;
-use rkyv_keys::debug::{ElementDebug, Shown};
-use rkyv_keys::equality::{ElementEq, MatchesNative};
-use rkyv_keys::hash::hash_value;
-use rkyv_keys::keys::{KeyElement, Query};
-use rkyv_keys::reading::Deserialize;
-use rkyv_scan::hash::{FxHasher64, KeyHasher};
+use rkyv_base::{Entry, ReadError, Text, VerifyError, View, Wide};
+use rkyv_keys::{
+    Deserialize, ElementDebug, ElementEq, KeyElement, MatchesNative, Query, Shown, hash_value,
+};
+use rkyv_scan::{FxHasher64, KeyHasher};
 use std::alloc::Global;
 
 // "hello" in its fixed bytes.

@@ -1,7 +1,7 @@
 //! Groups: the places that they mark.
 
-use rkyv_scan::laws;
-use rkyv_scan::simd::{GroupKind, MAX_GROUP_WIDTH, Marks, bytewise, generic, lanes};
+use rkyv_scan::simd::{bytewise, generic, lanes};
+use rkyv_scan::{GroupKind, MAX_GROUP_WIDTH, Marks, laws};
 
 // Whether the iterator has ended, and ends again when it is asked again.
 fn is_over<M: Marks>(mut items: M) -> bool {

@@ -1,0 +1,49 @@
+//! Parts, entries and roots that are known to stand.
+
+use rkyv_base::{
+    Archive, EntryResolver, LARGEST, Narrow, PartRange, access_in, access_unchecked, part_in,
+    whole_size,
+};
+
+#[test]
+fn parts_lie_in_their_range(rt: HostRuntime) {
+    let range = PartRange { lo: 4, hi: 16 };
+    let begins = [
+        part_in(4, 12, 4, range).ok(),
+        part_in(16, 0, 8, range).ok(),
+        part_in(3, 1, 1, range).ok(),
+        part_in(-1, 1, 1, range).ok(),
+        part_in(8, 9, 1, range).ok(),
+        part_in(6, 4, 4, range).ok(),
+    ];
+    assert_eq!(rt; begins, [Some(4), Some(16), None, None, None, None]);
+}
+
+// The fixed bytes of a pair at position 0.
+fn resolved(pair: &(u8, u32)) -> [u8; 8] {
+    let mut out = [0xff; 8];
+    let resolver = EntryResolver { key: (), value: () };
+    match <(u8, u32) as Archive<Narrow>>::resolve(pair, resolver, 0, &mut out) {
+        Ok(()) => out,
+        Err(_) => [0; 8],
+    }
+}
+
+// The number at the end of an archive of it, read once more.
+fn number_again(bytes: &[u8]) -> Option<u32> {
+    match access_in::<Narrow, u32>(bytes) {
+        Ok(_) => Some(access_unchecked::<u32>(bytes).to_native()),
+        Err(_) => None,
+    }
+}
+
+#[test]
+fn entries_are_resolved(rt: HostRuntime) {
+    let resolved = resolved(&(1, 2));
+    let is_small = whole_size::<u8, u32>() <= LARGEST;
+    let again = number_again(&[7, 0, 0, 0]);
+    assert_eq!(rt;
+        (resolved, is_small, again),
+        ([1, 0, 0, 0, 2, 0, 0, 0], true, Some(7))
+    );
+}
