@@ -4,6 +4,8 @@
 #[cfg(test)]
 mod elements;
 #[cfg(test)]
+mod equality;
+#[cfg(test)]
 mod hashing;
 #[cfg(test)]
 mod own;

@@ -1,13 +1,13 @@
 //! Keys that are archived and asked for by themselves.
 ghost use Rattle.std.specs.Prelude.{◌≡◌, IfOk, true};
 
-use rkyv_base::{
-    Narrow, NoMemory, Serialize, VecWriter, Wide, Width, WriteError, access_in, to_bytes_in,
-};
-use rkyv_keys::{
-    Deserialize, EqualsAlone, EqualsWritten, FixedKey, MatchesNative, NativeKey, StandsAlone,
-    standing,
-};
+use rkyv_base::access::access_in;
+use rkyv_base::archive::Serialize;
+use rkyv_base::errors::WriteError;
+use rkyv_base::root::to_bytes_in;
+use rkyv_base::width::{Narrow, Wide, Width};
+use rkyv_base::writer::{NoMemory, VecWriter};
+use rkyv_keys::keys::{KeyElement, NativeKey};
 use std::alloc::Global;
 
 // Whether the archive of a key is asked for by the key itself: wherever it can be made.
@@ -16,7 +16,7 @@ fn finds_itself<W: Width, V: Serialize<VecWriter, W> + NativeKey<V::Archived>>(
     key: &V,
 ) -> Result<bool, WriteError<NoMemory>>
 where
-    V::Archived: FixedKey,
+    V::Archived: KeyElement,
     requires { V.can_read key.now }
     ensures { IfOk result (λ found. found ≡ true) }
 {
@@ -45,34 +45,4 @@ fn keys_find_themselves(rt: HostRuntime) {
         finds_itself::<Wide, ((), u64)>(alloc, &((), 7)).ok(),
     ];
     assert_eq!(rt; found, [Some(true); 6]);
-}
-
-// Whether the value of an archive stands there, equals the value in place, and is read back as one
-// that equals it.
-fn equals_itself<W: Width, V: Serialize<VecWriter, W> + EqualsWritten<W> + PartialEq + Drop>(
-    alloc: Global,
-    value: &V,
-) -> Result<bool, WriteError<NoMemory>>
-where
-    V::Archived: EqualsAlone<V> + StandsAlone<V> + Deserialize<V>,
-{
-    let bytes = to_bytes_in::<W, V>(alloc, value)?;
-    let Some(view) = standing::<V::Archived>(bytes.as_slice(), 0) else {
-        return Ok(false);
-    };
-    let in_place = <V::Archived as MatchesNative<V>>::eq_native(view, value);
-    match <V::Archived as Deserialize<V>>::deserialize(alloc, view) {
-        Ok(read) => Ok(in_place && read == *value),
-        Err(_) => Ok(false),
-    }
-}
-
-#[test]
-fn keys_equal_themselves(rt: HostRuntime) {
-    let alloc = rt.alloc();
-    let equal = [
-        equals_itself::<Narrow, (u32, bool)>(alloc, &(7, true)).ok(),
-        equals_itself::<Wide, char>(alloc, &'x').ok(),
-    ];
-    assert_eq!(rt; equal, [Some(true); 2]);
 }

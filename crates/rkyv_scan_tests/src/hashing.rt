@@ -2,9 +2,8 @@
 ghost use Rattle.std.specs.Prelude.{◌≡◌, [], ◌∷◌};
 ghost use Rattle.rkyv_scan.specs.Hash.{Usize, Isize, hash_of_calls};
 
-use rkyv_scan::{
-    AllBits, FxHasher, FxHasher64, FxHasher64Wide, KeyHasher, LowHalves, SizeRule, laws,
-};
+use rkyv_scan::hash::{FxHasher64, FxHasher64Wide, KeyHasher};
+use rkyv_scan::laws;
 
 const SEED: u64 = 0x517c_c1b7_2722_0a95;
 
@@ -142,8 +141,8 @@ fn signed_numbers_are_fed_as_their_bits(rt: HostRuntime) {
 }
 
 // The number after these bytes, written in two pieces.
-fn in_two_pieces<S: SizeRule>(first: &[u8], others: &[u8]) -> u64 {
-    let mut state: FxHasher<S> = FxHasher::default();
+fn in_two_pieces<H: KeyHasher>(first: &[u8], others: &[u8]) -> u64 {
+    let mut state = H::default();
     state.write(first);
     state.write(others);
     state.finish()
@@ -155,8 +154,8 @@ fn writes_join_at_whole_words(rt: HostRuntime) {
     laws::eight_bytes_are_one_word();
     let (first, others) = ([1, 2, 3, 4, 5, 6, 7, 8], [9, 10, 11, 12, 13, 14, 15]);
     let joined = [
-        in_two_pieces::<LowHalves>(&first, &others),
-        in_two_pieces::<AllBits>(&first, &others),
+        in_two_pieces::<FxHasher64>(&first, &others),
+        in_two_pieces::<FxHasher64Wide>(&first, &others),
     ];
     assert_eq!(rt; joined, [0x6e8b_5d1d_34f0_8a49; 2]);
 }

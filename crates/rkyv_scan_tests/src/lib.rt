@@ -5,3 +5,5 @@
 mod groups;
 #[cfg(test)]
 mod hashing;
+#[cfg(test)]
+mod rules;

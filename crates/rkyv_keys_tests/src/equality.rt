@@ -1,0 +1,37 @@
+//! Values that equal what is written of them.
+
+use rkyv_base::{Narrow, NoMemory, Serialize, VecWriter, Wide, Width, WriteError, to_bytes_in};
+use rkyv_keys::{
+    Deserialize, EqualsAlone, EqualsWritten, FixedKey, MatchesNative, StandsAlone, standing,
+};
+use std::alloc::Global;
+
+// Whether the value of an archive stands there, equals the value in place, and is read back as one
+// that equals it.
+fn equals_itself<W: Width, V: Serialize<VecWriter, W> + EqualsWritten<W> + PartialEq + Drop>(
+    alloc: Global,
+    value: &V,
+) -> Result<bool, WriteError<NoMemory>>
+where
+    V::Archived: FixedKey + EqualsAlone<V> + StandsAlone<V> + Deserialize<V>,
+{
+    let bytes = to_bytes_in::<W, V>(alloc, value)?;
+    let Some(view) = standing::<V::Archived>(bytes.as_slice(), 0) else {
+        return Ok(false);
+    };
+    let in_place = <V::Archived as MatchesNative<V>>::eq_native(view, value);
+    match <V::Archived as Deserialize<V>>::deserialize(alloc, view) {
+        Ok(read) => Ok(in_place && read == *value),
+        Err(_) => Ok(false),
+    }
+}
+
+#[test]
+fn keys_equal_themselves(rt: HostRuntime) {
+    let alloc = rt.alloc();
+    let equal = [
+        equals_itself::<Narrow, (u32, bool)>(alloc, &(7, true)).ok(),
+        equals_itself::<Wide, char>(alloc, &'x').ok(),
+    ];
+    assert_eq!(rt; equal, [Some(true); 2]);
+}
