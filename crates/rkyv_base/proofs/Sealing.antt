@@ -78,7 +78,13 @@ sealed_wider b c p n q m o h s =
       after = sym kc ∙ ap (drop ((q + m) - (p + n))) s.after ∙ kb;
     }
 
--- a scalar that is written in place: nothing else changes, it is then there, and what held holds
+-- a scalar was written in place: nothing else changes, it is then there, and what held holds
+pub record ValueSet {V : Type 0} (e : Encoding V) (b c : List ℕ) (p : ℕ) (v : V) : Type 0 where
+  pub sealed : Sealed b p (byte_len e.word) c
+  pub reads : value_at e c p ≡ v
+  pub value : IsValueAt e c p
+  pub holds : Keeps (scalar_shape e) b c p
+
 module _ {V : Type 0} (e : Encoding V) (word : IsWord e.word) (b c : List ℕ) (p : ℕ) (v : V) (out : List ℕ)
     (inside : p + byte_len e.word ≤ length b) (encodes : Encodes e v out) (is : c ≡ with_value e b p v) where
   number_there : number_at e.word c p ≡ e.code v
@@ -87,18 +93,21 @@ module _ {V : Type 0} (e : Encoding V) (word : IsWord e.word) (b c : List ℕ) (
       ∙ ap (from_le_bytes e.word) (with_bytes-there b p (byte_len e.word) (to_le_bytes e.word (e.code v)) inside (word_bytes e.word word (e.code v)))
       ∙ word_reads_back e.word word (e.code v) encodes.fits
 
-  pub value_sealed : Sealed b p (byte_len e.word) c
+  value_sealed : Sealed b p (byte_len e.word) c
   value_sealed = subst (λ x. Sealed b p (byte_len e.word) x) (sym is)
       (with_bytes-sealed b p (byte_len e.word) (to_le_bytes e.word (e.code v)) inside (word_bytes e.word word (e.code v)))
 
-  pub value_there : value_at e c p ≡ v
+  value_there : value_at e c p ≡ v
   value_there = ap e.value number_there ∙ encodes.reads_back
 
-  pub value_good : IsValueAt e c p
+  value_good : IsValueAt e c p
   value_good = subst e.IsCode (sym number_there) encodes.is_code
 
-  pub value_holds : Keeps (scalar_shape e) b c p
+  value_holds : Keeps (scalar_shape e) b c p
   value_holds lo hi l o h k = (k.0, value_good)
+
+  pub value_set : ValueSet e b c p v
+  value_set = record { sealed = value_sealed; reads = value_there; value = value_good; holds = value_holds }
 
 -- a value that stands elsewhere holds after a sealed write, with the same lower end, and is the same
 module _ (s : Shape) (laws : IsElement s) (b c : List ℕ) (q n : ℕ) (sealed : Sealed b q n c) (p lo hi l : ℕ) (o : lo ≤ hi)

@@ -1,6 +1,6 @@
 -- The entry of a key and a value: the key, zeros up to the value's alignment, the value, zeros up
 -- to the greater one.
-use Rattle.std.specs.Prelude.{◌≡◌, ℕ, ◌+◌, ◌%◌, ◌<◌, ◌≤◌, ◌⊎◌, max, nat_le, if◌then◌else◌, List}
+use Rattle.std.specs.Prelude.{◌≡◌, ℕ, ◌+◌, ◌%◌, ◌<◌, ◌≤◌, ◌⊎◌, max, nat_le, if◌then◌else◌, List, length}
 use Rattle.std.proofs.lemmas.Bool.{cases_lt}
 use Rattle.std.proofs.lemmas.Bool.Decides.{nat_tests}
 use Rattle.std.proofs.Common.{refl, arith, inl, inr, subst, sym, ◌∙◌}
@@ -194,35 +194,35 @@ module _ (k v : Shape) (kl : IsElement k) (vl : IsElement v) where
         near = entry_near;
       }
 
+  -- of an entry that stands both parts lie inside the bytes, aligned
+  parts_lie : (b : List ℕ) (p : ℕ) → Viewed (entry_shape k v) b p
+      → (p + value_offset k v + v.size ≤ length b) × (p % k.align ≡ 0) × (p % v.align ≡ 0)
+  parts_lie b p h =
+      let size : size_of_whole (whole_size k v) ≡ whole_size k v =
+      size_of_small (whole_size k v) h.stands.1.0 in
+      let als : (p % k.align ≡ 0) × (p % v.align ≡ 0) =
+      multiple_of_max p k.align v.align kl.align_is vl.align_is h.aligned in
+      (omega (arith, h.inside, size, (parts_inside k v).1), als.0, als.1)
+
   -- the key and the value of an entry that stands
   pub viewed_key : (b : List ℕ) (p : ℕ) → Viewed (entry_shape k v) b p → Viewed k b p
   viewed_key b p h =
-      let small = h.stands.1.0 in
-      let size : size_of_whole (whole_size k v) ≡ whole_size k v =
-      size_of_small (whole_size k v) small in
-      let i = parts_inside k v in
-      let als : (p % k.align ≡ 0) × (p % v.align ≡ 0) =
-      multiple_of_max p k.align v.align kl.align_is vl.align_is h.aligned in
+      let lie = parts_lie b p h in
       record {
-        inside = omega (arith, h.inside, size, i.0, i.1);
-        aligned = als.0;
+        inside = omega (arith, lie.0, (parts_inside k v).0);
+        aligned = lie.1;
         stands = (h.stands.1.1, h.stands.1.2);
       }
 
   pub viewed_value : (b : List ℕ) (p : ℕ) → Viewed (entry_shape k v) b p
       → Viewed v b (p + value_offset k v)
   viewed_value b p h =
-      let small = h.stands.1.0 in
-      let size : size_of_whole (whole_size k v) ≡ whole_size k v =
-      size_of_small (whole_size k v) small in
-      let i = parts_inside k v in
-      let als : (p % k.align ≡ 0) × (p % v.align ≡ 0) =
-      multiple_of_max p k.align v.align kl.align_is vl.align_is h.aligned in
+      let lie = parts_lie b p h in
       let x : (0 ≤ h.stands.1.1) × (h.stands.1.1 ≤ p) =
       kl.between b p 0 p h.stands.1.1 (omega arith) h.stands.1.2 in
       record {
-        inside = omega (arith, h.inside, size, i.1);
-        aligned = sum_multiple p (value_offset k v) v.align vl.align_is als.1
+        inside = lie.0;
+        aligned = sum_multiple p (value_offset k v) v.align vl.align_is lie.2
             (round_up-multiple k.size v.align vl.align_is);
         stands = standing v vl b (p + value_offset k v) h.stands.1.1 p h.stands.0 x.1 (omega arith)
             h.stands.1.3;

@@ -156,21 +156,19 @@ impl Width for Narrow {
     const TEXT_LIMIT: u64 = 1_073_741_824;
 
     fn read_count(bytes: &[u8], at: usize) -> u64 {
-        let part = &bytes[at..at + 4];
-        u64::from(u32::from_le_bytes([part[0], part[1], part[2], part[3]]))
+        u64::from(u32::read(&bytes[at..at + 4]))
     }
 
     fn write_count(out: &mut [u8], count: u64) {
-        out.copy_from_slice(&(count as u32).to_le_bytes());
+        (count as u32).write(out);
     }
 
     fn read_distance(bytes: &[u8], at: usize) -> i64 {
-        let part = &bytes[at..at + 4];
-        i64::from(i32::from_le_bytes([part[0], part[1], part[2], part[3]]))
+        i64::from(i32::read(&bytes[at..at + 4]))
     }
 
     fn write_distance(out: &mut [u8], distance: i64) {
-        out.copy_from_slice(&(distance as i32).to_le_bytes());
+        (distance as i32).write(out);
     }
 
     fn distance(target: u64, from: u64) -> Option<i64> {
@@ -219,21 +217,19 @@ impl Width for Wide {
     const TEXT_LIMIT: u64 = 4_611_686_018_427_387_904;
 
     fn read_count(bytes: &[u8], at: usize) -> u64 {
-        let p = &bytes[at..at + 8];
-        u64::from_le_bytes([p[0], p[1], p[2], p[3], p[4], p[5], p[6], p[7]])
+        u64::read(&bytes[at..at + 8])
     }
 
     fn write_count(out: &mut [u8], count: u64) {
-        out.copy_from_slice(&count.to_le_bytes());
+        count.write(out);
     }
 
     fn read_distance(bytes: &[u8], at: usize) -> i64 {
-        let p = &bytes[at..at + 8];
-        i64::from_le_bytes([p[0], p[1], p[2], p[3], p[4], p[5], p[6], p[7]])
+        i64::read(&bytes[at..at + 8])
     }
 
     fn write_distance(out: &mut [u8], distance: i64) {
-        out.copy_from_slice(&distance.to_le_bytes());
+        distance.write(out);
     }
 
     fn distance(target: u64, from: u64) -> Option<i64> {
