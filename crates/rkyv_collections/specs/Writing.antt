@@ -1,25 +1,17 @@
 -- What writing a map or a set of what an iterator gives answers.
-use Rattle.std.specs.Prelude.{ℕ, List, MatchResult, Option, Result}
+use Rattle.std.specs.Prelude.{ℕ, Option, Result}
 use Rattle.std.specs.Int.{Width}
-use Rattle.std.specs.Iterator.{Drains}
 use Rattle.rkyv_base.specs.Format.{Format}
 use Rattle.rkyv_base.specs.Pairs.{written_as}
 use Rattle.rkyv_base.specs.Shape.{Shape}
 use Rattle.rkyv_base.specs.Writing.{Output}
 use Rattle.rkyv_base.specs.declared.errors.WriteError.{WriteError}
-use Rattle.rkyv_table.specs.Table.Counting.{GaveOther}
+use Rattle.rkyv_table.specs.Table.Input.{from_iter}
 use Rattle.rkyv_table.specs.Table.Lent.{lent_keys, lent_pairs}
-use Rattle.rkyv_table.specs.Table.Serializing.{NoItems, WroteItems}
+use Rattle.rkyv_table.specs.Table.Serializing.{WritesItems}
 use Rattle.rkyv_table.specs.Table.TableFormat.{TableResolver}
 use Rattle.rkyv_collections.specs.MapFormat.{map_format}
 use Rattle.rkyv_collections.specs.SetFormat.{set_format}
-
--- the items that came were written, or none were, for a cause that stands
-abbrev pub WritesItems : {X R F : Type 0} → (List X → Type 0) → (ℕ → Type 0) → ℕ → ℕ × ℕ → ℕ → ℕ
-    → Format (List X) R → Output → Output → Result R (WriteError F) → Type 0
-WritesItems gave other len load_factor max limit f o o' result = MatchResult result
-    (WroteItems gave len load_factor max f o o' limit)
-    (NoItems gave len load_factor max f o o' limit other)
 
 module _ {Y F : Type 0} (w : Width) (max limit : ℕ) where
   -- What is lent by the pairs that an iterator gives, which are to be so many, was written as a map
@@ -29,7 +21,7 @@ module _ {Y F : Type 0} (w : Width) (max limit : ℕ) where
       → (A → ℕ) → ℕ × ℕ → (BK → A) → (BV → B) → ℕ → (S → Option (BK × BV) → S → Type 0) → S
       → (Y → Output) → Y → Y → Result TableResolver (WriteError F) → Type 0
   WritesMap k v key value hash load_factor key_lent value_lent len steps iter output old new =
-      WritesItems (Drains steps iter) (GaveOther steps len iter) len load_factor max limit
+      WritesItems (from_iter steps iter) len load_factor max limit
       (written_as (lent_pairs key_lent value_lent) (map_format w k v key value hash load_factor))
       (output old) (output new)
 
@@ -38,5 +30,5 @@ module _ {Y F : Type 0} (w : Width) (max limit : ℕ) where
       → (S → Option BK → S → Type 0) → S → (Y → Output) → Y → Y
       → Result TableResolver (WriteError F) → Type 0
   WritesSet k key hash load_factor lent len steps iter output old new =
-      WritesItems (Drains steps iter) (GaveOther steps len iter) len load_factor max limit
+      WritesItems (from_iter steps iter) len load_factor max limit
       (written_as (lent_keys lent) (set_format w k key hash load_factor)) (output old) (output new)
