@@ -12,6 +12,8 @@ use Rattle.rkyv_keys.specs.OfTexts.{same_bytes}
 use Rattle.rkyv_scan.specs.Groups.{generic_kind}
 use Rattle.rkyv_scan.specs.Hash.{HasherCall, U32, fx_hash, low_halves}
 use Rattle.rkyv_table.specs.Table.Reading.{item_positions, pos_found}
+use Rattle.rkyv_collections.specs.Map.{map_bytes, map_pos}
+use Rattle.rkyv_collections.specs.declared.map.ArchivedHashMap.{ArchivedHashMap}
 use Rattle.rkyv_bench_calls.specs.Archives.{number_shape, root, short_text}
 
 -- the sum modulo 2 ^ 64 of what is counted of each
@@ -39,6 +41,12 @@ value_or_miss key b (Some q) = number_at w32 b (q + value_offset key number_shap
 abbrev pub looked_up : Shape → List ℕ → ℕ → ℕ → (ℕ → Bool) → ℕ
 looked_up key b p hash fits = value_or_miss key b
     (pos_found generic_kind w32 (entry_shape key number_shape).size b p hash fits)
+
+-- that of a query in a map
+abbrev pub looked_up_in : {K V H W Q : Type 0} → Shape → ArchivedHashMap K V H W
+    → (Q → List HasherCall) → (Q → List ℕ → ℕ → Bool) → Q → ℕ
+looked_up_in key m calls fits query =
+    looked_up key (map_bytes m) (map_pos m) (hash_by (calls query)) (fits query (map_bytes m))
 
 -- of a number and of a text, in the archive whose header stands at p
 abbrev pub number_looked_up_at : List ℕ → ℕ → ℕ → ℕ

@@ -7,7 +7,7 @@ ghost use Rattle.rkyv_collections.specs.Map.{IsMap, map_bytes, map_pos};
 ghost use Rattle.rkyv_collections.specs.MapFinder.{IsMapFinder, map_of};
 ghost use Rattle.rkyv_bench_calls.specs.Archives.{IsArchive, IsLengthAnd1, IsMapAtRoot};
 ghost use Rattle.rkyv_bench_calls.specs.Archives.{number_shape};
-ghost use Rattle.rkyv_bench_calls.specs.Totals.{hash_by, looked_up, pair_weight, total, walked};
+ghost use Rattle.rkyv_bench_calls.specs.Totals.{hash_by, looked_up_in, pair_weight, total, walked};
 
 use crate::weighing::Weigh;
 use rkyv_base::access::{access, access_unchecked};
@@ -73,9 +73,7 @@ pub(crate) fn finder_in<'a, K: Element>(archive: &'a [u8]) -> MapFinder<'a, K, u
 fn value_or_miss<K: KeyElement, Q: Query<K>>(map: ArchivedHashMap<'_, K, u32>, key: &Q) -> u64
     requires map { IsMap w32 K.shape number_shape map }
     requires read { Q.can_read key.now }
-    ensures { let b = map_bytes map.entry in
-        result ≡ looked_up K.shape b (map_pos map.entry) (hash_by (Q.calls key.now))
-        (Q.fits key.now b) }
+    ensures { result ≡ looked_up_in K.shape map.entry Q.calls Q.fits key.now }
 {
     match map.get(key) {
         Some(value) => u64::from(value.to_native()),
@@ -95,10 +93,9 @@ pub(crate) fn lookup_total<
     requires can { I.can_next keys }
     requires ends { IsFinite (I.remaining keys) }
     requires read { (key : Q) → Q.can_read key }
-    ensures { let b = map_bytes map.entry in
-        (items : List B) × Drains I.next_gives keys items
-        × (result ≡ total (λ item. looked_up K.shape b (map_pos map.entry)
-        (hash_by (Q.calls (B.lent item))) (Q.fits (B.lent item) b)) items) }
+    ensures { (items : List B) × Drains I.next_gives keys items
+        × (result ≡ total (λ item. looked_up_in K.shape map.entry Q.calls Q.fits (B.lent item))
+        items) }
 {
     let mut total = 0u64;
     for key in keys {
@@ -112,9 +109,7 @@ pub(crate) fn lookup_total<
 fn value_by_finder<K: KeyElement, Q: Query<K>>(finder: MapFinder<'_, K, u32>, key: &Q) -> u64
     requires finder { IsMapFinder w32 K.shape number_shape finder }
     requires read { Q.can_read key.now }
-    ensures { let b = map_bytes (map_of finder.entry) in
-        result ≡ looked_up K.shape b (map_pos (map_of finder.entry)) (hash_by (Q.calls key.now))
-        (Q.fits key.now b) }
+    ensures { result ≡ looked_up_in K.shape (map_of finder.entry) Q.calls Q.fits key.now }
 {
     match finder.get(key) {
         Some(value) => u64::from(value.to_native()),
@@ -134,10 +129,9 @@ pub(crate) fn lookup_total_by_finder<
     requires can { I.can_next keys }
     requires ends { IsFinite (I.remaining keys) }
     requires read { (key : Q) → Q.can_read key }
-    ensures { let b = map_bytes (map_of finder.entry) in
-        (items : List B) × Drains I.next_gives keys items
-        × (result ≡ total (λ item. looked_up K.shape b (map_pos (map_of finder.entry))
-        (hash_by (Q.calls (B.lent item))) (Q.fits (B.lent item) b)) items) }
+    ensures { (items : List B) × Drains I.next_gives keys items
+        × (result ≡ total (λ item. looked_up_in K.shape (map_of finder.entry) Q.calls Q.fits
+        (B.lent item)) items) }
 {
     let mut total = 0u64;
     for key in keys {

@@ -57,10 +57,10 @@ found_told P Q says (Some x) pos at h = subst (λ (o : Option ℕ). IfSome o Q) 
 
 -- the map that is read has these bytes and this place
 module _ {K V H W : Type 0} (m : ArchivedHashMap K V H W) (b : List ℕ) (p : ℕ) (bytes : map_bytes m ≡ b) (place : map_pos m ≡ p) where
-  as_read : (F : List ℕ → ℕ → Type 0) → F (map_bytes m) (map_pos m) → F b p
+  pub as_read : (F : List ℕ → ℕ → Type 0) → F (map_bytes m) (map_pos m) → F b p
   as_read F x = subst (F b) place (subst (λ c. F c (map_pos m)) bytes x)
 
-  to_read : (F : List ℕ → ℕ → Type 0) → F b p → F (map_bytes m) (map_pos m)
+  pub to_read : (F : List ℕ → ℕ → Type 0) → F b p → F (map_bytes m) (map_pos m)
   to_read F x = subst (λ c. F c (map_pos m)) (sym bytes) (subst (F b) (sym place) x)
 
   module _ (w : Width) (k v : Shape) where

@@ -1,6 +1,7 @@
 -- The archive of a list of pairs.
-use Rattle.std.specs.Prelude.{ℕ, List}
+use Rattle.std.specs.Prelude.{ℕ, List, MatchResult, Result}
 use Rattle.std.specs.Int.{w32}
+use Rattle.std.specs.declared.vec.Vec.{Vec}
 use Rattle.rkyv_scan.specs.Hash.{HasherCall}
 use Rattle.rkyv_base.specs.Format.{Format}
 use Rattle.rkyv_base.specs.Numbers.{unsigned}
@@ -55,6 +56,12 @@ module _ (k : Parts) {A : Type 0} (factor : ℕ × ℕ) where
     -- no archive was made of the pairs
     unfoldable pub NoArchiveOf : {F : Type 0} → List (A × A) → WriteError F → Type 0
     NoArchiveOf pairs e = ArchiveRefused k.limit (header_shape k) pairs_format pairs e
+
+    -- the bytes are the archive of the pairs, or none was made of them
+    abbrev pub BuildsArchive : {F Z : Type 0} → (List ℕ → ℕ → A → Type 0) → List (A × A)
+        → Result (Vec ℕ Z) (WriteError F) → Type 0
+    BuildsArchive stands pairs result =
+        MatchResult result (λ v. IsArchiveOf stands pairs v.items) (NoArchiveOf pairs)
 
 -- The bytes are the archive of the pairs, in their order, as a map under the load factor: they are
 -- accepted, the map of the

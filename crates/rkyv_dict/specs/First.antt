@@ -31,3 +31,9 @@ module _ (k : Parts) (b : List ℕ) where
   unfoldable pub first_under : List ℕ → (ℕ → Bool) → Option (List ℕ)
   first_under homes accept = option_map (value_text k b)
       (find accept (home_positions k.word (pair_shape k).size b (root k b) homes))
+
+  -- what is told is told of the text of the value of the first accepted key, in a map that was
+  -- written
+  abbrev pub FindsFirstValue : (ℕ → Bool) → (Option (List ℕ) → Type 0) → Type 0
+  FindsFirstValue accept Told =
+      (homes : List ℕ) → HasHomes homes → Told (first_under homes accept)

@@ -1,5 +1,6 @@
 pub mod Forms
 pub mod Parts
+pub mod Pushing
 pub mod Archives
 pub mod Built
 pub mod First

@@ -1,7 +1,6 @@
 //! The archives of a dictionary: checking, looking up, listing, counting and building.
 
-ghost use Rattle.std.specs.Prelude.{ℕ, ◌≡◌, ◌++◌, IfSome, List, MatchResult, OnOk, codes, decimal};
-ghost use Rattle.std.specs.Prelude.{string_bytes};
+ghost use Rattle.std.specs.Prelude.{ℕ, ◌≡◌, ◌++◌, IfSome, MatchResult, codes, decimal};
 ghost use Rattle.std.specs.List.{flat_map};
 ghost use Rattle.std.specs.Option.{option_map};
 ghost use Rattle.rkyv_base.specs.View.{IsAt, IsView};
@@ -11,11 +10,11 @@ ghost use Rattle.rkyv_dict.specs.Archives.{IsArchive, IsMapArchive, IsRefused, M
 ghost use Rattle.rkyv_dict.specs.Archives.{entry_count, keys_misplaced, line, line_at, listing};
 ghost use Rattle.rkyv_dict.specs.Archives.{misplaced_count, pair_count, pair_lines, root};
 ghost use Rattle.rkyv_dict.specs.Archives.{value_found, value_line, value_under};
-ghost use Rattle.rkyv_dict.specs.Built.{BuildRefused, Holds, IsArchiveOf, IsBuilt, NoArchiveOf};
-ghost use Rattle.rkyv_dict.specs.Built.{form_of_pairs};
-ghost use Rattle.rkyv_dict.specs.First.{HasHomes, first_under, first_value};
+ghost use Rattle.rkyv_dict.specs.Built.{BuildRefused, BuildsArchive, Holds, IsBuilt, form_of_pairs};
+ghost use Rattle.rkyv_dict.specs.First.{FindsFirstValue, first_value};
 ghost use Rattle.rkyv_dict.specs.Forms.{Pairs, key_seen, pairs_seen};
 ghost use Rattle.rkyv_dict.specs.Parts.{parts_by};
+ghost use Rattle.rkyv_dict.specs.Pushing.{Pushes};
 
 use crate::form::{Bits, Form, Key, Kind, PairList};
 use crate::parts::Part;
@@ -32,8 +31,8 @@ use rkyv_collections::{FxHasher64, MapPairs, NativeKey, Query};
 use std::alloc::{AllocError, Global};
 
 /// Appends a line.
-fn push_line(out: &mut String, text: &str) -> Result<(), AllocError>
-    ensures { OnOk result (string_bytes out.new ≡ string_bytes out.old ++ line text.now) }
+pub(crate) fn push_line(out: &mut String, text: &str) -> Result<(), AllocError>
+    ensures { Pushes result out.old out.new (line text.now) }
 {
     write!(out, "{text}\n")
 }
@@ -65,8 +64,7 @@ fn map_of<'a, P: Part, W: Width>(bytes: &'a [u8]) -> ArchivedHashMap<'a, P, P, F
 /// Appends the line of a value, or that there is none.
 fn push_text<P: Part>(value: Option<View<'_, P>>, out: &mut String) -> Result<(), AllocError>
     requires { IfSome value (IsView P.shape) }
-    ensures { OnOk result (string_bytes out.new
-        ≡ string_bytes out.old ++ value_line (option_map (at_view P.text) value.entry)) }
+    ensures { Pushes result out.old out.new (value_line (option_map (at_view P.text) value.entry)) }
 {
     match value {
         Some(value) => {
@@ -87,12 +85,11 @@ fn push_found<P: Part, W: Width, Q: Query<P>>(
         IsMapArchive m bytes.now }
     requires query { Q.can_read key.now }
     ensures found { let m = parts_by W.word W.LIMIT P.shape P.text P.same P.key_calls in
-        let value = value_under m bytes.now (Q.calls key.now) (Q.fits key.now bytes.now) in
-        OnOk result (string_bytes out.new ≡ string_bytes out.old ++ value_line value) }
+        Pushes result out.old out.new (value_line (value_under m bytes.now (Q.calls key.now)
+        (Q.fits key.now bytes.now))) }
     ensures first { let m = parts_by W.word W.LIMIT P.shape P.text P.same P.key_calls in
-        (homes : List ℕ) → HasHomes m bytes.now homes →
-        let value = first_under m bytes.now homes (Q.fits key.now bytes.now) in
-        OnOk result (string_bytes out.new ≡ string_bytes out.old ++ value_line value) }
+        FindsFirstValue m bytes.now (Q.fits key.now bytes.now) (λ value.
+        Pushes result out.old out.new (value_line value)) }
 {
     push_text(map_of::<P, W>(bytes).get(key), out)
 }
@@ -105,8 +102,8 @@ fn push_pair<P: Part>(
 ) -> Result<(), AllocError>
     requires key { IsView P.shape key }
     requires value { IsView P.shape value }
-    ensures { OnOk result (string_bytes out.new ≡ string_bytes out.old
-        ++ line (at_view P.text key.entry ++ codes " " ++ at_view P.text value.entry)) }
+    ensures { Pushes result out.old out.new
+        (line (at_view P.text key.entry ++ codes " " ++ at_view P.text value.entry)) }
 {
     P::push(key, out)?;
     write!(out, " ")?;
@@ -116,8 +113,7 @@ fn push_pair<P: Part>(
 
 /// Appends the line of the number of pairs.
 fn push_count(count: usize, out: &mut String) -> Result<(), AllocError>
-    ensures { OnOk result (string_bytes out.new
-        ≡ string_bytes out.old ++ line (codes "entries " ++ decimal count)) }
+    ensures { Pushes result out.old out.new (line (codes "entries " ++ decimal count)) }
 {
     write!(out, "entries {count}\n")
 }
@@ -129,8 +125,7 @@ fn push_lines<P: Part, W: Width>(
 ) -> Result<(), AllocError>
     requires { IsMap W.word P.shape P.shape map }
     ensures { let lines = flat_map (line_at P.shape P.text (map_bytes map.entry)) in
-        OnOk result (string_bytes out.new
-        ≡ string_bytes out.old ++ lines (key_positions W.word P.shape P.shape map.entry)) }
+        Pushes result out.old out.new (lines (key_positions W.word P.shape P.shape map.entry)) }
 {
     for (key, value) in map.iter() {
         push_pair(key, value, out)?;
@@ -143,7 +138,7 @@ fn push_map<P: Part, W: Width>(bytes: &[u8], out: &mut String) -> Result<(), All
     requires { let m = parts_by W.word W.LIMIT P.shape P.text P.same P.key_calls in
         IsMapArchive m bytes.now }
     ensures { let m = parts_by W.word W.LIMIT P.shape P.text P.same P.key_calls in
-        OnOk result (string_bytes out.new ≡ string_bytes out.old ++ pair_lines m bytes.now) }
+        Pushes result out.old out.new (pair_lines m bytes.now) }
 {
     let map = map_of::<P, W>(bytes);
     push_count(map.len(), out)?;
@@ -170,10 +165,8 @@ where
     A::Archived: Part,
     ensures { let m = parts_by W.word W.LIMIT A.Archived.shape A.Archived.text A.Archived.same
         A.Archived.key_calls in
-        MatchResult result
-        (λ v. IsArchiveOf m load_factor W.MAX_CAPACITY A.format A.calls A.Archived.stands pairs.now
-        v.items)
-        (NoArchiveOf m load_factor W.MAX_CAPACITY A.format A.calls pairs.now) }
+        BuildsArchive m load_factor W.MAX_CAPACITY A.format A.calls A.Archived.stands pairs.now
+        result }
 {
     let list = MapPairs::<'_, A, A>::with_load_factor(pairs, load_factor);
     to_bytes_in::<W, MapPairs<'_, A, A>>(alloc, &list)
@@ -208,11 +201,10 @@ pub fn push_value(
     out: &mut String,
 ) -> Result<(), AllocError>
     requires { IsArchive form bytes.now }
-    ensures found { OnOk result (string_bytes out.new
-        ≡ string_bytes out.old ++ value_line (value_found form bytes.now (key_seen key.entry))) }
+    ensures found { Pushes result out.old out.new
+        (value_line (value_found form bytes.now (key_seen key.entry))) }
     ensures first { (pairs : Pairs) (factor : ℕ × ℕ) → Holds form factor bytes.now pairs
-        → OnOk result (string_bytes out.new
-        ≡ string_bytes out.old ++ value_line (first_value pairs (key_seen key.entry))) }
+        → Pushes result out.old out.new (value_line (first_value pairs (key_seen key.entry))) }
 {
     match (form.kind, key) {
         (Kind::Num, Key::Number(number)) => match form.bits {
@@ -233,8 +225,7 @@ pub fn push_value(
 /// Where a growth is refused.
 pub fn push_pairs(form: Form, bytes: &[u8], out: &mut String) -> Result<(), AllocError>
     requires { IsArchive form bytes.now }
-    ensures { OnOk result
-        (string_bytes out.new ≡ string_bytes out.old ++ listing form bytes.now) }
+    ensures { Pushes result out.old out.new (listing form bytes.now) }
 {
     match (form.kind, form.bits) {
         (Kind::Num, Bits::Bits32) => push_map::<u32, Narrow>(bytes, out),

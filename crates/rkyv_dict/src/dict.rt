@@ -1,17 +1,17 @@
 //! The dictionary: its state, and what each command answers.
 ghost use Rattle.rkyv_dict.specs.Answers.{Does, DoesLine};
-ghost use Rattle.rkyv_dict.specs.Archives.{line};
 ghost use Rattle.rkyv_dict.specs.Counts.{pair_count};
 ghost use Rattle.rkyv_dict.specs.Forms.{key_seen};
 ghost use Rattle.rkyv_dict.specs.Output.{answered, audit_line, error_line, get_line, hex_line};
 ghost use Rattle.rkyv_dict.specs.Output.{list_lines, refused_line};
+ghost use Rattle.rkyv_dict.specs.Pushing.{Pushes};
 ghost use Rattle.rkyv_dict.specs.Run.{Adds};
 ghost use Rattle.rkyv_dict.specs.Script.{build_archive, check_archive};
 ghost use Rattle.rkyv_dict.specs.State.{IsSound, emptied, form_of, start};
 ghost use Rattle.std.specs.Option.{ForSome};
-ghost use Rattle.std.specs.Prelude.{◌≡◌, ◌≤◌, ◌++◌, OnOk, string_bytes};
+ghost use Rattle.std.specs.Prelude.{◌≡◌, ◌≤◌, OnOk, string_bytes};
 
-use crate::archives;
+use crate::archives::{self, push_line};
 use crate::errors::{cause_told, refusal_told, wants_memory};
 use crate::form::{Bits, Form, Key, Kind, PairList};
 use crate::hex::push_hex;
@@ -40,17 +40,9 @@ pub struct Dict<'a> {
     ghost handed_in: { ForSome archive (λ a. ForSome a.handed (λ n. n ≤ pair_count list)) },
 }
 
-/// Appends a line.
-fn push_line(out: &mut String, text: &str) -> Result<(), AllocError>
-    ensures { OnOk result (string_bytes out.new ≡ string_bytes out.old ++ line text.now) }
-{
-    write!(out, "{text}\n")
-}
-
 /// Appends why bytes are no archive.
 fn push_refusal(out: &mut String, error: &VerifyError) -> Result<(), AllocError>
-    ensures { OnOk result
-        (string_bytes out.new ≡ string_bytes out.old ++ refused_line error.now) }
+    ensures { Pushes result out.old out.new (refused_line error.now) }
 {
     let told = refusal_told(error);
     write!(out, "refused {told}\n")
@@ -58,7 +50,7 @@ fn push_refusal(out: &mut String, error: &VerifyError) -> Result<(), AllocError>
 
 /// Appends why a list is not archived.
 fn push_cause(out: &mut String, cause: &WriteError<NoMemory>) -> Result<(), AllocError>
-    ensures { OnOk result (string_bytes out.new ≡ string_bytes out.old ++ error_line cause.now) }
+    ensures { Pushes result out.old out.new (error_line cause.now) }
 {
     let told = cause_told(cause);
     write!(out, "error {told}\n")
@@ -92,8 +84,7 @@ impl<'a> Dict<'a> {
 
     /// Appends what `hex` answers.
     fn push_hex(&self, out: &mut String) -> Result<(), AllocError>
-        ensures { OnOk result (string_bytes out.new
-            ≡ string_bytes out.old ++ answered hex_line (state_seen self.now).archive) }
+        ensures { Pushes result out.old out.new (answered hex_line (state_seen self.now).archive) }
     {
         let Some(archive) = &self.archive else {
             return push_line(out, "error 11 NoArchive");
@@ -106,8 +97,7 @@ impl<'a> Dict<'a> {
     fn push_get(&self, key: Key<'_>, out: &mut String) -> Result<(), AllocError>
         requires { IsSound (state_seen self.now) }
         ensures { let s = state_seen self.now in let key = key_seen key.entry in
-            OnOk result (string_bytes out.new
-            ≡ string_bytes out.old ++ answered (get_line (form_of s) key) s.archive) }
+            Pushes result out.old out.new (answered (get_line (form_of s) key) s.archive) }
     {
         let Some(archive) = &self.archive else {
             return push_line(out, "error 11 NoArchive");
@@ -118,8 +108,8 @@ impl<'a> Dict<'a> {
     /// Appends what `list` answers.
     fn push_list(&self, out: &mut String) -> Result<(), AllocError>
         requires { IsSound (state_seen self.now) }
-        ensures { let s = state_seen self.now in OnOk result (string_bytes out.new
-            ≡ string_bytes out.old ++ answered (list_lines (form_of s)) s.archive) }
+        ensures { let s = state_seen self.now in
+            Pushes result out.old out.new (answered (list_lines (form_of s)) s.archive) }
     {
         let Some(archive) = &self.archive else {
             return push_line(out, "error 11 NoArchive");
@@ -130,8 +120,8 @@ impl<'a> Dict<'a> {
     /// Appends what `audit` answers.
     fn push_audit(&self, out: &mut String) -> Result<(), AllocError>
         requires { IsSound (state_seen self.now) }
-        ensures { let s = state_seen self.now in OnOk result (string_bytes out.new
-            ≡ string_bytes out.old ++ answered (audit_line (form_of s)) s.archive) }
+        ensures { let s = state_seen self.now in
+            Pushes result out.old out.new (answered (audit_line (form_of s)) s.archive) }
     {
         let Some(archive) = &self.archive else {
             return push_line(out, "error 11 NoArchive");

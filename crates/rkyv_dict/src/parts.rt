@@ -1,6 +1,7 @@
 //! The keys and values of a dictionary's archives, and how they are printed.
 
-ghost use Rattle.std.specs.Prelude.{ℕ, ◌≡◌, ◌++◌, List, OnOk, string_bytes};
+ghost use Rattle.std.specs.Prelude.{ℕ, List};
+ghost use Rattle.rkyv_dict.specs.Pushing.{Pushes};
 ghost use Rattle.std.specs.Int.{w32};
 ghost use Rattle.rkyv_base.specs.Numbers.{unsigned};
 ghost use Rattle.rkyv_base.specs.Scalar.{scalar_shape};
@@ -26,8 +27,7 @@ pub trait Part: KeyElement {
     /// Where a growth is refused.
     fn push(view: View<'_, Self>, out: &mut String) -> Result<(), AllocError>
         requires { IsView Self.shape view }
-        ensures { OnOk result
-            (string_bytes out.new ≡ string_bytes out.old ++ at_view text view.entry) };
+        ensures { Pushes result out.old out.new (at_view text view.entry) };
 }
 
 impl Part for u32 {
@@ -35,8 +35,7 @@ impl Part for u32 {
 
     fn push(view: View<'_, u32>, out: &mut String) -> Result<(), AllocError>
         requires { IsView (scalar_shape (unsigned w32)) view }
-        ensures { OnOk result
-            (string_bytes out.new ≡ string_bytes out.old ++ at_view number_text view.entry) }
+        ensures { Pushes result out.old out.new (at_view number_text view.entry) }
     {
         let number = view.to_native();
         write!(out, "{number}")
@@ -48,8 +47,7 @@ impl<W: Width> Part for Text<W> {
 
     fn push(view: View<'_, Text<W>>, out: &mut String) -> Result<(), AllocError>
         requires { IsView (text_shape W.word) view }
-        ensures { OnOk result
-            (string_bytes out.new ≡ string_bytes out.old ++ at_view (text_at W.word) view.entry) }
+        ensures { Pushes result out.old out.new (at_view (text_at W.word) view.entry) }
     {
         let text = view.as_str();
         write!(out, "{text}")

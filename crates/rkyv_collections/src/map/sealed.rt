@@ -51,8 +51,8 @@ fn value_seal<'a, K: Element, V: Element, H, W>(
     Seal::over(archive, pos as usize + value_offset::<K, V>())
 }
 
-// Every sealed lookup is one of the first two, which ask the map that is read where the seal is, and
-// then one of the others.
+// Every sealed lookup is one of the first two, which ask the map that is read where the seal is,
+// and then one of the others.
 impl<'a, K: KeyElement, V: Element, H: KeyHasher, W: Width> ArchivedHashMap<'a, K, V, H, W> {
     /// Where the key stands that `find` answers.
     #[inline]
