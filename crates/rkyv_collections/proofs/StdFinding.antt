@@ -10,19 +10,19 @@ use Rattle.std.specs.Prelude.{IsSome, IsSomeAnd, IsTrue, not}
 use Rattle.rkyv_scan.specs.Groups.{generic_kind}
 use Rattle.rkyv_scan.specs.Hash.{Hasher, HasherCall, NumbersFit, hash_of_calls}
 use Rattle.rkyv_base.specs.Empty.{unit_shape, unit_stands}
-use Rattle.rkyv_base.specs.Entry.{entry_element, entry_shape, value_offset}
+use Rattle.rkyv_base.specs.Entry.{entry_shape, value_offset}
 use Rattle.rkyv_base.specs.Format.{Format, IsFormat}
-use Rattle.rkyv_base.specs.Shape.{IsElement, Shape, Viewed, standing}
+use Rattle.rkyv_base.specs.Shape.{IsElement, Shape, Viewed}
 use Rattle.rkyv_base.specs.Text.{IsArchiveWord}
 use Rattle.rkyv_keys.specs.Equality.{Comparison}
 use Rattle.rkyv_keys.specs.Keys.{IsQuery}
 use Rattle.rkyv_keys.specs.OfEntries.{standing_key}
-use Rattle.rkyv_table.specs.Lemmas.TableLaws.{table_element}
 use Rattle.rkyv_table.specs.Table.Reading.{home_positions, pos_found}
 use Rattle.rkyv_collections.specs.Equality.{pair_at}
 use Rattle.rkyv_collections.specs.ListedLookups.{IsPairOf, first_pair}
 use Rattle.rkyv_collections.specs.Map.{hash_at, map_shape}
 use Rattle.rkyv_collections.specs.MapFormat.{MapStands, hash_of}
+use Rattle.rkyv_collections.specs.Lemmas.EntriesTold.{entries_told}
 use Rattle.rkyv_table.specs.Table.Lent.{with_units}
 use Rattle.rkyv_collections.specs.StdLookups.{FindsEntries, FindsMembers, IsValueBehind}
 use Rattle.rkyv_collections.specs.StdMap.{of_entries}
@@ -100,20 +100,8 @@ module _ {State : Type 0} (hasher : Hasher State) (small : NumbersFit hasher) (w
   pub looked_up : IsArchiveWord w → (equal : A → A → Bool) {R : Type 0} (f : Format (List (A × B)) R)
       → IsFormat (map_shape w k v) (MapStands w k v key value (hash_at hasher key_calls) factor) f
       → IsFormat (map_shape w k v) (FindsEntries w k (hash_of hasher calls) fits key can_read v value) (of_entries equal f)
-  looked_up kind equal {R} f base = record {
-    whole = λ es. base.whole es;
-    clear = λ es. base.clear es;
-    sound = λ es r c p0 p part out h i s t o al.
-        let d = base.sound es r c p0 p part out h.1 i s t o al in
-        let whole = base.whole es r p out i in
-        let inside = t.inside in
-        let view : Viewed (map_shape w k v) c p = record {
-          inside = omega (arith, inside, whole);
-          aligned = al;
-          stands = standing (map_shape w k v) (table_element w kind (entry_shape k v) (entry_element k v kl vl)) c p p0 (p0 + length part) d.0 (omega arith) o d.1;
-        } in
-        (d.0, d.1, entries_found c p view es d.2);
-  }
+  looked_up kind equal f base =
+      entries_told w kind kl vl factor equal (FindsEntries w k (hash_of hasher calls) fits key can_read v value) (λ b p view es st apart. entries_found b p view es st) f base
 
 -- and of a set
 pub members_looked_up : {X A Q R : Type 0} (w : Width) (k s : Shape) (key : List ℕ → ℕ → A → Type 0) (can_read : Q → Type 0) (hash : Q → ℕ) (fits : Q → List ℕ → ℕ → Bool) (seen : X → List A) (f : Format X R)

@@ -3,7 +3,6 @@
 use Rattle.std.proofs.Common.{◌≡◌, ℕ, ◌+◌, ◌-◌, ◌*◌, ◌<◌, ◌≤◌, refl, sym, ap, subst, ◌∙◌, arith}
 use Rattle.std.proofs.Common.{inl, inr, List, [], ◌∷◌, map, length, slice_get, slice_index, Some}
 use Rattle.std.specs.Int.{Width, byte_len}
-use Rattle.std.specs.Prelude.{slice_range}
 use Rattle.std.proofs.lemmas.List.{ext_get_or, get_or-map, length-map}
 use Rattle.std.proofs.lemmas.Option.{slice_get_cases, slice_get_within}
 use Rattle.rkyv_base.specs.Bytes.{Same, same_part}
@@ -13,21 +12,21 @@ use Rattle.rkyv_base.specs.Pairs.{PairStands, pair_format, pair_is_format, pair_
 use Rattle.rkyv_base.specs.Shape.{IsElement, Shape, Standing, standing}
 use Rattle.rkyv_base.specs.Text.{IsArchiveWord}
 use Rattle.rkyv_table.specs.Table.Header.{cap_at}
-use Rattle.rkyv_table.specs.Controls.Numbers.{capacity, control_count}
+use Rattle.rkyv_table.specs.Controls.Numbers.{capacity}
 use Rattle.rkyv_table.specs.Controls.Placing.{Written}
-use Rattle.rkyv_table.specs.Table.Reading.{WrittenAt, controls_pos, home_positions, item_at}
+use Rattle.rkyv_table.specs.Table.Reading.{WrittenAt, home_positions, item_at}
 use Rattle.rkyv_table.specs.Table.Reading.{table_controls}
 use Rattle.rkyv_table.specs.Table.Layout.{TableHolds}
 use Rattle.rkyv_table.specs.Table.TableFormat.{TableStands}
 use Rattle.rkyv_table.specs.Lemmas.TableSound.{table_is_format}
 use Rattle.rkyv_table.specs.Table.Taking.{hashes_of, items_of}
 use Rattle.rkyv_table.specs.Lemmas.ItemPositions.{HeldPart, HoldsWithin, holds_at, item_holds}
-use Rattle.rkyv_table.specs.Lemmas.ItemPositions.{told_pos}
 use Rattle.rkyv_table.specs.Lemmas.SameHeader.{cap_same, len_same, pos_same}
 use Rattle.rkyv_table.specs.Table.WrittenTables.{IsWrittenOf}
 use Rattle.rkyv_table.proofs.WrittenTables.{home_count, home_pos, home_walked, table_written}
 use Rattle.rkyv_collections.specs.Map.{map_shape}
 use Rattle.rkyv_collections.specs.MapFormat.{MapStands, keyed, map_format}
+use Rattle.rkyv_collections.specs.Lemmas.SameControls.{same_controls}
 
 -- the hash of a key rests on the bytes on which it rests that the key holds
 abbrev pub HashNear : Shape → (List ℕ → ℕ → ℕ) → Type 0
@@ -142,19 +141,6 @@ module _ (k v : Shape) (kl : IsElement k) (vl : IsElement v) (w : Width) where
           ∙ ap (λ (xs : List ℕ). hash c (slice_index xs i)) same_positions
           ∙ sym (get_or-map (hash c) hc i 0 0 (omega (arith, n, nc))))
 
-      same_controls : 0 < cap_at w b p → table_controls w b p ≡ table_controls w c p
-      same_controls some =
-          let t = holds_at w S law b p lo hi l h some in
-          let at = told_pos w S.size b p t.begin t.part.begins in
-          let above = t.part.above in
-          let ends = t.ends in
-          let z = controls_pos w b p in
-          same_part b c lo l z (z + control_count (cap_at w b p)) (omega (arith, at, above))
-          (omega (arith, at, ends)) (omega arith) part
-          ∙ ap (λ n. slice_range c n (n + control_count (cap_at w b p))) (pos_same w b c p fixed)
-          ∙ ap (λ n. slice_range c (controls_pos w c p) (controls_pos w c p + control_count n))
-          (cap_same w b c p fixed)
-
       written_again : WrittenAt w c p hashes st.homes
       written_again = record {
         count = sym (len_same w b c p fixed) ∙ st.written.count;
@@ -165,7 +151,8 @@ module _ (k v : Shape) (kl : IsElement k) (vl : IsElement v) (w : Width) where
             subst (λ n. length hashes < n) (cap_same w b c p fixed) e.0,
             subst (λ n. Written n hashes st.homes (table_controls w c p)) (cap_same w b c p fixed)
                 (subst (λ (xs : List ℕ). Written (cap_at w b p) hashes st.homes xs)
-                (same_controls (omega (arith, e.0))) e.1),
+                (same_controls w S law b c p lo hi l o h fixed part
+                (omega (arith, e.0))) e.1),
           )
         ];
       }

@@ -16,18 +16,18 @@ use Rattle.rkyv_scan.specs.Lemmas.KindLaws.{word_lawful}
 use Rattle.rkyv_base.specs.Entry.{entry_element, entry_shape, value_offset}
 use Rattle.rkyv_base.specs.Format.{Format, IsFormat}
 use Rattle.rkyv_base.specs.Pairs.{PairStands}
-use Rattle.rkyv_base.specs.Shape.{IsElement, Shape, Standing, Viewed, standing}
+use Rattle.rkyv_base.specs.Shape.{IsElement, Shape, Standing, Viewed}
 use Rattle.rkyv_base.specs.Text.{IsArchiveWord}
 use Rattle.rkyv_keys.specs.Equality.{Comparison}
 use Rattle.rkyv_keys.specs.Keys.{FitsItsEqual, IsQuery}
 use Rattle.rkyv_keys.specs.OfEntries.{standing_key}
 use Rattle.rkyv_table.specs.Table.Reading.{home_positions, item_at, pos_found}
-use Rattle.rkyv_table.specs.Lemmas.TableLaws.{table_element}
 use Rattle.rkyv_table.proofs.FirstFound.{first_found}
 use Rattle.rkyv_table.proofs.Items.{item_viewed}
 use Rattle.rkyv_table.proofs.WrittenTables.{home_count, home_pos, home_walked}
 use Rattle.rkyv_collections.specs.Map.{hash_at, map_shape}
 use Rattle.rkyv_collections.specs.MapFormat.{MapStands, hash_of}
+use Rattle.rkyv_collections.specs.Lemmas.EntriesTold.{entries_told}
 use Rattle.rkyv_collections.specs.StdEquality.{EntriesEqual, FindsPair}
 use Rattle.rkyv_collections.specs.StdMap.{of_entries}
 
@@ -146,22 +146,9 @@ module _ (w : Width) (k v : Shape) (kl : IsElement k) (vl : IsElement v) {A B : 
   pub written_equal : {R : Type 0} (kind : IsArchiveWord w) (f : Format (List (A × B)) R)
       → IsFormat (map_shape w k v) (MapStands w k v key equals there factor) f
       → IsFormat (map_shape w k v) (EntriesEqual w k v own fits equals) (of_entries equal f)
-  written_equal {R} kind f base = record {
-    whole = λ es. base.whole es;
-    clear = λ es. base.clear es;
-    sound = λ es r c p0 p part out h i s t o al.
-        let d = base.sound es r c p0 p part out h.1 i s t o al in
-        let whole = base.whole es r p out i in
-        let inside = t.inside in
-        let view : Viewed (map_shape w k v) c p = record {
-          inside = omega (arith, inside, whole);
-          aligned = al;
-          stands = standing (map_shape w k v)
-              (table_element w kind (entry_shape k v) (entry_element k v kl vl)) c p p0
-              (p0 + length part) d.0 (omega arith) o d.1;
-        } in
-        (d.0, d.1, (d.2.len, each_found c p view es d.2 h.0));
-  }
+  written_equal kind f base =
+      entries_told w kind kl vl factor equal (EntriesEqual w k v own fits equals)
+      (λ b p view es st apart. (st.len, each_found b p view es st apart)) f base
 
 -- of keys that are asked for by themselves
 pub entries_equal : {State : Type 0} (hasher : Hasher State) (w : Width) (kind : IsArchiveWord w)

@@ -6,7 +6,6 @@ use Rattle.std.specs.Cmp.{IsEquivalence}
 use Rattle.std.specs.Int.{Width, byte_len}
 use Rattle.std.specs.List.{All, AllZip, Contains, IsDistinct}
 use Rattle.std.specs.Map.{keys_of, lookup, update_all}
-use Rattle.std.specs.Prelude.{slice_range}
 use Rattle.std.proofs.lemmas.Bool.{both_ways, cases_Bool, cases_eq, cases_lt, eq-eqb}
 use Rattle.std.proofs.lemmas.List.{get_or_default}
 use Rattle.std.proofs.lemmas.List.Elements.{All-contains_itself, All-head, All-tail, All-weaker}
@@ -17,23 +16,23 @@ use Rattle.rkyv_base.specs.Bytes.{Same, same_part}
 use Rattle.rkyv_base.specs.Entry.{entry_element, entry_shape}
 use Rattle.rkyv_base.specs.Format.{Format, IsFormat, StandsNear}
 use Rattle.rkyv_base.specs.Pairs.{PairStands, pair_near}
-use Rattle.rkyv_base.specs.Shape.{IsElement, Shape, Viewed, standing}
+use Rattle.rkyv_base.specs.Shape.{IsElement, Shape, Viewed}
 use Rattle.rkyv_base.specs.Text.{IsArchiveWord}
 use Rattle.rkyv_table.specs.Table.Header.{cap_at, len_at}
-use Rattle.rkyv_table.specs.Lemmas.ItemPositions.{holds_at, item_holds, told_pos}
-use Rattle.rkyv_table.specs.Controls.Numbers.{control_count}
+use Rattle.rkyv_table.specs.Lemmas.ItemPositions.{holds_at, item_holds}
 use Rattle.rkyv_table.specs.Controls.Placing.{walk}
-use Rattle.rkyv_table.specs.Table.Reading.{IsWalked, controls_pos, home_positions, item_at}
+use Rattle.rkyv_table.specs.Table.Reading.{IsWalked, home_positions, item_at}
 use Rattle.rkyv_table.specs.Table.Reading.{item_positions, table_controls}
 use Rattle.rkyv_table.specs.Lemmas.SameHeader.{cap_same, pos_same}
 use Rattle.rkyv_table.specs.Table.Layout.{TableHolds}
-use Rattle.rkyv_table.specs.Lemmas.TableLaws.{table_element}
 use Rattle.rkyv_table.proofs.RawWalks.{walk_count, walked_all}
 use Rattle.rkyv_table.proofs.WalkedHomes.{walked_homes}
 use Rattle.rkyv_table.proofs.Walks.{walk_none}
 use Rattle.rkyv_table.proofs.WrittenTables.{home_count, home_pos}
 use Rattle.rkyv_collections.specs.Map.{map_shape}
 use Rattle.rkyv_collections.specs.MapFormat.{MapStands}
+use Rattle.rkyv_collections.specs.Lemmas.EntriesTold.{entries_told}
+use Rattle.rkyv_collections.specs.Lemmas.SameControls.{same_controls}
 use Rattle.rkyv_collections.specs.StdMap.{ArePairsAt, EntriesStand, of_entries}
 
 module _ (k v : Shape) (kl : IsElement k) (vl : IsElement v) (w : Width) where
@@ -45,19 +44,6 @@ module _ (k v : Shape) (kl : IsElement k) (vl : IsElement v) (w : Width) where
 
   module _ (b c : List ℕ) (p lo hi l : ℕ) (o : lo ≤ hi) (h : TableHolds w S b p lo hi l)
       (fixed : Same b c p (p + 3 * byte_len w)) (part : Same b c lo l) where
-    same_controls : 0 < cap_at w b p → table_controls w b p ≡ table_controls w c p
-    same_controls some =
-        let t = holds_at w S law b p lo hi l h some in
-        let at = told_pos w S.size b p t.begin t.part.begins in
-        let above = t.part.above in
-        let ends = t.ends in
-        let z = controls_pos w b p in
-        same_part b c lo l z (z + control_count (cap_at w b p)) (omega (arith, at, above))
-        (omega (arith, at, ends)) (omega arith) part
-        ∙ ap (λ n. slice_range c n (n + control_count (cap_at w b p))) (pos_same w b c p fixed)
-        ∙ ap (λ n. slice_range c (controls_pos w c p) (controls_pos w c p + control_count n))
-        (cap_same w b c p fixed)
-
     same_walk : walk (table_controls w b p) (cap_at w b p)
         ≡ walk (table_controls w c p) (cap_at w c p)
     same_walk = elim (cases_eq (cap_at w b p) 0) [
@@ -66,7 +52,8 @@ module _ (k v : Shape) (kl : IsElement k) (vl : IsElement v) (w : Width) where
           ∙ sym (walk_none (table_controls w c p))
           ∙ ap (walk (table_controls w c p)) (sym none ∙ cap_same w b c p fixed)
       | inr some ↦
-          ap (λ (xs : List ℕ). walk xs (cap_at w b p)) (same_controls (omega arith))
+          ap (λ (xs : List ℕ). walk xs (cap_at w b p))
+          (same_controls w S law b c p lo hi l o h fixed part (omega arith))
           ∙ ap (walk (table_controls w c p)) (cap_same w b c p fixed)
     ]
 
@@ -316,20 +303,8 @@ module _ (k v : Shape) (kl : IsElement k) (vl : IsElement v) (w : Width) {A B : 
     pub entries_sound : {R : Type 0} (kind : IsArchiveWord w) (f : Format (List (A × B)) R)
         → IsFormat (map_shape w k v) (MapStands w k v key value hash factor) f
         → IsFormat (map_shape w k v) (EntriesStand k v key value w equal) (of_entries equal f)
-    entries_sound {R} kind f base = record {
-      whole = λ es. base.whole es;
-      clear = λ es. base.clear es;
-      sound = λ es r c p0 p part out h i s t o al.
-          let d = base.sound es r c p0 p part out h.1 i s t o al in
-          let whole = base.whole es r p out i in
-          let inside = t.inside in
-          let view : Viewed (map_shape w k v) c p = record {
-            inside = omega (arith, inside, whole);
-            aligned = al;
-            stands = standing (map_shape w k v)
-                (table_element w kind (entry_shape k v) (entry_element k v kl vl)) c p p0
-                (p0 + length part) d.0 (omega arith) o d.1;
-          } in
-          let read = reads_written c p view es d.2 h.0 in
-          (d.0, d.1, record { pairs = read.0; read = read.1; inserted = (read.2, h.0) });
-    }
+    entries_sound kind f base =
+        entries_told w kind kl vl factor equal (EntriesStand k v key value w equal)
+        (λ b p view es st apart.
+        let read = reads_written b p view es st apart in
+        record { pairs = read.0; read = read.1; inserted = (read.2, apart) }) f base
