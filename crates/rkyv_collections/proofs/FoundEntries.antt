@@ -2,6 +2,7 @@
 use Rattle.std.proofs.Common.{◌≡◌, ℕ, ◌<◌, ◌^◌, ◌∙◌, ap, sym, Bool, List, None, Option, Some, map}
 use Rattle.std.specs.Borrow.{Bor}
 use Rattle.std.specs.Int.{Width}
+use Rattle.std.specs.List.{find}
 use Rattle.std.specs.Prelude.{IfSome}
 use Rattle.rkyv_scan.specs.Groups.{generic_kind}
 use Rattle.rkyv_scan.specs.Hash.{Hasher, HasherCall, hash_of_calls}
@@ -13,9 +14,9 @@ use Rattle.rkyv_base.specs.declared.view.View.{View}
 use Rattle.rkyv_keys.specs.Equality.{Comparison}
 use Rattle.rkyv_keys.specs.Keys.{IsQuery}
 use Rattle.rkyv_table.specs.Controls.Laws.{IsUnderHash}
-use Rattle.rkyv_table.specs.Table.Reading.{IsItem, WrittenAt, home_positions, pos_found, table_bytes, table_pos}
+use Rattle.rkyv_table.specs.Table.Reading.{Answers, FindsFirst, FindsFound, IsItem, WrittenAt, home_positions, pos_found, pos_of_found, table_bytes, table_pos}
 use Rattle.rkyv_table.specs.declared.table.ArchivedHashTable.{ArchivedHashTable}
-use Rattle.rkyv_collections.specs.Map.{AnswersKeys, AreUnderHash, FindsKey, IsEntryIn, IsMap, MapWrittenAt, hash_at, map_archive, map_bytes, map_pos}
+use Rattle.rkyv_collections.specs.Map.{AnswersKeys, AreUnderHash, FindsBy, FindsFirstBy, FindsKey, IsEntryAt, IsEntryIn, IsMap, MapWrittenAt, hash_at, map_archive, map_bytes, map_pos}
 use Rattle.rkyv_collections.specs.Misplaced.{FindsOneKey}
 use Rattle.rkyv_collections.specs.declared.map.ArchivedHashMap.{ArchivedHashMap}
 use Rattle.rkyv_collections.proofs.Lookups.{entry_of_item, key_of_entry, under_hash}
@@ -29,7 +30,7 @@ module _ {K V H W : Type 0} (w : Width) (k v : Shape) (m : ArchivedHashMap K V H
   same_place = at.1
 
   -- what is told of an item by its key is told by the position of the key
-  pub told_by_key : (post : View K → Bool → Type 0) (accept : ℕ → Bool) → AnswersKeys w k v m post accept
+  told_by_key : (post : View K → Bool → Type 0) (accept : ℕ → Bool) → AnswersKeys w k v m post accept
       → (entry : View (Entry K V)) (r : Bool) → IsItem w (entry_shape k v) t entry
       → (key : View K) × IsAt key (archive_of entry) (pos_of entry) × IsView k key × post key r
       → r ≡ accept entry.pos
@@ -42,7 +43,7 @@ module _ {K V H W : Type 0} (w : Width) (k v : Shape) (m : ArchivedHashMap K V H
   entry_found (Some entry) item = entry_of_item w k v m t at entry item
 
   -- the table finds what the map does
-  pub found_there : (hash asked : ℕ) (accept : ℕ → Bool) → hash ≡ asked
+  found_there : (hash asked : ℕ) (accept : ℕ → Bool) → hash ≡ asked
       → pos_found generic_kind w (entry_shape k v).size (table_bytes t) (table_pos t) hash accept
       ≡ pos_found generic_kind w (entry_shape k v).size (map_bytes m) (map_pos m) asked accept
   found_there hash asked accept e =
@@ -50,21 +51,38 @@ module _ {K V H W : Type 0} (w : Width) (k v : Shape) (m : ArchivedHashMap K V H
       ap (λ b. found b (table_pos t) hash) same ∙ ap (λ p. found (map_bytes m) p hash) same_place ∙ ap (found (map_bytes m) (map_pos m)) e
 
   -- it was written with the same homes, at the same places, and what is accepted is under the hash
-  pub written_there : (hashes homes : List ℕ) → WrittenAt w (map_bytes m) (map_pos m) hashes homes → WrittenAt w (table_bytes t) (table_pos t) hashes homes
+  written_there : (hashes homes : List ℕ) → WrittenAt w (map_bytes m) (map_pos m) hashes homes → WrittenAt w (table_bytes t) (table_pos t) hashes homes
   written_there hashes homes written = rw (same, same_place) written
 
-  pub places_there : (homes : List ℕ) → home_positions w (entry_shape k v).size (table_bytes t) (table_pos t) homes ≡ home_positions w (entry_shape k v).size (map_bytes m) (map_pos m) homes
+  places_there : (homes : List ℕ) → home_positions w (entry_shape k v).size (table_bytes t) (table_pos t) homes ≡ home_positions w (entry_shape k v).size (map_bytes m) (map_pos m) homes
   places_there homes =
       let places : List ℕ → ℕ → List ℕ = λ b p. home_positions w (entry_shape k v).size b p homes in
       ap (λ b. places b (table_pos t)) same ∙ ap (places (map_bytes m)) same_place
 
-  pub under_there : (hash asked : ℕ) (key_hash : List ℕ → ℕ → ℕ) (accept : ℕ → Bool) (homes : List ℕ) → hash ≡ asked
+  under_there : (hash asked : ℕ) (key_hash : List ℕ → ℕ → ℕ) (accept : ℕ → Bool) (homes : List ℕ) → hash ≡ asked
       → AreUnderHash w k v m asked key_hash accept → MapWrittenAt w (entry_shape k v) key_hash (map_bytes m) (map_pos m) homes
       → IsUnderHash hash (map (key_hash (map_bytes m)) (home_positions w (entry_shape k v).size (map_bytes m) (map_pos m) homes))
       (home_positions w (entry_shape k v).size (table_bytes t) (table_pos t) homes) accept
   under_there hash asked key_hash accept homes e under written =
       let here = under_hash w k v m hash key_hash accept homes (λ q place fits. under q place fits ∙ sym e) written in
       rw (places_there homes) here
+
+  -- what the table finds by a comparison of entries, each asked by its key, is what the map finds by the comparison of keys
+  module _ (compared : View (Entry K V) → Bool → Type 0) (post : View K → Bool → Type 0) (hash asked : ℕ) (same_hash : hash ≡ asked) (result : Option (View (Entry K V))) where
+    abbrev AskedByKey : Type 0
+    AskedByKey = (entry : View (Entry K V)) (r : Bool) → compared entry r → (key : View K) × IsAt key (archive_of entry) (pos_of entry) × IsView k key × post key r
+
+    answered : AskedByKey → (accept : ℕ → Bool) → AnswersKeys w k v m post accept → Answers compared w (entry_shape k v) t accept
+    answered by_key accept answers entry r item h = told_by_key post accept answers entry r item (by_key entry r h)
+
+    pub found_by_key : FindsFound compared generic_kind w (entry_shape k v) t hash (pos_of_found result) → AskedByKey → FindsBy w k v m post asked (IsEntryAt result)
+    found_by_key found by_key = λ accept answers. found accept (answered by_key accept answers) ∙ found_there hash asked accept same_hash
+
+    pub first_by_key : FindsFirst compared w (entry_shape k v) t hash (pos_of_found result) → AskedByKey → (key_hash : List ℕ → ℕ → ℕ) → FindsFirstBy w k v m post asked key_hash (IsEntryAt result)
+    first_by_key found by_key key_hash = λ accept answers under homes written.
+        let hashes = map (key_hash (map_bytes m)) (home_positions w (entry_shape k v).size (map_bytes m) (map_pos m) homes) in
+        found hashes homes accept (written_there hashes homes written) (answered by_key accept answers) (under_there hash asked key_hash accept homes same_hash under written)
+        ∙ ap (find accept) (places_there homes)
 
 -- what is found under the hash of a query is the one key that fits, where none is misplaced
 pub one_found : {K V H W Q State : Type 0} (w : Width) (k v : Shape) (m : ArchivedHashMap K V H W) (kl : IsElement k) (vl : IsElement v) (hasher : Hasher State)

@@ -15,16 +15,21 @@ use Rattle.rkyv_base.specs.Format.{Format, IsFormat}
 use Rattle.rkyv_base.specs.Shape.{IsElement, Shape, Viewed}
 use Rattle.rkyv_base.specs.Text.{IsArchiveWord}
 use Rattle.rkyv_keys.specs.Equality.{Comparison}
-use Rattle.rkyv_keys.specs.Keys.{IsQuery}
+use Rattle.rkyv_keys.specs.Keys.{FitsItsEqual, IsQuery}
 use Rattle.rkyv_keys.specs.OfEntries.{standing_key}
 use Rattle.rkyv_table.specs.Table.Reading.{home_positions, pos_found}
 use Rattle.rkyv_collections.specs.Equality.{pair_at}
 use Rattle.rkyv_collections.specs.ListedLookups.{IsPairOf, first_pair}
 use Rattle.rkyv_collections.specs.Map.{hash_at, map_shape}
-use Rattle.rkyv_collections.specs.MapFormat.{MapStands, hash_of}
+use Rattle.rkyv_collections.specs.MapFormat.{MapStands, hash_of, map_format}
+use Rattle.rkyv_collections.specs.Lemmas.MapSound.{listed_map_sound}
+use Rattle.rkyv_table.specs.Table.Listed.{listed}
+use Rattle.rkyv_table.specs.Table.TableFormat.{TableResolver}
+use Rattle.rkyv_base.specs.Pairs.{written_as, written_as-format}
 use Rattle.rkyv_collections.specs.Lemmas.EntriesTold.{entries_told}
 use Rattle.rkyv_table.specs.Table.Lent.{with_units}
-use Rattle.rkyv_collections.specs.StdLookups.{FindsEntries, FindsMembers, IsValueBehind}
+use Rattle.rkyv_collections.specs.StdEquality.{FindsPair}
+use Rattle.rkyv_collections.specs.StdLookups.{FindsAsked, FindsEntries, FindsMembers, IsValueBehind}
 use Rattle.rkyv_collections.specs.StdMap.{of_entries}
 use Rattle.rkyv_collections.proofs.FoundPairs.{first_listed}
 use Rattle.rkyv_collections.proofs.StdReading.{unit_lookup}
@@ -39,7 +44,7 @@ first_looked_up asks (e ∷ es) = elim (cases_Bool (asks e.0)) [
 ]
 
 -- what was found of a value that is looked up, by whether it was found with an equal one
-pub as_value : {B : Type 0} (value : List ℕ → ℕ → B → Type 0) (b : List ℕ) (offset : ℕ) (place : Option ℕ) (o : Option B) (x : B) (r : Bool) → Some x ≡ o
+as_value : {B : Type 0} (value : List ℕ → ℕ → B → Type 0) (b : List ℕ) (offset : ℕ) (place : Option ℕ) (o : Option B) (x : B) (r : Bool) → Some x ≡ o
     → IsTrue r ↔ IsSomeAnd place (λ q. value b (q + offset) x) → IsTrue r ↔ IsValueBehind value b offset place o
 as_value value b offset place None x r e h = absurd (none-some x (sym e))
 as_value value b offset None (Some y) x r e h = h
@@ -47,13 +52,24 @@ as_value value b offset (Some q) (Some y) x r e h =
     (λ t. subst (value b (q + offset)) (same_Some x y e) (h.0 t), λ v. h.1 (subst (value b (q + offset)) (sym (same_Some x y e)) v))
 
 -- and where there is none to be found
-pub as_none : {B : Type 0} (value : List ℕ → ℕ → B → Type 0) (b : List ℕ) (offset : ℕ) (place : Option ℕ) (o : Option B) (found r : Bool) → None ≡ o
+as_none : {B : Type 0} (value : List ℕ → ℕ → B → Type 0) (b : List ℕ) (offset : ℕ) (place : Option ℕ) (o : Option B) (found r : Bool) → None ≡ o
     → IsTrue found ↔ IsSome place → r ≡ not found → IsTrue r ↔ IsValueBehind value b offset place o
 as_none value b offset place (Some x) found r e h n = absurd (none-some x e)
 as_none value b offset None None true r e h n = absurd (true≢false (sym (h.0 refl)))
 as_none value b offset None None false r e h n = (λ t. tt, λ t. n)
 as_none value b offset (Some q) None true r e h n = (λ t. absurd (true≢false (sym t ∙ n)), λ t. absurd t)
 as_none value b offset (Some q) None false r e h n = absurd (true≢false (sym (h.1 refl)))
+
+-- what is answered of a key that is looked up in entries, by whether it was found with an equal value, and by whether it was found
+module _ {A B : Type 0} (w : Width) (k v : Shape) (hash : A → ℕ) (fits : A → List ℕ → ℕ → Bool) (equals : List ℕ → ℕ → B → Type 0) (b : List ℕ) (p : ℕ) (key : A) (asks : A → Bool) (entries : List (A × B)) where
+  abbrev place : Option ℕ
+  place = pos_found generic_kind w (entry_shape k v).size b p (hash key) (fits key b)
+
+  pub asked_value : (x : B) (r : Bool) → Some x ≡ lookup asks entries → IsTrue r ↔ FindsPair w k v hash fits equals b p (key, x) → IsTrue r ↔ FindsAsked w k hash fits v equals b p key asks entries
+  asked_value x r e h = as_value equals b (value_offset k v) place (lookup asks entries) x r e h
+
+  pub asked_none : (found r : Bool) → None ≡ lookup asks entries → IsTrue found ↔ IsSome place → r ≡ not found → IsTrue r ↔ FindsAsked w k hash fits v equals b p key asks entries
+  asked_none found r e h n = as_none equals b (value_offset k v) place (lookup asks entries) found r e h n
 
 -- where a pair stands its value stands behind the key
 value_behind : {A B : Type 0} (k v : Shape) (key : List ℕ → ℕ → A → Type 0) (value : List ℕ → ℕ → B → Type 0) (b : List ℕ) (place : Option ℕ) (o : Option (A × B))
@@ -97,11 +113,27 @@ module _ {State : Type 0} (hasher : Hasher State) (small : NumbersFit hasher) (w
       (subst (λ (o : Option B). IsValueBehind value b (value_offset k v) (find accept places) o) (first_looked_up asks entries) behind)
 
   -- in every archive in which what was written of a map of std's sits
-  pub looked_up : IsArchiveWord w → (equal : A → A → Bool) {R : Type 0} (f : Format (List (A × B)) R)
+  looked_up : IsArchiveWord w → (equal : A → A → Bool) {R : Type 0} (f : Format (List (A × B)) R)
       → IsFormat (map_shape w k v) (MapStands w k v key value (hash_at hasher key_calls) factor) f
       → IsFormat (map_shape w k v) (FindsEntries w k (hash_of hasher calls) fits key can_read v value) (of_entries equal f)
   looked_up kind equal f base =
       entries_told w kind kl vl factor equal (FindsEntries w k (hash_of hasher calls) fits key can_read v value) (λ b p view es st apart. entries_found b p view es st) f base
+
+-- in every archive in which what was written of a value sits, that is written as a list of entries with distinct keys
+module _ {State : Type 0} (hasher : Hasher State) (small : NumbersFit hasher) (w : Width) (kind : IsArchiveWord w) (max : ℕ) {k v : Shape} (kl : IsElement k) (vl : IsElement v)
+    {A B Q X R S : Type 0} {key : List ℕ → ℕ → A → Type 0} {value : List ℕ → ℕ → B → Type 0} {same : Comparison} {key_calls : List ℕ → ℕ → List HasherCall}
+    {can_read : Q → Type 0} {calls : Q → List HasherCall} {fits : Q → List ℕ → ℕ → Bool} (query : IsQuery k same key_calls can_read calls fits)
+    {own_read : A → Type 0} {own_calls : A → List HasherCall} {own_fits : A → List ℕ → ℕ → Bool} (own : IsQuery k same key_calls own_read own_calls own_fits)
+    {equal : A → A → Bool} (native : FitsItsEqual k key equal own_fits) (itself : (a : A) → equal a a ≡ true) (reads : (a : A) → own_read a)
+    {key_format : Format A R} {value_format : Format B S} (key_law : IsFormat k key key_format) (value_law : IsFormat v value value_format) (seen : X → List (A × B)) where
+  abbrev pub whole_format : Format (List (A × B)) TableResolver
+  whole_format = of_entries equal (listed max (7, 8) (map_format w k v key_format value_format (hash_of hasher own_calls) (7, 8)))
+
+  pub seen_looked_up : IsFormat (map_shape w k v) (λ b p x. FindsEntries w k (hash_of hasher calls) fits key can_read v value b p (seen x)) (written_as seen whole_format)
+  seen_looked_up =
+      let f = listed max (7, 8) (map_format w k v key_format value_format (hash_of hasher own_calls) (7, 8)) in
+      written_as-format seen (map_shape w k v) (FindsEntries w k (hash_of hasher calls) fits key can_read v value) (of_entries equal f)
+      (looked_up hasher small w kl vl query (7, 8) kind equal f (listed_map_sound hasher w kl vl (7, 8) max kind own native itself reads key_law value_law))
 
 -- and of a set
 pub members_looked_up : {X A Q R : Type 0} (w : Width) (k s : Shape) (key : List ℕ → ℕ → A → Type 0) (can_read : Q → Type 0) (hash : Q → ℕ) (fits : Q → List ℕ → ℕ → Bool) (seen : X → List A) (f : Format X R)

@@ -1,24 +1,27 @@
 -- Reading a map of std's back, pair by pair.
-use Rattle.std.proofs.Common.{◌≡◌, ℕ, refl, ap, ◌∙◌, Bool, true, false, cond, inl, inr, sym, List, [], ◌∷◌, Option, Some, None}
+use Rattle.std.proofs.Common.{◌≡◌, ℕ, refl, ap, ◌∙◌, Bool, true, false, cond, inl, inr, subst, sym, List, [], ◌∷◌, Option, Some, None}
+use Rattle.std.specs.Borrow.{Bor}
 use Rattle.std.specs.Int.{Width}
 use Rattle.std.specs.HashSet.{HashSet, Updates}
 use Rattle.std.specs.List.{All, list_any}
 use Rattle.std.proofs.lemmas.Bool.{cases_Bool}
 use Rattle.std.specs.Map.{lookup, update_all}
-use Rattle.std.proofs.lemmas.List.Elements.{All-map, All-weaker}
+use Rattle.std.proofs.lemmas.List.Elements.{All-head, All-map, All-tail, All-weaker}
 use Rattle.rkyv_base.specs.Entry.{entry_element, entry_shape}
 use Rattle.rkyv_base.specs.Pairs.{PairStands}
-use Rattle.rkyv_base.specs.Shape.{IsElement, Shape}
+use Rattle.rkyv_base.specs.Shape.{IsElement, Shape, Viewed}
 use Rattle.rkyv_table.specs.Table.Header.{cap_at}
 use Rattle.rkyv_table.specs.Controls.Placing.{walk}
 use Rattle.rkyv_table.specs.Table.Reading.{IsWalked, item_at, item_positions, table_controls}
+use Rattle.rkyv_table.specs.Table.PairWalks.{TakesFirst}
+use Rattle.rkyv_table.specs.Table.RawItems.{AllStand, ItemsLeft}
 use Rattle.rkyv_table.proofs.RawWalks.{walked_all}
 use Rattle.rkyv_collections.specs.Map.{IsKeyPosAt}
 use Rattle.rkyv_table.specs.Table.Lent.{with_units}
 use Rattle.rkyv_collections.specs.StdMap.{ArePairsAt}
 
 -- at each place of the walk a key of the map stands
-pub keys_walked : (w : Width) (k v : Shape) → IsElement k → IsElement v → (b : List ℕ) (p : ℕ) → All (IsKeyPosAt w k v b p) (item_positions w (entry_shape k v).size b p)
+keys_walked : (w : Width) (k v : Shape) → IsElement k → IsElement v → (b : List ℕ) (p : ℕ) → All (IsKeyPosAt w k v b p) (item_positions w (entry_shape k v).size b p)
 keys_walked w k v kl vl b p =
     let ws = walk (table_controls w b p) (cap_at w b p) in
     All-map (IsKeyPosAt w k v b p) (item_at w (entry_shape k v).size b p) ws
@@ -26,22 +29,62 @@ keys_walked w k v kl vl b p =
 
 module _ {A B : Type 0} (k v : Shape) (key : List ℕ → ℕ → A → Type 0) (value : List ℕ → ℕ → B → Type 0) (equal : A → A → Bool) (b : List ℕ) (all : List ℕ) where
   -- inserting the pairs that are left into what is found now gives what inserting all pairs in order into nothing does
-  abbrev pub LeadsOn : List ℕ → (A → Option B) → Type 0
+  abbrev LeadsOn : List ℕ → (A → Option B) → Type 0
   LeadsOn left f =
       (rest : List (A × B)) → ArePairsAt k v key value b left rest → (g : A → Option B) → ((q : A) → g q ≡ update_all equal f rest q)
       → (pairs : List (A × B)) × ArePairsAt k v key value b all pairs × ((q : A) → g q ≡ update_all equal (λ _. None) pairs q)
 
-  pub leads_first : (f : A → Option B) → ((q : A) → f q ≡ None) → LeadsOn all f
+  leads_first : (f : A → Option B) → ((q : A) → f q ≡ None) → LeadsOn all f
   leads_first f empty rest read g e = (rest, read, λ q. e q ∙ ap (λ (h : A → Option B). update_all equal h rest q) (λ i x. empty x i))
 
-  pub leads_next : (place : ℕ) (left : List ℕ) (f f' : A → Option B) (a : A) (x : B) → LeadsOn (place ∷ left) f → PairStands k v key value b place (a, x)
+  leads_next : (place : ℕ) (left : List ℕ) (f f' : A → Option B) (a : A) (x : B) → LeadsOn (place ∷ left) f → PairStands k v key value b place (a, x)
       → ((q : A) → f' q ≡ cond (equal a q) (Some x) (f q)) → LeadsOn left f'
   leads_next place left f f' a x h st u rest read g e =
       h ((a, x) ∷ rest) (st, read) g (λ q. e q ∙ ap (λ (t : A → Option B). update_all equal t rest q) (λ i z. u z i))
 
-  pub leads_last : (f : A → Option B) → LeadsOn [] f
+  leads_last : (f : A → Option B) → LeadsOn [] f
       → (pairs : List (A × B)) × ArePairsAt k v key value b all pairs × ((q : A) → f q ≡ update_all equal (λ _. None) pairs q)
   leads_last f h = h [] tt f (λ q. refl)
+
+-- the pairs that are left of a walk stand in the archived map at p, and inserting them into what is found now leads to all pairs inserted in order
+module _ {A B : Type 0} (w : Width) (k v : Shape) (key : List ℕ → ℕ → A → Type 0) (value : List ℕ → ℕ → B → Type 0) (equal : A → A → Bool) (archive : Bor (List ℕ)) (p : ℕ) where
+  abbrev pub all_positions : List ℕ
+  all_positions = item_positions w (entry_shape k v).size archive.now p
+
+  abbrev pub WalksOn : ItemsLeft → (A → Option B) → Type 0
+  WalksOn left found = AllStand (entry_shape k v) left × (left.archive ≡ archive) × All (IsKeyPosAt w k v archive.now p) left.places
+      × LeadsOn k v key value equal archive.now all_positions left.places found
+
+  pub walks_first : IsElement k → IsElement v → (left walk : ItemsLeft) → left ≡ walk → AllStand (entry_shape k v) walk → walk.archive ≡ archive → walk.places ≡ all_positions
+      → (found : A → Option B) → ((q : A) → found q ≡ None) → WalksOn left found
+  walks_first kl vl left walk same stand whole places found empty =
+      let at : left.places ≡ all_positions = ap (λ (x : ItemsLeft). x.places) same ∙ places in (
+        subst (AllStand (entry_shape k v)) (sym same) stand,
+        ap (λ (x : ItemsLeft). x.archive) same ∙ whole,
+        subst (All (IsKeyPosAt w k v archive.now p)) (sym at) (keys_walked w k v kl vl archive.now p),
+        subst (λ (xs : List ℕ). LeadsOn k v key value equal archive.now all_positions xs found) (sym at) (leads_first k v key value equal archive.now all_positions found empty),
+      )
+
+  module _ (before after : ItemsLeft) (place : ℕ) (found : A → Option B) (step : TakesFirst before place after) (on : WalksOn before found) where
+    -- the key that is taken is one of the map, in the same bytes
+    pub walks_key : IsKeyPosAt w k v archive.now p place
+    walks_key = All-head (IsKeyPosAt w k v archive.now p) place after.places (subst (All (IsKeyPosAt w k v archive.now p)) step.first on.2)
+
+    pub walks_next : (found' : A → Option B) (a : A) (x : B) → PairStands k v key value archive.now place (a, x) → ((q : A) → found' q ≡ cond (equal a q) (Some x) (found q)) → WalksOn after found'
+    walks_next found' a x stands inserted =
+        let Here : List ℕ → ℕ → Type 0 = λ b q. Viewed (entry_shape k v) b q in (
+          subst (λ (bytes : Bor (List ℕ)). All (Here bytes.now) after.places) (sym step.archive)
+              (All-tail (Here before.archive.now) place after.places (subst (All (Here before.archive.now)) step.first on.0)),
+          step.archive ∙ on.1,
+          All-tail (IsKeyPosAt w k v archive.now p) place after.places (subst (All (IsKeyPosAt w k v archive.now p)) step.first on.2),
+          leads_next k v key value equal archive.now all_positions place after.places found found' a x
+              (subst (λ (xs : List ℕ). LeadsOn k v key value equal archive.now all_positions xs found) step.first on.3) stands inserted,
+        )
+
+  pub walks_last : (left : ItemsLeft) (found : A → Option B) → WalksOn left found → left.places ≡ []
+      → (pairs : List (A × B)) × ArePairsAt k v key value archive.now all_positions pairs × ((q : A) → found q ≡ update_all equal (λ _. None) pairs q)
+  walks_last left found on none =
+      leads_last k v key value equal archive.now all_positions found (subst (λ (xs : List ℕ). LeadsOn k v key value equal archive.now all_positions xs found) none on.3)
 
 -- what is found among keys, each with the unit value
 pub unit_lookup : {A : Type 0} (test : A → Bool) (keys : List A) → lookup test (with_units keys) ≡ cond (list_any test keys) (Some tt) None
@@ -54,6 +97,10 @@ unit_lookup test (x ∷ xs) = elim (cases_Bool (test x)) [
 either_way : {X : Type 0} (x : X) (s t : Bool) → cond (cond s true t) (Some x) None ≡ cond s (Some x) (cond t (Some x) None)
 either_way x true t = refl
 either_way x false t = refl
+
+-- what is found among the keys of a set
+abbrev pub found_units : {A : Type 0} → (A → A → Bool) → List A → A → Option (Unit {0})
+found_units equal keys q = lookup (equal q) (with_units keys)
 
 pub key_inserted : {A S : Type 0} (equal : A → A → Bool) (s n : HashSet A S) (a : A) → Updates equal s n a true → (q : A)
     → lookup (equal q) (with_units n.keys) ≡ cond (equal a q) (Some tt) (lookup (equal q) (with_units s.keys))
