@@ -1,6 +1,7 @@
 pub mod Checking
 pub mod Held
 pub mod Lookups
+pub mod PlacesFound
 pub mod Queries
 pub mod Rows
 pub mod Told

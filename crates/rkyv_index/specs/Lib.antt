@@ -10,5 +10,7 @@ pub mod Equality
 pub mod IndexSet
 pub mod SetFormat
 pub mod Complete
+pub mod IndexMapFinder
+pub mod IndexSetFinder
 pub mod Handing
 pub mod Lemmas

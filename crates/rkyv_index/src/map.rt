@@ -5,6 +5,7 @@ mod debug;
 mod element;
 pub(crate) mod entries;
 mod equality;
+pub mod finder;
 pub mod in_place;
 pub mod iter;
 pub mod laws;

@@ -3,6 +3,7 @@
 mod debug;
 mod element;
 mod equality;
+pub mod finder;
 mod reading;
 pub mod writing;
 

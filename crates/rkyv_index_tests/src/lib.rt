@@ -8,6 +8,8 @@ mod changes;
 #[cfg(test)]
 mod checking;
 #[cfg(test)]
+mod finders;
+#[cfg(test)]
 mod growths;
 #[cfg(test)]
 mod interning;

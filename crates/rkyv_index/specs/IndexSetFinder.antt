@@ -1,0 +1,18 @@
+-- An index set for many lookups.
+use Rattle.std.specs.Int.{Width}
+use Rattle.rkyv_base.specs.Empty.{unit_shape}
+use Rattle.rkyv_base.specs.Scalar.{Encoding}
+use Rattle.rkyv_base.specs.Shape.{Shape}
+use Rattle.rkyv_index.specs.IndexMapFinder.{IsIndexMapFinder, map_of}
+use Rattle.rkyv_index.specs.declared.set.ArchivedIndexSet.{ArchivedIndexSet}
+use Rattle.rkyv_index.specs.declared.set.finder.IndexSetFinder.{IndexSetFinder}
+
+module _ {K H W P : Type 0} where
+  -- the set in which it looks up
+  abbrev pub set_of : IndexSetFinder K H W P → ArchivedIndexSet K H W
+  set_of finder = record { map = map_of finder.map }
+
+  -- the map of its keys is one for many lookups
+  abbrev pub IsIndexSetFinder : {N : Type 0} → Width → Encoding N → Shape → IndexSetFinder K H W P
+      → Type 0
+  IsIndexSetFinder w e k finder = IsIndexMapFinder w e k unit_shape finder.map

@@ -1,0 +1,198 @@
+//! Many lookups in one index map.
+ghost use Rattle.std.specs.Prelude.{IfSome, length, ◌+◌, ◌<◌, ◌≡◌, ◌≤◌};
+ghost use Rattle.std.specs.Int.{byte_len};
+ghost use Rattle.std.specs.Option.{option_map};
+ghost use Rattle.rkyv_base.specs.Bytes.{number_at};
+ghost use Rattle.rkyv_base.specs.View.{bytes_of, pos_of};
+ghost use Rattle.rkyv_index.specs.Complete.{FindsOneKey};
+ghost use Rattle.rkyv_index.specs.Index.{AreEntries, FindsFirstKey, FindsKey, IsFoundAt, IsFullAt};
+ghost use Rattle.rkyv_index.specs.Index.{IsFullIn, IsHeld, IsIndexMap, IsKeyOf, IsPairAt, IsPairIn};
+ghost use Rattle.rkyv_index.specs.Index.{IsPlace, IsPlaceOf, IsValueAt, IsValueIn, fits_at};
+ghost use Rattle.rkyv_index.specs.Index.{full_place, index_len, index_of};
+ghost use Rattle.rkyv_index.specs.IndexMapFinder.{IsIndexMapFinder, map_of};
+
+use crate::map::ArchivedIndexMap;
+use crate::map::entries::Entries;
+use rkyv_base::element::Element;
+use rkyv_base::view::View;
+use rkyv_base::width::{Narrow, Width};
+use rkyv_keys::hash::hash_value;
+use rkyv_keys::keys::{KeyElement, Query};
+use rkyv_scan::hash::{FxHasher64, KeyHasher};
+use rkyv_table::table::finder::TableFinder;
+
+/// An index map for many lookups: its header was read, and none of them divides.
+///
+/// They answer what those of the map do.
+#[derive_where(Clone, Copy)]
+pub struct IndexMapFinder<'a, K, V, H = FxHasher64, W: Width = Narrow> {
+    entries: Entries<'a, K, V, H, W>,
+    table: TableFinder<'a, W::Place, W>,
+}
+
+/// The place that was found: the number where the item of a table of places stands.
+#[inline]
+fn place_in<W: Width>(held: Option<View<'_, W::Place>>) -> Option<usize>
+    requires { IfSome held (λ item. pos_of item + byte_len W.word ≤ length (bytes_of item)) }
+    ensures { result ≡ option_map (λ item. number_at W.word (bytes_of item) (pos_of item))
+        held.entry }
+{
+    match held {
+        Some(item) => Some(W::read_count(item.bytes(), item.pos() as usize) as usize),
+        None => None,
+    }
+}
+
+impl<'a, K: Element, V: Element, H, W: Width> ArchivedIndexMap<'a, K, V, H, W> {
+    /// The index map for many lookups: the header is read and the capacity of its table divided by
+    /// here, once.
+    #[inline]
+    pub fn finder(self) -> IndexMapFinder<'a, K, V, H, W>
+        requires { IsIndexMap W.word K.shape V.shape self }
+        ensures finder { IsIndexMapFinder W.word W.Place.encoding K.shape V.shape result }
+        ensures map { map_of result ≡ self.entry }
+    {
+        IndexMapFinder {
+            entries: self.entries(),
+            table: self.table().finder(),
+        }
+    }
+}
+
+impl<'a, K: Element, V: Element, H, W: Width> Entries<'a, K, V, H, W> {
+    /// The key of the place that stands where the item is.
+    #[inline]
+    fn key_at(self, item: View<'_, W::Place>) -> View<'a, K>
+        requires entries { AreEntries W.word K.shape V.shape self }
+        requires place { IsPlaceOf W.word self.map item }
+        ensures { IsKeyOf W.word K.shape V.shape self.entry.map
+            (number_at W.word (bytes_of item.entry) (pos_of item.entry)) result }
+    {
+        let place = W::read_count(item.bytes(), item.pos() as usize) as usize;
+        self.entry(place).key()
+    }
+}
+
+// Every lookup is one call of `find_key`.
+impl<'a, K: KeyElement, V: Element, H: KeyHasher, W: Width> IndexMapFinder<'a, K, V, H, W> {
+    // Finds the place of the key that is asked for.
+    #[inline]
+    pub(crate) fn find_key<Q: Query<K>>(self, key: &Q) -> Option<usize>
+        requires finder { IsIndexMapFinder W.word W.Place.encoding K.shape V.shape self }
+        requires query { Q.can_read key.now }
+        ensures walked { IfSome result (IsHeld W.word (map_of self.entry)) }
+        ensures below { IfSome result (λ i. i < index_len W.word (map_of self.entry)) }
+        ensures answer { FindsKey (index_of W.word K.shape V.shape (map_of self.entry)) H.hasher
+            (Q.calls key.now) (Q.fits key.now) (IsPlace result) }
+        ensures first { FindsFirstKey (index_of W.word K.shape V.shape (map_of self.entry)) H.hasher
+            K.key_calls (Q.fits key.now) (IsPlace result) }
+        ensures complete { FindsOneKey (index_of W.word K.shape V.shape (map_of self.entry))
+            H.hasher K.key_calls K.same (Q.fits key.now) result }
+    {
+        let hash = hash_value::<Q, H>(key);
+        let entries = self.entries;
+        let held = self.table.get_with(
+            hash,
+            |item|
+                requires entries { AreEntries W.word K.shape V.shape entries }
+                requires query { Q.can_read key.now }
+                requires place { IsPlaceOf W.word entries.map item }
+                ensures { result ≡ fits_at (index_of W.word K.shape V.shape entries.entry.map)
+                    (Q.fits key.entry.now)
+                    (number_at W.word (bytes_of item.entry) (pos_of item.entry)) }
+            { key.same(entries.key_at(item)) },
+        );
+        place_in::<W>(held)
+    }
+
+    /// As the map's `get_full`.
+    #[inline]
+    pub fn get_full<Q: Query<K>>(self, key: &Q) -> Option<(usize, View<'a, K>, View<'a, V>)>
+        requires finder { IsIndexMapFinder W.word W.Place.encoding K.shape V.shape self }
+        requires query { Q.can_read key.now }
+        ensures walked { IfSome result (IsFullIn W.word K.shape V.shape (map_of self.entry)) }
+        ensures answer { FindsKey (index_of W.word K.shape V.shape (map_of self.entry)) H.hasher
+            (Q.calls key.now) (Q.fits key.now) (IsFullAt result) }
+        ensures first { FindsFirstKey (index_of W.word K.shape V.shape (map_of self.entry)) H.hasher
+            K.key_calls (Q.fits key.now) (IsFullAt result) }
+        ensures complete { FindsOneKey (index_of W.word K.shape V.shape (map_of self.entry))
+            H.hasher K.key_calls K.same (Q.fits key.now) (full_place result) }
+    {
+        match self.find_key(key) {
+            Some(place) => {
+                let entry = self.entries.entry(place);
+                Some((place, entry.key(), entry.value()))
+            }
+            None => None,
+        }
+    }
+
+    /// As the map's `get_key_value`.
+    #[inline]
+    pub fn get_key_value<Q: Query<K>>(self, key: &Q) -> Option<(View<'a, K>, View<'a, V>)>
+        requires finder { IsIndexMapFinder W.word W.Place.encoding K.shape V.shape self }
+        requires query { Q.can_read key.now }
+        ensures walked { IfSome result (IsPairIn W.word K.shape V.shape (map_of self.entry)) }
+        ensures answer { FindsKey (index_of W.word K.shape V.shape (map_of self.entry)) H.hasher
+            (Q.calls key.now) (Q.fits key.now)
+            (IsPairAt W.word K.shape V.shape (map_of self.entry) result) }
+        ensures first { FindsFirstKey (index_of W.word K.shape V.shape (map_of self.entry)) H.hasher
+            K.key_calls (Q.fits key.now)
+            (IsPairAt W.word K.shape V.shape (map_of self.entry) result) }
+    {
+        match self.find_key(key) {
+            Some(place) => {
+                let entry = self.entries.entry(place);
+                Some((entry.key(), entry.value()))
+            }
+            None => None,
+        }
+    }
+
+    /// As the map's `get`.
+    #[inline]
+    pub fn get<Q: Query<K>>(self, key: &Q) -> Option<View<'a, V>>
+        requires finder { IsIndexMapFinder W.word W.Place.encoding K.shape V.shape self }
+        requires query { Q.can_read key.now }
+        ensures walked { IfSome result (IsValueIn W.word K.shape V.shape (map_of self.entry)) }
+        ensures answer { FindsKey (index_of W.word K.shape V.shape (map_of self.entry)) H.hasher
+            (Q.calls key.now) (Q.fits key.now)
+            (IsValueAt W.word K.shape V.shape (map_of self.entry) result) }
+        ensures first { FindsFirstKey (index_of W.word K.shape V.shape (map_of self.entry)) H.hasher
+            K.key_calls (Q.fits key.now)
+            (IsValueAt W.word K.shape V.shape (map_of self.entry) result) }
+    {
+        match self.find_key(key) {
+            Some(place) => Some(self.entries.entry(place).value()),
+            None => None,
+        }
+    }
+
+    /// As the map's `get_index_of`.
+    #[inline]
+    pub fn get_index_of<Q: Query<K>>(self, key: &Q) -> Option<usize>
+        requires finder { IsIndexMapFinder W.word W.Place.encoding K.shape V.shape self }
+        requires query { Q.can_read key.now }
+        ensures walked { IfSome result (IsHeld W.word (map_of self.entry)) }
+        ensures below { IfSome result (λ i. i < index_len W.word (map_of self.entry)) }
+        ensures answer { FindsKey (index_of W.word K.shape V.shape (map_of self.entry)) H.hasher
+            (Q.calls key.now) (Q.fits key.now) (IsPlace result) }
+        ensures first { FindsFirstKey (index_of W.word K.shape V.shape (map_of self.entry)) H.hasher
+            K.key_calls (Q.fits key.now) (IsPlace result) }
+    {
+        self.find_key(key)
+    }
+
+    /// As the map's `contains_key`.
+    #[inline]
+    pub fn contains_key<Q: Query<K>>(self, key: &Q) -> bool
+        requires finder { IsIndexMapFinder W.word W.Place.encoding K.shape V.shape self }
+        requires query { Q.can_read key.now }
+        ensures answer { FindsKey (index_of W.word K.shape V.shape (map_of self.entry)) H.hasher
+            (Q.calls key.now) (Q.fits key.now) (IsFoundAt result) }
+        ensures first { FindsFirstKey (index_of W.word K.shape V.shape (map_of self.entry)) H.hasher
+            K.key_calls (Q.fits key.now) (IsFoundAt result) }
+    {
+        self.find_key(key).is_some()
+    }
+}
