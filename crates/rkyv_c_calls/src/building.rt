@@ -1,6 +1,6 @@
 //! Archives of lists of pairs.
 
-ghost use Rattle.std.specs.Prelude.{MatchResult, ◌≡◌};
+ghost use Rattle.std.specs.Prelude.{IfErr, IfOk, MatchResult, ◌≡◌};
 ghost use Rattle.rkyv_c_calls.specs.Lists.{IsArchiveOf, NoArchiveOf};
 
 use crate::status::DONE;
@@ -20,14 +20,18 @@ pub(crate) fn archive_of<A: NativeKey<A::Archived> + Serialize<VecWriter, W>, V:
 ) -> Result<Vec<u8>, WriteError<NoMemory>>
 where
     A::Archived: KeyElement,
-    ensures { MatchResult result
-        (λ v. IsArchiveOf W.word A.Archived.shape A.Archived.stands A.Archived.key_calls V.encoding
-        W.LIMIT W.MAX_CAPACITY A.format A.calls pairs.now v.items)
+    ensures made { IfOk result (λ v.
+        IsArchiveOf W.word A.Archived.shape A.Archived.stands A.Archived.key_calls V.encoding
+        W.LIMIT W.MAX_CAPACITY A.format A.calls pairs.now v.items) }
+    ensures refused { IfErr result
         (NoArchiveOf W.word A.Archived.shape A.Archived.stands A.Archived.key_calls V.encoding
         W.LIMIT W.MAX_CAPACITY A.format A.calls pairs.now) }
 {
     let list: MapPairs<'_, A, V> = MapPairs::new(pairs);
-    to_bytes_in::<W, MapPairs<'_, A, V>>(alloc, &list)
+    match to_bytes_in::<W, MapPairs<'_, A, V>>(alloc, &list) {
+        Ok(archive) => Ok(archive),
+        Err(error) => Err(error),
+    }
 }
 
 /// The bytes of an archive, which are handed out for good: this crate neither reads nor frees them

@@ -1,8 +1,9 @@
 //! Archives of pairs of numbers.
 
 ghost use Rattle.std.specs.Prelude.{MatchResult};
-ghost use Rattle.rkyv_c_calls.specs.Items.{ArePairsOfNumbers, HandsOut, IsArchiveOfNumbers};
-ghost use Rattle.rkyv_c_calls.specs.Items.{NoArchiveOfNumbers, NoPairsOfNumbers, NumbersMade, NumbersRefused};
+ghost use Rattle.rkyv_c_calls.specs.Items.{IsArchiveOfNumbers, NoArchiveOfNumbers};
+ghost use Rattle.rkyv_c_calls.specs.Items.{ArePairsOfNumbers, HandsOut, NoPairsOfNumbers};
+ghost use Rattle.rkyv_c_calls.specs.Items.{NumbersMade, NumbersRefused};
 
 use crate::building::{Built, archive_of, hand_out};
 use crate::status::{NO_MEMORY, VALUE_TOO_LARGE, write_refusal};
@@ -79,8 +80,8 @@ fn archive_by(
 /// Makes the archive of the items, in their order, as a map under the load factor 7 / 8, and hands
 /// out its bytes.
 ///
-/// `VALUE_TOO_LARGE` where a value has more bits than the map's,
-/// `NO_MEMORY` where a growth is refused, and each other cause of a write; `built` is kept then.
+/// `VALUE_TOO_LARGE` where a value has more bits than the map's, `NO_MEMORY` where a growth is
+/// refused, and each other cause of a write; `built` is kept then.
 pub fn build_numbers(
     alloc: Global,
     items: &[NumberItem],

@@ -1,8 +1,9 @@
 //! Archives of pairs of texts.
 
 ghost use Rattle.std.specs.Prelude.{MatchResult};
-ghost use Rattle.rkyv_c_calls.specs.Items.{ArePairsOfTexts, HandsOut, IsArchiveOfTexts};
-ghost use Rattle.rkyv_c_calls.specs.Items.{NoArchiveOfTexts, NoPairsOfTexts, TextsMade, TextsRefused};
+ghost use Rattle.rkyv_c_calls.specs.Items.{IsArchiveOfTexts, NoArchiveOfTexts};
+ghost use Rattle.rkyv_c_calls.specs.Items.{ArePairsOfTexts, HandsOut, NoPairsOfTexts};
+ghost use Rattle.rkyv_c_calls.specs.Items.{TextsMade, TextsRefused};
 
 use crate::building::{Built, archive_of, hand_out};
 use crate::status::{NO_MEMORY, NOT_TEXT, VALUE_TOO_LARGE, write_refusal};
@@ -84,7 +85,7 @@ fn archive_by(
 /// Makes the archive of the items, in their order, as a map under the load factor 7 / 8, and hands
 /// out its bytes.
 ///
-/// `VALUE_TOO_LARGE` where a value has more bits than the map's, `NOT_TEXT` where a key isn't UTF-8,
+/// `NOT_TEXT` where a key isn't UTF-8, `VALUE_TOO_LARGE` where a value has too many bits,
 /// `NO_MEMORY` where a growth is refused, and each other cause of a write; `built` is kept then.
 pub fn build_texts(
     alloc: Global,

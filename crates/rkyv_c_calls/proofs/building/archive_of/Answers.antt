@@ -1,7 +1,10 @@
 use Rattle.rkyv_c_calls.specs.Lists.{IsArchiveOf, NoArchiveOf}
 use Rattle.rkyv_c_calls.proofs.building.archive_of.Goals as goal
 
-pub returns : goal.returns
-unfolding IsArchiveOf NoArchiveOf
-returns g c =
-    rw c.new-list.ensures.load_factor at (rw c.new-list.ensures.pairs at c.to_bytes_in.ensures)
+pub returns-in-Ok-clause-made : goal.returns-in-Ok-clause-made
+unfolding IsArchiveOf
+returns-in-Ok-clause-made g c = rw c.new-list.ensures.load_factor at (rw c.new-list.ensures.pairs at c.in-Ok.ensures)
+
+pub returns-in-Err-clause-refused : goal.returns-in-Err-clause-refused
+unfolding NoArchiveOf
+returns-in-Err-clause-refused g c = rw c.new-list.ensures.load_factor at (rw c.new-list.ensures.pairs at c.in-Err.ensures)
