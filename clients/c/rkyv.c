@@ -1,9 +1,30 @@
 /* The calls of rkyv.h: each tests what it is handed, and calls the proved library then. */
 #include "rkyv.h"
 
-#include <stdbool.h>
+#include "memory.h"
 
-/* The proved library. Each of these requires that the bytes were accepted by the call that opens. */
+#include <stdbool.h>
+#include <string.h>
+
+/* A pair that is to be archived, and the bytes of an archive that was made. */
+typedef struct number_item {
+    uint64_t value;
+    uint32_t key;
+} number_item;
+
+typedef struct text_item {
+    const uint8_t *key;
+    size_t key_length;
+    uint64_t value;
+} text_item;
+
+typedef struct built {
+    uint8_t *bytes;
+    size_t length;
+} built;
+
+/* The proved library. Those that count, get, set and take the next pair require that the bytes were
+ * accepted by the call that opens; the others require nothing. */
 uint32_t rkyv_c_open_numbers(const uint8_t *archive, size_t length, bool long_values, bool wide);
 uint32_t rkyv_c_open_texts(const uint8_t *archive, size_t length, bool long_values, bool wide);
 size_t rkyv_c_count_numbers(const uint8_t *archive, size_t length, bool long_values, bool wide);
@@ -20,6 +41,11 @@ uint32_t rkyv_c_next_number(const uint8_t *archive, size_t length, bool long_val
                             rkyv_number_pair *pair);
 uint32_t rkyv_c_next_text(const uint8_t *archive, size_t length, bool long_values, bool wide,
                           rkyv_text_pair *pair);
+bool rkyv_c_is_text(const uint8_t *bytes, size_t length);
+uint32_t rkyv_c_build_numbers(const number_item *items, size_t count, bool long_values, bool wide,
+                              built *built);
+uint32_t rkyv_c_build_texts(const text_item *items, size_t count, bool long_values, bool wide,
+                            built *built);
 
 /* No bytes, where a pointer may be null: the library's slices have none that is. */
 static const uint8_t nothing[1] = {0};
@@ -78,6 +104,7 @@ const char *rkyv_status_name(uint32_t status) {
     case RKYV_WRONG_KIND: return "RKYV_WRONG_KIND";
     case RKYV_CLOSED: return "RKYV_CLOSED";
     case RKYV_READ_ONLY: return "RKYV_READ_ONLY";
+    case RKYV_NO_MEMORY: return "RKYV_NO_MEMORY";
     case RKYV_OUT_OF_RANGE: return "RKYV_OUT_OF_RANGE";
     case RKYV_UNALIGNED: return "RKYV_UNALIGNED";
     case RKYV_INVALID_LENGTH: return "RKYV_INVALID_LENGTH";
@@ -86,6 +113,12 @@ const char *rkyv_status_name(uint32_t status) {
     case RKYV_PLACE_OUT_OF_RANGE: return "RKYV_PLACE_OUT_OF_RANGE";
     case RKYV_INVALID_VALUE: return "RKYV_INVALID_VALUE";
     case RKYV_REFUSED: return "RKYV_REFUSED";
+    case RKYV_CAPACITY_TOO_LARGE: return "RKYV_CAPACITY_TOO_LARGE";
+    case RKYV_POSITION_TOO_LARGE: return "RKYV_POSITION_TOO_LARGE";
+    case RKYV_DISTANCE_TOO_LARGE: return "RKYV_DISTANCE_TOO_LARGE";
+    case RKYV_TEXT_TOO_LONG: return "RKYV_TEXT_TOO_LONG";
+    case RKYV_INVALID_LOAD_FACTOR: return "RKYV_INVALID_LOAD_FACTOR";
+    case RKYV_ITERATOR_LENGTH_MISMATCH: return "RKYV_ITERATOR_LENGTH_MISMATCH";
     default: return "unknown";
     }
 }
@@ -230,4 +263,163 @@ rkyv_status rkyv_map_next_text(const rkyv_map *map, rkyv_text_pair *pair) {
         *pair = taken;
     }
     return status;
+}
+
+/* The pairs so far: an array of `number_item` or of `text_item`, and, behind one another, the bytes
+ * of the keys of texts, in the order of the pairs. The arrays move as they grow, so pairs of texts
+ * get the addresses of their keys only when an archive is made. */
+struct rkyv_builder {
+    void *items;
+    size_t count;
+    size_t room;
+    uint8_t *keys;
+    size_t keys_length;
+    size_t keys_room;
+    uint32_t kind;
+    uint32_t width;
+};
+
+/* Room for `more` elements of `size` bytes behind the `count` that an array of `room` has. Where
+ * there is none, the array is as it was. */
+static rkyv_status grow(void **array, size_t *room, size_t count, size_t more, size_t size) {
+    size_t most = PTRDIFF_MAX / size;
+    if (more <= *room - count) {
+        return RKYV_OK;
+    }
+    if (more > most - count) {
+        return RKYV_NO_MEMORY;
+    }
+    size_t wanted = *room <= most / 2 ? 2 * *room : most;
+    if (wanted < count + more) {
+        wanted = count + more;
+    }
+    struct rattle_block grown = *array == NULL
+        ? rattle_alloc(wanted * size, 8)
+        : rattle_realloc(*array, count * size, wanted * size, 8);
+    if (!grown.is_there) {
+        return RKYV_NO_MEMORY;
+    }
+    *array = grown.block;
+    *room = wanted;
+    return RKYV_OK;
+}
+
+rkyv_status rkyv_builder_new(uint32_t kind, uint32_t width, rkyv_builder **builder) {
+    if (builder == NULL) {
+        return RKYV_NULL;
+    }
+    *builder = NULL;
+    if (!is_of_numbers(kind) && !is_of_texts(kind)) {
+        return RKYV_UNKNOWN_KIND;
+    }
+    if (width != 32 && width != 64) {
+        return RKYV_UNKNOWN_WIDTH;
+    }
+    struct rattle_block made = rattle_alloc(sizeof(rkyv_builder), 8);
+    if (!made.is_there) {
+        return RKYV_NO_MEMORY;
+    }
+    *builder = made.block;
+    **builder = (rkyv_builder){.kind = kind, .width = width};
+    return RKYV_OK;
+}
+
+/* Whether a pair with such a key and this value may be put. */
+static rkyv_status takes(const rkyv_builder *builder, bool is_such(uint32_t kind), uint64_t value) {
+    if (builder == NULL) {
+        return RKYV_NULL;
+    }
+    if (!is_such(builder->kind)) {
+        return RKYV_WRONG_KIND;
+    }
+    return has_long_values(builder->kind) || value <= UINT32_MAX ? RKYV_OK : RKYV_VALUE_TOO_LARGE;
+}
+
+rkyv_status rkyv_builder_put_number(rkyv_builder *builder, uint32_t key, uint64_t value) {
+    rkyv_status status = takes(builder, is_of_numbers, value);
+    if (status == RKYV_OK) {
+        status = grow(&builder->items, &builder->room, builder->count, 1, sizeof(number_item));
+    }
+    if (status == RKYV_OK) {
+        number_item *items = builder->items;
+        items[builder->count++] = (number_item){value, key};
+    }
+    return status;
+}
+
+rkyv_status rkyv_builder_put_text(rkyv_builder *builder, const char *key, size_t length,
+                                  uint64_t value) {
+    rkyv_status status = takes(builder, is_of_texts, value);
+    if (status == RKYV_OK) {
+        status = there(key, length);
+    }
+    if (status == RKYV_OK && !rkyv_c_is_text(bytes_of(key), length)) {
+        status = RKYV_NOT_TEXT;
+    }
+    if (status == RKYV_OK) {
+        void *keys = builder->keys;
+        status = grow(&keys, &builder->keys_room, builder->keys_length, length, 1);
+        builder->keys = keys;
+    }
+    if (status == RKYV_OK) {
+        status = grow(&builder->items, &builder->room, builder->count, 1, sizeof(text_item));
+    }
+    if (status == RKYV_OK) {
+        text_item *items = builder->items;
+        if (length != 0) {
+            memcpy(builder->keys + builder->keys_length, key, length);
+        }
+        builder->keys_length += length;
+        items[builder->count++] = (text_item){NULL, length, value};
+    }
+    return status;
+}
+
+static rkyv_status build_numbers(const rkyv_builder *builder, built *made) {
+    static const number_item none[1];
+    const number_item *items = builder->items != NULL ? builder->items : none;
+    return rkyv_c_build_numbers(items, builder->count, has_long_values(builder->kind),
+                                builder->width == 64, made);
+}
+
+static rkyv_status build_texts(rkyv_builder *builder, built *made) {
+    static const text_item none[1];
+    text_item *items = builder->items;
+    const uint8_t *key = builder->keys != NULL ? builder->keys : nothing;
+    for (size_t i = 0; i < builder->count; i++) {
+        items[i].key = key;
+        key += items[i].key_length;
+    }
+    return rkyv_c_build_texts(items != NULL ? items : none, builder->count,
+                              has_long_values(builder->kind), builder->width == 64, made);
+}
+
+rkyv_status rkyv_builder_finish(rkyv_builder *builder, uint8_t **bytes, size_t *length) {
+    uint8_t none[1];
+    built made = {none, 0};
+    if (builder == NULL || bytes == NULL || length == NULL) {
+        return RKYV_NULL;
+    }
+    rkyv_status status = is_of_texts(builder->kind) ? build_texts(builder, &made)
+                                                    : build_numbers(builder, &made);
+    if (status == RKYV_OK) {
+        *bytes = made.bytes;
+        *length = made.length;
+    }
+    return status;
+}
+
+void rkyv_builder_free(rkyv_builder *builder) {
+    if (builder == NULL) {
+        return;
+    }
+    rkyv_bytes_free(builder->items);
+    rkyv_bytes_free(builder->keys);
+    rattle_dealloc(builder);
+}
+
+void rkyv_bytes_free(uint8_t *bytes) {
+    if (bytes != NULL) {
+        rattle_dealloc(bytes);
+    }
 }

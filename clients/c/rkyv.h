@@ -1,14 +1,16 @@
 /*
- * Hash maps in the bytes of an archive: opened, looked up, walked and written in place.
+ * Hash maps in the bytes of an archive: built, opened, looked up, walked and written in place.
  *
  * A map is of numbers of 32 bits or of texts, to numbers of 32 or of 64 bits, in an archive whose
  * positions have 32 or 64 bits. `rkyv_map_open` looks at all bytes once; the handle that it fills
  * is all that the other calls ask for, and each of them takes a time that is bounded by the length
  * of the archive, whoever made it.
  *
+ * A builder takes pairs one after the other, and makes the archive of their map.
+ *
  * Each call answers a status. Where that isn't RKYV_OK, what the call would have given is as it was
  * before, if nothing else is said. The calls keep no state of their own: two threads may use two
- * handles, or read by one handle, at the same time.
+ * handles or two builders, or read by one handle, at the same time.
  *
  * What no call can test, and its caller owes:
  *
@@ -16,7 +18,9 @@
  *     value of its type, for as long as the call runs, and what is written is nobody else's;
  *   - the bytes of a map stay where they are while its handle is in use, and nothing but
  *     `rkyv_map_set_number` and `rkyv_map_set_text` changes them;
- *   - a handle is filled by `rkyv_map_open` or `rkyv_map_open_writable`, or is all zeros.
+ *   - a handle is filled by `rkyv_map_open` or `rkyv_map_open_writable`, or is all zeros;
+ *   - a builder is one of `rkyv_builder_new` that isn't freed yet, one thread at a time;
+ *   - what `rkyv_bytes_free` is handed is of `rkyv_builder_finish`, and isn't freed yet.
  */
 #ifndef RKYV_H
 #define RKYV_H
@@ -54,6 +58,8 @@ typedef enum rkyv_status {
     RKYV_CLOSED = 10,
     /* The map was opened to be read alone. */
     RKYV_READ_ONLY = 11,
+    /* There is no memory. */
+    RKYV_NO_MEMORY = 12,
 
     /* The bytes are no archive of such a map, for the first of these reasons that stands. */
 
@@ -72,7 +78,22 @@ typedef enum rkyv_status {
     /* A text isn't UTF-8, or its length is told in a form that none has. */
     RKYV_INVALID_VALUE = 22,
     /* The type refuses every value; no map here answers it. */
-    RKYV_REFUSED = 23
+    RKYV_REFUSED = 23,
+
+    /* There is no archive of the pairs, for one of these reasons. */
+
+    /* The map needs more buckets than the width can count. */
+    RKYV_CAPACITY_TOO_LARGE = 24,
+    /* The archive would be longer than its width allows: 4294967295 bytes, or PTRDIFF_MAX. */
+    RKYV_POSITION_TOO_LARGE = 25,
+    /* A text, or the first pair, is too far away for the width to tell its distance. */
+    RKYV_DISTANCE_TOO_LARGE = 26,
+    /* A text has as many bytes as its width allows, or more: 1073741824, or 4611686018427387904. */
+    RKYV_TEXT_TOO_LONG = 27,
+    /* The load factor is none; no builder here answers it. */
+    RKYV_INVALID_LOAD_FACTOR = 28,
+    /* There are more or fewer pairs than were told; no builder here answers it. */
+    RKYV_ITERATOR_LENGTH_MISMATCH = 29
 } rkyv_status;
 
 /* What a map is of. */
@@ -159,6 +180,39 @@ rkyv_status rkyv_map_next_number(const rkyv_map *map, rkyv_number_pair *pair);
 
 /* Takes the next pair of a map of texts, as `rkyv_map_next_number` does. */
 rkyv_status rkyv_map_next_text(const rkyv_map *map, rkyv_text_pair *pair);
+
+/* Pairs that are to be archived as a map. */
+typedef struct rkyv_builder rkyv_builder;
+
+/* A builder of no pairs yet, of a kind of `rkyv_kind` and the width 32 or 64, to be given back by
+ * `rkyv_builder_free`.
+ *
+ * RKYV_NULL, RKYV_UNKNOWN_KIND, RKYV_UNKNOWN_WIDTH, RKYV_NO_MEMORY; `*builder` is null then. */
+rkyv_status rkyv_builder_new(uint32_t kind, uint32_t width, rkyv_builder **builder);
+
+/* Puts a pair of a number behind the others. A key may be put again: lookups answer the value of
+ * the first pair.
+ *
+ * RKYV_NULL, RKYV_WRONG_KIND, RKYV_VALUE_TOO_LARGE, RKYV_NO_MEMORY; no pair is put then. */
+rkyv_status rkyv_builder_put_number(rkyv_builder *builder, uint32_t key, uint64_t value);
+
+/* Puts a pair of a text of `length` bytes, which may be null where that is 0. The bytes are copied.
+ *
+ * As `rkyv_builder_put_number`, and RKYV_TOO_LONG and RKYV_NOT_TEXT. */
+rkyv_status rkyv_builder_put_text(rkyv_builder *builder, const char *key, size_t length,
+                                  uint64_t value);
+
+/* Makes the archive of the pairs: new bytes, to be given back by `rkyv_bytes_free`. The builder
+ * keeps its pairs, and takes further ones.
+ *
+ * RKYV_NULL, RKYV_NO_MEMORY; from RKYV_CAPACITY_TOO_LARGE on why there is none. */
+rkyv_status rkyv_builder_finish(rkyv_builder *builder, uint8_t **bytes, size_t *length);
+
+/* Gives a builder back, which may be null. The archives that it made stay. */
+void rkyv_builder_free(rkyv_builder *builder);
+
+/* Gives the bytes of an archive back that a builder made; they may be null. */
+void rkyv_bytes_free(uint8_t *bytes);
 
 #ifdef __cplusplus
 }

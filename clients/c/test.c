@@ -1,11 +1,35 @@
 /* A test of rkyv.h on two archives that are written out by hand: each call, and each refusal that
- * it can be brought to. Prints what differs, and exits with the number of it. */
+ * it can be brought to. Prints what differs, and exits with 1 if anything does. It has its own
+ * functions of memory, which count the blocks, and refuse one request where the test says so. */
 #include "rkyv.h"
 
+#include "memory.h"
+
 #include <stdio.h>
+#include <stdlib.h>
 #include <string.h>
 
 static int faults;
+
+/* How many blocks aren't given back yet, how many requests there were, and which is refused. */
+static size_t blocks, requests, refused = SIZE_MAX;
+
+struct rattle_block rattle_alloc(size_t size, size_t align) {
+    void *block = requests++ == refused ? NULL : malloc(size != 0 ? size : align);
+    blocks += block != NULL;
+    return (struct rattle_block){block != NULL, block};
+}
+
+struct rattle_block rattle_realloc(void *block, size_t kept, size_t size, size_t align) {
+    (void)kept;
+    void *grown = requests++ == refused ? NULL : realloc(block, size != 0 ? size : align);
+    return (struct rattle_block){grown != NULL, grown};
+}
+
+void rattle_dealloc(void *block) {
+    blocks--;
+    free(block);
+}
 
 static void same(const char *what, uint64_t got, uint64_t wanted) {
     if (got != wanted) {
@@ -26,8 +50,9 @@ static void answers(const char *what, rkyv_status got, rkyv_status wanted) {
  * pair is in bucket 1, which stands first, and its tag is 28. */
 static size_t one_to_two(uint8_t *bytes) {
     memset(bytes, 0xff, 60);
-    memcpy(bytes, (uint8_t[]){1, 0, 0, 0, 2, 0, 0, 0, 0, 0, 0, 0, 0, 0, 0, 0, 0xff, 0x28, 0xff, 0x28},
-           20);
+    memcpy(bytes, (uint8_t[]){1, 0, 0, 0, 2, 0, 0, 0}, 8);
+    memset(bytes + 8, 0, 8);
+    memcpy(bytes + 16, (uint8_t[]){0xff, 0x28, 0xff, 0x28}, 4);
     memcpy(bytes + 47, (uint8_t[]){0, 0xe0, 0xff, 0xff, 0xff, 1, 0, 0, 0, 2, 0, 0, 0}, 13);
     return 60;
 }
@@ -163,10 +188,182 @@ static void refusals(void) {
     answers("a key", rkyv_map_open(bytes, length, RKYV_TEXT_TO_U64, 64, &map), RKYV_INVALID_VALUE);
 }
 
+/* The archive that a builder makes is these bytes. */
+static void makes(rkyv_builder *builder, const uint8_t *wanted, size_t wanted_length) {
+    uint8_t *bytes = NULL;
+    size_t length = 0;
+    answers("finish", rkyv_builder_finish(builder, &bytes, &length), RKYV_OK);
+    same("length", length, wanted_length);
+    same("bytes", length == wanted_length && memcmp(bytes, wanted, length) == 0, 1);
+    rkyv_bytes_free(bytes);
+}
+
+static void built_numbers(void) {
+    uint8_t wanted[64], *bytes = NULL;
+    size_t length = one_to_two(wanted);
+    uint64_t value = 9;
+    rkyv_builder *builder;
+    rkyv_map map;
+
+    answers("new", rkyv_builder_new(RKYV_NUMBER_TO_U32, 32, &builder), RKYV_OK);
+    answers("put too much", rkyv_builder_put_number(builder, 1, 1ull << 32), RKYV_VALUE_TOO_LARGE);
+    answers("put a text", rkyv_builder_put_text(builder, "a", 1, 2), RKYV_WRONG_KIND);
+    makes(builder, (uint8_t[]){1, 0, 0, 0, 0, 0, 0, 0, 0, 0, 0, 0}, 12);
+    answers("put", rkyv_builder_put_number(builder, 1, 2), RKYV_OK);
+    makes(builder, wanted, length);
+    makes(builder, wanted, length);
+    answers("put again", rkyv_builder_put_number(builder, 1, 3), RKYV_OK);
+    answers("put another", rkyv_builder_put_number(builder, 4, UINT32_MAX), RKYV_OK);
+    answers("finish", rkyv_builder_finish(builder, &bytes, &length), RKYV_OK);
+    rkyv_builder_free(builder);
+    answers("open", rkyv_map_open(bytes, length, RKYV_NUMBER_TO_U32, 32, &map), RKYV_OK);
+    answers("get", rkyv_map_get_number(&map, 1, &value), RKYV_OK);
+    same("the first", value, 2);
+    answers("get", rkyv_map_get_number(&map, 4, &value), RKYV_OK);
+    same("another", value, UINT32_MAX);
+    rkyv_bytes_free(bytes);
+    same("blocks", blocks, 0);
+}
+
+static void built_texts(void) {
+    uint8_t wanted[104];
+    size_t length = empty_to_seven(wanted);
+    rkyv_builder *builder;
+
+    answers("new", rkyv_builder_new(RKYV_TEXT_TO_U64, 64, &builder), RKYV_OK);
+    answers("put no text", rkyv_builder_put_text(builder, "a\xff", 2, 2), RKYV_NOT_TEXT);
+    answers("put null", rkyv_builder_put_text(builder, NULL, 1, 2), RKYV_NULL);
+    answers("put too long", rkyv_builder_put_text(builder, "a", SIZE_MAX, 2), RKYV_TOO_LONG);
+    answers("put a number", rkyv_builder_put_number(builder, 1, 2), RKYV_WRONG_KIND);
+    answers("put", rkyv_builder_put_text(builder, NULL, 0, 7), RKYV_OK);
+    makes(builder, wanted, length);
+    rkyv_builder_free(builder);
+    answers("new", rkyv_builder_new(RKYV_TEXT_TO_U32, 32, &builder), RKYV_OK);
+    answers("put too much", rkyv_builder_put_text(builder, "a", 1, 1ull << 32),
+            RKYV_VALUE_TOO_LARGE);
+    rkyv_builder_free(builder);
+    same("blocks", blocks, 0);
+}
+
+static void unbuilt(void) {
+    uint8_t *bytes = NULL;
+    size_t length = 0;
+    rkyv_builder *builder;
+
+    answers("no builder", rkyv_builder_new(RKYV_TEXT_TO_U32, 32, NULL), RKYV_NULL);
+    answers("kind 0", rkyv_builder_new(0, 32, &builder), RKYV_UNKNOWN_KIND);
+    answers("width 8", rkyv_builder_new(RKYV_TEXT_TO_U32, 8, &builder), RKYV_UNKNOWN_WIDTH);
+    same("none", builder == NULL, 1);
+    answers("put to null", rkyv_builder_put_number(NULL, 1, 2), RKYV_NULL);
+    answers("put to null", rkyv_builder_put_text(NULL, "a", 1, 2), RKYV_NULL);
+    answers("finish null", rkyv_builder_finish(NULL, &bytes, &length), RKYV_NULL);
+    answers("new", rkyv_builder_new(RKYV_NUMBER_TO_U64, 64, &builder), RKYV_OK);
+    answers("no bytes", rkyv_builder_finish(builder, NULL, &length), RKYV_NULL);
+    answers("no length", rkyv_builder_finish(builder, &bytes, NULL), RKYV_NULL);
+    rkyv_builder_free(builder);
+    rkyv_builder_free(NULL);
+    rkyv_bytes_free(NULL);
+    same("blocks", blocks, 0);
+}
+
+/* How many calls were refused memory; each of them is made again. */
+static size_t refusals_of_memory;
+
+static int again(rkyv_status status) {
+    refusals_of_memory += status == RKYV_NO_MEMORY;
+    if (status != RKYV_NO_MEMORY) {
+        answers("a call", status, RKYV_OK);
+    }
+    return status == RKYV_NO_MEMORY && refusals_of_memory < 9;
+}
+
+/* The archive of some pairs, of which one request of memory is refused. */
+static uint8_t *made_with(size_t one, uint32_t kind, size_t *length) {
+    uint8_t *bytes = NULL;
+    rkyv_builder *builder = NULL;
+    char key[40];
+    refused = one;
+    requests = refusals_of_memory = 0;
+    while (again(rkyv_builder_new(kind, 32, &builder))) {
+    }
+    for (uint32_t i = 0; i < 40; i++) {
+        memset(key, 'a' + i % 26, sizeof key);
+        while (again(kind == RKYV_TEXT_TO_U64 ? rkyv_builder_put_text(builder, key, i, i)
+                                              : rkyv_builder_put_number(builder, i, i))) {
+        }
+    }
+    while (again(rkyv_builder_finish(builder, &bytes, length))) {
+    }
+    rkyv_builder_free(builder);
+    refused = SIZE_MAX;
+    return bytes;
+}
+
+/* Each request of memory refused in turn: the call that makes it says so, once, and the archive is
+ * the same after it. */
+static void refused_memory(uint32_t kind) {
+    size_t length = 0;
+    uint8_t *bytes = made_with(SIZE_MAX, kind, &length);
+    size_t all = requests;
+    same("more than five requests", all > 5, 1);
+    for (size_t one = 0; one < all; one++) {
+        size_t other_length = 0;
+        uint8_t *other = made_with(one, kind, &other_length);
+        same("refusals", refusals_of_memory, 1);
+        same("the same", other_length == length && memcmp(bytes, other, length) == 0, 1);
+        rkyv_bytes_free(other);
+    }
+    rkyv_bytes_free(bytes);
+    same("blocks", blocks, 0);
+}
+
+/* What the proved library is handed by a builder, which tests keys and values before. */
+struct text_item {
+    const void *key;
+    size_t key_length;
+    uint64_t value;
+};
+
+struct built {
+    uint8_t *bytes;
+    size_t length;
+};
+
+uint32_t rkyv_c_build_texts(const struct text_item *items, size_t count, bool long_values,
+                            bool wide, struct built *built);
+
+/* The refusals of the library itself. The text that is too long is of zeros, which take no memory
+ * where they are only read. */
+static void refused_items(void) {
+    uint8_t none[1];
+    struct built built = {none, 0};
+    size_t limit = (size_t)1 << 30;
+    void *zeros = calloc(limit, 1);
+    struct text_item items[] = {
+        {"a", 1, 2}, {"\xff", 1, 2}, {"b", 1, 1ull << 32}, {zeros, limit, 2},
+    };
+    answers("no text", rkyv_c_build_texts(items, 2, true, false, &built), RKYV_NOT_TEXT);
+    answers("a large value", rkyv_c_build_texts(items + 2, 1, false, false, &built),
+            RKYV_VALUE_TOO_LARGE);
+    if (zeros != NULL) {
+        answers("a long text", rkyv_c_build_texts(items + 3, 1, false, false, &built),
+                RKYV_TEXT_TOO_LONG);
+    }
+    same("kept", built.bytes == none && built.length == 0, 1);
+    same("blocks", blocks, 0);
+    free(zeros);
+}
+
 int main(void) {
     numbers();
     texts();
     refusals();
+    built_numbers();
+    built_texts();
+    unbuilt();
+    refused_memory(RKYV_NUMBER_TO_U64);
+    refused_memory(RKYV_TEXT_TO_U64);
+    refused_items();
     if (faults == 0) {
         printf("all as wanted\n");
     }

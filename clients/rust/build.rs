@@ -46,10 +46,10 @@ fn main() {
     let archive: &Path = &out.join("librkyv_calls.a");
     let _ = std::fs::remove_file(archive);
     run(Command::new("ar").arg("crs").arg(archive).args(&objects));
-    println!(
-        "cargo::rerun-if-changed={}",
-        here.join("../c/rkyv.h").display()
-    );
+    for name in ["rkyv.h", "memory.h"] {
+        let header = here.join("../c").join(name);
+        println!("cargo::rerun-if-changed={}", header.display());
+    }
     println!("cargo::rustc-link-search=native={}", out.display());
     println!(
         "cargo::rustc-link-search=native={}",

@@ -1,12 +1,13 @@
 //! Hash maps in the bytes of an archive, over the proved static library `rkyv_c`.
 //!
-//! [`Map`] borrows the bytes to read them, [`MapMut`] to write values in place too. What C's header
-//! leaves to its caller, that pointers and lengths name memory which nobody else writes, the borrows
-//! of this crate keep.
+//! A [`Builder`] takes pairs, and makes the bytes of their archive. [`Map`] borrows the bytes to read
+//! them, [`MapMut`] to write values in place too. What C's header leaves to its caller, that pointers
+//! and lengths name memory which nobody else writes, the borrows of this crate keep.
 
 use std::ffi::c_void;
 use std::fmt;
 use std::marker::PhantomData;
+use std::ops::{Deref, DerefMut};
 
 #[repr(C)]
 struct RawNumberPair {
@@ -46,6 +47,21 @@ unsafe extern "C" {
     fn rkyv_map_set_text(map: *const RawMap, key: *const u8, length: usize, value: u64) -> u32;
     fn rkyv_map_next_number(map: *const RawMap, pair: *mut RawNumberPair) -> u32;
     fn rkyv_map_next_text(map: *const RawMap, pair: *mut RawTextPair) -> u32;
+    fn rkyv_builder_new(kind: u32, width: u32, builder: *mut *mut RawBuilder) -> u32;
+    fn rkyv_builder_put_number(builder: *mut RawBuilder, key: u32, value: u64) -> u32;
+    fn rkyv_builder_put_text(
+        builder: *mut RawBuilder,
+        key: *const u8,
+        length: usize,
+        value: u64,
+    ) -> u32;
+    fn rkyv_builder_finish(
+        builder: *mut RawBuilder,
+        bytes: *mut *mut u8,
+        length: *mut usize,
+    ) -> u32;
+    fn rkyv_builder_free(builder: *mut RawBuilder);
+    fn rkyv_bytes_free(bytes: *mut u8);
 }
 
 /// How wide the positions of an archive are.
@@ -65,6 +81,11 @@ pub enum Refusal {
     WrongNumberOfElements,
     UnwrappedControlByte,
     InvalidValue,
+    NoMemory,
+    CapacityTooLarge,
+    PositionTooLarge,
+    DistanceTooLarge,
+    TextTooLong,
     /// A status that these calls don't answer.
     Other(u32),
 }
@@ -84,12 +105,17 @@ fn answered(status: u32) -> Result<(), Refusal> {
     Err(match status {
         0 => return Ok(()),
         3 => Refusal::ValueTooLarge,
+        12 => Refusal::NoMemory,
         16 => Refusal::OutOfRange,
         17 => Refusal::Unaligned,
         18 => Refusal::InvalidLength,
         19 => Refusal::WrongNumberOfElements,
         20 => Refusal::UnwrappedControlByte,
         22 => Refusal::InvalidValue,
+        24 => Refusal::CapacityTooLarge,
+        25 => Refusal::PositionTooLarge,
+        26 => Refusal::DistanceTooLarge,
+        27 => Refusal::TextTooLong,
         other => Refusal::Other(other),
     })
 }
@@ -116,12 +142,20 @@ mod sealed {
         pub(super) width: u32,
     }
 
+    /// The builder of `rkyv.h`.
+    #[repr(C)]
+    pub struct RawBuilder {
+        _private: [u8; 0],
+    }
+
     /// Keys of 32 bits, or texts.
     pub trait Key {
         const TEXTS: bool;
         type Seen<'a>;
         fn get(map: &RawMap, key: &Self, value: &mut u64) -> u32;
         fn set(map: &RawMap, key: &Self, value: u64) -> u32;
+        /// Puts a pair. The builder must be one that isn't freed yet, of this kind of keys.
+        unsafe fn put(builder: *mut RawBuilder, key: &Self, value: u64) -> u32;
         /// The next pair. The bytes of the map must live as long as `'a`.
         unsafe fn next<'a>(
             map: &RawMap,
@@ -137,7 +171,7 @@ mod sealed {
     }
 }
 
-use sealed::{Key, RawMap, Value};
+use sealed::{Key, RawBuilder, RawMap, Value};
 
 impl Key for u32 {
     const TEXTS: bool = false;
@@ -151,6 +185,11 @@ impl Key for u32 {
     fn set(map: &RawMap, key: &u32, value: u64) -> u32 {
         // SAFETY: as above, to be written where the map was opened so.
         unsafe { rkyv_map_set_number(map, *key, value) }
+    }
+
+    unsafe fn put(builder: *mut RawBuilder, key: &u32, value: u64) -> u32 {
+        // SAFETY: the builder is one that isn't freed yet.
+        unsafe { rkyv_builder_put_number(builder, *key, value) }
     }
 
     unsafe fn next<'a>(
@@ -185,6 +224,11 @@ impl Key for str {
     fn set(map: &RawMap, key: &str, value: u64) -> u32 {
         // SAFETY: as above, to be written where the map was opened so.
         unsafe { rkyv_map_set_text(map, key.as_ptr(), key.len(), value) }
+    }
+
+    unsafe fn put(builder: *mut RawBuilder, key: &str, value: u64) -> u32 {
+        // SAFETY: the builder is one that isn't freed yet; pointer and length are one text's.
+        unsafe { rkyv_builder_put_text(builder, key.as_ptr(), key.len(), value) }
     }
 
     unsafe fn next<'a>(map: &RawMap, next: &mut u64) -> Result<Option<(&'a str, u64)>, Refusal> {
@@ -363,5 +407,84 @@ impl<'a, K: Key + ?Sized, V: Value> MapMut<'a, K, V> {
     /// Writes the value of a key, and tells whether it is found.
     pub fn set(&mut self, key: &K, value: V) -> bool {
         found(K::set(&self.map, key, value.number())).expect("the map is open to be written")
+    }
+}
+
+/// Pairs of K, which is `u32` or `str`, and V, which is `u32` or `u64`, that are to be archived.
+pub struct Builder<K: ?Sized, V> {
+    builder: *mut RawBuilder,
+    pairs: PhantomData<(V, *const K)>,
+}
+
+impl<K: Key + ?Sized, V: Value> Builder<K, V> {
+    /// A builder of no pairs yet.
+    ///
+    /// # Errors
+    /// `NoMemory`.
+    pub fn new(width: Width) -> Result<Self, Refusal> {
+        let mut builder = std::ptr::null_mut();
+        // SAFETY: the pointer is to be written.
+        answered(unsafe { rkyv_builder_new(kind_of::<K, V>(), width as u32, &mut builder) })?;
+        Ok(Builder {
+            builder,
+            pairs: PhantomData,
+        })
+    }
+
+    /// Puts a pair behind the others. Lookups answer the value of the first pair of a key.
+    ///
+    /// # Errors
+    /// `NoMemory`; no pair is put then.
+    pub fn put(&mut self, key: &K, value: V) -> Result<(), Refusal> {
+        // SAFETY: the builder is freed by `drop` alone, and of this kind.
+        answered(unsafe { K::put(self.builder, key, value.number()) })
+    }
+
+    /// The archive of the pairs. The builder keeps them.
+    ///
+    /// # Errors
+    /// `NoMemory`, and from `CapacityTooLarge` on why there is none.
+    pub fn finish(&mut self) -> Result<Archive, Refusal> {
+        let mut bytes = std::ptr::null_mut();
+        let mut length = 0;
+        // SAFETY: the builder is freed by `drop` alone; the other two are to be written.
+        answered(unsafe { rkyv_builder_finish(self.builder, &mut bytes, &mut length) })?;
+        Ok(Archive { bytes, length })
+    }
+}
+
+impl<K: ?Sized, V> Drop for Builder<K, V> {
+    fn drop(&mut self) {
+        // SAFETY: the builder is freed here alone.
+        unsafe { rkyv_builder_free(self.builder) }
+    }
+}
+
+/// The bytes of an archive that a builder made.
+pub struct Archive {
+    bytes: *mut u8,
+    length: usize,
+}
+
+impl Deref for Archive {
+    type Target = [u8];
+
+    fn deref(&self) -> &[u8] {
+        // SAFETY: the bytes are this value's alone, until `drop`.
+        unsafe { std::slice::from_raw_parts(self.bytes, self.length) }
+    }
+}
+
+impl DerefMut for Archive {
+    fn deref_mut(&mut self) -> &mut [u8] {
+        // SAFETY: as above.
+        unsafe { std::slice::from_raw_parts_mut(self.bytes, self.length) }
+    }
+}
+
+impl Drop for Archive {
+    fn drop(&mut self) {
+        // SAFETY: the bytes are freed here alone.
+        unsafe { rkyv_bytes_free(self.bytes) }
     }
 }

@@ -1,6 +1,6 @@
 //! Maps that are written out by hand.
 
-use rkyv_maps::{Map, MapMut, Refusal, Width};
+use rkyv_maps::{Builder, Map, MapMut, Refusal, Width};
 
 /// The map of 1 to 2.
 fn one_to_two() -> Vec<u8> {
@@ -56,4 +56,31 @@ fn other_bytes_are_refused() {
     assert_eq!(wide, Some(Refusal::Unaligned));
     assert_eq!(damaged, Some(Refusal::UnwrappedControlByte));
     assert_eq!(none, Some(Refusal::OutOfRange));
+}
+
+#[test]
+fn archives_are_built() {
+    let mut numbers: Builder<u32, u32> = Builder::new(Width::Narrow).unwrap();
+    let empty = numbers.finish().unwrap();
+    numbers.put(&1, 2).unwrap();
+    let archive = numbers.finish().unwrap();
+    numbers.put(&1, 3).unwrap();
+    numbers.put(&4, 5).unwrap();
+    let longer = numbers.finish().unwrap();
+    drop(numbers);
+    let map: Map<u32, u32> = Map::open(&longer, Width::Narrow).unwrap();
+    assert_eq!(&empty[..], [1, 0, 0, 0, 0, 0, 0, 0, 0, 0, 0, 0]);
+    assert_eq!(&archive[..], one_to_two());
+    assert_eq!((map.len(), map.get(&1), map.get(&4)), (3, Some(2), Some(5)));
+}
+
+#[test]
+fn built_texts_are_written_in_place() {
+    let mut texts: Builder<str, u64> = Builder::new(Width::Wide).unwrap();
+    texts.put("", 7).unwrap();
+    let mut archive = texts.finish().unwrap();
+    assert_eq!(&archive[..], empty_to_seven());
+    let mut map: MapMut<str, u64> = MapMut::open(&mut archive, Width::Wide).unwrap();
+    assert_eq!((map.set("", u64::MAX), map.set("a", 1)), (true, false));
+    assert_eq!(map.as_map().get(""), Some(u64::MAX));
 }
