@@ -17,3 +17,4 @@ pub mod FoundPairs
 pub mod FoundEntries
 pub mod Alike
 pub mod FirstWrites
+pub mod ListArchives

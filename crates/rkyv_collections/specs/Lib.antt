@@ -19,3 +19,4 @@ pub mod StdLookups
 pub mod ListedLookups
 pub mod BothHashers
 pub mod InPlace
+pub mod ListArchives

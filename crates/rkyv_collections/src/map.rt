@@ -9,6 +9,7 @@ pub mod in_place;
 pub mod iter;
 pub mod iter_seal;
 pub mod laws;
+pub mod list_archives;
 mod lookup;
 mod misplaced;
 mod reading;

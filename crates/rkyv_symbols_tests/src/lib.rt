@@ -6,4 +6,6 @@ mod caller;
 #[cfg(test)]
 mod damaged;
 #[cfg(test)]
+mod first;
+#[cfg(test)]
 mod tables;
