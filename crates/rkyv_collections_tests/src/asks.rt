@@ -18,14 +18,13 @@ fn gives(asks: &Cell<usize>, items: usize) -> bool {
     ask < items
 }
 
-// What came of a call: written, refused for another number than was claimed, refused for its load
-// factor, refused for want of memory before a byte was written, or anything else.
+// What came of a call: written, refused for another number than was claimed or for its load factor
+// before a byte was written, or anything else.
 #[derive(Clone, Copy, Debug, PartialEq, Eq)]
 enum Answer {
     Written,
     Mismatch(usize, usize),
     LoadFactor(usize, usize),
-    Memory,
     Other,
 }
 
@@ -41,7 +40,6 @@ fn answer_of(answer: Result<HashMapResolver, WriteError<NoMemory>>, writer: &Vec
                 denominator,
             },
         ) if clean => Answer::LoadFactor(numerator, denominator),
-        Err(WriteError::Memory) if clean => Answer::Memory,
         Err(_) => Answer::Other,
     }
 }
@@ -171,25 +169,4 @@ fn an_end_or_a_surplus_is_the_last_answer(rt: HostRuntime) {
         (Answer::LoadFactor(8, 7), 0),
     ];
     assert_eq!(rt; (maps, sets), (wanted, wanted));
-}
-
-// Where a growth is refused, no item was taken and nothing was written. A run in which the N-th
-// growth is refused shows it for each of them.
-fn is_right(answer: Answer, asks: usize) -> bool {
-    match answer {
-        Answer::Memory => asks == 0,
-        // at `Other` it is the writer's own growth
-        Answer::Written | Answer::Other => asks == 3,
-        _ => false,
-    }
-}
-
-#[test]
-fn no_item_is_taken_before_the_growths(rt: HostRuntime) {
-    let (map, map_asks) = asks_of_map(rt.alloc(), 2, 2, (7, 8));
-    let (set, set_asks) = asks_of_set(rt.alloc(), 2, 2, (7, 8));
-    assert_eq!(rt;
-        (is_right(map, map_asks), is_right(set, set_asks)),
-        (true, true)
-    );
 }

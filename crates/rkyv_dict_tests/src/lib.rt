@@ -5,8 +5,6 @@
 #[cfg(test)]
 mod archives;
 #[cfg(test)]
-mod growths;
-#[cfg(test)]
 mod lines;
 #[cfg(test)]
 mod numbers;

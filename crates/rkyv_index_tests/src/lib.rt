@@ -10,8 +10,6 @@ mod checking;
 #[cfg(test)]
 mod finders;
 #[cfg(test)]
-mod growths;
-#[cfg(test)]
 mod interning;
 #[cfg(test)]
 mod lookups;

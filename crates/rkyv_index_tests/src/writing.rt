@@ -12,10 +12,7 @@ use rkyv_scan::hash::FxHasher64;
 use std::alloc::{AllocError, Global};
 use std::test::Fail;
 
-pub(crate) fn list_of(
-    alloc: Global,
-    pairs: &[(i8, i8)],
-) -> Result<OrderedPairs<i8, i8>, AllocError> {
+fn list_of(alloc: Global, pairs: &[(i8, i8)]) -> Result<OrderedPairs<i8, i8>, AllocError> {
     let mut list = Vec::new(alloc);
     for pair in pairs {
         list.push(*pair)?;

@@ -17,13 +17,12 @@ fn gives(asks: &Cell<usize>, items: usize) -> bool {
     ask < items
 }
 
-// What came of a call: written, refused for another number than was claimed, refused for want of
-// memory before a byte was written, or anything else.
+// What came of a call: written, refused for another number than was claimed before a byte was
+// written, or anything else.
 #[derive(Clone, Copy, Debug, PartialEq, Eq)]
 enum Answer {
     Written,
     Mismatch(usize, usize),
-    Memory,
     Other,
 }
 
@@ -36,7 +35,6 @@ fn answer_of(
         Ok(_) => Answer::Written,
         Err(WriteError::IteratorLengthMismatch(IteratorLengthMismatch { expected, actual }))
             if clean => { Answer::Mismatch(expected, actual) }
-        Err(WriteError::Memory) if clean => Answer::Memory,
         Err(_) => Answer::Other,
     }
 }
@@ -192,28 +190,6 @@ fn an_end_or_a_surplus_is_the_last_answer(rt: HostRuntime) {
         (Answer::Written, 1),
     ];
     assert_eq!(rt; (both, pairs), (wanted, wanted));
-}
-
-// Where a growth is refused, no item was taken and nothing was written. A run in which the N-th
-// growth is refused shows it for each of them.
-#[test]
-fn no_item_is_taken_before_the_growths(rt: HostRuntime) {
-    let (both, of_items, of_hashes) = asks_of_both(rt.alloc(), 2, 2, 2);
-    let right = match both {
-        Answer::Written => of_items == 3 && of_hashes == 3,
-        Answer::Memory => of_items == 0 && of_hashes == 0,
-        Answer::Mismatch(_, _) => false,
-        // the writer's own growth
-        Answer::Other => of_items == 3 && of_hashes == 3,
-    };
-    let (answer, asks) = asks_of_pairs(rt.alloc(), 2, 2);
-    let right_of_pairs = match answer {
-        Answer::Written => asks == 3,
-        Answer::Memory => asks == 0,
-        Answer::Mismatch(_, _) => false,
-        Answer::Other => asks == 3,
-    };
-    assert_eq!(rt; (right, right_of_pairs), (true, true));
 }
 
 // So many slots are more bytes than an address can tell.

@@ -1,19 +1,22 @@
-//! Growths that are refused. Which one is, is up to who runs the tests: `tools/refuse-growths`
-//! refuses each in turn. What ends in `succeeds` passes only where none is.
+//! Index maps and sets that are archived.
 
-use crate::archives::{four_pairs, one_key};
-use crate::writing::list_of;
+use crate::bytes::{FOUR_ENTRIES, ONE_KEY};
 use rkyv_base::errors::WriteError;
 use rkyv_base::root::to_bytes;
 use rkyv_base::width::Narrow;
 use rkyv_base::writer::{NoMemory, VecWriter, append};
-use rkyv_index::{ArchivedIndexMap, OrderedItems};
+use rkyv_index::{ArchivedIndexMap, OrderedItems, OrderedPairs};
 use rkyv_scan::hash::FxHasher64;
 use std::alloc::Global;
 
-// The archive of the four pairs, if there is memory for their list.
+// The four pairs, if there is memory for them.
+fn four(alloc: Global) -> Option<Vec<(i8, i8)>> {
+    vec![in alloc; (1i8, 2i8), (3, 4), (5, 6), (7, 8)].ok()
+}
+
+// Their archive.
 fn four_built(alloc: Global) -> Option<Result<Vec<u8>, WriteError<NoMemory>>> {
-    let list = list_of(alloc, &[(1, 2), (3, 4), (5, 6), (7, 8)]).ok()?;
+    let list = OrderedPairs(four(alloc)?);
     Some(to_bytes(alloc, &list))
 }
 
@@ -46,25 +49,32 @@ fn is_whole(built: Option<Result<Vec<u8>, WriteError<NoMemory>>>, bytes: &[u8]) 
 }
 
 #[test]
-fn an_archive_is_whole_or_wants_memory(rt: HostRuntime) {
-    let alloc = rt.alloc();
-    let four = is_whole_or_wants_memory(four_built(alloc), &four_pairs());
-    let one = is_whole_or_wants_memory(one_built(alloc), &one_key());
-    assert_eq!(rt; (four, one), (true, true));
+fn a_map_is_whole_or_wants_memory(rt: HostRuntime) {
+    let right = is_whole_or_wants_memory(four_built(rt.alloc()), &FOUR_ENTRIES);
+    assert!(rt; right);
 }
 
 #[test]
-fn an_archive_succeeds(rt: HostRuntime) {
-    let alloc = rt.alloc();
-    let four = is_whole(four_built(alloc), &four_pairs());
-    let one = is_whole(one_built(alloc), &one_key());
-    assert_eq!(rt; (four, one), (true, true));
+fn a_set_is_whole_or_wants_memory(rt: HostRuntime) {
+    let right = is_whole_or_wants_memory(one_built(rt.alloc()), &ONE_KEY);
+    assert!(rt; right);
 }
 
-// Writes the four pairs behind a nine, if there is memory for it and for their list. Whether what
-// is answered `Memory` wrote nothing, and a nine stands in front in any case.
-fn keeps_what_stood(alloc: Global) -> Option<bool> {
-    let pairs = vec![in alloc; (1i8, 2i8), (3, 4), (5, 6), (7, 8)].ok()?;
+#[test]
+fn a_map_succeeds(rt: HostRuntime) {
+    assert!(rt; is_whole(four_built(rt.alloc()), &FOUR_ENTRIES));
+}
+
+#[test]
+fn a_set_succeeds(rt: HostRuntime) {
+    assert!(rt; is_whole(one_built(rt.alloc()), &ONE_KEY));
+}
+
+// Writes the four pairs behind a nine, if there is memory for it and for their list: whether they
+// are written, and whether what is answered `Memory` wrote nothing, and a nine stands in front in
+// any case.
+fn behind_a_nine(alloc: Global) -> Option<(bool, bool)> {
+    let pairs = four(alloc)?;
     let mut writer = VecWriter::new(alloc);
     append(&mut writer, &[9]).ok()?;
     let answer = ArchivedIndexMap::<i8, i8, FxHasher64, Narrow>::serialize_from_iter::<
@@ -78,18 +88,23 @@ fn keeps_what_stood(alloc: Global) -> Option<bool> {
     let nothing = writer.bytes() == [9].as_slice();
     let kept = matches!(writer.bytes(), [9, ..]);
     match answer {
-        Ok(_) => Some(kept),
-        Err(WriteError::Memory) => Some(nothing),
-        Err(WriteError::Writer(NoMemory)) => Some(kept),
-        Err(_) => Some(false),
+        Ok(_) => Some((true, kept)),
+        Err(WriteError::Memory) => Some((false, nothing)),
+        Err(WriteError::Writer(NoMemory)) => Some((false, kept)),
+        Err(_) => Some((false, false)),
     }
 }
 
 #[test]
 fn no_byte_is_written_before_the_growths(rt: HostRuntime) {
-    let right = match keeps_what_stood(rt.alloc()) {
-        Some(right) => right,
+    let right = match behind_a_nine(rt.alloc()) {
+        Some((_, right)) => right,
         None => true,
     };
     assert!(rt; right);
+}
+
+#[test]
+fn a_map_behind_a_byte_succeeds(rt: HostRuntime) {
+    assert_eq!(rt; behind_a_nine(rt.alloc()), Some((true, true)));
 }

@@ -1,5 +1,4 @@
-//! Growths that are refused. Which one is, is up to who runs the tests: `tools/refuse-growths`
-//! refuses each in turn. What ends in `succeeds` passes only where none is.
+//! Maps of std's that are archived, and read back.
 
 use crate::bytes::{FOUR_PAIRS, NESTED};
 use rkyv_base::access::access;
