@@ -52,6 +52,15 @@ EntryFails k v b p lo hi e =
     ⊎ (IsSmall k v × (k.fails b p lo hi e
     ⊎ ((m : ℕ) × k.holds b p lo hi m × v.fails b (p + value_offset k v) m hi e)))
 
+-- all on which the key and the value of an entry rest is the same in both; the value's parts begin
+-- at m
+pub record PartsSame (k v : Shape) (b c : List ℕ) (p lo hi m l : ℕ) : Type 0 where
+  pub room : m ≤ hi
+  pub key : Same b c p (p + k.size)
+  pub key_parts : Same b c lo m
+  pub value : Same b c (p + value_offset k v) (p + value_offset k v + v.size)
+  pub value_parts : Same b c m l
+
 -- the entry of a key and a value of these shapes, as an element
 abbrev pub entry_shape : Shape → Shape → Shape
 entry_shape k v = record {
@@ -148,18 +157,29 @@ module _ (k v : Shape) (kl : IsElement k) (vl : IsElement v) where
       (p + value_offset k v + v.size) (omega arith) (omega (arith, size, i.1)) (omega arith)
       fixed
 
+  -- where what an entry rests on is the same, so is what its key and its value rest on
+  pub same_parts : (b c : List ℕ) (p lo hi l : ℕ) → lo ≤ hi → (h : EntryHolds k v b p lo hi l)
+      → Same b c p (p + size_of_whole (whole_size k v)) → Same b c lo l → PartsSame k v b c p lo hi h.1 l
+  same_parts b c p lo hi l o h fixed part =
+      let x : (lo ≤ h.1) × (h.1 ≤ hi) = kl.between b p lo hi h.1 o h.2 in
+      let y : (h.1 ≤ l) × (l ≤ hi) = vl.between b (p + value_offset k v) h.1 hi l x.1 h.3 in
+      record {
+        room = x.1;
+        key = same_key b c p h.0 fixed;
+        key_parts = same_part b c lo l lo h.1 (omega arith) y.0 x.0 part;
+        value = same_value b c p h.0 fixed;
+        value_parts = same_part b c lo l h.1 l x.0 (omega arith) y.0 part;
+      }
+
   entry_near : (b c : List ℕ) (p lo hi l : ℕ) → lo ≤ hi
       → Same b c p (p + size_of_whole (whole_size k v)) → Same b c lo l
       → EntryHolds k v b p lo hi l → EntryHolds k v c p lo hi l
   entry_near b c p lo hi l o fixed part h =
-      let x : (lo ≤ h.1) × (h.1 ≤ hi) = kl.between b p lo hi h.1 o h.2 in
-      let y : (h.1 ≤ l) × (l ≤ hi) = vl.between b (p + value_offset k v) h.1 hi l x.1 h.3 in
-      let px : Same b c lo h.1 = same_part b c lo l lo h.1 (omega arith) y.0 x.0 part in
-      let py : Same b c h.1 l = same_part b c lo l h.1 l x.0 (omega arith) y.0 part in (
+      let s = same_parts b c p lo hi l o h fixed part in (
         h.0,
         h.1,
-        kl.near b c p lo hi h.1 o (same_key b c p h.0 fixed) px h.2,
-        vl.near b c (p + value_offset k v) h.1 hi l x.1 (same_value b c p h.0 fixed) py h.3,
+        kl.near b c p lo hi h.1 o s.key s.key_parts h.2,
+        vl.near b c (p + value_offset k v) h.1 hi l s.room s.value s.value_parts h.3,
       )
 
   entry_lower : (b : List ℕ) (p lo lo' hi l : ℕ) → lo' ≤ lo → lo ≤ hi → EntryHolds k v b p lo hi l

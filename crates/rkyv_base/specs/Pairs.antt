@@ -4,7 +4,7 @@ use Rattle.std.specs.Prelude.{◌≡◌, ℕ, ◌+◌, ◌-◌, ◌%◌, ◌<◌
 use Rattle.std.proofs.Common.{arith, subst, sym, ◌∙◌, ap, inl, inr, length-append}
 use Rattle.std.proofs.lemmas.List.{length-replicate}
 use Rattle.rkyv_base.specs.declared.pairs.EntryResolver.{EntryResolver}
-use Rattle.rkyv_base.specs.Bytes.{Same, Sits, same_part, sits_front, sits_back, sits_third}
+use Rattle.rkyv_base.specs.Bytes.{Sits, sits_front, sits_back, sits_third}
 use Rattle.rkyv_base.specs.Writing.{Step, refusal, refused, zeros}
 use Rattle.rkyv_base.specs.Shape.{Shape, IsElement, multiple_of_max, sum_multiple}
 use Rattle.rkyv_base.specs.Entry.{
@@ -18,8 +18,7 @@ use Rattle.rkyv_base.specs.Entry.{
   entry_shape,
   round_up-multiple,
   parts_inside,
-  same_key,
-  same_value,
+  same_parts,
 }
 use Rattle.rkyv_base.specs.Format.{Format, IsFormat, StandsNear}
 
@@ -92,13 +91,9 @@ module _ {V W : Type 0} (k v : Shape) (kl : IsElement k) (vl : IsElement v) (key
   pub pair_near : StandsNear k key → StandsNear v value
       → StandsNear (entry_shape k v) (PairStands k v key value)
   pair_near kn vn pair b c p lo hi l o h fixed part st =
-      let x : (lo ≤ h.1) × (h.1 ≤ hi) = kl.between b p lo hi h.1 o h.2 in
-      let y : (h.1 ≤ l) × (l ≤ hi) = vl.between b (p + value_offset k v) h.1 hi l x.1 h.3 in
-      let px : Same b c lo h.1 = same_part b c lo l lo h.1 (omega arith) y.0 x.0 part in
-      let py : Same b c h.1 l = same_part b c lo l h.1 l x.0 (omega arith) y.0 part in (
-        kn pair.0 b c p lo hi h.1 o h.2 (same_key k v kl vl b c p h.0 fixed) px st.0,
-        vn pair.1 b c (p + value_offset k v) h.1 hi l x.1 h.3 (same_value k v kl vl b c p h.0 fixed)
-            py st.1,
+      let s = same_parts k v kl vl b c p lo hi l o h fixed part in (
+        kn pair.0 b c p lo hi h.1 o h.2 s.key s.key_parts st.0,
+        vn pair.1 b c (p + value_offset k v) h.1 hi l s.room h.3 s.value s.value_parts st.1,
       )
 
 module _ {V W R Q : Type 0} (k v : Shape) (kl : IsElement k) (vl : IsElement v) (key : List ℕ → ℕ

@@ -3,9 +3,8 @@ use Rattle.std.specs.Prelude.{ℕ, ◌+◌, ◌≤◌, ◌⊎◌, Bool, ◌&&◌
 use Rattle.std.proofs.Common.{arith}
 use Rattle.std.proofs.lemmas.Bool.{and_parts, and_from}
 use Rattle.rkyv_scan.specs.Hash.{HasherCall}
-use Rattle.rkyv_base.specs.Bytes.{Same, same_part}
 use Rattle.rkyv_base.specs.Shape.{Shape, IsElement, Standing, standing}
-use Rattle.rkyv_base.specs.Entry.{entry_shape, value_offset, same_key, same_value}
+use Rattle.rkyv_base.specs.Entry.{entry_shape, value_offset, same_parts}
 use Rattle.rkyv_base.specs.Pairs.{PairStands}
 use Rattle.rkyv_keys.specs.Equality.{Comparison, EqualsOnce, IsEquivalence, StandsOnce}
 use Rattle.rkyv_keys.specs.Keys.{IsKey, IsQuery, FitsItsEqual}
@@ -93,23 +92,15 @@ module _ {k v : Shape} (kl : IsElement k) (vl : IsElement v) where
                 (standing_value c q g) t.1 in
                 cc;
             near = λ b c p lo hi l o h fixed part.
-                let x : (lo ≤ h.1) × (h.1 ≤ hi) = kl.between b p lo hi h.1 o h.2 in
-                let y : (h.1 ≤ l) × (l ≤ hi) = vl.between b (p + off) h.1 hi l x.1 h.3 in
-                let px : Same b c lo h.1 = same_part b c lo l lo h.1 (omega arith) y.0 x.0 part in
-                let py : Same b c h.1 l = same_part b c lo l h.1 l x.0 (omega arith) y.0 part in
-                let ke = kk.near b c p lo hi h.1 o h.2 (same_key k v kl vl b c p h.0 fixed) px in
-                let ve = vk.near b c (p + off) h.1 hi l x.1 h.3
-                (same_value k v kl vl b c p h.0 fixed) py in
+                let s = same_parts k v kl vl b c p lo hi l o h fixed part in
+                let ke = kk.near b c p lo hi h.1 o h.2 s.key s.key_parts in
+                let ve = vk.near b c (p + off) h.1 hi l s.room h.3 s.value s.value_parts in
                 cc;
             copied = λ b c p lo hi l o h fixed part.
-                let x : (lo ≤ h.1) × (h.1 ≤ hi) = kl.between b p lo hi h.1 o h.2 in
-                let y : (h.1 ≤ l) × (l ≤ hi) = vl.between b (p + off) h.1 hi l x.1 h.3 in
-                let px : Same b c lo h.1 = same_part b c lo l lo h.1 (omega arith) y.0 x.0 part in
-                let py : Same b c h.1 l = same_part b c lo l h.1 l x.0 (omega arith) y.0 part in
+                let s = same_parts k v kl vl b c p lo hi l o h fixed part in
                 and_from (ks b p c p) (vs b (p + off) c (p + off))
-                (kk.copied b c p lo hi h.1 o h.2 (same_key k v kl vl b c p h.0 fixed) px)
-                (vk.copied b c (p + off) h.1 hi l x.1 h.3 (same_value k v kl vl b c p h.0 fixed)
-                py);
+                (kk.copied b c p lo hi h.1 o h.2 s.key s.key_parts)
+                (vk.copied b c (p + off) h.1 hi l s.room h.3 s.value s.value_parts);
           }
 
       module _ {A B : Type 0} {kr : A → Type 0} {vr : B → Type 0} {ac : A → List HasherCall} {bc : B

@@ -6,7 +6,8 @@ use Rattle.std.specs.Cmp.Lexicographic.{bytes_decides, pointwise}
 use Rattle.rkyv_scan.specs.Hash.{HasherCall}
 use Rattle.rkyv_base.specs.Text.{TextReads, text_at, text_near, text_shape}
 use Rattle.rkyv_keys.specs.Calls.{text_calls}
-use Rattle.rkyv_keys.specs.Equality.{Comparison, IsEquivalence}
+use Rattle.rkyv_keys.specs.Asking.{native_alone}
+use Rattle.rkyv_keys.specs.Equality.{Comparison, IsEquivalence, StandsOnce}
 use Rattle.rkyv_keys.specs.Keys.{FitsItsEqual, IsKey, IsQuery, ReadsAnywhere}
 use Rattle.rkyv_keys.specs.Fixed.{MakesFixedCalls, text_fixed}
 use Rattle.rkyv_keys.specs.OfValues.{
@@ -23,7 +24,7 @@ use Rattle.rkyv_keys.specs.OfValues.{
 abbrev pub same_bytes : List ℕ → List ℕ → Bool
 same_bytes = pointwise nat_eq
 
-pub bytes_equal_themselves : (x : List ℕ) → same_bytes x x ≡ true
+bytes_equal_themselves : (x : List ℕ) → same_bytes x x ≡ true
 bytes_equal_themselves x = (bytes_decides x x).1 refl
 
 module _ (w : Width) where
@@ -60,3 +61,8 @@ module _ (w : Width) where
     pub text_fits_its_equal : FitsItsEqual (text_shape w) (IsTextOf seen)
         (λ q v. same_bytes (seen q) (seen v)) (text_fits seen)
     text_fits_its_equal = value_fits_its_equal (text_shape w) (text_at w) same_bytes seen
+
+    -- values of equal bytes alone stand at one position
+    pub text_alone : StandsOnce (text_shape w) (IsTextOf seen) (λ q v. same_bytes (seen q) (seen v))
+    text_alone = native_alone (text_shape w) (IsTextOf seen) (λ q v. same_bytes (seen q) (seen v))
+        (text_fits seen) text_fits_its_equal (λ v. bytes_equal_themselves (seen v))

@@ -3,15 +3,14 @@
 ghost use Rattle.std.specs.Prelude.{◌≡◌, string_bytes, IsTrue, ◌↔◌, MatchResult};
 ghost use Rattle.rkyv_base.specs.Text.{text_shape};
 ghost use Rattle.rkyv_base.specs.TextWriting.{seen_text_is_format};
-ghost use Rattle.rkyv_keys.specs.Asking.{native_alone};
 ghost use Rattle.rkyv_base.specs.View.{IsView, StandsAt};
 ghost use Rattle.rkyv_keys.specs.Places.{at_view, at_views};
 ghost use Rattle.rkyv_keys.specs.Calls.{after_calls, text_calls};
 ghost use Rattle.rkyv_keys.specs.Reading.{memory_fails};
 ghost use Rattle.rkyv_keys.specs.OfTexts.{
   IsTextOf,
-  bytes_equal_themselves,
   same_bytes,
+  text_alone,
   text_equivalence,
   text_fits,
   text_fits_its_equal,
@@ -191,27 +190,17 @@ impl<W: Width> EqualsWritten<W> for String {
 }
 
 impl<'t, W: Width> EqualsAlone<&'t str> for Text<W> {
-    ghost exact = { native_alone (text_shape W.word) (IsTextOf W.word (λ t. t.now))
-        (λ q v. same_bytes q.now v.now) (text_fits W.word (λ q. q.now))
-        (text_fits_its_equal W.word (λ q. q.now)) (λ v. bytes_equal_themselves v.now) };
+    ghost exact = { text_alone W.word (λ t. t.now) };
 }
 
 impl<W: Width> EqualsAlone<String> for Text<W> {
-    ghost exact = { native_alone (text_shape W.word) (IsTextOf W.word (λ t. string_bytes t))
-        (λ q v. same_bytes (string_bytes q) (string_bytes v))
-        (text_fits W.word (λ q. string_bytes q)) (text_fits_its_equal W.word (λ q. string_bytes q))
-        (λ v. bytes_equal_themselves (string_bytes v)) };
+    ghost exact = { text_alone W.word string_bytes };
 }
 
 impl<'t, W: Width> StandsAlone<&'t str> for Text<W> {
-    ghost alone = { native_alone (text_shape W.word) (IsTextOf W.word (λ t. t.now))
-        (λ q v. same_bytes q.now v.now) (text_fits W.word (λ q. q.now))
-        (text_fits_its_equal W.word (λ q. q.now)) (λ v. bytes_equal_themselves v.now) };
+    ghost alone = { text_alone W.word (λ t. t.now) };
 }
 
 impl<W: Width> StandsAlone<String> for Text<W> {
-    ghost alone = { native_alone (text_shape W.word) (IsTextOf W.word (λ t. string_bytes t))
-        (λ q v. same_bytes (string_bytes q) (string_bytes v))
-        (text_fits W.word (λ q. string_bytes q)) (text_fits_its_equal W.word (λ q. string_bytes q))
-        (λ v. bytes_equal_themselves (string_bytes v)) };
+    ghost alone = { text_alone W.word string_bytes };
 }

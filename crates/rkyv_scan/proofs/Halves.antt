@@ -8,6 +8,7 @@ use Rattle.std.proofs.lemmas.Nat.Bits.{bit_at_and, bit_at_or, bit_at-lt, bit_at-
 use Rattle.rkyv_scan.specs.Groups.{is_word_match_at, mask_places, places_where}
 use Rattle.rkyv_scan.specs.Lemmas.HalfBits.{TellsEqual, bits_after, chain}
 use Rattle.rkyv_scan.specs.Halves.{half_at, half_lower, half_of, is_half_match_at}
+use Rattle.rkyv_scan.proofs.Bits.{all_to_at}
 use Rattle.rkyv_scan.proofs.Places.{range_agree}
 
 half_first : (xs : List ℕ) (t k : ℕ) → k % 8 ≡ 0 → is_half_match_at xs t k ≡ eqb (slice_index xs k) t
@@ -23,20 +24,6 @@ half_next xs t k ne =
     ap (is_word_match_at (half_of xs k) t) e ∙ (λ i. eqb (at i) t || (eqb (at i) (bit_xor t 1) && low i))
 
 -- ---- the mask of the places that are no half's first
-abbrev all_to : ℕ → (ℕ → Bool) → Bool
-all_to zero t = true
-all_to (suc n) t = t n && all_to n t
-
-both_true : (a b : Bool) → (a && b) ≡ true → (a ≡ true) × (b ≡ true)
-both_true true b h = (refl, h)
-both_true false b h = cc
-
-all_to_at : (n : ℕ) (t : ℕ → Bool) → all_to n t ≡ true → (i : ℕ) → i < n → t i ≡ true
-all_to_at zero t h i l = absurd (omega arith)
-all_to_at (suc n) t h i l =
-    let parts = both_true (t n) (all_to n t) h in
-    elim (cases_eq i n) [ inl e ↦ ap t e ∙ parts.0 | inr ne ↦ all_to_at n t parts.1 i (omega arith) ]
-
 later_bit : (i : ℕ) → i < 16 → bit_at 65278 i ≡ cond (eqb (i % 8) 0) 0 1
 later_bit i l = eqb-true _ _ (all_to_at 16 (λ i. eqb (bit_at 65278 i) (cond (eqb (i % 8) 0) 0 1)) refl i l)
 

@@ -5,23 +5,13 @@ use Rattle.std.specs.Int.{Width, from_le_bytes}
 use Rattle.std.proofs.lemmas.List.{get_or_append_left}
 use Rattle.std.proofs.Math.Seq.{drop-append-add}
 use Rattle.std.proofs.lemmas.List.Sums.{fold-append}
-use Rattle.rkyv_scan.specs.Hash.{HasherCall, Bytes, U8, U16, U32, U64, U128, Usize, I8, I16, I32, I64, I128, Isize, hash_word, hash_words, byte_words, whole_words, rest_words, number_from, SizeWords, call_words, fx_feed}
+use Rattle.rkyv_scan.specs.Hash.{HasherCall, Usize, Isize, hash_word, hash_words, byte_words, whole_words, rest_words, number_from, SizeWords, call_words, fx_feed}
 use Rattle.rkyv_scan.specs.Laws.{WritesJoin, EightBytesAreOneWord, IsFixed, FixedCallsAgree, FixedCallsHashAlike, CallsHashTheirWords}
 
 pub fixed_agree : FixedCallsAgree
-fixed_agree one other (Bytes bs) h = refl
-fixed_agree one other (U8 n) h = refl
-fixed_agree one other (U16 n) h = refl
-fixed_agree one other (U32 n) h = refl
-fixed_agree one other (U64 n) h = refl
-fixed_agree one other (U128 n) h = refl
 fixed_agree one other (Usize n) h = absurd h
-fixed_agree one other (I8 z) h = refl
-fixed_agree one other (I16 z) h = refl
-fixed_agree one other (I32 z) h = refl
-fixed_agree one other (I64 z) h = refl
-fixed_agree one other (I128 z) h = refl
 fixed_agree one other (Isize z) h = absurd h
+fixed_agree one other _ h = refl
 
 held_alike : (one other : SizeWords) (held : ℕ) (calls : List HasherCall) → All IsFixed calls
     → fold (fx_feed one) held calls ≡ fold (fx_feed other) held calls

@@ -1,4 +1,4 @@
-use Rattle.std.proofs.Common.{arith, rules}
+use Rattle.std.proofs.Common.{arith}
 use Rattle.std.proofs.lemmas.Grind.{common_steps}
 use Rattle.rkyv_base.proofs.Sealing.{value_set}
 use Rattle.rkyv_base.proofs.seal.set_at.Goals as goal
