@@ -1,6 +1,19 @@
 -- The entry of a key and a value: the key, zeros up to the value's alignment, the value, zeros up
 -- to the greater one.
-use Rattle.std.specs.Prelude.{◌≡◌, ℕ, ◌+◌, ◌%◌, ◌<◌, ◌≤◌, ◌⊎◌, max, nat_le, if◌then◌else◌, List, length}
+use Rattle.std.specs.Prelude.{
+  ◌≡◌,
+  ℕ,
+  ◌+◌,
+  ◌%◌,
+  ◌<◌,
+  ◌≤◌,
+  ◌⊎◌,
+  max,
+  nat_le,
+  if◌then◌else◌,
+  List,
+  length,
+}
 use Rattle.std.proofs.lemmas.Bool.{cases_lt}
 use Rattle.std.proofs.lemmas.Bool.Decides.{nat_tests}
 use Rattle.std.proofs.Common.{refl, arith, inl, inr, subst, sym, ◌∙◌}
@@ -159,7 +172,8 @@ module _ (k v : Shape) (kl : IsElement k) (vl : IsElement v) where
 
   -- where what an entry rests on is the same, so is what its key and its value rest on
   pub same_parts : (b c : List ℕ) (p lo hi l : ℕ) → lo ≤ hi → (h : EntryHolds k v b p lo hi l)
-      → Same b c p (p + size_of_whole (whole_size k v)) → Same b c lo l → PartsSame k v b c p lo hi h.1 l
+      → Same b c p (p + size_of_whole (whole_size k v)) → Same b c lo l
+      → PartsSame k v b c p lo hi h.1 l
   same_parts b c p lo hi l o h fixed part =
       let x : (lo ≤ h.1) × (h.1 ≤ hi) = kl.between b p lo hi h.1 o h.2 in
       let y : (h.1 ≤ l) × (l ≤ hi) = vl.between b (p + value_offset k v) h.1 hi l x.1 h.3 in
