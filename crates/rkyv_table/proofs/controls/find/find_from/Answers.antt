@@ -1,15 +1,16 @@
-use Rattle.std.proofs.Common.{arith, ◌≡◌, ℕ, ◌+◌, sym, ap, ◌∙◌, Bool, List, length, drop, length-take, length-drop, []}
-use Rattle.rkyv_scan.specs.Groups.{Kind}
+use Rattle.std.proofs.Common.{arith, ◌≡◌, ℕ, ◌+◌, ◌/◌, ◌<◌, sym, ap, ◌∙◌, Bool, List, Option, length, drop, length-take, length-drop, []}
 use Rattle.rkyv_table.specs.Controls.Shown.{IsFullBucket}
-use Rattle.rkyv_table.specs.Controls.Finding.{AnswersAs}
+use Rattle.rkyv_table.specs.Controls.Finding.{AnswersAs, ReadsWithin, end, found}
+use Rattle.rkyv_table.specs.Controls.Seen.{IsShown}
 use Rattle.rkyv_table.proofs.Coverage.{count_strides, stride_below}
 use Rattle.rkyv_table.proofs.FirstFree.{member_front, member_rest}
-use Rattle.rkyv_table.specs.Controls.Numbers.{tag}
+use Rattle.rkyv_table.specs.Controls.Numbers.{probe_capacity, tag}
 use Rattle.rkyv_table.specs.Controls.Probe.{strides}
 use Rattle.rkyv_table.proofs.Search.{answer}
 use Rattle.rkyv_table.specs.Controls.Placing.{Accepted}
 use Rattle.rkyv_table.proofs.Lookup.{place, ends_by_item, ends_by_empty, goes_on, ends_somewhere, found_is, end_is, few_strides, stride_full, shown_full}
 use Rattle.rkyv_table.proofs.controls.find.find_from.Goals as goal
+use Rattle.rkyv_table.proofs.controls.find.find_from.Goals.{After-cmp-1}
 
 pub loop-pos-init : goal.loop-pos-init
 loop-pos-init g c =
@@ -25,24 +26,33 @@ loop-pos-init g c =
       counted = λ accept answers. ap (λ ps. c.args.strides.now + place g.G.GroupKind.kind c.args.controls.now c.args.cap (tag c.args.hash) accept ps) same;
     }
 
+-- a stride that was read
+module _ (g : _) (c : After-cmp-1 g) where
+  accepted : Accepted c.args.cap c.args.len c.args.controls.now
+  accepted = c.requires.accepted (omega (arith, c.if-len-eq0.false))
+
+  below : c.in-Some.pos < probe_capacity c.args.cap
+  below = let room = accepted.room in stride_below c.args.hash c.args.cap c.in-Some.pos (omega arith) (c.loop-pos.invariant.members c.in-Some.pos (member_front c.in-Some.pos c.next.new.self c.loop-pos.pos-iterator c.in-Some.ensures.steps))
+
+  full : (b : ℕ) → IsShown c.stride.result.now c.in-Some.pos c.args.cap b → IsFullBucket c.args.cap c.args.controls.now b
+  full = shown_full c.args.cap c.args.len c.args.controls.now c.stride.result.now c.in-Some.pos accepted below c.stride.ensures.value
+
+  module _ (accept : ℕ → Bool) (answers : AnswersAs (goal.F-post g c.args.cmp) (IsFullBucket c.args.cap c.args.controls.now) accept) where
+    asked : AnswersAs (goal.F-post g c.args.cmp) (IsShown c.stride.result.now c.in-Some.pos c.args.cap) accept
+    asked b r shown told = answers b r (full b shown) told
+
+    answered : (r : Option ℕ) → answer g.G.GroupKind.kind c.args.controls.now c.args.cap (tag c.args.hash) accept c.loop-pos.pos-iterator ≡ r → r ≡ found g.G.GroupKind.kind c.args.controls.now c.args.cap c.args.len c.args.hash accept
+    answered r e = sym (found_is g.G.GroupKind.kind c.args.controls.now c.args.cap c.args.len c.args.hash accept c.if-len-eq0.false ∙ c.loop-pos.invariant.same accept answers ∙ e)
+
+    counted : place g.G.GroupKind.kind c.args.controls.now c.args.cap (tag c.args.hash) accept c.loop-pos.pos-iterator ≡ 0 → c.stride.new.self ≡ c.args.strides.now + end g.G.GroupKind.kind c.args.controls.now c.args.cap c.args.len c.args.hash accept
+    counted z =
+        let f = end_is g.G.GroupKind.kind c.args.controls.now c.args.cap c.args.len c.args.hash accept c.if-len-eq0.false in
+        let k = c.loop-pos.invariant.counted accept answers in
+        let d = c.stride.ensures.counted in
+        omega arith
+
 pub stride-requires-clause-inside : goal.stride-requires-clause-inside
 stride-requires-clause-inside g c =
-    let a : Accepted c.args.cap c.args.len c.args.controls.now = c.requires.accepted (omega (arith, c.if-len-eq0.false)) in
-    let room = a.room in
-    let lp = stride_below c.args.hash c.args.cap c.in-Some.pos (omega arith) (c.loop-pos.invariant.members c.in-Some.pos (member_front c.in-Some.pos c.next.new.self c.loop-pos.pos-iterator c.in-Some.ensures.steps)) in
-    let count = a.repeats.count in
-    omega arith
-
-pub scan-requires-clause-whole : goal.scan-requires-clause-whole
-scan-requires-clause-whole g c =
-    let a : Accepted c.args.cap c.args.len c.args.controls.now = c.requires.accepted (omega (arith, c.if-len-eq0.false)) in
-    let room = a.room in
-    let lp = stride_below c.args.hash c.args.cap c.in-Some.pos (omega arith) (c.loop-pos.invariant.members c.in-Some.pos (member_front c.in-Some.pos c.next.new.self c.loop-pos.pos-iterator c.in-Some.ensures.steps)) in
-    let count = a.repeats.count in
-    ap length c.stride.ensures.value ∙ length-take 16 (drop c.in-Some.pos c.args.controls.now) ∙ omega (arith, length-drop c.in-Some.pos c.args.controls.now)
-
-pub scan-requires-clause-fits : goal.scan-requires-clause-fits
-scan-requires-clause-fits g c =
     let a : Accepted c.args.cap c.args.len c.args.controls.now = c.requires.accepted (omega (arith, c.if-len-eq0.false)) in
     let room = a.room in
     let lp = stride_below c.args.hash c.args.cap c.in-Some.pos (omega arith) (c.loop-pos.invariant.members c.in-Some.pos (member_front c.in-Some.pos c.next.new.self c.loop-pos.pos-iterator c.in-Some.ensures.steps)) in
@@ -59,68 +69,65 @@ stride-requires-clause-room g c =
     let q = c.requires.room in
     omega arith
 
+pub scan-requires-clause-whole : goal.scan-requires-clause-whole
+scan-requires-clause-whole g c =
+    let at = (goal.at.scan-requires-clause-whole g c).After-cmp-1 in
+    let count = (accepted g at).repeats.count in
+    let room = (accepted g at).room in
+    ap length c.stride.ensures.value ∙ length-take 16 (drop c.in-Some.pos c.args.controls.now) ∙ omega (arith, length-drop c.in-Some.pos c.args.controls.now, below g at)
+
+pub scan-requires-clause-fits : goal.scan-requires-clause-fits
+scan-requires-clause-fits g c =
+    let at = (goal.at.scan-requires-clause-fits g c).After-cmp-1 in
+    let count = (accepted g at).repeats.count in
+    let room = (accepted g at).room in
+    omega (arith, below g at)
+
+pub scan-requires-clause-below : goal.scan-requires-clause-below
+scan-requires-clause-below g c = λ q lq f.
+    let at = (goal.at.scan-requires-clause-below g c).After-cmp-1 in
+    (stride_full c.args.cap c.args.len c.args.controls.now c.stride.result.now c.in-Some.pos q (accepted g at) (below g at) lq c.stride.ensures.value f).0
+
+pub scan-requires-clause-callable : goal.scan-requires-clause-callable
+scan-requires-clause-callable g c = λ b shown.
+    c.requires.callable b (full g (goal.at.scan-requires-clause-callable g c).After-cmp-1 b shown)
+
+pub returns-in-Accepted-clause-walked : goal.returns-in-Accepted-clause-walked
+returns-in-Accepted-clause-walked g c = full g (goal.at.returns-in-Accepted-clause-walked g c).After-cmp-1 c.in-Accepted.bucket c.in-Accepted.ensures.full
+
+-- the search ends at the stride, by an item or by an empty control
 pub returns-in-Accepted-clause-answer : goal.returns-in-Accepted-clause-answer
 returns-in-Accepted-clause-answer g c = λ accept answers.
-    let kind : Kind = g.G.GroupKind.kind in
-    let a : Accepted c.args.cap c.args.len c.args.controls.now = c.requires.accepted (omega (arith, c.if-len-eq0.false)) in
-    let room = a.room in
-    let lp = stride_below c.args.hash c.args.cap c.in-Some.pos (omega arith) (c.loop-pos.invariant.members c.in-Some.pos (member_front c.in-Some.pos c.next.new.self c.loop-pos.pos-iterator c.in-Some.ensures.steps)) in
-    let full = shown_full c.args.cap c.args.len c.args.controls.now c.stride.result.now c.in-Some.pos a lp c.stride.ensures.value in
-    let s = rw c.tag-tag.ensures at (c.in-Accepted.ensures.seen c.args.controls.now c.stride.ensures.value accept (λ b r shown told. answers b r (full b shown) told)) in
-    let e = ends_by_item kind c.args.controls.now c.args.cap (tag c.args.hash) accept c.in-Some.pos c.in-Accepted.bucket c.next.new.self c.loop-pos.pos-iterator c.in-Some.ensures.steps s in
-    sym (found_is kind c.args.controls.now c.args.cap c.args.len c.args.hash accept c.if-len-eq0.false ∙ c.loop-pos.invariant.same accept answers ∙ e.0)
+    let at = (goal.at.returns-in-Accepted-clause-answer g c).After-cmp-1 in
+    let s = rw c.tag-tag.ensures at (c.in-Accepted.ensures.seen c.args.controls.now c.stride.ensures.value accept (asked g at accept answers)) in
+    answered g at accept answers _ (ends_by_item g.G.GroupKind.kind c.args.controls.now c.args.cap (tag c.args.hash) accept c.in-Some.pos c.in-Accepted.bucket c.next.new.self c.loop-pos.pos-iterator c.in-Some.ensures.steps s).0
 
 pub returns-in-Accepted-clause-counted : goal.returns-in-Accepted-clause-counted
 returns-in-Accepted-clause-counted g c = λ accept answers.
-    let kind : Kind = g.G.GroupKind.kind in
-    let a : Accepted c.args.cap c.args.len c.args.controls.now = c.requires.accepted (omega (arith, c.if-len-eq0.false)) in
-    let room = a.room in
-    let lp = stride_below c.args.hash c.args.cap c.in-Some.pos (omega arith) (c.loop-pos.invariant.members c.in-Some.pos (member_front c.in-Some.pos c.next.new.self c.loop-pos.pos-iterator c.in-Some.ensures.steps)) in
-    let full = shown_full c.args.cap c.args.len c.args.controls.now c.stride.result.now c.in-Some.pos a lp c.stride.ensures.value in
-    let s = rw c.tag-tag.ensures at (c.in-Accepted.ensures.seen c.args.controls.now c.stride.ensures.value accept (λ b r shown told. answers b r (full b shown) told)) in
-    let e = (ends_by_item kind c.args.controls.now c.args.cap (tag c.args.hash) accept c.in-Some.pos c.in-Accepted.bucket c.next.new.self c.loop-pos.pos-iterator c.in-Some.ensures.steps s).1 in
-    let f = end_is kind c.args.controls.now c.args.cap c.args.len c.args.hash accept c.if-len-eq0.false in
-    let k = c.loop-pos.invariant.counted accept answers in
-    let d = c.stride.ensures.counted in
-    omega arith
+    let at = (goal.at.returns-in-Accepted-clause-counted g c).After-cmp-1 in
+    let s = rw c.tag-tag.ensures at (c.in-Accepted.ensures.seen c.args.controls.now c.stride.ensures.value accept (asked g at accept answers)) in
+    counted g at accept answers (ends_by_item g.G.GroupKind.kind c.args.controls.now c.args.cap (tag c.args.hash) accept c.in-Some.pos c.in-Accepted.bucket c.next.new.self c.loop-pos.pos-iterator c.in-Some.ensures.steps s).1
 
 pub returns-in-Empty-clause-answer : goal.returns-in-Empty-clause-answer
 returns-in-Empty-clause-answer g c = λ accept answers.
-    let kind : Kind = g.G.GroupKind.kind in
-    let a : Accepted c.args.cap c.args.len c.args.controls.now = c.requires.accepted (omega (arith, c.if-len-eq0.false)) in
-    let room = a.room in
-    let lp = stride_below c.args.hash c.args.cap c.in-Some.pos (omega arith) (c.loop-pos.invariant.members c.in-Some.pos (member_front c.in-Some.pos c.next.new.self c.loop-pos.pos-iterator c.in-Some.ensures.steps)) in
-    let full = shown_full c.args.cap c.args.len c.args.controls.now c.stride.result.now c.in-Some.pos a lp c.stride.ensures.value in
-    let s = rw c.tag-tag.ensures at (c.in-Empty.ensures.seen c.args.controls.now c.stride.ensures.value accept (λ b r shown told. answers b r (full b shown) told)) in
-    let e = ends_by_empty kind c.args.controls.now c.args.cap (tag c.args.hash) accept c.in-Some.pos c.next.new.self c.loop-pos.pos-iterator c.in-Some.ensures.steps s.0 s.1 in
-    sym (found_is kind c.args.controls.now c.args.cap c.args.len c.args.hash accept c.if-len-eq0.false ∙ c.loop-pos.invariant.same accept answers ∙ e.0)
+    let at = (goal.at.returns-in-Empty-clause-answer g c).After-cmp-1 in
+    let s = rw c.tag-tag.ensures at (c.in-Empty.ensures.seen c.args.controls.now c.stride.ensures.value accept (asked g at accept answers)) in
+    answered g at accept answers _ (ends_by_empty g.G.GroupKind.kind c.args.controls.now c.args.cap (tag c.args.hash) accept c.in-Some.pos c.next.new.self c.loop-pos.pos-iterator c.in-Some.ensures.steps s.0 s.1).0
 
 pub returns-in-Empty-clause-counted : goal.returns-in-Empty-clause-counted
 returns-in-Empty-clause-counted g c = λ accept answers.
-    let kind : Kind = g.G.GroupKind.kind in
-    let a : Accepted c.args.cap c.args.len c.args.controls.now = c.requires.accepted (omega (arith, c.if-len-eq0.false)) in
-    let room = a.room in
-    let lp = stride_below c.args.hash c.args.cap c.in-Some.pos (omega arith) (c.loop-pos.invariant.members c.in-Some.pos (member_front c.in-Some.pos c.next.new.self c.loop-pos.pos-iterator c.in-Some.ensures.steps)) in
-    let full = shown_full c.args.cap c.args.len c.args.controls.now c.stride.result.now c.in-Some.pos a lp c.stride.ensures.value in
-    let s = rw c.tag-tag.ensures at (c.in-Empty.ensures.seen c.args.controls.now c.stride.ensures.value accept (λ b r shown told. answers b r (full b shown) told)) in
-    let e = (ends_by_empty kind c.args.controls.now c.args.cap (tag c.args.hash) accept c.in-Some.pos c.next.new.self c.loop-pos.pos-iterator c.in-Some.ensures.steps s.0 s.1).1 in
-    let f = end_is kind c.args.controls.now c.args.cap c.args.len c.args.hash accept c.if-len-eq0.false in
-    let k = c.loop-pos.invariant.counted accept answers in
-    let d = c.stride.ensures.counted in
-    omega arith
+    let at = (goal.at.returns-in-Empty-clause-counted g c).After-cmp-1 in
+    let s = rw c.tag-tag.ensures at (c.in-Empty.ensures.seen c.args.controls.now c.stride.ensures.value accept (asked g at accept answers)) in
+    counted g at accept answers (ends_by_empty g.G.GroupKind.kind c.args.controls.now c.args.cap (tag c.args.hash) accept c.in-Some.pos c.next.new.self c.loop-pos.pos-iterator c.in-Some.ensures.steps s.0 s.1).1
 
 pub loop-pos-preserved : goal.loop-pos-preserved
 loop-pos-preserved g c =
-    let kind : Kind = g.G.GroupKind.kind in
-    let a : Accepted c.args.cap c.args.len c.args.controls.now = c.requires.accepted (omega (arith, c.if-len-eq0.false)) in
-    let room = a.room in
-    let lp = stride_below c.args.hash c.args.cap c.in-Some.pos (omega arith) (c.loop-pos.invariant.members c.in-Some.pos (member_front c.in-Some.pos c.next.new.self c.loop-pos.pos-iterator c.in-Some.ensures.steps)) in
-    let full = shown_full c.args.cap c.args.len c.args.controls.now c.stride.result.now c.in-Some.pos a lp c.stride.ensures.value in
+    let at = (goal.at.loop-pos-preserved g c).After-cmp-1 in
     let more = c.in-Some.ensures.steps in
     let d = c.stride.ensures.counted in
     let on = λ (accept : ℕ → Bool) (answers : AnswersAs (goal.F-post g c.args.cmp) (IsFullBucket c.args.cap c.args.controls.now) accept).
-    (let s = rw c.tag-tag.ensures at (c.in-Full.ensures.seen c.args.controls.now c.stride.ensures.value accept (λ b r shown told. answers b r (full b shown) told)) in
-    goes_on kind c.args.controls.now c.args.cap (tag c.args.hash) accept c.in-Some.pos c.next.new.self c.loop-pos.pos-iterator more s.0 s.1) in
+    (let s = rw c.tag-tag.ensures at (c.in-Full.ensures.seen c.args.controls.now c.stride.ensures.value accept (asked g at accept answers)) in
+    goes_on g.G.GroupKind.kind c.args.controls.now c.args.cap (tag c.args.hash) accept c.in-Some.pos c.next.new.self c.loop-pos.pos-iterator more s.0 s.1) in
     record {
       members = λ p m. c.loop-pos.invariant.members p (member_rest c.in-Some.pos p c.next.new.self c.loop-pos.pos-iterator more m);
       room = (let r = c.loop-pos.invariant.room in let l = ap length more in omega arith);
@@ -131,58 +138,32 @@ loop-pos-preserved g c =
 
 pub returns-clause-counted : goal.returns-clause-counted
 returns-clause-counted g c = λ accept answers.
-    let kind : Kind = g.G.GroupKind.kind in
     let a : Accepted c.args.cap c.args.len c.args.controls.now = c.requires.accepted (omega (arith, c.if-len-eq0.false)) in
-    let s = ends_somewhere kind c.args.controls.now c.args.cap c.args.len c.args.hash (tag c.args.hash) accept a in
+    let s = ends_somewhere g.G.GroupKind.kind c.args.controls.now c.args.cap c.args.len c.args.hash (tag c.args.hash) accept a in
     let k = c.loop-pos.invariant.counted accept answers in
     let r = c.loop-pos.invariant.room in
     let done : c.loop-pos.pos-iterator ≡ [] = c.in-None.ensures.steps.0 in
     let l = ap length done in
-    let p = ap (place kind c.args.controls.now c.args.cap (tag c.args.hash) accept) done in
+    let p = ap (place g.G.GroupKind.kind c.args.controls.now c.args.cap (tag c.args.hash) accept) done in
     absurd (omega arith)
 
-pub scan-requires-clause-below : goal.scan-requires-clause-below
-scan-requires-clause-below g c = λ q lq f.
-    let a : Accepted c.args.cap c.args.len c.args.controls.now = c.requires.accepted (omega (arith, c.if-len-eq0.false)) in
-    let room = a.room in
-    let lp = stride_below c.args.hash c.args.cap c.in-Some.pos (omega arith) (c.loop-pos.invariant.members c.in-Some.pos (member_front c.in-Some.pos c.next.new.self c.loop-pos.pos-iterator c.in-Some.ensures.steps)) in
-    (stride_full c.args.cap c.args.len c.args.controls.now c.stride.result.now c.in-Some.pos q a lp lq c.stride.ensures.value f).0
-
-pub scan-requires-clause-callable : goal.scan-requires-clause-callable
-scan-requires-clause-callable g c = λ b shown.
-    let a : Accepted c.args.cap c.args.len c.args.controls.now = c.requires.accepted (omega (arith, c.if-len-eq0.false)) in
-    let room = a.room in
-    let lp = stride_below c.args.hash c.args.cap c.in-Some.pos (omega arith) (c.loop-pos.invariant.members c.in-Some.pos (member_front c.in-Some.pos c.next.new.self c.loop-pos.pos-iterator c.in-Some.ensures.steps)) in
-    c.requires.callable b (shown_full c.args.cap c.args.len c.args.controls.now c.stride.result.now c.in-Some.pos a lp c.stride.ensures.value b shown)
-
-pub returns-in-Accepted-clause-walked : goal.returns-in-Accepted-clause-walked
-returns-in-Accepted-clause-walked g c =
-    let a : Accepted c.args.cap c.args.len c.args.controls.now = c.requires.accepted (omega (arith, c.if-len-eq0.false)) in
-    let room = a.room in
-    let lp = stride_below c.args.hash c.args.cap c.in-Some.pos (omega arith) (c.loop-pos.invariant.members c.in-Some.pos (member_front c.in-Some.pos c.next.new.self c.loop-pos.pos-iterator c.in-Some.ensures.steps)) in
-    shown_full c.args.cap c.args.len c.args.controls.now c.stride.result.now c.in-Some.pos a lp c.stride.ensures.value c.in-Accepted.bucket c.in-Accepted.ensures.full
+-- one stride more was read, and no more than there are
+module _ (g : _) (c : After-cmp-1 g) where
+  within : ReadsWithin c.args.len (probe_capacity c.args.cap / 16) c.args.strides.now c.stride.new.self
+  within =
+      let room = (accepted g c).room in
+      let k = count_strides c.args.hash c.args.cap (omega arith) in
+      let l = ap length c.in-Some.ensures.steps in
+      let r = c.loop-pos.invariant.room in
+      let u = c.loop-pos.invariant.up in
+      let d = c.stride.ensures.counted in
+      record { none = λ z. absurd (c.if-len-eq0.false z); some = λ _. omega arith; most = omega arith }
 
 pub returns-in-Accepted-clause-bounded : goal.returns-in-Accepted-clause-bounded
-returns-in-Accepted-clause-bounded g c =
-    let a : Accepted c.args.cap c.args.len c.args.controls.now = c.requires.accepted (omega (arith, c.if-len-eq0.false)) in
-    let room = a.room in
-    let k = count_strides c.args.hash c.args.cap (omega arith) in
-    let l = ap length c.in-Some.ensures.steps in
-    let r = c.loop-pos.invariant.room in
-    let u = c.loop-pos.invariant.up in
-    let d = c.stride.ensures.counted in
-    record { none = λ z. absurd (c.if-len-eq0.false z); some = λ _. omega arith; most = omega arith }
+returns-in-Accepted-clause-bounded g c = within g (goal.at.returns-in-Accepted-clause-bounded g c).After-cmp-1
 
 pub returns-in-Empty-clause-bounded : goal.returns-in-Empty-clause-bounded
-returns-in-Empty-clause-bounded g c =
-    let a : Accepted c.args.cap c.args.len c.args.controls.now = c.requires.accepted (omega (arith, c.if-len-eq0.false)) in
-    let room = a.room in
-    let k = count_strides c.args.hash c.args.cap (omega arith) in
-    let l = ap length c.in-Some.ensures.steps in
-    let r = c.loop-pos.invariant.room in
-    let u = c.loop-pos.invariant.up in
-    let d = c.stride.ensures.counted in
-    record { none = λ z. absurd (c.if-len-eq0.false z); some = λ _. omega arith; most = omega arith }
+returns-in-Empty-clause-bounded g c = within g (goal.at.returns-in-Empty-clause-bounded g c).After-cmp-1
 
 pub returns-clause-bounded : goal.returns-clause-bounded
 returns-clause-bounded g c =
