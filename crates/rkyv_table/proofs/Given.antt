@@ -7,6 +7,7 @@ use Rattle.rkyv_base.specs.declared.errors.WriteError.{WriteError}
 use Rattle.rkyv_base.specs.declared.errors.WriteError.TheVariants.{InvalidLoadFactor, IteratorLengthMismatch, CapacityTooLarge, PositionTooLarge, DistanceTooLarge, TextTooLong, Writer, Memory, Refused}
 use Rattle.rkyv_base.proofs.GivingUp.{none_appended, told_as}
 use Rattle.rkyv_base.specs.Format.{Format}
+use Rattle.rkyv_base.specs.Layout.{IsLayout}
 use Rattle.rkyv_base.specs.Shape.{Shape}
 use Rattle.rkyv_base.specs.Writing.{Output, end_of}
 use Rattle.rkyv_table.specs.Controls.Numbers.{capacity}
@@ -14,6 +15,11 @@ use Rattle.rkyv_table.specs.Table.Serializing.{HasCapacity, NoFilled, NoItems, N
 use Rattle.rkyv_table.specs.Table.Slots.{TableNext}
 use Rattle.rkyv_table.specs.Table.TableFormat.{InBuckets, PairsNext, table_format}
 use Rattle.rkyv_table.specs.Table.Taking.{Placed}
+
+-- a capacity that is had fits in a word
+pub capacity_fits : {word : Width} {limit table index align text text_limit : ℕ} (len : ℕ) (load_factor : ℕ × ℕ) (max : ℕ) → IsLayout word limit max table index align text text_limit
+    → HasCapacity len load_factor max → capacity len load_factor < 2 ^ bits word
+capacity_fits len load_factor max l has = omega (arith, has.1, l.capacity_small, l.limit_fits)
 
 no_pairs : {X : Type 0} (xs : List X) → length xs ≡ 0 → xs ≡ []
 no_pairs [] e = refl

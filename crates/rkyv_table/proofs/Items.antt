@@ -89,23 +89,24 @@ module _ {T W : Type 0} (w : Width) (s : Shape) (law : IsElement s) (items : Ite
   pub read_walked : (i : ℕ) → IsFullBucket items.cap items.controls.now i → IsWalked w (table_bytes items.table) (table_pos items.table) i
   read_walked i full = rw (are.controls (omega (arith, full.0)), are.cap) at full
 
-  pub read_found : (kind : Kind) (hash : ℕ) (accept : ℕ → Bool) → found kind items.controls.now items.cap items.len hash accept
-      ≡ found kind (table_controls w (table_bytes items.table) (table_pos items.table)) (cap_at w (table_bytes items.table) (table_pos items.table)) (len_at w (table_bytes items.table) (table_pos items.table)) hash accept
-  read_found kind hash accept = elim (cases_eq items.cap 0) [
+  -- what is told of controls, capacity and length, and not of the first two where there are no
+  -- items, is told of those that were read
+  read_same : {A : Type 0} (f : List ℕ → ℕ → ℕ → A) → ((c d : List ℕ) (m n : ℕ) → f c m 0 ≡ f d n 0) → f items.controls.now items.cap items.len
+      ≡ f (table_controls w (table_bytes items.table) (table_pos items.table)) (cap_at w (table_bytes items.table) (table_pos items.table)) (len_at w (table_bytes items.table) (table_pos items.table))
+  read_same f none_alike = elim (cases_eq items.cap 0) [
     | inl none ↦
         let z = no_items w s law (table_bytes items.table) (table_pos items.table) are.table (sym are.cap ∙ none) in
-        rw (are.len, z) refl
+        rw (are.len, z) (none_alike items.controls.now _ items.cap _)
     | inr some ↦ rw (are.controls (omega arith), are.cap, are.len) refl
   ]
 
+  pub read_found : (kind : Kind) (hash : ℕ) (accept : ℕ → Bool) → found kind items.controls.now items.cap items.len hash accept
+      ≡ found kind (table_controls w (table_bytes items.table) (table_pos items.table)) (cap_at w (table_bytes items.table) (table_pos items.table)) (len_at w (table_bytes items.table) (table_pos items.table)) hash accept
+  read_found kind hash accept = read_same (λ controls cap len. found kind controls cap len hash accept) (λ c d m n. refl)
+
   pub read_end : (kind : Kind) (hash : ℕ) (accept : ℕ → Bool) → end kind items.controls.now items.cap items.len hash accept
       ≡ end kind (table_controls w (table_bytes items.table) (table_pos items.table)) (cap_at w (table_bytes items.table) (table_pos items.table)) (len_at w (table_bytes items.table) (table_pos items.table)) hash accept
-  read_end kind hash accept = elim (cases_eq items.cap 0) [
-    | inl none ↦
-        let z = no_items w s law (table_bytes items.table) (table_pos items.table) are.table (sym are.cap ∙ none) in
-        rw (are.len, z) refl
-    | inr some ↦ rw (are.controls (omega arith), are.cap, are.len) refl
-  ]
+  read_end kind hash accept = read_same (λ controls cap len. end kind controls cap len hash accept) (λ c d m n. refl)
 
 -- views of one position of one archive are one view
 pub view_is : {T : Type 0} (v u : View T) → v.archive ≡ u.archive → v.pos ≡ u.pos → v ≡ u

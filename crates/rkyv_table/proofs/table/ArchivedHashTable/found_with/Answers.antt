@@ -37,10 +37,9 @@ pub returns-in-None : goal.returns-in-None
 returns-in-None g c =
     let bytes = ap (λ v. v.archive.now) c.of-table.ensures.view ∙ ap (λ v. v.now) c.new.ensures.0 in
     let place = ap (λ v. v.pos) c.of-table.ensures.view ∙ c.new.ensures.1 in
-    let e = c.in-None.ensures in
     record {
       found = None;
-      looks = looks_up_none g.W.Width.word g.T.Element.shape c.args.archive.now c.args.pos c.of-table.result bytes place _ generic_kind c.args.hash e.answer e.first;
+      looks = looks_up_none g.W.Width.word g.T.Element.shape c.args.archive.now c.args.pos c.of-table.result bytes place _ generic_kind c.args.hash c.in-None.ensures.answer c.in-None.ensures.first;
       item = tt;
       writes = (refl, refl);
     }

@@ -1,7 +1,7 @@
 use Rattle.std.proofs.Common.{arith, refl, ◌<◌, ◌^◌}
 use mir.Val.{bits}
 use Rattle.rkyv_base.specs.Pairs.{written_as}
-use Rattle.rkyv_table.proofs.Given.{gave_up_some, wrote_none, wrote_some}
+use Rattle.rkyv_table.proofs.Given.{capacity_fits, gave_up_some, wrote_none, wrote_some}
 use Rattle.rkyv_table.specs.Controls.Numbers.{capacity}
 use Rattle.rkyv_table.specs.Table.Serializing.{HasCapacity}
 use Rattle.rkyv_table.proofs.table.serialize.serialize_given.Goals as goal
@@ -10,8 +10,7 @@ pub returns-in-Ok-take_none : goal.returns-in-Ok-take_none
 returns-in-Ok-take_none g c =
     let cap = c.in-Ok.ensures in
     let has : HasCapacity c.args.len c.args.load_factor g.W.Width.MAX_CAPACITY = (cap.0, rw (cap.1, c.MAX_CAPACITY.ensures) at cap.2) in
-    let l = g.met.W.Width.layout in
-    let fits : capacity c.args.len c.args.load_factor < 2 ^ bits g.W.Width.word = omega (arith, has.1, l.capacity_small, l.limit_fits) in
+    let fits = capacity_fits c.args.len c.args.load_factor g.W.Width.MAX_CAPACITY g.met.W.Width.layout has in
     let o = g.S.Writer.output c.args.serializer.now in
     wrote_none (g.H.HandsIn.input c.args.given).gave c.args.len c.args.load_factor g.W.Width.MAX_CAPACITY g.W.Width.word g.U.Archived.Element.shape (written_as g.X.Lend.lent g.U.Archive.format) o o g.W.Width.LIMIT has c.if-len-eq0.true c.in-Ok-take_none.ensures refl fits
 
@@ -19,8 +18,7 @@ pub returns-in-Ok-serialize_filled : goal.returns-in-Ok-serialize_filled
 returns-in-Ok-serialize_filled g c =
     let cap = c.in-Ok.ensures in
     let has : HasCapacity c.args.len c.args.load_factor g.W.Width.MAX_CAPACITY = (cap.0, rw (cap.1, c.MAX_CAPACITY.ensures) at cap.2) in
-    let l = g.met.W.Width.layout in
-    let fits : capacity c.args.len c.args.load_factor < 2 ^ bits g.W.Width.word = omega (arith, has.1, l.capacity_small, l.limit_fits) in
+    let fits = capacity_fits c.args.len c.args.load_factor g.W.Width.MAX_CAPACITY g.met.W.Width.layout has in
     wrote_some (g.H.HandsIn.input c.args.given).gave c.args.len c.args.load_factor g.W.Width.MAX_CAPACITY g.W.Width.word g.U.Archived.Element.shape (written_as g.X.Lend.lent g.U.Archive.format) (g.S.Writer.output c.args.serializer.now) (g.S.Writer.output c.serialize_filled.new.serializer) g.W.Width.LIMIT has (omega (arith, c.if-len-eq0.false)) c.in-Ok-serialize_filled.pos fits (rw cap.1 at c.in-Ok-serialize_filled.ensures)
 
 pub returns-in-Err-serialize_filled : goal.returns-in-Err-serialize_filled

@@ -3,6 +3,7 @@ use Rattle.rkyv_table.specs.Controls.Numbers.{modulus, probe_capacity}
 use Rattle.rkyv_table.specs.Controls.Probe.{strides_from}
 use Rattle.rkyv_table.proofs.ProbeSteps.{modulus_small, masked_below, offset_below, stepped, place_is, takes, skips, ends, first_taken}
 use Rattle.rkyv_table.proofs.controls.probe.ProbeIterator.next.Goals as goal
+use Rattle.rkyv_table.proofs.controls.probe.ProbeIterator.next.Goals.{In-loop-self}
 
 pub returns-then-self-eq0-clause-steps : goal.returns-then-self-eq0-clause-steps
 returns-then-self-eq0-clause-steps c =
@@ -16,12 +17,29 @@ returns-then-self-eq0-clause-goes c =
     let l = ap length e in
     record { on = λ _. (search rules, search rules, omega arith); keeps = search rules; rests = search rules }
 
+-- one turn
+module _ (c : In-loop-self) where
+  modulus_is : c.modulus-modulus.result ≡ modulus c.loop-self.self-inside.cap
+  modulus_is = c.modulus-modulus.ensures ∙ ap modulus (sym c.loop-self.invariant.cap)
+
+  limit_is : c.probe_capacity-limit.result ≡ probe_capacity c.loop-self.self-inside.cap
+  limit_is = c.probe_capacity-limit.ensures ∙ ap probe_capacity (sym c.loop-self.invariant.cap)
+
+  abbrev pos : ℕ
+  pos = bit_and (c.loop-self.self-inside.start + bit_and (c.loop-self.self-inside.offset + 16 * c.loop-self.self-inside.index) (c.modulus-modulus.result - 1)) (c.modulus-modulus.result - 1)
+
+  step : pos < c.probe_capacity-limit.result → c.args.self.now ≡ pos ∷ strides_from c.loop-self.self-inside.cap c.loop-self.self-inside.start (c.loop-self.self-inside.index + 1)
+  step below =
+      let p = c.loop-self.self-inside in
+      let inv = c.loop-self.invariant in
+      let e : pos ≡ _ = rw modulus_is (place_is p.cap p.start p.offset p.index inv.begun inv.is) in
+      sym c.self.view_is ∙ inv.same ∙ takes p.cap p.start p.index pos (rw modulus_is at c.loop-self-test.true) e (rw limit_is at below)
+
 pub overflow_add-self : goal.overflow_add-self
 overflow_add-self c =
     let p = c.loop-self.self-inside in
-    let inv = c.loop-self.invariant in
-    let m : c.modulus-modulus.result ≡ modulus p.cap = c.modulus-modulus.ensures ∙ ap modulus (sym inv.cap) in
-    let o = offset_below p.cap p.start p.offset p.index inv.is in
+    let m = modulus_is (goal.at.overflow_add-self c).In-loop-self in
+    let o = offset_below p.cap p.start p.offset p.index c.loop-self.invariant.is in
     let t = c.modulus-modulus.type_inv in
     let s = modulus_small p.cap (omega arith) in
     let k = c.loop-self-test.true in
@@ -30,46 +48,27 @@ overflow_add-self c =
 pub overflow_add-pos : goal.overflow_add-pos
 overflow_add-pos c =
     let p = c.loop-self.self-inside in
-    let inv = c.loop-self.invariant in
-    let m : c.modulus-modulus.result ≡ modulus p.cap = c.modulus-modulus.ensures ∙ ap modulus (sym inv.cap) in
+    let is = c.loop-self.invariant.is in
+    let m : c.modulus-modulus.result ≡ modulus p.cap = modulus_is (goal.at.overflow_add-pos c).In-loop-self in
     let b : bit_and (p.offset + 16 * p.index) (c.modulus-modulus.result - 1) < modulus p.cap = rw m (masked_below p.cap (p.offset + 16 * p.index)) in
     let t = c.modulus-modulus.type_inv in
     let s = modulus_small p.cap (omega arith) in
-    let begun = inv.is.begun in
-    let fits = inv.is.fits in
+    let begun = is.begun in
+    let fits = is.fits in
     record { fits = omega arith }
 
 pub invariant_of-self-then-pos-limit : goal.invariant_of-self-then-pos-limit
 invariant_of-self-then-pos-limit c =
     let p = c.loop-self.self-inside in
     let inv = c.loop-self.invariant in
-    let m : c.modulus-modulus.result ≡ modulus p.cap = c.modulus-modulus.ensures ∙ ap modulus (sym inv.cap) in
-    rw m (stepped p.cap p.start p.offset p.index inv.begun inv.is)
+    rw (modulus_is (goal.at.invariant_of-self-then-pos-limit c).In-loop-self) (stepped p.cap p.start p.offset p.index inv.begun inv.is)
 
 pub returns-then-pos-limit-clause-steps : goal.returns-then-pos-limit-clause-steps
-returns-then-pos-limit-clause-steps c =
-    let p = c.loop-self.self-inside in
-    let inv = c.loop-self.invariant in
-    let m : c.modulus-modulus.result ≡ modulus p.cap = c.modulus-modulus.ensures ∙ ap modulus (sym inv.cap) in
-    let l : c.probe_capacity-limit.result ≡ probe_capacity p.cap = c.probe_capacity-limit.ensures ∙ ap probe_capacity (sym inv.cap) in
-    let pos : ℕ = bit_and (p.start + bit_and (p.offset + 16 * p.index) (c.modulus-modulus.result - 1)) (c.modulus-modulus.result - 1) in
-    let e : pos ≡ _ = rw m (place_is p.cap p.start p.offset p.index inv.begun inv.is) in
-    let lt = rw m at c.loop-self-test.true in
-    let below = rw l at c.if-pos-limit.true in
-    sym c.self.view_is ∙ inv.same ∙ takes p.cap p.start p.index pos lt e below
+returns-then-pos-limit-clause-steps c = step (goal.at.returns-then-pos-limit-clause-steps c).In-loop-self c.if-pos-limit.true
 
 pub returns-then-pos-limit-clause-goes : goal.returns-then-pos-limit-clause-goes
 returns-then-pos-limit-clause-goes c =
-    let p = c.loop-self.self-inside in
-    let inv = c.loop-self.invariant in
-    let m : c.modulus-modulus.result ≡ modulus p.cap = c.modulus-modulus.ensures ∙ ap modulus (sym inv.cap) in
-    let l : c.probe_capacity-limit.result ≡ probe_capacity p.cap = c.probe_capacity-limit.ensures ∙ ap probe_capacity (sym inv.cap) in
-    let pos : ℕ = bit_and (p.start + bit_and (p.offset + 16 * p.index) (c.modulus-modulus.result - 1)) (c.modulus-modulus.result - 1) in
-    let e : pos ≡ _ = rw m (place_is p.cap p.start p.offset p.index inv.begun inv.is) in
-    let lt = rw m at c.loop-self-test.true in
-    let below = rw l at c.if-pos-limit.true in
-    let step : c.args.self.now ≡ pos ∷ strides_from p.cap p.start (p.index + 1) = sym c.self.view_is ∙ inv.same ∙ takes p.cap p.start p.index pos lt e below in
-    let n = ap length step in
+    let n = ap length (step (goal.at.returns-then-pos-limit-clause-goes c).In-loop-self c.if-pos-limit.true) in
     record { on = λ _. (search rules, search rules, omega arith); keeps = search rules; rests = search rules }
 
 pub returns-clause-steps : goal.returns-clause-steps
@@ -84,15 +83,11 @@ pub loop-self-preserved : goal.loop-self-preserved
 loop-self-preserved c =
     let p = c.loop-self.self-inside in
     let inv = c.loop-self.invariant in
-    let m : c.modulus-modulus.result ≡ modulus p.cap = c.modulus-modulus.ensures ∙ ap modulus (sym inv.cap) in
-    let l : c.probe_capacity-limit.result ≡ probe_capacity p.cap = c.probe_capacity-limit.ensures ∙ ap probe_capacity (sym inv.cap) in
-    let pos : ℕ = bit_and (p.start + bit_and (p.offset + 16 * p.index) (c.modulus-modulus.result - 1)) (c.modulus-modulus.result - 1) in
-    let e : pos ≡ _ = rw m (place_is p.cap p.start p.offset p.index inv.begun inv.is) in
-    let lt = rw m at c.loop-self-test.true in
-    let above = rw l at c.if-pos-limit.false in
+    let turn = (goal.at.loop-self-preserved c).In-loop-self in
+    let e : pos turn ≡ _ = rw (modulus_is turn) (place_is p.cap p.start p.offset p.index inv.begun inv.is) in
     record {
-      is = rw m (stepped p.cap p.start p.offset p.index inv.begun inv.is);
+      is = rw (modulus_is turn) (stepped p.cap p.start p.offset p.index inv.begun inv.is);
       begun = omega arith;
       cap = inv.cap;
-      same = inv.same ∙ skips p.cap p.start p.index pos lt e above;
+      same = inv.same ∙ skips p.cap p.start p.index (pos turn) (rw (modulus_is turn) at c.loop-self-test.true) e (rw (limit_is turn) at c.if-pos-limit.false);
     }

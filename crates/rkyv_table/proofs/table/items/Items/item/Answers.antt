@@ -16,9 +16,7 @@ pub overflow_sub-place : goal.overflow_sub-place
 overflow_sub-place g c =
     let t = c.args.self.table.view in
     let i = c.requires.items in
-    let some : 0 < c.args.self.cap = omega (arith, i.cap, c.requires.walked.0) in
-    let before = item_before g.W.Width.word g.T.Element.shape g.met.T.Element.laws t.archive.now t.pos i.table c.args.bucket c.requires.walked.0 in
-    rw (c.size.ensures, i.place some) before
+    rw (c.size.ensures, i.place (omega (arith, i.cap, c.requires.walked.0))) (item_before g.W.Width.word g.T.Element.shape g.met.T.Element.laws t.archive.now t.pos i.table c.args.bucket c.requires.walked.0)
 
 pub new-requires : goal.new-requires
 new-requires g c =
