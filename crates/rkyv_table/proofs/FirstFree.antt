@@ -1,5 +1,5 @@
 -- Placing: the first empty place of a stride, and the first of all strides.
-use Rattle.std.proofs.Common.{◌≡◌, ℕ, zero, suc, ◌+◌, ◌*◌, ◌-◌, ◌%◌, ◌<◌, ◌≤◌, ◌⊎◌, inl, inr, refl, sym, ap, ◌∙◌, arith, List, [], ◌∷◌, Bool, true, false, ◌&&◌, eqb, leb, ltb, length, get_or, take, drop, set, filter, Option, Some, None, get_or-take, get_or-drop}
+use Rattle.std.proofs.Common.{◌≡◌, ℕ, zero, suc, ◌+◌, ◌*◌, ◌-◌, ◌%◌, ◌<◌, ◌≤◌, ◌⊎◌, inl, inr, refl, sym, ap, ◌∙◌, arith, List, [], ◌∷◌, Bool, true, false, ◌&&◌, eqb, leb, ltb, length, get_or, take, drop, set, filter, Option, Some, None}
 use Rattle.std.specs.List.{find, list_any, range_with_len, flat_map, slice_get}
 use Rattle.std.specs.Option.{option_map}
 use Rattle.std.proofs.lemmas.List.Folds.{find-append}
@@ -12,7 +12,7 @@ use Rattle.rkyv_table.specs.Controls.Placing.{Repeats}
 use Rattle.rkyv_table.specs.Controls.Shown.{is_empty_at, empty_place, with_control}
 use Rattle.rkyv_table.proofs.Coverage.{covered}
 use Rattle.rkyv_table.proofs.Search.{control_of, tail_shows_all, strides_head}
-use Rattle.rkyv_table.proofs.Groups.{range_append}
+use Rattle.rkyv_table.proofs.Groups.{range_append, same_control}
 use Rattle.rkyv_table.proofs.Written.{find_buckets, taken_at}
 use Rattle.rkyv_table.proofs.Lists.{any_range, any_flat_map, any_map_filter, any_member, find_none, none_find, first_range, range_first, none_range}
 
@@ -37,11 +37,7 @@ pub more_places : (controls g : List ℕ) (p i w : ℕ) (r : Option ℕ) → g �
 more_places controls g p i w r e none is =
     let a = i * w in
     let len : (i + 1) * w ≡ a + w = omega arith in
-    let s = find_shift (is_empty_at controls) (λ j. leb 128 (get_or g j 0)) (p + a) 0 w (λ j lo hi'.
-    let hi : j < w = omega arith in
-    let x = get_or-take w (drop (p + a) controls) j 0 hi in
-    let y = get_or-drop (p + a) controls j 0 in
-    rw (e, x, y) refl) in
+    let s = find_shift (is_empty_at controls) (λ j. leb 128 (get_or g j 0)) (p + a) 0 w (λ j lo hi. rw (same_control controls g (p + a) w j e (omega arith)) refl) in
     let z : p + a + 0 ≡ p + a = omega arith in
     let s' = rw z at s in
     let r' = is ∙ head_filter (λ j. leb 128 (get_or g j 0)) (range_with_len 0 w) in

@@ -81,17 +81,17 @@ more_candidates kind controls g cap t p i pos e =
     let s' = rw z at s in
     rw (len, range_append p a w, filter-append, map-append, s', map_map) refl
 
+-- a control of a group is one of the controls
+pub same_control : (controls g : List ℕ) (q w j : ℕ) → g ≡ take w (drop q controls) → j < w → get_or g j 0 ≡ get_or controls (q + j) 0
+same_control controls g q w j e h = ap (λ xs. get_or xs j 0) e ∙ get_or-take w (drop q controls) j 0 h ∙ get_or-drop q controls j 0
+
 pub more_empty : (controls g : List ℕ) (p i w : ℕ) → g ≡ take w (drop (p + i * w) controls)
     → empty_in controls p ((i + 1) * w) ≡ (empty_in controls p (i * w) || list_any (λ j. leb 128 (get_or g j 0)) (range_with_len 0 w))
 unfolding empty_in
 more_empty controls g p i w e =
     let a = i * w in
     let len : (i + 1) * w ≡ a + w = omega arith in
-    let s = any_shift (λ q. leb 128 (get_or controls q 0)) (λ j. leb 128 (get_or g j 0)) (p + a) 0 w (λ j lo hi'.
-    let hi : j < w = omega arith in
-    let x = get_or-take w (drop (p + a) controls) j 0 hi in
-    let y = get_or-drop (p + a) controls j 0 in
-    rw (e, x, y) refl) in
+    let s = any_shift (λ q. leb 128 (get_or controls q 0)) (λ j. leb 128 (get_or g j 0)) (p + a) 0 w (λ j lo hi. rw (same_control controls g (p + a) w j e (omega arith)) refl) in
     let z : p + a + 0 ≡ p + a = omega arith in
     let s' = rw z at s in
     rw (len, range_append p a w, list_any-append, s') refl

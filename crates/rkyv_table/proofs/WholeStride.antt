@@ -43,3 +43,11 @@ pub whole_shown : (kind : Kind) → IsKind kind → (t p cap : ℕ) (stride show
 whole_shown kind law t p cap stride shows ps small one s m b k =
     let z : p ≡ p + 0 = omega arith in
     marked_shown kind law t p cap 0 stride shows ps small (omega arith) s m b (k.0, k.1, k.2 ∙ ap (λ q. (q + get_or ps k.0 0) % cap) z)
+
+-- where no place is accepted, the stride shows an empty control exactly where the group does
+pub whole_none : (kind : Kind) → IsKind kind → (controls shows stride : List ℕ) (cap t p : ℕ) (accept : ℕ → Bool) (told : Bool) (places empties : List ℕ) → kind.width ≡ 16
+    → shows ≡ take kind.width stride → stride ≡ take 16 (drop p controls) → places ≡ places_where (kind.marks shows t) kind.width
+    → None ≡ find accept (map (λ j. (p + j) % cap) places) → empties ≡ places_where (λ j. leb 128 (get_or shows j 0)) kind.width → (told ≡ true) ↔ (0 < length empties)
+    → (find accept (candidates kind controls cap t p) ≡ None) × (shows_empty controls p ≡ told)
+whole_none kind law controls shows stride cap t p accept told places empties one s e m f k b =
+    (whole_found kind law controls shows stride cap t p accept None places one s e m f, whole_empty controls shows stride p kind.width told empties one s e k b)

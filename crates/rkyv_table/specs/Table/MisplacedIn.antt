@@ -1,5 +1,5 @@
 -- How many items of a table a lookup of their own doesn't answer.
-use Rattle.std.specs.Prelude.{◌≡◌, ℕ, Bool, Option}
+use Rattle.std.specs.Prelude.{◌≡◌, ℕ, Bool, List, Option}
 use Rattle.std.specs.Int.{Width}
 use Rattle.rkyv_base.specs.Shape.{Shape}
 use Rattle.rkyv_base.specs.declared.view.View.{View}
@@ -27,25 +27,28 @@ abbrev pub ComparesAs : {T W : Type 0} → (View T → View T → Bool → Type 
 ComparesAs {T} post w s t same = (x y : View T) (r : Bool) → IsItem w s t x → IsItem w s t y
     → post x y r → r ≡ same x.pos y.pos
 
--- the item in the bucket is misplaced, and how many are, where hash_of and same tell of items by
--- their positions
-abbrev pub bucket_misplaced : {T W : Type 0} → Kind → Width → Shape → ArchivedHashTable T W
-    → (ℕ → ℕ) → (ℕ → ℕ → Bool) → ℕ → Bool
-bucket_misplaced kind w s t hash_of same =
-    is_misplaced kind (table_controls w (table_bytes t) (table_pos t))
-    (cap_at w (table_bytes t) (table_pos t)) (len_at w (table_bytes t) (table_pos t))
+-- what is told of the controls, the capacity and the length of a table, of the hash of the item in
+-- each bucket, and of whether the items in two are the same; hash_of and same tell of items by their
+-- positions
+abbrev pub told_of_table : {T W A : Type 0} → (List ℕ → ℕ → ℕ → (ℕ → ℕ) → (ℕ → ℕ → Bool) → A)
+    → Width → Shape → ArchivedHashTable T W → (ℕ → ℕ) → (ℕ → ℕ → Bool) → A
+told_of_table told w s t hash_of same =
+    told (table_controls w (table_bytes t) (table_pos t)) (cap_at w (table_bytes t) (table_pos t))
+    (len_at w (table_bytes t) (table_pos t))
     (λ i. hash_of (item_at w s.size (table_bytes t) (table_pos t) i)) (λ i j.
     same (item_at w s.size (table_bytes t) (table_pos t) i)
     (item_at w s.size (table_bytes t) (table_pos t) j))
 
+-- the item in the bucket is misplaced
+abbrev pub bucket_misplaced : {T W : Type 0} → Kind → Width → Shape → ArchivedHashTable T W
+    → (ℕ → ℕ) → (ℕ → ℕ → Bool) → ℕ → Bool
+bucket_misplaced kind w s t hash_of same =
+    told_of_table (is_misplaced kind) w s t hash_of same
+
+-- how many items are misplaced
 abbrev pub table_misplaced : {T W : Type 0} → Kind → Width → Shape → ArchivedHashTable T W → (ℕ → ℕ)
     → (ℕ → ℕ → Bool) → ℕ
-table_misplaced kind w s t hash_of same =
-    misplaced kind (table_controls w (table_bytes t) (table_pos t))
-    (cap_at w (table_bytes t) (table_pos t)) (len_at w (table_bytes t) (table_pos t))
-    (λ i. hash_of (item_at w s.size (table_bytes t) (table_pos t) i)) (λ i j.
-    same (item_at w s.size (table_bytes t) (table_pos t) i)
-    (item_at w s.size (table_bytes t) (table_pos t) j))
+table_misplaced kind w s t hash_of same = told_of_table (misplaced kind) w s t hash_of same
 
 -- what the comparison answers of the items in two buckets
 abbrev pub AnswersOf : {T W : Type 0} → (View T → View T → Bool → Type 0) → Width → Shape

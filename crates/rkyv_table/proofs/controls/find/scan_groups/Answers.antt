@@ -1,21 +1,30 @@
-use Rattle.std.proofs.Common.{arith, ◌≡◌, ◌+◌, ◌*◌, ◌<◌, ◌≤◌, ◌/◌, ℕ, sym, ap, ◌∙◌, take, drop, List, leb, get_or, None}
+use Rattle.std.proofs.Common.{arith, ◌≡◌, ◌+◌, ◌*◌, ◌≤◌, ℕ, sym, ap, ◌∙◌, take, drop, List, leb, get_or, None}
 use Rattle.std.specs.List.{find, list_any, range_with_len}
 use Rattle.rkyv_scan.specs.Groups.{Kind}
 use Rattle.rkyv_table.proofs.Groups.{candidates_in, empty_in, all_candidates, all_empty, no_candidates, no_empty, found_more, found_whole, more_empty, group_of, group_fits, groups_end, or_no, places_are, mark_told, width_divides}
 use Rattle.rkyv_table.proofs.Search.{width_some}
 use Rattle.std.proofs.lemmas.Bool.{or_right}
+use Rattle.rkyv_table.specs.Controls.Seen.{IsMarked, IsShown}
 use Rattle.rkyv_table.proofs.Marks.{place_full, marked_shown}
 use Rattle.rkyv_table.proofs.controls.find.scan_groups.Goals as goal
-use Rattle.rkyv_table.proofs.controls.find.scan_groups.Goals.{then-any_bit_set, else-any_bit_set}
+use Rattle.rkyv_table.proofs.controls.find.scan_groups.Goals.{After-match_byte, then-any_bit_set, else-any_bit_set}
+
+-- one group
+module _ (g : _) (c : After-match_byte g) where
+  width_is : c.WIDTH.result ≡ g.G.GroupKind.kind.width
+  width_is = c.WIDTH.ensures ∙ g.met.G.GroupKind.width
+
+  fits : c.loop-i.i * g.G.GroupKind.kind.width + g.G.GroupKind.kind.width ≤ 16
+  fits = group_fits c.loop-i.i g.G.GroupKind.kind.width (rw (c.WIDTH-i-end.ensures, g.met.G.GroupKind.width) at c.loop-i-test.true)
+
+  shown : (b : ℕ) → IsMarked (c.args.pos + c.loop-i.i * c.WIDTH.result) c.args.cap (g.G.Mask.Marks.places c.match_byte.result) b → IsShown c.args.stride.now c.args.pos c.args.cap b
+  shown = marked_shown g.G.GroupKind.kind g.met.G.GroupKind.lawful c.args.tag c.args.pos c.args.cap (c.loop-i.i * c.WIDTH.result) c.args.stride.now (g.G.GroupKind.controls c.read-group.result) (g.G.Mask.Marks.places c.match_byte.result) c.requires.tag (rw width_is fits) c.read-group.ensures c.match_byte.ensures
 
 pub overflow_add-pos : goal.overflow_add-pos
 overflow_add-pos g c =
-    let w : c.WIDTH.result ≡ g.G.GroupKind.kind.width = c.WIDTH.ensures ∙ g.met.G.GroupKind.width in
-    let lt : c.loop-i.i < 16 / g.G.GroupKind.kind.width = rw (c.WIDTH-i-end.ensures, g.met.G.GroupKind.width) at c.loop-i-test.true in
-    let fits = group_fits c.loop-i.i g.G.GroupKind.kind.width lt in
-    let e : c.loop-i.i * c.WIDTH.result ≡ c.loop-i.i * g.G.GroupKind.kind.width = ap (λ x. c.loop-i.i * x) w in
-    let f = c.requires.fits in
-    record { fits = omega arith }
+    let after = (goal.at.overflow_add-pos g c).After-match_byte in
+    let e : c.loop-i.i * c.WIDTH.result ≡ c.loop-i.i * g.G.GroupKind.kind.width = ap (λ x. c.loop-i.i * x) (width_is g after) in
+    record { fits = omega (arith, fits g after, c.requires.fits) }
 
 pub loop-i-init : goal.loop-i-init
 loop-i-init g c =
@@ -31,17 +40,14 @@ returns-in-Some-clause-seen g c = λ controls e accept answers.
     let kind : Kind = g.G.GroupKind.kind in
     let law = g.met.G.GroupKind.lawful in
     let i = c.loop-i.i in
-    let lt : i < 16 / g.G.GroupKind.kind.width = rw (c.WIDTH-i-end.ensures, g.met.G.GroupKind.width) at c.loop-i-test.true in
-    let fits = group_fits i g.G.GroupKind.kind.width lt in
-    let w : c.WIDTH.result ≡ g.G.GroupKind.kind.width = c.WIDTH.ensures ∙ g.met.G.GroupKind.width in
-    let m = marked_shown kind law c.args.tag c.args.pos c.args.cap (i * c.WIDTH.result) c.args.stride.now (g.G.GroupKind.controls c.read-group.result) (g.G.Mask.Marks.places c.match_byte.result) c.requires.tag (rw w fits) c.read-group.ensures c.match_byte.ensures in
-    let f = c.in-Some.ensures.first accept (λ b r marked told. answers b r (m b marked) told) in
+    let after = (goal.at.returns-in-Some-clause-seen g c).After-match_byte in
+    let f = c.in-Some.ensures.first accept (λ b r marked told. answers b r (shown g after b marked) told) in
     let f' = rw (c.match_byte.ensures, places_are, c.WIDTH.ensures, g.met.G.GroupKind.width) at f in
     let s = c.read-group.ensures in
     let s' = rw (c.WIDTH.ensures, g.met.G.GroupKind.width) at s in
-    let s'' = s' ∙ group_of controls c.args.stride.now c.args.pos (i * g.G.GroupKind.kind.width) g.G.GroupKind.kind.width fits e in
+    let s'' = s' ∙ group_of controls c.args.stride.now c.args.pos (i * g.G.GroupKind.kind.width) g.G.GroupKind.kind.width (fits g after) e in
     let m = found_more kind controls (g.G.GroupKind.controls c.read-group.result) c.args.cap c.args.tag c.args.pos i accept _ (width_some kind law) s'' (c.loop-i.invariant.none controls e accept answers) f' in
-    let le : (i + 1) * g.G.GroupKind.kind.width ≤ 16 = omega arith in
+    let le : (i + 1) * g.G.GroupKind.kind.width ≤ 16 = omega (arith, fits g after) in
     found_whole kind controls c.args.cap c.args.tag c.args.pos ((i + 1) * g.G.GroupKind.kind.width) c.in-Some.bucket accept le m
 
 pub loop-i-preserved : goal.loop-i-preserved
@@ -49,12 +55,11 @@ loop-i-preserved g c =
     let kind : Kind = g.G.GroupKind.kind in
     let law = g.met.G.GroupKind.lawful in
     let i = c.loop-i.i in
-    let lt : i < 16 / g.G.GroupKind.kind.width = rw (c.WIDTH-i-end.ensures, g.met.G.GroupKind.width) at c.loop-i-test.true in
-    let fits = group_fits i g.G.GroupKind.kind.width lt in
+    let after = (goal.at.loop-i-preserved g c).After-match_byte in
     let s = c.read-group.ensures in
     let s' = rw (c.WIDTH.ensures, g.met.G.GroupKind.width) at s in
     let shows = g.G.GroupKind.controls c.read-group.result in
-    let at = λ (controls : List ℕ) (e : c.args.stride.now ≡ take 16 (drop c.args.pos controls)). s' ∙ group_of controls c.args.stride.now c.args.pos (i * g.G.GroupKind.kind.width) g.G.GroupKind.kind.width fits e in
+    let at = λ (controls : List ℕ) (e : c.args.stride.now ≡ take 16 (drop c.args.pos controls)). s' ∙ group_of controls c.args.stride.now c.args.pos (i * g.G.GroupKind.kind.width) g.G.GroupKind.kind.width (fits g after) e in
     record {
       shown = λ controls e.
           let m = more_empty controls shows c.args.pos i g.G.GroupKind.kind.width (at controls e) in
@@ -68,37 +73,23 @@ loop-i-preserved g c =
             | else-any_bit_set w ↦ w.empty-is ∙ b ∙ sym (m ∙ or_no before la (sym a'' ∙ w.if-any_bit_set.false))
           ]);
       none = λ controls e accept answers.
-          let w : c.WIDTH.result ≡ g.G.GroupKind.kind.width = c.WIDTH.ensures ∙ g.met.G.GroupKind.width in
-          let m = marked_shown kind law c.args.tag c.args.pos c.args.cap (i * c.WIDTH.result) c.args.stride.now shows (g.G.Mask.Marks.places c.match_byte.result) c.requires.tag (rw w fits) c.read-group.ensures c.match_byte.ensures in
-          let f = c.in_default.ensures.first accept (λ b r marked told. answers b r (m b marked) told) in
+          let f = c.in_default.ensures.first accept (λ b r marked told. answers b r (shown g after b marked) told) in
           let f' = rw (c.match_byte.ensures, places_are, c.WIDTH.ensures, g.met.G.GroupKind.width) at f in
           found_more kind controls shows c.args.cap c.args.tag c.args.pos i accept None (width_some kind law) (at controls e) (c.loop-i.invariant.none controls e accept answers) f';
     }
 
 pub returns-then-empty-clause-seen : goal.returns-then-empty-clause-seen
 returns-then-empty-clause-seen g c = λ controls e accept answers.
-    let kind : Kind = g.G.GroupKind.kind in
-    let law = g.met.G.GroupKind.lawful in
-    let up = rw (c.WIDTH-i-end.ensures, g.met.G.GroupKind.width) at c.loop-i.auto.i-end in
-    let down = rw (c.WIDTH-i-end.ensures, g.met.G.GroupKind.width) at c.loop-i-test.false in
-    let n : c.loop-i.i * g.G.GroupKind.kind.width ≡ 16 = groups_end c.loop-i.i g.G.GroupKind.kind.width (width_divides g.G.GroupKind.kind law) up down in
-    let a = c.loop-i.invariant.none controls e accept answers in
-    let b = c.loop-i.invariant.shown controls e in
-    let a' = rw (n, all_candidates) at a in
-    let b' = rw (n, all_empty) at b in
+    let n : c.loop-i.i * g.G.GroupKind.kind.width ≡ 16 = groups_end c.loop-i.i g.G.GroupKind.kind.width (width_divides g.G.GroupKind.kind g.met.G.GroupKind.lawful) (rw (c.WIDTH-i-end.ensures, g.met.G.GroupKind.width) at c.loop-i.auto.i-end) (rw (c.WIDTH-i-end.ensures, g.met.G.GroupKind.width) at c.loop-i-test.false) in
+    let a' = rw (n, all_candidates) at (c.loop-i.invariant.none controls e accept answers) in
+    let b' = rw (n, all_empty) at (c.loop-i.invariant.shown controls e) in
     (a', sym b' ∙ c.if-empty.true)
 
 pub returns-else-empty-clause-seen : goal.returns-else-empty-clause-seen
 returns-else-empty-clause-seen g c = λ controls e accept answers.
-    let kind : Kind = g.G.GroupKind.kind in
-    let law = g.met.G.GroupKind.lawful in
-    let up = rw (c.WIDTH-i-end.ensures, g.met.G.GroupKind.width) at c.loop-i.auto.i-end in
-    let down = rw (c.WIDTH-i-end.ensures, g.met.G.GroupKind.width) at c.loop-i-test.false in
-    let n : c.loop-i.i * g.G.GroupKind.kind.width ≡ 16 = groups_end c.loop-i.i g.G.GroupKind.kind.width (width_divides g.G.GroupKind.kind law) up down in
-    let a = c.loop-i.invariant.none controls e accept answers in
-    let b = c.loop-i.invariant.shown controls e in
-    let a' = rw (n, all_candidates) at a in
-    let b' = rw (n, all_empty) at b in
+    let n : c.loop-i.i * g.G.GroupKind.kind.width ≡ 16 = groups_end c.loop-i.i g.G.GroupKind.kind.width (width_divides g.G.GroupKind.kind g.met.G.GroupKind.lawful) (rw (c.WIDTH-i-end.ensures, g.met.G.GroupKind.width) at c.loop-i.auto.i-end) (rw (c.WIDTH-i-end.ensures, g.met.G.GroupKind.width) at c.loop-i-test.false) in
+    let a' = rw (n, all_candidates) at (c.loop-i.invariant.none controls e accept answers) in
+    let b' = rw (n, all_empty) at (c.loop-i.invariant.shown controls e) in
     (a', sym b' ∙ c.if-empty.false)
 
 pub first_accepted-requires-clause-below : goal.first_accepted-requires-clause-below
@@ -106,32 +97,14 @@ first_accepted-requires-clause-below g c = λ k h.
     let kind : Kind = g.G.GroupKind.kind in
     let law = g.met.G.GroupKind.lawful in
     let i = c.loop-i.i in
-    let lt : i < 16 / g.G.GroupKind.kind.width = rw (c.WIDTH-i-end.ensures, g.met.G.GroupKind.width) at c.loop-i-test.true in
-    let fits = group_fits i g.G.GroupKind.kind.width lt in
-    let w : c.WIDTH.result ≡ g.G.GroupKind.kind.width = c.WIDTH.ensures ∙ g.met.G.GroupKind.width in
-    let e : i * c.WIDTH.result ≡ i * g.G.GroupKind.kind.width = ap (λ x. i * x) w in
+    let after = (goal.at.first_accepted-requires-clause-below g c).After-match_byte in
+    let e : i * c.WIDTH.result ≡ i * g.G.GroupKind.kind.width = ap (λ x. i * x) (width_is g after) in
     let f = place_full kind law c.args.tag c.args.stride.now (g.G.GroupKind.controls c.read-group.result) (g.G.Mask.Marks.places c.match_byte.result) (i * c.WIDTH.result) k c.requires.tag c.read-group.ensures c.match_byte.ensures h in
     let j = get_or (g.G.Mask.Marks.places c.match_byte.result) k 0 in
-    omega (arith, c.requires.below (i * c.WIDTH.result + j) (omega (arith, f.0)) f.1)
+    omega (arith, c.requires.below (i * c.WIDTH.result + j) (omega (arith, f.0, fits g after)) f.1)
 
 pub first_accepted-requires-clause-callable : goal.first_accepted-requires-clause-callable
-first_accepted-requires-clause-callable g c = λ b marked.
-    let kind : Kind = g.G.GroupKind.kind in
-    let law = g.met.G.GroupKind.lawful in
-    let i = c.loop-i.i in
-    let lt : i < 16 / g.G.GroupKind.kind.width = rw (c.WIDTH-i-end.ensures, g.met.G.GroupKind.width) at c.loop-i-test.true in
-    let fits = group_fits i g.G.GroupKind.kind.width lt in
-    let w : c.WIDTH.result ≡ g.G.GroupKind.kind.width = c.WIDTH.ensures ∙ g.met.G.GroupKind.width in
-    c.requires.callable b (marked_shown kind law c.args.tag c.args.pos c.args.cap (i * c.WIDTH.result) c.args.stride.now (g.G.GroupKind.controls c.read-group.result) (g.G.Mask.Marks.places c.match_byte.result)
-    c.requires.tag (rw w fits) c.read-group.ensures c.match_byte.ensures b marked)
+first_accepted-requires-clause-callable g c = λ b marked. c.requires.callable b (shown g (goal.at.first_accepted-requires-clause-callable g c).After-match_byte b marked)
 
 pub returns-in-Some-clause-full : goal.returns-in-Some-clause-full
-returns-in-Some-clause-full g c =
-    let kind : Kind = g.G.GroupKind.kind in
-    let law = g.met.G.GroupKind.lawful in
-    let i = c.loop-i.i in
-    let lt : i < 16 / g.G.GroupKind.kind.width = rw (c.WIDTH-i-end.ensures, g.met.G.GroupKind.width) at c.loop-i-test.true in
-    let fits = group_fits i g.G.GroupKind.kind.width lt in
-    let w : c.WIDTH.result ≡ g.G.GroupKind.kind.width = c.WIDTH.ensures ∙ g.met.G.GroupKind.width in
-    marked_shown kind law c.args.tag c.args.pos c.args.cap (i * c.WIDTH.result) c.args.stride.now (g.G.GroupKind.controls c.read-group.result) (g.G.Mask.Marks.places c.match_byte.result) c.requires.tag (rw w fits) c.read-group.ensures c.match_byte.ensures
-    c.in-Some.bucket c.in-Some.ensures.among
+returns-in-Some-clause-full g c = shown g (goal.at.returns-in-Some-clause-full g c).After-match_byte c.in-Some.bucket c.in-Some.ensures.among

@@ -1,6 +1,6 @@
 use Rattle.std.proofs.Common.{◌+◌, ◌∙◌, arith, get_or}
 use Rattle.rkyv_table.proofs.Marks.{place_full}
-use Rattle.rkyv_table.proofs.WholeStride.{whole_empty, whole_found, whole_shown}
+use Rattle.rkyv_table.proofs.WholeStride.{whole_found, whole_none, whole_shown}
 use Rattle.rkyv_table.proofs.controls.find.scan_whole.Goals as goal
 
 pub first_accepted-requires-clause-below : goal.first_accepted-requires-clause-below
@@ -27,18 +27,14 @@ returns-in-Some-clause-seen g c = λ controls e accept answers.
 
 pub returns-then-any_bit_set-clause-seen : goal.returns-then-any_bit_set-clause-seen
 returns-then-any_bit_set-clause-seen g c = λ controls e accept answers.
-    let m = whole_shown g.G.GroupKind.kind g.met.G.GroupKind.lawful c.args.tag c.args.pos c.args.cap c.args.stride.now (g.G.GroupKind.controls c.read-group.result) (g.G.Mask.Marks.places c.match_byte.result) c.requires.tag c.requires.one c.read-group.ensures c.match_byte.ensures in (
-      whole_found g.G.GroupKind.kind g.met.G.GroupKind.lawful controls (g.G.GroupKind.controls c.read-group.result) c.args.stride.now c.args.cap c.args.tag c.args.pos accept _ (g.G.Mask.Marks.places c.match_byte.result) c.requires.one c.read-group.ensures e c.match_byte.ensures
-          (c.in-None.ensures.first accept (λ b r marked told. answers b r (m b marked) told)),
-      whole_empty controls (g.G.GroupKind.controls c.read-group.result) c.args.stride.now c.args.pos g.G.GroupKind.kind.width c.any_bit_set.result (g.G.Mask.Marks.places c.match_empty.result) c.requires.one c.read-group.ensures e c.match_empty.ensures c.any_bit_set.ensures
-          ∙ c.if-any_bit_set.true,
-    )
+    let m = whole_shown g.G.GroupKind.kind g.met.G.GroupKind.lawful c.args.tag c.args.pos c.args.cap c.args.stride.now (g.G.GroupKind.controls c.read-group.result) (g.G.Mask.Marks.places c.match_byte.result) c.requires.tag c.requires.one c.read-group.ensures c.match_byte.ensures in
+    let s = whole_none g.G.GroupKind.kind g.met.G.GroupKind.lawful controls (g.G.GroupKind.controls c.read-group.result) c.args.stride.now c.args.cap c.args.tag c.args.pos accept c.any_bit_set.result (g.G.Mask.Marks.places c.match_byte.result) (g.G.Mask.Marks.places c.match_empty.result) c.requires.one c.read-group.ensures e
+    c.match_byte.ensures (c.in-None.ensures.first accept (λ b r marked told. answers b r (m b marked) told)) c.match_empty.ensures c.any_bit_set.ensures in
+    (s.0, s.1 ∙ c.if-any_bit_set.true)
 
 pub returns-else-any_bit_set-clause-seen : goal.returns-else-any_bit_set-clause-seen
 returns-else-any_bit_set-clause-seen g c = λ controls e accept answers.
-    let m = whole_shown g.G.GroupKind.kind g.met.G.GroupKind.lawful c.args.tag c.args.pos c.args.cap c.args.stride.now (g.G.GroupKind.controls c.read-group.result) (g.G.Mask.Marks.places c.match_byte.result) c.requires.tag c.requires.one c.read-group.ensures c.match_byte.ensures in (
-      whole_found g.G.GroupKind.kind g.met.G.GroupKind.lawful controls (g.G.GroupKind.controls c.read-group.result) c.args.stride.now c.args.cap c.args.tag c.args.pos accept _ (g.G.Mask.Marks.places c.match_byte.result) c.requires.one c.read-group.ensures e c.match_byte.ensures
-          (c.in-None.ensures.first accept (λ b r marked told. answers b r (m b marked) told)),
-      whole_empty controls (g.G.GroupKind.controls c.read-group.result) c.args.stride.now c.args.pos g.G.GroupKind.kind.width c.any_bit_set.result (g.G.Mask.Marks.places c.match_empty.result) c.requires.one c.read-group.ensures e c.match_empty.ensures c.any_bit_set.ensures
-          ∙ c.if-any_bit_set.false,
-    )
+    let m = whole_shown g.G.GroupKind.kind g.met.G.GroupKind.lawful c.args.tag c.args.pos c.args.cap c.args.stride.now (g.G.GroupKind.controls c.read-group.result) (g.G.Mask.Marks.places c.match_byte.result) c.requires.tag c.requires.one c.read-group.ensures c.match_byte.ensures in
+    let s = whole_none g.G.GroupKind.kind g.met.G.GroupKind.lawful controls (g.G.GroupKind.controls c.read-group.result) c.args.stride.now c.args.cap c.args.tag c.args.pos accept c.any_bit_set.result (g.G.Mask.Marks.places c.match_byte.result) (g.G.Mask.Marks.places c.match_empty.result) c.requires.one c.read-group.ensures e
+    c.match_byte.ensures (c.in-None.ensures.first accept (λ b r marked told. answers b r (m b marked) told)) c.match_empty.ensures c.any_bit_set.ensures in
+    (s.0, s.1 ∙ c.if-any_bit_set.false)

@@ -10,6 +10,7 @@ use Rattle.rkyv_table.proofs.Items.{controls_accepted}
 use Rattle.rkyv_table.proofs.RawSteps.{some_capacity, start_left}
 use Rattle.rkyv_table.proofs.RawWalks.{places_count, places_viewed, read_ahead, read_places, walk_count}
 use Rattle.rkyv_table.proofs.table.ArchivedHashTable.raw_iter.Goals as goal
+use Rattle.rkyv_table.proofs.table.ArchivedHashTable.raw_iter.Goals.{After-first_marks}
 
 pub first_marks-requires : goal.first_marks-requires
 first_marks-requires g c = λ some.
@@ -26,26 +27,39 @@ first_marks-requires g c = λ some.
     omega (arith, long, e)
 
 -- the buckets that are left are those that are walked
+module _ (g : _) (c : After-first_marks g) where
+  abbrev walked : List ℕ
+  walked = walk (table_controls g.W.Width.word (table_bytes c.of-items.result.table) (table_pos c.of-items.result.table)) (cap_at g.W.Width.word (table_bytes c.of-items.result.table) (table_pos c.of-items.result.table))
+
+  count : c.of-items.result.len ≡ length walked
+  count =
+      let are = c.of-items.ensures.items in
+      are.len ∙ sym (walk_count g.W.Width.word g.T.Element.shape g.met.T.Element.laws (table_bytes c.of-items.result.table) (table_pos c.of-items.result.table) are.table)
+
+  left : buckets_left c.of-items.result.len c.of-items.result.controls.now 0 (mask_places 8 7 8 c.first_marks.result.bits) ≡ walked
+  left =
+      let w = g.W.Width.word in
+      let items = c.of-items.result in
+      let are = c.of-items.ensures.items in
+      let b : List ℕ = table_bytes items.table in
+      let p : ℕ = table_pos items.table in
+      let cap = λ (some : 0 < items.len). some_capacity (table_controls w b p) (cap_at w b p) items.len count some in
+      let same = λ (some : 0 < items.len). are.controls (rw are.cap (cap some)) in
+      start_left items.controls.now (table_controls w b p) (cap_at w b p) items.len (mask_places 8 7 8 c.first_marks.result.bits) count same
+      (λ some. rw (same some) (let long = (controls_accepted w g.T.Element.shape g.met.T.Element.laws b p are.table (cap some)).repeats.count in omega (arith, long))) c.first_marks.ensures
+
 pub invariant_of-result : goal.invariant_of-result
 invariant_of-result g c =
-    let w = g.W.Width.word in
     let s = g.T.Element.shape in
     let items = c.of-items.result in
     let are = c.of-items.ensures.items in
-    let law = g.met.T.Element.laws in
-    let b : List ℕ = table_bytes items.table in
-    let p : ℕ = table_pos items.table in
-    let count : items.len ≡ length (walk (table_controls w b p) (cap_at w b p)) = are.len ∙ sym (walk_count w s law b p are.table) in
+    let after = (goal.at.invariant_of-result g c).After-first_marks in
     let marks : List ℕ = mask_places 8 7 8 c.first_marks.result.bits in
-    let cap = λ (some : 0 < items.len). some_capacity (table_controls w b p) (cap_at w b p) items.len count some in
-    let same = λ (some : 0 < items.len). are.controls (rw are.cap (cap some)) in
-    let left = start_left items.controls.now (table_controls w b p) (cap_at w b p) items.len marks count same
-    (λ some. rw (same some) (let long = (controls_accepted w s law b p are.table (cap some)).repeats.count in omega (arith, long))) c.first_marks.ensures in
-    let ahead = read_ahead w s law b p are.table items.place (λ h. are.place (rw are.cap h)) items.controls.now (λ h. are.controls (rw are.cap h)) in
+    let ahead = read_ahead g.W.Width.word s g.met.T.Element.laws (table_bytes items.table) (table_pos items.table) are.table items.place (λ h. are.place (rw are.cap h)) items.controls.now (λ h. are.controls (rw are.cap h)) in
     let z : items.place + 0 * s.size ≡ items.place = omega arith in
     record {
-      counted = count ∙ ap length (sym left);
-      ahead = rw (c.size.ensures, z) (All-same (IsAhead items.place s.size items.controls.now) (buckets_left items.len items.controls.now 0 marks) (walk (table_controls w b p) (cap_at w b p)) left ahead);
+      counted = count g after ∙ ap length (sym (left g after));
+      ahead = rw (c.size.ensures, z) (All-same (IsAhead items.place s.size items.controls.now) (buckets_left items.len items.controls.now 0 marks) (walked g after) (left g after) ahead);
     }
 
 pub returns-clause-places : goal.returns-clause-places
@@ -54,20 +68,13 @@ returns-clause-places g c =
     let s = g.T.Element.shape in
     let items = c.of-items.result in
     let are = c.of-items.ensures.items in
-    let law = g.met.T.Element.laws in
-    let b : List ℕ = table_bytes items.table in
-    let p : ℕ = table_pos items.table in
-    let count : items.len ≡ length (walk (table_controls w b p) (cap_at w b p)) = are.len ∙ sym (walk_count w s law b p are.table) in
+    let after = (goal.at.returns-clause-places g c).After-first_marks in
     let marks : List ℕ = mask_places 8 7 8 c.first_marks.result.bits in
-    let cap = λ (some : 0 < items.len). some_capacity (table_controls w b p) (cap_at w b p) items.len count some in
-    let same = λ (some : 0 < items.len). are.controls (rw are.cap (cap some)) in
-    let left = start_left items.controls.now (table_controls w b p) (cap_at w b p) items.len marks count same
-    (λ some. rw (same some) (let long = (controls_accepted w s law b p are.table (cap some)).repeats.count in omega (arith, long))) c.first_marks.ensures in
     let z : items.place + 0 * s.size ≡ items.place = omega arith in
     ap (λ n. places_left items.place n items.len items.controls.now 0 marks) c.size.ensures
     ∙ ap (λ q. map (pos_before q s.size) (buckets_left items.len items.controls.now 0 marks)) z
-    ∙ ap (map (pos_before items.place s.size)) left
-    ∙ read_places w s law b p items.place (λ h. are.place (rw are.cap h))
+    ∙ ap (map (pos_before items.place s.size)) (left g after)
+    ∙ read_places w s g.met.T.Element.laws (table_bytes items.table) (table_pos items.table) items.place (λ h. are.place (rw are.cap h))
     ∙ ap (λ t. item_positions w s.size (table_bytes t) (table_pos t)) c.of-items.ensures.table
 
 pub returns-clause-count : goal.returns-clause-count

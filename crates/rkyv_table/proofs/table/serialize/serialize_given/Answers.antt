@@ -1,8 +1,6 @@
-use Rattle.std.proofs.Common.{arith, refl, ◌<◌, ◌^◌}
-use mir.Val.{bits}
+use Rattle.std.proofs.Common.{arith, refl}
 use Rattle.rkyv_base.specs.Pairs.{written_as}
 use Rattle.rkyv_table.proofs.Given.{capacity_fits, gave_up_some, wrote_none, wrote_some}
-use Rattle.rkyv_table.specs.Controls.Numbers.{capacity}
 use Rattle.rkyv_table.specs.Table.Serializing.{HasCapacity}
 use Rattle.rkyv_table.proofs.table.serialize.serialize_given.Goals as goal
 

@@ -1,10 +1,10 @@
-use Rattle.std.proofs.Common.{◌≡◌, ◌∙◌, ◌+◌, ◌≤◌, List, ap, arith, drop, ℕ, sym}
+use Rattle.std.proofs.Common.{◌≡◌, ◌∙◌, ◌+◌, ◌≤◌, ◌∷◌, List, ap, arith, drop, ℕ, sym}
 use Rattle.rkyv_table.specs.Controls.Walking.{full_from}
-use Rattle.rkyv_table.proofs.ItemSteps.{below_head, below_rest, fewer, goes_end, goes_fails, goes_init, goes_same, goes_small, goes_step, marks_and_rest, marks_below, rest_group, rest_head, rest_none}
+use Rattle.rkyv_table.proofs.ItemSteps.{Goes, below_head, below_rest, fewer, goes_end, goes_fails, goes_init, goes_same, goes_small, goes_step, marks_and_rest, marks_below, rest_group, rest_head, rest_none}
 use Rattle.rkyv_table.proofs.Search.{width_some}
 use Rattle.rkyv_table.proofs.SealedItems.{full_end, full_skipped, full_taken}
 use Rattle.rkyv_table.proofs.table.verify.check_items.Goals as goal
-use Rattle.rkyv_table.proofs.table.verify.check_items.Goals.{then-controls-bucket-lt128+in-Ok-check_item, else-controls-bucket-lt128}
+use Rattle.rkyv_table.proofs.table.verify.check_items.Goals.{In-Some, then-controls-bucket-lt128+in-Ok-check_item, else-controls-bucket-lt128}
 
 pub loop-base-init : goal.loop-base-init
 loop-base-init g c = record {
@@ -29,6 +29,15 @@ loop-j-init g c =
           (rest_group c.args.controls.now shows c.args.cap b w marks inside c.read.ensures c.match_full-marks.ensures) c.loop-base.invariant.goes;
     }
 
+-- a marked bucket
+module _ (g : _) (c : In-Some g) where
+  abbrev rest : List ℕ
+  rest = marks_and_rest c.args.controls.now c.args.cap c.loop-base.base g.G.GroupKind.kind.width (drop 1 (g.G.Mask.Marks.places c.loop-j.marks))
+
+  here : Goes g.T.Element.shape c.args.begin c.args.cap c.args.bytes.now c.args.controls.now c.args.lo ((c.loop-base.base + c.in-Some.j) ∷ rest) c.loop-j.low c.loop-j.count
+  here = goes_same g.T.Element.shape c.args.begin c.args.cap c.args.bytes.now c.args.controls.now c.args.lo _ _ c.loop-j.low c.loop-j.count
+      (rest_head c.args.controls.now c.args.cap c.loop-base.base g.G.GroupKind.kind.width c.in-Some.j (g.G.Mask.Marks.places c.loop-j.marks) c.in-Some.ensures) c.loop-j.invariant.goes
+
 pub overflow_add-base : goal.overflow_add-base
 overflow_add-base g c =
     let l = below_head g.G.GroupKind.kind.width c.in-Some.j (g.G.Mask.Marks.places c.loop-j.marks) c.loop-j.invariant.below c.in-Some.ensures in
@@ -44,36 +53,21 @@ check_item-requires-clause-bucket g c =
 
 pub returns-in-Err-clause-fails : goal.returns-in-Err-clause-fails
 returns-in-Err-clause-fails g c =
-    let w = g.G.GroupKind.kind.width in
-    let b = c.loop-base.base in
-    let marks : List ℕ = g.G.Mask.Marks.places c.loop-j.marks in
-    let rest : List ℕ = marks_and_rest c.args.controls.now c.args.cap b w (drop 1 marks) in
-    let here = goes_same g.T.Element.shape c.args.begin c.args.cap c.args.bytes.now c.args.controls.now c.args.lo _ _ c.loop-j.low c.loop-j.count
-    (rest_head c.args.controls.now c.args.cap b w c.in-Some.j marks c.in-Some.ensures) c.loop-j.invariant.goes in
-    goes_fails g.T.Element.shape c.args.begin c.args.cap c.args.bytes.now c.args.controls.now c.args.lo (b + c.in-Some.j) rest c.loop-j.low c.loop-j.count c.in-Err.e here c.in-Err.ensures
+    let arm = (goal.at.returns-in-Err-clause-fails g c).In-Some in
+    goes_fails g.T.Element.shape c.args.begin c.args.cap c.args.bytes.now c.args.controls.now c.args.lo (c.loop-base.base + c.in-Some.j) (rest g arm) c.loop-j.low c.loop-j.count c.in-Err.e (here g arm) c.in-Err.ensures
 
 pub overflow_add-count : goal.overflow_add-count
 overflow_add-count g c =
-    let w = g.G.GroupKind.kind.width in
-    let b = c.loop-base.base in
-    let marks : List ℕ = g.G.Mask.Marks.places c.loop-j.marks in
-    let rest : List ℕ = marks_and_rest c.args.controls.now c.args.cap b w (drop 1 marks) in
-    let here = goes_same g.T.Element.shape c.args.begin c.args.cap c.args.bytes.now c.args.controls.now c.args.lo _ _ c.loop-j.low c.loop-j.count
-    (rest_head c.args.controls.now c.args.cap b w c.in-Some.j marks c.in-Some.ensures) c.loop-j.invariant.goes in
-    let small = goes_small g.T.Element.shape c.args.begin c.args.cap c.args.bytes.now c.args.controls.now c.args.lo (b + c.in-Some.j) rest c.loop-j.low c.loop-j.count here in
+    let arm = (goal.at.overflow_add-count g c).In-Some in
+    let small = goes_small g.T.Element.shape c.args.begin c.args.cap c.args.bytes.now c.args.controls.now c.args.lo (c.loop-base.base + c.in-Some.j) (rest g arm) c.loop-j.low c.loop-j.count (here g arm) in
     let r = c.ranges.cap.fits in
     record { fits = omega arith }
 
 pub loop-j-preserved : goal.loop-j-preserved
 loop-j-preserved g c =
-    let w = g.G.GroupKind.kind.width in
-    let b = c.loop-base.base in
-    let marks : List ℕ = g.G.Mask.Marks.places c.loop-j.marks in
-    let rest : List ℕ = marks_and_rest c.args.controls.now c.args.cap b w (drop 1 marks) in
-    let here = goes_same g.T.Element.shape c.args.begin c.args.cap c.args.bytes.now c.args.controls.now c.args.lo _ _ c.loop-j.low c.loop-j.count
-    (rest_head c.args.controls.now c.args.cap b w c.in-Some.j marks c.in-Some.ensures) c.loop-j.invariant.goes in
-    let step = goes_step g.T.Element.shape c.args.begin c.args.cap c.args.bytes.now c.args.controls.now c.args.lo (b + c.in-Some.j) rest c.loop-j.low c.loop-j.count c.in-Ok.rest here c.in-Ok.ensures.1 c.in-Ok.ensures.2 in
-    rw c.remove_lowest_bit-marks.ensures (record { inside = c.loop-j.invariant.inside; below = below_rest w marks c.loop-j.invariant.below; goes = step })
+    let arm = (goal.at.loop-j-preserved g c).In-Some in
+    let step = goes_step g.T.Element.shape c.args.begin c.args.cap c.args.bytes.now c.args.controls.now c.args.lo (c.loop-base.base + c.in-Some.j) (rest g arm) c.loop-j.low c.loop-j.count c.in-Ok.rest (here g arm) c.in-Ok.ensures.1 c.in-Ok.ensures.2 in
+    rw c.remove_lowest_bit-marks.ensures (record { inside = c.loop-j.invariant.inside; below = below_rest g.G.GroupKind.kind.width (g.G.Mask.Marks.places c.loop-j.marks) c.loop-j.invariant.below; goes = step })
 
 pub loop-j-smaller : goal.loop-j-smaller
 loop-j-smaller g c = rw c.remove_lowest_bit-marks.ensures (fewer (g.G.Mask.Marks.places c.loop-j.marks) c.in-Some.j c.in-Some.ensures)

@@ -18,12 +18,10 @@ returns-in-Err g c =
 
 pub returns-in-Err-check_part : goal.returns-in-Err-check_part
 returns-in-Err-check_part g c =
-    let w = g.W.Width.word in
     let s = g.T.Element.shape in
     let b = c.args.bytes.now in
     let h = c.read_header-header.ensures in
-    let fits : FitsSigned w128 c.begin_told-told.result = search rules in
-    let told = begin_is w s.size b c.args.pos c.read_header-header.result.distance c.begin_told-told.result c.read_header-header.result.cap c.size-size.result fits
+    let told = begin_is g.W.Width.word s.size b c.args.pos c.read_header-header.result.distance c.begin_told-told.result c.read_header-header.result.cap c.size-size.result (search rules)
     h.distance h.cap c.size-size.ensures c.begin_told-told.ensures in
     let part = rw (c.part_size.ensures, c.size-size.ensures, c.align-align.ensures) at c.in-Ok.ensures in
     fails_of_numbers s b told h.cap h.len (inr (inr (c.if-len-cap.false, c.in-Ok.begin, part, c.in-Err-check_part.ensures.fails)))

@@ -5,61 +5,37 @@ use Rattle.rkyv_table.proofs.table.items.Items.find.Goals as goal
 
 pub find_from-bucket-requires : goal.find_from-bucket-requires
 find_from-bucket-requires g c κs =
-    let w = g.W.Width.word in
-    let s = g.T.Element.shape in
-    let items = c.args.self in
     let are = c.requires.items in
-    let law = g.met.T.Element.laws in
     record {
-      accepted = read_accepted w s law items are;
+      accepted = read_accepted g.W.Width.word g.T.Element.shape g.met.T.Element.laws c.args.self are;
       start = c.requires.start;
       room = c.requires.room;
-      callable = λ b full. ((refl, tt), (are, (read_walked w s law items are b full, c.requires.callable)));
+      callable = λ b full. ((refl, tt), (are, (read_walked g.W.Width.word g.T.Element.shape g.met.T.Element.laws c.args.self are b full, c.requires.callable)));
     }
 
 pub returns-in-Some-clause-answer : goal.returns-in-Some-clause-answer
 returns-in-Some-clause-answer g c = λ accept alone.
-    let w = g.W.Width.word in
-    let s = g.T.Element.shape in
-    let items = c.args.self in
-    let are = c.requires.items in
-    let at : ℕ → ℕ = item_at w s.size (table_bytes items.table) (table_pos items.table) in
-    let h = c.in-Some.ensures.answer (λ i. accept (at i)) (λ b r full e. alone e.0 r (b, e.1) e.2 ∙ ap accept e.1.place) in
-    let f = read_found w s g.met.T.Element.laws items are g.G.GroupKind.kind c.args.hash (λ i. accept (at i)) in
-    h ∙ f
+    let at = λ (i : ℕ). accept (item_at g.W.Width.word g.T.Element.shape.size (table_bytes c.args.self.table) (table_pos c.args.self.table) i) in
+    c.in-Some.ensures.answer at (λ b r full e. alone e.0 r (b, e.1) e.2 ∙ ap accept e.1.place)
+    ∙ read_found g.W.Width.word g.T.Element.shape g.met.T.Element.laws c.args.self c.requires.items g.G.GroupKind.kind c.args.hash at
 
 pub returns-in-Some-clause-counted : goal.returns-in-Some-clause-counted
 returns-in-Some-clause-counted g c = λ accept alone.
-    let w = g.W.Width.word in
-    let s = g.T.Element.shape in
-    let items = c.args.self in
-    let are = c.requires.items in
-    let at : ℕ → ℕ = item_at w s.size (table_bytes items.table) (table_pos items.table) in
-    let h = c.in-Some.ensures.counted (λ i. accept (at i)) (λ b r full e. alone e.0 r (b, e.1) e.2 ∙ ap accept e.1.place) in
-    let f = read_end w s g.met.T.Element.laws items are g.G.GroupKind.kind c.args.hash (λ i. accept (at i)) in
-    h ∙ ap (λ n. c.args.strides.now + n) f
+    let at = λ (i : ℕ). accept (item_at g.W.Width.word g.T.Element.shape.size (table_bytes c.args.self.table) (table_pos c.args.self.table) i) in
+    c.in-Some.ensures.counted at (λ b r full e. alone e.0 r (b, e.1) e.2 ∙ ap accept e.1.place)
+    ∙ ap (λ n. c.args.strides.now + n) (read_end g.W.Width.word g.T.Element.shape g.met.T.Element.laws c.args.self c.requires.items g.G.GroupKind.kind c.args.hash at)
 
 pub returns-clause-answer : goal.returns-clause-answer
 returns-clause-answer g c = λ accept alone.
-    let w = g.W.Width.word in
-    let s = g.T.Element.shape in
-    let items = c.args.self in
-    let are = c.requires.items in
-    let at : ℕ → ℕ = item_at w s.size (table_bytes items.table) (table_pos items.table) in
-    let h = c.in-None.ensures.answer (λ i. accept (at i)) (λ b r full e. alone e.0 r (b, e.1) e.2 ∙ ap accept e.1.place) in
-    let f = read_found w s g.met.T.Element.laws items are g.G.GroupKind.kind c.args.hash (λ i. accept (at i)) in
-    h ∙ f
+    let at = λ (i : ℕ). accept (item_at g.W.Width.word g.T.Element.shape.size (table_bytes c.args.self.table) (table_pos c.args.self.table) i) in
+    c.in-None.ensures.answer at (λ b r full e. alone e.0 r (b, e.1) e.2 ∙ ap accept e.1.place)
+    ∙ read_found g.W.Width.word g.T.Element.shape g.met.T.Element.laws c.args.self c.requires.items g.G.GroupKind.kind c.args.hash at
 
 pub returns-clause-counted : goal.returns-clause-counted
 returns-clause-counted g c = λ accept alone.
-    let w = g.W.Width.word in
-    let s = g.T.Element.shape in
-    let items = c.args.self in
-    let are = c.requires.items in
-    let at : ℕ → ℕ = item_at w s.size (table_bytes items.table) (table_pos items.table) in
-    let h = c.in-None.ensures.counted (λ i. accept (at i)) (λ b r full e. alone e.0 r (b, e.1) e.2 ∙ ap accept e.1.place) in
-    let f = read_end w s g.met.T.Element.laws items are g.G.GroupKind.kind c.args.hash (λ i. accept (at i)) in
-    h ∙ ap (λ n. c.args.strides.now + n) f
+    let at = λ (i : ℕ). accept (item_at g.W.Width.word g.T.Element.shape.size (table_bytes c.args.self.table) (table_pos c.args.self.table) i) in
+    c.in-None.ensures.counted at (λ b r full e. alone e.0 r (b, e.1) e.2 ∙ ap accept e.1.place)
+    ∙ ap (λ n. c.args.strides.now + n) (read_end g.W.Width.word g.T.Element.shape g.met.T.Element.laws c.args.self c.requires.items g.G.GroupKind.kind c.args.hash at)
 
 pub returns-in-Some-clause-accepted : goal.returns-in-Some-clause-accepted
 returns-in-Some-clause-accepted g c =
