@@ -34,6 +34,15 @@ module _ (w : Width) (k v : Shape) (kl : IsElement k) (vl : IsElement v) (b : Li
         kept = λ c sealed keeps. value_kept w k v kl vl b p at.0 view at.1 c sealed keeps;
       }
 
+  -- the pair whose key was found
+  pub found_place : (found : Option ℕ) (q : ℕ) → found ≡ Some q → IfSome found (IsKeyPosAt w k v b p) → (i : ℕ) × IsPairPos w k v b p i q
+  found_place found q is walked =
+      let at = subst (λ (o : Option ℕ). IfSome o (IsKeyPosAt w k v b p)) is walked in
+      (at.0, pair_place q at)
+
+  pub found_entry : (found : Option ℕ) (q : ℕ) → found ≡ Some q → IfSome found (IsKeyPosAt w k v b p) → Viewed (entry_shape k v) b q
+  found_entry found q is walked = entry_viewed q (subst (λ (o : Option ℕ). IfSome o (IsKeyPosAt w k v b p)) is walked)
+
   -- a value behind a key lies in the bytes
   pub value_inside : (pos : Option ℕ) → IfSome pos (λ q. (key : ℕ) × IsKeyPosAt w k v b p key × (q ≡ value_pos k v key)) → IfSome pos (λ q. q + v.size ≤ length b)
   value_inside None h = tt

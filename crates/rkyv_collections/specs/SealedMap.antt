@@ -66,11 +66,6 @@ module _ {K V H W : Type 0} (w : Width) (k v : Shape) (a : ArchiveSeal (HashMapO
   abbrev pub FindsKeyIn : ℕ → (ℕ → Bool) → (Option ℕ → Type 0) → Type 0
   FindsKeyIn hash accept Told = FindsKeyAt w k v (archive_in a) (pos_in a) hash accept Told
 
-  -- what is told is told of the first accepted key that was handed in, where the map was written
-  abbrev pub FindsFirstKeyIn : (List ℕ → ℕ → ℕ) → (ℕ → Bool) → (Option ℕ → Type 0) → Type 0
-  FindsFirstKeyIn key_hash accept Told =
-      FindsFirstKeyAt w k v (archive_in a) (pos_in a) key_hash accept Told
-
   -- what is told of what a lookup by a comparison finds
   abbrev pub FindsByIn : (View K → Bool → Type 0) → ℕ → (Option ℕ → Type 0) → Type 0
   FindsByIn post hash Told = FindsByAt w k v (archive_in a) (pos_in a) post hash Told
@@ -80,6 +75,11 @@ module _ {K V H W : Type 0} (w : Width) (k v : Shape) (a : ArchiveSeal (HashMapO
       → Type 0
   FindsFirstByIn post hash key_hash Told =
       FindsFirstByAt w k v (archive_in a) (pos_in a) post hash key_hash Told
+
+  -- what is told is told of the first accepted key that was handed in, where the map was written
+  abbrev pub FindsFirstKeyIn : (List ℕ → ℕ → ℕ) → (ℕ → Bool) → (Option ℕ → Type 0) → Type 0
+  FindsFirstKeyIn key_hash accept Told =
+      FindsFirstKeyAt w k v (archive_in a) (pos_in a) key_hash accept Told
 
 -- The key of the pair in bucket i of the map at p stands at q, and the value behind it. Every write
 -- of the value alone that

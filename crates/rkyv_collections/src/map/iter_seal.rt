@@ -6,32 +6,16 @@ ghost use Rattle.rkyv_base.specs.Seal.{LiesIn, archive_in, bytes_in, seal_pos, p
 ghost use Rattle.rkyv_base.specs.Sealing.{value_pos, with_value};
 ghost use Rattle.rkyv_base.specs.Shape.{Viewed};
 ghost use Rattle.rkyv_base.specs.View.{IsView, bytes_of, pos_of};
-ghost use Rattle.rkyv_table.specs.Table.SealedItems.{
-  CountsDown,
-  LendsArchive,
-  SameArchive,
-  StaysThere,
-  WrittenBy,
-  cursor_bytes,
-  items_left,
-};
+ghost use Rattle.rkyv_table.specs.Table.SealedItems.{CountsDown, LendsArchive, SameArchive};
+ghost use Rattle.rkyv_table.specs.Table.SealedItems.{StaysThere, WrittenBy, cursor_bytes};
+ghost use Rattle.rkyv_table.specs.Table.SealedItems.{items_left};
 ghost use Rattle.rkyv_collections.specs.Map.{map_shape};
 ghost use Rattle.rkyv_collections.specs.SealedMap.{IsMapSeal};
-ghost use Rattle.rkyv_collections.specs.SealedPairs.{
-  HasAllPairs,
-  KeepsPairs,
-  KeepsValues,
-  LendsFirstPair,
-  LendsFirstValue,
-  MayWritePair,
-  MayWriteValue,
-  StepsAndWritesPair,
-  StepsAndWritesValue,
-  TakesKeyPos,
-  TakesValuePos,
-  entries_in,
-  entries_of,
-};
+ghost use Rattle.rkyv_collections.specs.SealedPairs.{HasAllPairs, KeepsPairs, KeepsValues};
+ghost use Rattle.rkyv_collections.specs.SealedPairs.{LendsFirstPair, LendsFirstValue, MayWritePair};
+ghost use Rattle.rkyv_collections.specs.SealedPairs.{MayWriteValue, StepsAndWritesPair};
+ghost use Rattle.rkyv_collections.specs.SealedPairs.{StepsAndWritesValue, TakesKeyPos};
+ghost use Rattle.rkyv_collections.specs.SealedPairs.{TakesValuePos, entries_in, entries_of};
 
 use crate::map::{ArchivedHashMap, HashMapOf};
 use rkyv_base::element::{Element, PartRange};

@@ -3,23 +3,10 @@ ghost use Rattle.std.specs.Prelude.{IfSome, IsSome, Some, ◌<◌, ◌^◌, ◌�
 ghost use Rattle.rkyv_base.specs.Entry.{entry_shape};
 ghost use Rattle.rkyv_base.specs.View.{IsAt, IsView, archive_of, pos_of};
 ghost use Rattle.rkyv_base.specs.declared.view.View.{View};
-ghost use Rattle.rkyv_collections.specs.Map.{
-  FindsBy,
-  FindsFirstBy,
-  FindsFirstKey,
-  FindsKey,
-  IsEntryAt,
-  IsEntryIn,
-  IsFoundAt,
-  IsMap,
-  IsPairAt,
-  IsPairIn,
-  IsValueAt,
-  IsValueIn,
-  MayAskKeys,
-  hash_at,
-  map_bytes,
-};
+ghost use Rattle.rkyv_collections.specs.Map.{FindsBy, FindsFirstBy, FindsFirstKey, FindsKey};
+ghost use Rattle.rkyv_collections.specs.Map.{IsEntryAt, IsEntryIn, IsFoundAt, IsMap, IsPairAt};
+ghost use Rattle.rkyv_collections.specs.Map.{IsPairIn, IsValueAt, IsValueIn, MayAskKeys, hash_at};
+ghost use Rattle.rkyv_collections.specs.Map.{map_bytes};
 ghost use Rattle.rkyv_collections.specs.MapFormat.{hash_of};
 ghost use Rattle.rkyv_collections.specs.Misplaced.{FindsOneKey};
 

@@ -2,14 +2,8 @@
 ghost use Rattle.std.specs.Prelude.{IfSome, ◌≡◌};
 ghost use Rattle.rkyv_collections.specs.Map.{IsEntryAt, IsFoundAt, hash_at};
 ghost use Rattle.rkyv_collections.specs.MapFormat.{hash_of};
-ghost use Rattle.rkyv_collections.specs.Set.{
-  FindsFirstMember,
-  FindsMember,
-  FindsOneMember,
-  IsMemberIn,
-  IsSet,
-  set_bytes,
-};
+ghost use Rattle.rkyv_collections.specs.Set.{FindsFirstMember, FindsMember, FindsOneMember};
+ghost use Rattle.rkyv_collections.specs.Set.{IsMemberIn, IsSet, set_bytes};
 ghost use Rattle.rkyv_collections.specs.SetFinder.{IsSetFinder, set_of};
 
 use crate::map::finder::MapFinder;

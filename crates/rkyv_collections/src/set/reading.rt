@@ -8,19 +8,9 @@ ghost use Rattle.rkyv_table.specs.Table.RawItems.{AllStand};
 ghost use Rattle.rkyv_table.specs.Lemmas.TableLaws.{table_element};
 ghost use Rattle.rkyv_collections.specs.Map.{IsEntryAt, IsFoundAt, hash_at};
 ghost use Rattle.rkyv_collections.specs.MapFormat.{hash_of};
-ghost use Rattle.rkyv_collections.specs.Set.{
-  FindsFirstMember,
-  FindsMember,
-  FindsOneMember,
-  IsMemberIn,
-  IsSet,
-  IsSetAt,
-  member_positions,
-  set_archive,
-  set_bytes,
-  set_len,
-  set_shape,
-};
+ghost use Rattle.rkyv_collections.specs.Set.{FindsFirstMember, FindsMember, FindsOneMember};
+ghost use Rattle.rkyv_collections.specs.Set.{IsMemberIn, IsSet, IsSetAt, member_positions};
+ghost use Rattle.rkyv_collections.specs.Set.{set_archive, set_bytes, set_len, set_shape};
 
 use crate::map::iter::Keys;
 use crate::map::{ArchivedHashMap, HashMapOf};
