@@ -1,5 +1,5 @@
 -- The parts of an index map, one after the other.
-use Rattle.std.proofs.Common.{◌≡◌, ℕ, suc, ◌+◌, refl, sym, ap, ◌∙◌, subst, arith, ◌≤◌, List, [], ◌∷◌, ◌++◌, length, append-nil, length-append, inl, inr}
+use Rattle.std.proofs.Common.{◌≡◌, ℕ, suc, ◌+◌, refl, sym, ap, ◌∙◌, subst, arith, ◌≤◌, List, [], ◌∷◌, ◌++◌, length, append-nil, length-append, inl, inr, Result, Ok, Err, MatchResult}
 use Rattle.std.specs.Int.{Width}
 use Rattle.std.specs.Iterator.{Drains, Yields, YieldsFirst}
 use Rattle.rkyv_base.specs.declared.errors.WriteError.{WriteError}
@@ -11,7 +11,7 @@ use Rattle.rkyv_base.proofs.GivingUp.{appends_after, end-appends, grows, told_af
 use Rattle.rkyv_table.specs.Table.Counting.{GaveOther}
 use Rattle.rkyv_table.specs.Table.Serializing.{NoItems, WroteItems}
 use Rattle.rkyv_table.specs.Table.TableFormat.{PairsNext, TableResolver, table_format}
-use Rattle.rkyv_index.specs.Handing.{NoOther, OwnOrGaveUp}
+use Rattle.rkyv_index.specs.Handing.{NoOther, OwnOrGaveUp, WritesPlaces}
 use Rattle.rkyv_index.specs.IndexFormat.{BeforeRow, BeforeZeros, IndexNext, places_from, row_format}
 use Rattle.rkyv_index.specs.Row.{RowNext, RowParts, RowPartsNext, WroteRow}
 use Rattle.rkyv_table.proofs.Through.{own_counted}
@@ -40,100 +40,114 @@ pub places_count : {X P : Type 0} (hash : X → ℕ) (place : ℕ → P) (i : �
 places_count hash place i [] = refl
 places_count hash place i (x ∷ xs) = ap suc (places_count hash place (i + 1) xs)
 
-module _ (F : Type 0) {P X R : Type 0} (w : Width) (e : Encoding P) (s : Shape) (f : Format X R) (hash : X → ℕ) (factor : ℕ × ℕ) (limit : ℕ) (xs : List X) (o : Output) where
-  abbrev Next : List ℕ → Step → Type 0
-  Next = IndexNext w e s f hash factor xs (end_of o)
-
-  abbrev Stopped : Output → WriteError F → Type 0
-  Stopped o' err = Told limit Next o o' err
-
+module _ (F : Type 0) {P X : Type 0} (w : Width) (e : Encoding P) (hash : X → ℕ) (factor : ℕ × ℕ) (limit : ℕ) (xs : List X) (o : Output) where
   abbrev Places : List (ℕ × P)
   Places = places_from hash e.value 0 xs
 
   abbrev TableOf : Format (List (ℕ × P)) TableResolver
   TableOf = table_format w (scalar_shape e) (scalar_format e) factor
 
-  stopped_table : (o1 : Output) (err : WriteError F) → GaveUp limit TableOf Places o o1 err → Stopped o1 err
-  stopped_table o1 err t =
-      told_as limit Next (PairsNext w (scalar_shape e) (scalar_format e) factor Places (end_of o)) o o1 err (λ g step h. inl h) t
-
   module _ {S : Type 0} (rest : S → List (ℕ × P)) (state : S) (there : rest state ≡ Places) (max : ℕ) (o1 : Output) where
     abbrev Gave : List (ℕ × P) → Type 0
     Gave = Drains (YieldsFirst rest) state
 
-    pub wrote_places : (r : TableResolver) → WroteItems Gave (length xs) factor max TableOf o o1 limit r → Serialized limit TableOf Places o o1 r
+    wrote_places : (r : TableResolver) → WroteItems Gave (length xs) factor max TableOf o o1 limit r → Serialized limit TableOf Places o o1 r
     wrote_places r h = subst (λ ps. Serialized limit TableOf ps o o1 r) (drained rest h.1 state h.2.0 ∙ there) h.3
 
-    pub no_places : (err : WriteError F) → NoItems Gave (length xs) factor max TableOf o o1 limit (GaveOther (YieldsFirst rest) (length xs) state) err
-        → OwnOrGaveUp (length xs) factor max NoOther limit (row_format w e s f hash factor) xs o o1 err
+    no_places : (err : WriteError F) → NoItems Gave (length xs) factor max TableOf o o1 limit (GaveOther (YieldsFirst rest) (length xs) state) err
+        → OwnOrGaveUp (length xs) factor max NoOther limit TableOf Places o o1 err
     no_places err (inl h) =
         let n : length (rest state) ≡ length xs = ap length there ∙ places_count hash e.value 0 xs in
         inl (own_counted (length xs) factor max (GaveOther (YieldsFirst rest) (length xs) state) NoOther (λ k g. no_other_drained rest (length xs) state n k g) err h.0, h.1)
-    no_places err (inr h) = inr (stopped_table o1 err (subst (λ ps. GaveUp limit TableOf ps o o1 err) (drained rest h.1 state h.2.0 ∙ there) h.3))
+    no_places err (inr h) = inr (subst (λ ps. GaveUp limit TableOf ps o o1 err) (drained rest h.1 state h.2.0 ∙ there) h.3)
 
-  module _ (o1 : Output) (t : TableResolver) (wrote : Serialized limit TableOf Places o o1 t) where
-    abbrev table : List ℕ
-    table = wrote.0
+    -- what the table's call answers is what writing the places does
+    pub answers_places : (result : Result TableResolver (WriteError F))
+        → MatchResult result (WroteItems Gave (length xs) factor max TableOf o o1 limit) (NoItems Gave (length xs) factor max TableOf o o1 limit (GaveOther (YieldsFirst rest) (length xs) state))
+        → WritesPlaces w e hash factor max limit xs o o1 result
+    answers_places (Ok r) h = wrote_places r h
+    answers_places (Err err) h = no_places err h
 
-    at1 : end_of o1 ≡ end_of o + length table
-    at1 = end-appends o o1 table wrote.1
+  module _ {R : Type 0} (s : Shape) (f : Format X R) where
+    abbrev Next : List ℕ → Step → Type 0
+    Next = IndexNext w e s f hash factor xs (end_of o)
 
-    pub stopped_parts : (o2 : Output) (err : WriteError F) → Told limit (RowPartsNext f xs (end_of o1)) o1 o2 err → Stopped o2 err
-    stopped_parts o2 err h =
-        told_after limit Next (RowPartsNext f xs (end_of o1)) o o1 o2 table err wrote.1 wrote.3
-        (λ g step n. inr (inl (table, t, g, wrote.2, subst (λ k. RowPartsNext f xs k g step) at1 n, refl)))
-        h
+    abbrev Stopped : Output → WriteError F → Type 0
+    Stopped o' err = Told limit Next o o' err
 
-    module _ (o2 : Output) (row : List ℕ) (rs : List R) (b : Appends o1 o2 row) (parts : RowParts f xs (end_of o1) row rs) (inside : Within limit o2 row) where
-      abbrev head : List ℕ
-      head = table ++ row
+    stopped_table : (o1 : Output) (err : WriteError F) → GaveUp limit TableOf Places o o1 err → Stopped o1 err
+    stopped_table o1 err t =
+        told_as limit Next (PairsNext w (scalar_shape e) (scalar_format e) factor Places (end_of o)) o o1 err (λ g step h. inl h) t
 
-      whole2 : Appends o o2 head
-      whole2 = appends_after o o1 o2 table row wrote.1 b
+    -- where the places weren't written, the values weren't
+    pub stopped_places : (max : ℕ) (o1 : Output) (err : WriteError F) → OwnOrGaveUp (length xs) factor max NoOther limit TableOf Places o o1 err
+        → OwnOrGaveUp (length xs) factor max NoOther limit (row_format w e s f hash factor) xs o o1 err
+    stopped_places max o1 err (inl h) = inl h
+    stopped_places max o1 err (inr h) = inr (stopped_table o1 err h)
 
-      within2 : Within limit o2 head
-      within2 = within_after limit o1 o2 table row (grows o1 o2 row b) wrote.3 inside
+    module _ (o1 : Output) (t : TableResolver) (wrote : Serialized limit TableOf Places o o1 t) where
+      abbrev table : List ℕ
+      table = wrote.0
 
-      before : BeforeZeros w e s f hash factor xs (end_of o) head t rs
-      before = record { table = table; row = row; made = wrote.2; parts = subst (λ k. RowParts f xs k row rs) at1 parts; is = refl }
+      at1 : end_of o1 ≡ end_of o + length table
+      at1 = end-appends o o1 table wrote.1
 
-      abbrev pad : List ℕ
-      pad = zeros (padding s.align (end_of o2))
-
-      same_zeros : pad ≡ zeros (padding s.align (end_of o + length head))
-      same_zeros = ap (λ (n : ℕ). zeros (padding s.align n)) (end-appends o o2 head whole2)
-
-      pub stopped_zeros : (o3 : Output) (err : WriteError F) → Told limit (Only (piece pad)) o2 o3 err → Stopped o3 err
-      stopped_zeros o3 err h =
-          told_after limit Next (Only (piece pad)) o o2 o3 head err whole2 within2
-          (λ g step n.
-          let k : head ++ g ≡ head = ap (λ (y : List ℕ). head ++ y) n.0 ∙ append-nil head in
-          rw k (inr (inr (inl (t, rs, before, n.1 ∙ ap piece same_zeros)))))
+      pub stopped_parts : (o2 : Output) (err : WriteError F) → Told limit (RowPartsNext f xs (end_of o1)) o1 o2 err → Stopped o2 err
+      stopped_parts o2 err h =
+          told_after limit Next (RowPartsNext f xs (end_of o1)) o o1 o2 table err wrote.1 wrote.3
+          (λ g step n. inr (inl (table, t, g, wrote.2, subst (λ k. RowPartsNext f xs k g step) at1 n, refl)))
           h
 
-      module _ (o3 : Output) (z : Appends o2 o3 pad) (low : end_of o3 ≤ limit) where
-        abbrev front : List ℕ
-        front = head ++ pad
+      module _ (o2 : Output) (row : List ℕ) (rs : List R) (b : Appends o1 o2 row) (parts : RowParts f xs (end_of o1) row rs) (inside : Within limit o2 row) where
+        abbrev head : List ℕ
+        head = table ++ row
 
-        whole3 : Appends o o3 front
-        whole3 = appends_after o o2 o3 head pad whole2 z
+        whole2 : Appends o o2 head
+        whole2 = appends_after o o1 o2 table row wrote.1 b
 
-        at3 : end_of o3 ≡ end_of o + length front
-        at3 = end-appends o o3 front whole3
+        within2 : Within limit o2 head
+        within2 = within_after limit o1 o2 table row (grows o1 o2 row b) wrote.3 inside
 
-        before_row : BeforeRow w e s f hash factor xs (end_of o) front t rs
-        before_row = record { head = head; made = before; is = ap (λ (y : List ℕ). head ++ y) same_zeros }
+        before : BeforeZeros w e s f hash factor xs (end_of o) head t rs
+        before = record { table = table; row = row; made = wrote.2; parts = subst (λ k. RowParts f xs k row rs) at1 parts; is = refl }
 
-        pub stopped_row : (o4 : Output) (err : WriteError F) → Told limit (RowNext f xs rs (end_of o3)) o3 o4 err → Stopped o4 err
-        stopped_row o4 err h =
-            told_after limit Next (RowNext f xs rs (end_of o3)) o o3 o4 front err whole3 (inr low)
-            (λ g step n. inr (inr (inr (front, t, rs, g, before_row, subst (λ k. RowNext f xs rs k g step) at3 n, refl))))
+        abbrev pad : List ℕ
+        pad = zeros (padding s.align (end_of o2))
+
+        same_zeros : pad ≡ zeros (padding s.align (end_of o + length head))
+        same_zeros = ap (λ (n : ℕ). zeros (padding s.align n)) (end-appends o o2 head whole2)
+
+        pub stopped_zeros : (o3 : Output) (err : WriteError F) → Told limit (Only (piece pad)) o2 o3 err → Stopped o3 err
+        stopped_zeros o3 err h =
+            told_after limit Next (Only (piece pad)) o o2 o3 head err whole2 within2
+            (λ g step n.
+            let k : head ++ g ≡ head = ap (λ (y : List ℕ). head ++ y) n.0 ∙ append-nil head in
+            rw k (inr (inr (inl (t, rs, before, n.1 ∙ ap piece same_zeros)))))
             h
 
-        pub index_wrote : (o4 : Output) → WroteRow f limit xs rs o3 o4 → Serialized limit (row_format w e s f hash factor) xs o o4 (record { table = t; entries = end_of o3 })
-        index_wrote o4 wr = (
-          front ++ wr.0,
-          appends_after o o3 o4 front wr.0 whole3 wr.1.0,
-          record { front = front; resolvers = rs; row = wr.0; before = before_row; at = at3; shown = wr.2; is = refl },
-          inr wr.1.1,
-        )
+        module _ (o3 : Output) (z : Appends o2 o3 pad) (low : end_of o3 ≤ limit) where
+          abbrev front : List ℕ
+          front = head ++ pad
+
+          whole3 : Appends o o3 front
+          whole3 = appends_after o o2 o3 head pad whole2 z
+
+          at3 : end_of o3 ≡ end_of o + length front
+          at3 = end-appends o o3 front whole3
+
+          before_row : BeforeRow w e s f hash factor xs (end_of o) front t rs
+          before_row = record { head = head; made = before; is = ap (λ (y : List ℕ). head ++ y) same_zeros }
+
+          pub stopped_row : (o4 : Output) (err : WriteError F) → Told limit (RowNext f xs rs (end_of o3)) o3 o4 err → Stopped o4 err
+          stopped_row o4 err h =
+              told_after limit Next (RowNext f xs rs (end_of o3)) o o3 o4 front err whole3 (inr low)
+              (λ g step n. inr (inr (inr (front, t, rs, g, before_row, subst (λ k. RowNext f xs rs k g step) at3 n, refl))))
+              h
+
+          pub index_wrote : (o4 : Output) → WroteRow f limit xs rs o3 o4 → Serialized limit (row_format w e s f hash factor) xs o o4 (record { table = t; entries = end_of o3 })
+          index_wrote o4 wr = (
+            front ++ wr.0,
+            appends_after o o3 o4 front wr.0 whole3 wr.1.0,
+            record { front = front; resolvers = rs; row = wr.0; before = before_row; at = at3; shown = wr.2; is = refl },
+            inr wr.1.1,
+          )

@@ -1,10 +1,18 @@
--- Writing the entries that were made of pairs.
-use Rattle.std.specs.Prelude.{◌≡◌, ℕ, ◌⊎◌, List, map}
+-- What writing an index map answers.
+use Rattle.std.specs.Prelude.{◌≡◌, ℕ, ◌⊎◌, List, MatchResult, Option, Result, length, map}
+use Rattle.std.specs.Int.{Width}
+use Rattle.std.specs.Iterator.{Drains}
 use Rattle.rkyv_base.specs.declared.adapter.EntryAdapter.{EntryAdapter}
 use Rattle.rkyv_base.specs.declared.errors.WriteError.{WriteError}
-use Rattle.rkyv_base.specs.Format.{Format, GaveUp}
+use Rattle.rkyv_base.specs.Format.{Format, GaveUp, Serialized}
+use Rattle.rkyv_base.specs.Scalar.{Encoding, scalar_format, scalar_shape}
+use Rattle.rkyv_base.specs.Shape.{Shape}
 use Rattle.rkyv_base.specs.Writing.{Output}
-use Rattle.rkyv_table.specs.Table.Serializing.{OwnCause}
+use Rattle.rkyv_table.specs.Table.Counting.{GaveOther}
+use Rattle.rkyv_table.specs.Table.Serializing.{NoItems, OwnCause, WroteItems}
+use Rattle.rkyv_table.specs.Table.TableFormat.{TableResolver, table_format}
+use Rattle.rkyv_index.specs.IndexFormat.{places_from, row_format}
+use Rattle.rkyv_index.specs.IndexHeader.{IndexResolver}
 
 -- the pairs of which entries were made
 abbrev pub made_of : {BK BV A B : Type 0} → List (EntryAdapter BK BV A B) → List (BK × BV)
@@ -19,3 +27,34 @@ OwnOrGaveUp len load_factor max other limit f v o o' e =
 -- no number
 abbrev pub NoOther : ℕ → Type 0
 NoOther n = ⊥
+
+module _ {F P X : Type 0} (w : Width) (e : Encoding P) where
+  -- the table of the places of the values was written, each under the hash of its value; or else a
+  -- cause of the call's own stands and nothing was written, or writing gave up
+  abbrev pub WritesPlaces : (X → ℕ) → ℕ × ℕ → ℕ → ℕ → List X → Output → Output
+      → Result TableResolver (WriteError F) → Type 0
+  WritesPlaces hash load_factor max limit xs o o' result =
+      let f = table_format w (scalar_shape e) (scalar_format e) load_factor in
+      let places = places_from hash e.value 0 xs in
+      MatchResult result (Serialized limit f places o o')
+      (OwnOrGaveUp (length xs) load_factor max NoOther limit f places o o')
+
+  -- the values were written as an index map, each under its hash; or else a cause of the call's own
+  -- stands and nothing was written, or writing gave up
+  abbrev pub WritesEntries : {R : Type 0} → Shape → Format X R → (X → ℕ) → ℕ × ℕ → ℕ → ℕ → List X
+      → Output → Output → Result IndexResolver (WriteError F) → Type 0
+  WritesEntries s format hash load_factor max limit xs o o' result =
+      let f = row_format w e s format hash load_factor in
+      MatchResult result (Serialized limit f xs o o')
+      (OwnOrGaveUp (length xs) load_factor max NoOther limit f xs o o')
+
+-- The items that an iterator gives were written, as many as were claimed; or else a cause of the
+-- call's own stands, among them that another number came, and nothing was written; or writing gave
+-- up.
+abbrev pub WritesItems : {F S A R : Type 0} → (S → Option A → S → Type 0) → S → ℕ → ℕ × ℕ → ℕ → ℕ
+    → (ℕ × ℕ → Format (List A) R) → Output → Output → Result R (WriteError F) → Type 0
+WritesItems steps iter len load_factor max limit format o o' result =
+    let gave = Drains steps iter in
+    let f = format load_factor in
+    MatchResult result (WroteItems gave len load_factor max f o o' limit)
+    (NoItems gave len load_factor max f o o' limit (GaveOther steps len iter))

@@ -3,7 +3,7 @@ use Rattle.std.specs.Prelude.{◌≡◌, ℕ, ◌+◌, ◌⊎◌, List, [], ◌�
 use Rattle.std.specs.Int.{Width, byte_len}
 use Rattle.rkyv_base.specs.Bytes.{number_at}
 use Rattle.rkyv_base.specs.Entry.{entry_shape}
-use Rattle.rkyv_base.specs.Format.{Format}
+use Rattle.rkyv_base.specs.Format.{Format, IsFormat}
 use Rattle.rkyv_base.specs.Pairs.{PairStands, pair_format}
 use Rattle.rkyv_base.specs.Scalar.{Encoding, scalar_format, scalar_shape}
 use Rattle.rkyv_base.specs.Shape.{Shape}
@@ -15,7 +15,7 @@ use Rattle.rkyv_table.specs.Table.Reading.{WrittenAt, home_positions}
 use Rattle.rkyv_table.specs.Table.TableFormat.{PairsNext, TableParts, TableResolver}
 use Rattle.rkyv_table.specs.Table.TableFormat.{resolved_capacity}
 use Rattle.rkyv_index.specs.IndexHeader.{IndexFar, IndexResolver, IsIndexHeader}
-use Rattle.rkyv_index.specs.IndexLayout.{pair_pos, places_of}
+use Rattle.rkyv_index.specs.IndexLayout.{index_shape, pair_pos, places_of}
 use Rattle.rkyv_index.specs.Row.{RowImages, RowNext, RowParts, RowPartsNext}
 
 -- the number of the value of a number is that number
@@ -122,3 +122,13 @@ abbrev pub IndexStands : {A B : Type 0} → Width → Shape → Shape → (List 
     → (List ℕ → ℕ → B → Type 0) → (List ℕ → ℕ → ℕ) → ℕ × ℕ → List ℕ → ℕ → List (A × B) → Type 0
 IndexStands w k v key value hash load_factor b p pairs = RowStands w (entry_shape k v).size
     (PairStands k v key value) hash load_factor b p pairs
+
+-- Under each load factor, in every archive in which what was written of pairs as an index map sits,
+-- and, aligned behind it, its header, the index layout holds and the pairs stand.
+abbrev pub WrittenIndexMapsStand : {P A B R Q : Type 0} → Width → Encoding P → Shape → Shape
+    → (List ℕ → ℕ → A → Type 0) → (List ℕ → ℕ → B → Type 0) → Format A R → Format B Q
+    → (List ℕ → ℕ → ℕ) → (A → ℕ) → Type 0
+WrittenIndexMapsStand w e k v key_stands value_stands key value key_hash hash =
+    (load_factor : ℕ × ℕ) → IsFormat (index_shape w (entry_shape k v))
+    (IndexStands w k v key_stands value_stands key_hash load_factor)
+    (index_format w e k v key value hash load_factor)

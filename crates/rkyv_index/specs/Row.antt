@@ -1,7 +1,10 @@
 -- Values in a row: their parts one after the other, and then their own bytes one after the other.
 use Rattle.std.specs.Prelude.{◌≡◌, ℕ, ◌+◌, ◌⊎◌, List, [], ◌∷◌, ◌++◌, length, take, slice_get, Some}
+use Rattle.std.specs.Prelude.{MatchResult, Result}
+use Rattle.rkyv_base.specs.declared.errors.WriteError.{WriteError}
 use Rattle.rkyv_base.specs.Format.{Format}
-use Rattle.rkyv_base.specs.Writing.{Appended, Output, Step, distance, end_of, piece, refusal}
+use Rattle.rkyv_base.specs.Writing.{Appended, Appends, Output, Step, Told, Within, distance, end_of}
+use Rattle.rkyv_base.specs.Writing.{piece, refusal}
 
 module _ {X R : Type 0} (f : Format X R) where
   -- the values' parts, in order, and what resolves each value
@@ -41,7 +44,22 @@ module _ {X R : Type 0} (f : Format X R) where
     RowNext front step =
         (i : ℕ) × (x : X) × (r : R) × Before i x r front × ValueStep x r (p + length front) step
 
+  -- the values' parts were appended, and what resolves the values was kept in order; or else
+  -- serializing one of them gave up
+  abbrev pub SerializesRow : {F : Type 0} → ℕ → List X → List R → Output → Output
+      → Result (Unit {0}) (WriteError F) → Type 0
+  SerializesRow limit xs rs o o' result = MatchResult result
+      (λ _. (part : List ℕ) × Appends o o' part × RowParts xs (end_of o) part rs
+      × Within limit o' part)
+      (Told limit (RowPartsNext xs (end_of o)) o o')
+
   -- the values' own bytes were appended within the limit
   abbrev pub WroteRow : ℕ → List X → List R → Output → Output → Type 0
   WroteRow limit xs rs o o' =
       (out : List ℕ) × Appended limit out o o' × RowImages xs rs (end_of o) out
+
+  -- the values' own bytes were appended within the limit, or else writing one of them gave up
+  abbrev pub WritesRow : {F : Type 0} → ℕ → List X → List R → Output → Output
+      → Result (Unit {0}) (WriteError F) → Type 0
+  WritesRow limit xs rs o o' result = MatchResult result (λ _. WroteRow limit xs rs o o')
+      (Told limit (RowNext xs rs (end_of o)) o o')

@@ -1,6 +1,6 @@
 //! The places of an index map's entries, each under the hash of its key.
 
-ghost use Rattle.std.specs.Prelude.{◌≡◌, ◌+◌, ◌≤◌, length};
+ghost use Rattle.std.specs.Prelude.{ℕ, ◌≡◌, ◌+◌, ◌≤◌, length};
 ghost use Rattle.std.specs.Iterator.{YieldsFirst, at_most};
 ghost use Rattle.std.specs.Slice.Iter.{iter_rest};
 ghost use Rattle.rkyv_index.specs.IndexFormat.{hash_of};
@@ -13,47 +13,70 @@ use rkyv_keys::hash::{KeyHash, hash_value};
 use rkyv_scan::hash::KeyHasher;
 use std::marker::PhantomData;
 
-/// The places of entries from one on, each under the hash of the entry's key.
+/// A value that an index map has under a hash of the hasher H.
+pub(crate) trait Hashed<H> {
+    // What must hold of the value so that its hash can be made.
+    ghost can_hash: { Self → Type 0 };
+
+    // The hash.
+    ghost hash: { Self → ℕ };
+
+    /// The hash of the value.
+    fn hash(&self) -> u64
+        requires { can_hash self.now }
+        ensures { result ≡ hash self.now };
+}
+
+// An entry stands under the hash of its key.
+impl<BK: Lend<A>, BV, A: KeyHash, B, H: KeyHasher> Hashed<H> for EntryAdapter<BK, BV, A, B> {
+    ghost can_hash = { λ entry. A.can_read (BK.lent entry.key) };
+
+    ghost hash = { λ entry. hash_of H.hasher A.calls (BK.lent entry.key) };
+
+    #[inline]
+    fn hash(&self) -> u64 {
+        hash_value::<A, H>(self.key.lend())
+    }
+}
+
+/// The places of values from one on, each under the hash of its value.
 #[derive(Drop)]
-pub(crate) struct HashedPlaces<'a, BK, BV, A, B, H, W> {
-    entries: std::slice::Iter<'a, EntryAdapter<BK, BV, A, B>>,
+pub(crate) struct HashedPlaces<'a, U, H, W> {
+    values: std::slice::Iter<'a, U>,
     place: u64,
     kinds: PhantomData<(H, W)>,
 }
 
-impl<'a, BK, BV, A, B, H, W> HashedPlaces<'a, BK, BV, A, B, H, W> {
+impl<'a, U, H, W> HashedPlaces<'a, U, H, W> {
     #[inline]
-    pub(crate) fn new(
-        entries: &'a [EntryAdapter<BK, BV, A, B>],
-    ) -> HashedPlaces<'a, BK, BV, A, B, H, W>
-        ensures rest { iter_rest result.entries ≡ entries.now }
+    pub(crate) fn new(values: &'a [U]) -> HashedPlaces<'a, U, H, W>
+        ensures rest { iter_rest result.values ≡ values.now }
         ensures place { result.place ≡ 0 }
     {
         HashedPlaces {
-            entries: entries.iter(),
+            values: values.iter(),
             place: 0,
             kinds: PhantomData,
         }
     }
 }
 
-impl<'a, A: KeyHash, B, H: KeyHasher, W: PlaceWidth, BK: Lend<A>, BV: Lend<B>> Iterator
-    for HashedPlaces<'a, BK, BV, A, B, H, W> {
+impl<'a, U: Hashed<H>, H, W: PlaceWidth> Iterator for HashedPlaces<'a, U, H, W> {
     type Item = (u64, W::Place);
 
-    ghost can_next = { λ s. (s.place + length (iter_rest s.entries) ≤ W.LIMIT)
-        × ((key : A) → A.can_read key) };
+    ghost can_next = { λ s. (s.place + length (iter_rest s.values) ≤ W.LIMIT)
+        × ((value : U) → U.can_hash value) };
 
-    ghost next_gives = { YieldsFirst (λ s. places_from (λ entry. hash_of H.hasher
-        A.calls (BK.lent entry.key)) W.Place.encoding.value s.place (iter_rest s.entries)) };
+    ghost next_gives = { YieldsFirst (λ s. places_from U.hash W.Place.encoding.value s.place
+        (iter_rest s.values)) };
 
-    ghost remaining = { λ s. at_most (length (iter_rest s.entries)) };
+    ghost remaining = { λ s. at_most (length (iter_rest s.values)) };
 
     #[inline]
     fn next(&mut self) -> Option<(u64, W::Place)> {
-        match self.entries.next() {
-            Some(entry) => {
-                let hash = hash_value::<A, H>(entry.key.lend());
+        match self.values.next() {
+            Some(value) => {
+                let hash = value.hash();
                 let place = W::to_place(self.place);
                 self.place += 1;
                 Some((hash, place))

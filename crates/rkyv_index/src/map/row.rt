@@ -1,8 +1,8 @@
 //! Writing values in a row: first their parts, and then their own bytes.
 
-ghost use Rattle.std.specs.Prelude.{◌≡◌, ◌<◌, ◌≤◌, [], MatchResult, vec_capacity, length, List, ℕ};
-ghost use Rattle.rkyv_base.specs.Writing.{Appends, Told, Within, end_of};
-ghost use Rattle.rkyv_index.specs.Row.{RowNext, RowParts, RowPartsNext, WroteRow};
+ghost use Rattle.std.specs.Prelude.{◌≡◌, ◌<◌, ◌≤◌, [], vec_capacity, length};
+ghost use Rattle.rkyv_base.specs.Writing.{end_of};
+ghost use Rattle.rkyv_index.specs.Row.{SerializesRow, WritesRow};
 
 use rkyv_base::archive::{Archive, Serialize};
 use rkyv_base::errors::WriteError;
@@ -19,11 +19,8 @@ pub(crate) fn serialize_row<W: Width, S: Writer, U: Serialize<S, W>>(
 ) -> Result<(), WriteError<S::Fault>>
     requires empty { resolvers.old.items ≡ [] }
     requires room { length values.now ≤ vec_capacity resolvers.old }
-    ensures { let o = S.output serializer.old in let o' = S.output serializer.new in MatchResult
-        result
-        (λ _. (part : List ℕ) × Appends o o' part × RowParts U.format values.now (end_of o) part
-        resolvers.new.items × Within W.LIMIT o' part)
-        (Told W.LIMIT (RowPartsNext U.format values.now (end_of o)) o o') }
+    ensures { SerializesRow U.format W.LIMIT values.now resolvers.new.items
+        (S.output serializer.old) (S.output serializer.new) result }
 {
     for value in values {
         match value.serialize(alloc, serializer) {
@@ -44,10 +41,8 @@ pub(crate) fn write_row<W: Width, S: Writer, U: Archive<W>>(
     requires count { length resolvers.items ≡ length values.now }
     requires room { 0 < length values.now → length scratch.old ≡ U.Archived.shape.size }
     requires within { end_of (S.output serializer.old) ≤ W.LIMIT }
-    ensures { let o = S.output serializer.old in let o' = S.output serializer.new in MatchResult
-        result
-        (λ _. WroteRow U.format W.LIMIT values.now resolvers.items o o')
-        (Told W.LIMIT (RowNext U.format values.now resolvers.items (end_of o)) o o') }
+    ensures { WritesRow U.format W.LIMIT values.now resolvers.items
+        (S.output serializer.old) (S.output serializer.new) result }
 {
     let mut rest = resolvers.into_iter();
     for value in values {

@@ -1,29 +1,51 @@
 //! Writing index maps from iterators of pairs.
 
-ghost use Rattle.std.specs.Prelude.{MatchResult};
-ghost use Rattle.std.specs.Iterator.{Drains};
+ghost use Rattle.std.specs.Prelude.{List, ℕ};
+ghost use Rattle.rkyv_base.specs.Format.{Format};
 ghost use Rattle.rkyv_base.specs.Pairs.{written_as};
-ghost use Rattle.rkyv_table.specs.Table.Counting.{GaveOther};
-ghost use Rattle.rkyv_table.specs.Table.Serializing.{NoItems, WroteItems};
 ghost use Rattle.rkyv_table.specs.Table.Lent.{lent_pairs};
+ghost use Rattle.rkyv_index.specs.Handing.{WritesItems};
 ghost use Rattle.rkyv_index.specs.IndexFormat.{hash_of};
 ghost use Rattle.rkyv_index.specs.IndexFormat.{index_format};
+ghost use Rattle.rkyv_index.specs.IndexHeader.{IndexResolver};
 
-use crate::map::ArchivedIndexMap;
 use crate::map::resolve::IndexMapResolver;
 use crate::map::taking::{Room, take_entries};
 use crate::map::write::write_index;
+use crate::map::{ArchivedIndexMap, IndexMapOf};
 use crate::width::PlaceWidth;
-use rkyv_base::archive::Serialize;
+use rkyv_base::adapter::EntryAdapter;
+use rkyv_base::archive::{Archive, Serialize};
 use rkyv_base::element::{Element, StandsFor};
 use rkyv_base::entry::Entry;
 use rkyv_base::errors::{IteratorLengthMismatch, WriteError};
 use rkyv_base::lend::Lend;
 use rkyv_base::writer::Writer;
+use rkyv_keys::hash::KeyHash;
 use rkyv_keys::keys::{KeyElement, NativeKey};
 use rkyv_scan::hash::KeyHasher;
 use rkyv_table::controls::numbers::{CapacityError, capacity};
 use std::alloc::Global;
+
+/// How lists of items I, each of which lends an X, are written under a load factor.
+pub trait ListFormat<I, X> {
+    ghost format: { ℕ × ℕ → Format (List I) IndexResolver };
+}
+
+impl<
+    K: Element,
+    V: Element,
+    H: KeyHasher,
+    W: PlaceWidth,
+    A: KeyHash + Archive<W>,
+    B: Archive<W>,
+    BK: Lend<A>,
+    BV: Lend<B>,
+> ListFormat<(BK, BV), (A, B)> for IndexMapOf<K, V, H, W> {
+    ghost format = { λ load_factor. written_as (lent_pairs BK.lent BV.lent)
+        (index_format W.word W.Place.encoding K.shape V.shape A.format B.format
+        (hash_of H.hasher A.calls) load_factor) };
+}
 
 impl<'a, K: KeyElement, V, H: KeyHasher, W: PlaceWidth> ArchivedIndexMap<'a, K, V, H, W> {
     /// Writes an index map of `len` pairs, each a key and a value as themselves or by reference,
@@ -62,16 +84,9 @@ impl<'a, K: KeyElement, V, H: KeyHasher, W: PlaceWidth> ArchivedIndexMap<'a, K, 
         K: StandsFor<A>,
         V: StandsFor<B>,
         requires can { I.can_next iter }
-        ensures { let hash = hash_of H.hasher A.calls in
-            let f = written_as (lent_pairs BK.lent BV.lent) (index_format W.word W.Place.encoding
-            K.shape V.shape A.format B.format hash load_factor) in
-            let gave = Drains I.next_gives iter in
-            let o = S.output serializer.old in
-            let o' = S.output serializer.new in
-            MatchResult result
-            (WroteItems gave len load_factor W.MAX_CAPACITY f o o' W.LIMIT)
-            (NoItems gave len load_factor W.MAX_CAPACITY f o o' W.LIMIT (GaveOther I.next_gives len
-            iter)) }
+        ensures { WritesItems I.next_gives iter len load_factor W.MAX_CAPACITY W.LIMIT
+            ⟦<IndexMapOf<K, V, H, W> as ListFormat<(BK, BV), (A, B)>>⟧.format
+            (S.output serializer.old) (S.output serializer.new) result }
     {
         match capacity(len, load_factor, W::MAX_CAPACITY) {
             Ok(_) => {}
@@ -101,7 +116,7 @@ impl<'a, K: KeyElement, V, H: KeyHasher, W: PlaceWidth> ArchivedIndexMap<'a, K, 
                 }));
             }
         }
-        match write_index::<W, H, S, A, B, BK, BV>(
+        match write_index::<W, H, S, EntryAdapter<BK, BV, A, B>>(
             alloc,
             entries.as_slice(),
             resolvers,

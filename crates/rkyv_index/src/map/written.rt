@@ -1,12 +1,7 @@
 //! What was written of an index map, wherever it stands.
 
-ghost use Rattle.std.specs.Prelude.{ℕ};
-ghost use Rattle.rkyv_base.specs.Entry.{entry_shape};
-ghost use Rattle.rkyv_base.specs.Format.{IsFormat};
-ghost use Rattle.rkyv_index.specs.IndexFormat.{hash_of};
 ghost use Rattle.rkyv_index.specs.Index.{hash_at};
-ghost use Rattle.rkyv_index.specs.IndexFormat.{IndexStands, index_format};
-ghost use Rattle.rkyv_index.specs.IndexLayout.{index_shape};
+ghost use Rattle.rkyv_index.specs.IndexFormat.{WrittenIndexMapsStand, hash_of};
 
 use crate::width::PlaceWidth;
 use rkyv_base::archive::Archive;
@@ -26,10 +21,6 @@ pub fn written_index_maps_stand<
     A: NativeKey<K> + Archive<W, Archived = K>,
     B: Archive<W, Archived = V>,
 >()
-    ensures { (load_factor : ℕ × ℕ) →
-        let hash = hash_at H.hasher K.key_calls in
-        let own = hash_of H.hasher A.calls in
-        IsFormat (index_shape W.word (entry_shape K.shape V.shape)) (IndexStands W.word K.shape
-        V.shape K.stands V.stands hash load_factor)
-        (index_format W.word W.Place.encoding K.shape V.shape A.format B.format own load_factor) }
+    ensures { WrittenIndexMapsStand W.word W.Place.encoding K.shape V.shape K.stands V.stands
+        A.format B.format (hash_at H.hasher K.key_calls) (hash_of H.hasher A.calls) }
 {}

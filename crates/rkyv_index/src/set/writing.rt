@@ -1,11 +1,9 @@
 //! Writing index sets.
 
 ghost use Rattle.std.specs.Prelude.{◌≡◌, ◌+◌, ◌<◌, ◌^◌, MatchResult, length};
-ghost use Rattle.std.specs.Iterator.{Drains};
 ghost use Rattle.rkyv_base.specs.Pairs.{written_as};
 ghost use Rattle.rkyv_table.specs.Controls.Numbers.{capacity};
-ghost use Rattle.rkyv_table.specs.Table.Counting.{GaveOther};
-ghost use Rattle.rkyv_table.specs.Table.Serializing.{NoItems, WroteItems};
+ghost use Rattle.rkyv_index.specs.Handing.{WritesItems};
 ghost use Rattle.rkyv_index.specs.IndexFormat.{hash_of};
 ghost use Rattle.rkyv_index.specs.IndexHeader.{IndexFar, IsIndexHeader};
 ghost use Rattle.rkyv_index.specs.SetFormat.{index_set_format};
@@ -13,20 +11,31 @@ ghost use Rattle.rkyv_table.specs.Table.Lent.{UnitStep, lent_keys};
 
 use crate::map::ArchivedIndexMap;
 use crate::map::resolve::IndexMapResolver;
-use crate::set::ArchivedIndexSet;
+use crate::map::serialize::ListFormat;
+use crate::set::{ArchivedIndexSet, IndexSetOf};
 use crate::width::PlaceWidth;
-use rkyv_base::archive::Serialize;
-use rkyv_base::element::StandsFor;
+use rkyv_base::archive::{Archive, Serialize};
+use rkyv_base::element::{Element, StandsFor};
 use rkyv_base::errors::{DistanceTooLarge, WriteError};
 use rkyv_base::lend::Lend;
 use rkyv_base::width::Narrow;
 use rkyv_base::writer::Writer;
+use rkyv_keys::hash::KeyHash;
 use rkyv_keys::keys::{KeyElement, NativeKey};
 use rkyv_scan::hash::KeyHasher;
 use std::alloc::Global;
 
 /// What resolves a written index set: what resolves the map of its keys.
 pub type IndexSetResolver<W = Narrow> = IndexMapResolver<W>;
+
+impl<K: Element, H: KeyHasher, W: PlaceWidth, A: KeyHash + Archive<W>, BK: Lend<A>> ListFormat<
+    BK,
+    A,
+> for IndexSetOf<K, H, W> {
+    ghost format = { λ load_factor. written_as (lent_keys BK.lent)
+        (index_set_format W.word W.Place.encoding K.shape A.format (hash_of H.hasher A.calls)
+        load_factor) };
+}
 
 /// The keys of an iterator, each with the unit value.
 #[derive(Drop)]
@@ -77,16 +86,9 @@ impl<'a, K: KeyElement, H: KeyHasher, W: PlaceWidth> ArchivedIndexSet<'a, K, H, 
     where
         K: StandsFor<A>,
         requires can { I.can_next iter }
-        ensures { let hash = hash_of H.hasher A.calls in
-            let f = written_as (lent_keys BK.lent) (index_set_format W.word W.Place.encoding K.shape
-            A.format hash load_factor) in
-            let gave = Drains I.next_gives iter in
-            let o = S.output serializer.old in
-            let o' = S.output serializer.new in
-            MatchResult result
-            (WroteItems gave len load_factor W.MAX_CAPACITY f o o' W.LIMIT)
-            (NoItems gave len load_factor W.MAX_CAPACITY f o o' W.LIMIT (GaveOther I.next_gives len
-            iter)) }
+        ensures { WritesItems I.next_gives iter len load_factor W.MAX_CAPACITY W.LIMIT
+            ⟦<IndexSetOf<K, H, W> as ListFormat<BK, A>>⟧.format
+            (S.output serializer.old) (S.output serializer.new) result }
     {
         ArchivedIndexMap::<K, (), H, W>::serialize_from_iter::<S, A, (), BK, (), WithUnits<I>>(
             alloc,
