@@ -2,7 +2,7 @@
 use Rattle.std.proofs.Common.{◌≡◌, ℕ, ◌+◌, ◌%◌, ◌^◌, arith, sym, ap, subst, suc, ◌∙◌, List, [], ◌∷◌, ◌++◌, map, Option, Some, None}
 use Rattle.std.proofs.Math.Nat.{mod-add-mod}
 use Rattle.std.proofs.lemmas.List.{append-nil, nil_from_length}
-use Rattle.std.proofs.lemmas.List.Sums.{sum-map, sum_by-cons}
+use Rattle.std.proofs.lemmas.List.Sums.{sum-map, sum_by-cons, sum_by_push}
 use Rattle.std.proofs.lemmas.Simd.{map-map}
 use Rattle.std.specs.Borrow.{Bor}
 use Rattle.std.specs.Iterator.{Drains, Yields}
@@ -54,3 +54,9 @@ pub rest_stands : (s : Shape) (before after : ItemsLeft) (place : ℕ) → Takes
 rest_stands s before after place taken all k d below =
     let whole : All (Viewed s before.archive.now) (place ∷ after.places) = subst (All (Viewed s before.archive.now)) taken.first all in
     subst (λ (a : Bor (List ℕ)). Viewed s a.now (slice_index_or after.places k d)) (sym taken.archive) (whole (suc k) d (omega arith))
+
+-- one more is counted
+pub one_more : {X : Type 0} (count : X → ℕ) (xs : List X) (x : X) (t n : ℕ) → t ≡ total count xs → n ≡ count x → (t + n) % 2 ^ 64 ≡ total count (xs ++ (x ∷ []))
+one_more count xs x t n before more =
+    ap (λ a. (a + n) % 2 ^ 64) before ∙ mod-add-mod (sum_by count xs) (2 ^ 64) n ∙ ap (λ a. (sum_by count xs + a) % 2 ^ 64) more
+    ∙ ap (λ a. a % 2 ^ 64) (sym (sum_by_push count xs x))

@@ -2,3 +2,4 @@ pub mod Archives
 pub mod Cuts
 pub mod Totals
 pub mod Building
+pub mod Index

@@ -35,9 +35,9 @@ pub(crate) struct Pairs<'a, A, B, H> {
 
 /// The pairs that are still to come.
 #[derive(Drop)]
-struct Both<'a, A, B> {
-    keys: std::slice::Iter<'a, A>,
-    values: std::slice::Iter<'a, B>,
+pub(crate) struct Both<'a, A, B> {
+    pub(crate) keys: std::slice::Iter<'a, A>,
+    pub(crate) values: std::slice::Iter<'a, B>,
 }
 
 impl<'a, A: Copy, B: Copy> Iterator for Both<'a, A, B> {

@@ -7,6 +7,9 @@
 
 mod building;
 mod cuts;
+mod index_building;
+pub mod index_numbers;
+mod index_totals;
 pub mod numbers;
 pub mod texts;
 mod totals;
