@@ -71,7 +71,7 @@ module _ {A B : Type 0} (asks : A → Bool) (value : B) where
         ]
       ]
 
-some_place : (f : ℕ → ℕ) (o : Option ℕ) (pos : ℕ) → Some pos ≡ option_map f o → (q : ℕ) × (Some q ≡ o) × (pos ≡ f q)
+pub some_place : (f : ℕ → ℕ) (o : Option ℕ) (pos : ℕ) → Some pos ≡ option_map f o → (q : ℕ) × (Some q ≡ o) × (pos ≡ f q)
 some_place f None pos e = absurd cc
 some_place f (Some q) pos e = (q, refl, same_Some pos (f q) e)
 
@@ -88,10 +88,10 @@ module _ (w : Width) (k v : Shape) (kl : IsElement k) (vl : IsElement v) {A B : 
   homes_total : length places ≡ length st.homes
   homes_total = length-map st.homes (item_at w (entry_shape k v).size b p)
 
-  count : length places ≡ length pairs
+  pub count : length places ≡ length pairs
   count = sym (length-map places (key_hash b)) ∙ sym st.written.count ∙ st.len
 
-  each_alike : (i : ℕ) (y : A × B) → slice_get pairs i ≡ Some y → accept (slice_index places i) ≡ asks y.0
+  pub each_alike : (i : ℕ) (y : A × B) → slice_get pairs i ≡ Some y → accept (slice_index places i) ≡ asks y.0
   each_alike i y get =
       let inside = slice_get_within pairs i y get in
       let below : i < length st.homes = omega (arith, inside, count, homes_total) in

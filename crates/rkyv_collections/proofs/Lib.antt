@@ -18,3 +18,5 @@ pub mod FoundEntries
 pub mod Alike
 pub mod FirstWrites
 pub mod ListArchives
+pub mod NestedTables
+pub mod NestedWrites

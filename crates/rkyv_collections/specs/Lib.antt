@@ -20,3 +20,4 @@ pub mod ListedLookups
 pub mod BothHashers
 pub mod InPlace
 pub mod ListArchives
+pub mod NestedWrites

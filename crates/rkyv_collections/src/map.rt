@@ -12,6 +12,7 @@ pub mod laws;
 pub mod list_archives;
 mod lookup;
 mod misplaced;
+pub mod nested;
 mod reading;
 pub mod sealed;
 pub mod writing;

@@ -1,0 +1,73 @@
+-- What becomes of a map of which one value is written among its parts, as a map that is a value.
+use Rattle.std.specs.Prelude.{◌≡◌, ◌≢◌, ℕ, ◌+◌, ◌*◌, ◌-◌, ◌≤◌, Bool, List, Some}
+use Rattle.std.specs.Int.{Width, byte_len}
+use Rattle.std.specs.Option.{option_map}
+use Rattle.rkyv_base.specs.Bytes.{Same}
+use Rattle.rkyv_base.specs.Entry.{entry_shape}
+use Rattle.rkyv_base.specs.Sealing.{Sealed, value_pos}
+use Rattle.rkyv_base.specs.Shape.{Shape, Viewed}
+use Rattle.rkyv_table.specs.Table.Reading.{IsWalked, table_controls}
+use Rattle.rkyv_collections.specs.InPlace.{with_first}
+use Rattle.rkyv_collections.specs.Map.{FindsFirstKeyAt, IsKeyPosAt, MapWrittenAt, map_shape}
+use Rattle.rkyv_collections.specs.MapFormat.{MapStands}
+use Rattle.rkyv_collections.specs.ValueWrites.{WritesValue, entry_at}
+
+-- The value at q in b is written in c, and no bytes change but some of its parts: wherever it holds,
+-- it holds again with the same lower end, and what lies outside its parts is as before.
+pub record WritesParts (s : Shape) (b c : List ℕ) (q : ℕ) : Type 0 where
+  pub holds : (lo hi l : ℕ) → lo ≤ hi → hi ≤ q → s.holds b q lo hi l → s.holds c q lo hi l
+  pub sealed : (lo hi l : ℕ) → lo ≤ hi → hi ≤ q → s.holds b q lo hi l → Sealed b lo (l - lo) c
+
+-- the value at q is the same in both: its own bytes, and all among which its parts lie
+pub record StaysAt (s : Shape) (b c : List ℕ) (q : ℕ) : Type 0 where
+  pub lower : ℕ
+  pub upper : ℕ
+  pub rest : ℕ
+  pub order : lower ≤ upper
+  pub before : upper ≤ q
+  pub holds : s.holds b q lower upper rest
+  pub fixed : Same b c q (q + s.size)
+  pub parts : Same b c lower rest
+
+module _ (w : Width) (k v : Shape) where
+  -- The map at p in b is one in c, of which the value in bucket i was written among its parts: its
+  -- header, its controls, where its entries stand, all keys and all other values are the same, a
+  -- map that was written stays one, and the write is one among the parts of the map.
+  pub record KeepsOuterMap (key_hash : List ℕ → ℕ → ℕ) (b c : List ℕ) (p i : ℕ) : Type 0 where
+    pub stands : Viewed (map_shape w k v) c p
+    pub nested : WritesParts (map_shape w k v) b c p
+    pub header : Same b c p (p + 3 * byte_len w)
+    pub controls : table_controls w c p ≡ table_controls w b p
+    pub places : (j : ℕ) → entry_at w k v c p j ≡ entry_at w k v b p j
+    pub keys : (j : ℕ) → IsWalked w b p j → StaysAt k b c (entry_at w k v b p j)
+    pub values : (j : ℕ) → IsWalked w b p j → j ≢ i
+        → StaysAt v b c (value_pos k v (entry_at w k v b p j))
+    pub hashes : (j : ℕ) → IsWalked w b p j
+        → key_hash c (entry_at w k v b p j) ≡ key_hash b (entry_at w k v b p j)
+    pub written : (homes : List ℕ) → MapWrittenAt w (entry_shape k v) key_hash b p homes
+        → MapWrittenAt w (entry_shape k v) key_hash c p homes
+
+  -- a write of one value in place is one among the parts of the map
+  abbrev pub ValueWritesAreNested : Type 0
+  ValueWritesAreNested =
+      (b c : List ℕ) (p i : ℕ) → Viewed (map_shape w k v) b p → IsWalked w b p i
+      → WritesValue w k v b c (entry_at w k v b p i) → WritesParts (map_shape w k v) b c p
+
+  -- a write among the parts of the value of a key keeps the map
+  abbrev pub NestedWritesKeepMaps : (List ℕ → ℕ → ℕ) → Type 0
+  NestedWritesKeepMaps key_hash =
+      (b c : List ℕ) (p q : ℕ) → Viewed (map_shape w k v) b p → (at : IsKeyPosAt w k v b p q)
+      → WritesParts v b c (value_pos k v q) → KeepsOuterMap key_hash b c p at.0
+
+  -- a map that stands for a list of pairs stands for the list with the new value in the first pair
+  -- whose key equals the one that is asked for, where that pair's value was written among its parts
+  abbrev pub NestedWritesStand : {A B : Type 0} → (List ℕ → ℕ → A → Type 0)
+      → (List ℕ → ℕ → B → Type 0) → (List ℕ → ℕ → ℕ) → (A → List ℕ → ℕ → Bool) → (A → A → Bool)
+      → Type 0
+  NestedWritesStand {A} {B} key value key_hash fits equal =
+      (b c : List ℕ) (p pos : ℕ) (factor : ℕ × ℕ) (pairs : List (A × B)) (asked : A) (new : B)
+      → Viewed (map_shape w k v) b p → MapStands w k v key value key_hash factor b p pairs
+      → FindsFirstKeyAt w k v b p key_hash (fits asked b)
+      (λ place. Some pos ≡ option_map (value_pos k v) place)
+      → WritesParts v b c pos → value c pos new
+      → MapStands w k v key value key_hash factor c p (with_first (equal asked) new pairs)
