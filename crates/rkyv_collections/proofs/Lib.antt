@@ -20,3 +20,4 @@ pub mod FirstWrites
 pub mod ListArchives
 pub mod NestedTables
 pub mod NestedWrites
+pub mod RaisedTexts

@@ -11,7 +11,7 @@ use Rattle.rkyv_base.specs.Bytes.{Same, same_part}
 use Rattle.rkyv_base.specs.Entry.{entry_element, entry_shape, parts_inside, same_key, same_value, size_of_small, whole_size}
 use Rattle.rkyv_base.specs.Format.{StandsNear}
 use Rattle.rkyv_base.specs.Pairs.{PairStands}
-use Rattle.rkyv_base.specs.Sealing.{Sealed, value_pos}
+use Rattle.rkyv_base.specs.Sealing.{Keeps, Sealed, value_pos}
 use Rattle.rkyv_base.specs.Shape.{IsElement, Shape, Viewed}
 use Rattle.rkyv_base.proofs.Sealing.{sealed_wider, viewed_kept}
 use Rattle.rkyv_table.specs.Table.Header.{cap_at, len_at}
@@ -27,7 +27,7 @@ use Rattle.rkyv_table.proofs.WrittenTables.{home_count, home_pos, home_walked}
 use Rattle.rkyv_collections.specs.InPlace.{with_first}
 use Rattle.rkyv_collections.specs.Lemmas.MapLaws.{HashNear}
 use Rattle.rkyv_collections.specs.ListedLookups.{AsksFor}
-use Rattle.rkyv_collections.specs.Map.{MapWrittenAt, map_shape}
+use Rattle.rkyv_collections.specs.Map.{IsKeyPosAt, MapWrittenAt, map_shape}
 use Rattle.rkyv_collections.specs.MapFormat.{MapStands}
 use Rattle.rkyv_collections.specs.NestedWrites.{KeepsOuterMap, StaysAt, WritesParts}
 use Rattle.rkyv_collections.specs.ValueWrites.{WritesValue}
@@ -42,12 +42,12 @@ module _ (k v : Shape) (kl : IsElement k) (vl : IsElement v) (b c : List ℕ) (q
   entry_written : WritesParts v b c (value_pos k v q) → WritesParts S b c q
   entry_written writes =
       let wrote : (lo hi l : ℕ) → lo ≤ hi → hi ≤ q → S.holds b q lo hi l → S.holds c q lo hi l × Sealed b lo (l - lo) c = λ lo hi l o o' h.
-          let m = h.1 in
-          let x = kl.between b q lo hi m o h.2 in
-          let y = vl.between b (value_pos k v q) m hi l x.1 h.3 in
-          let sealed = writes.sealed m hi l x.1 (omega arith) h.3 in
-          let key = kl.near b c q lo hi m o (same_above b c m l y.0 sealed q (q + k.size) (omega arith) (omega (arith, y.1))) (same_below b c m l y.0 sealed lo m x.0 (omega arith)) h.2 in
-          ((h.0, m, key, writes.holds m hi l x.1 (omega arith) h.3), sealed_wider b c m (l - m) lo (l - lo) x.0 (omega (arith, x.0, y.0)) sealed) in
+      let m = h.1 in
+      let x = kl.between b q lo hi m o h.2 in
+      let y = vl.between b (value_pos k v q) m hi l x.1 h.3 in
+      let sealed = writes.sealed m hi l x.1 (omega arith) h.3 in
+      let key = kl.near b c q lo hi m o (same_above b c m l y.0 sealed q (q + k.size) (omega arith) (omega (arith, y.1))) (same_below b c m l y.0 sealed lo m x.0 (omega arith)) h.2 in
+      ((h.0, m, key, writes.holds m hi l x.1 (omega arith) h.3), sealed_wider b c m (l - m) lo (l - lo) x.0 (omega (arith, x.0, y.0)) sealed) in
       record { holds = λ lo hi l o o' h. (wrote lo hi l o o' h).0; sealed = λ lo hi l o o' h. (wrote lo hi l o o' h).1 }
 
   -- its key stays
@@ -290,3 +290,14 @@ value_nested w k v kl vl b c p i view walked writes =
           let above = t.part.above in
           sealed_wider b c (value_pos k v q) v.size lo (l - lo) (omega (arith, above, x.1)) (omega (arith, above, x.1, x.2, small, within.1)) writes.sealed;
     }
+
+-- where the key stands at q, and the value at pos
+pub value_nested_at : (w : Width) (k v : Shape) (kl : IsElement k) (vl : IsElement v) (b c : List ℕ) (p q pos : ℕ) → Viewed (map_shape w k v) b p
+    → IsKeyPosAt w k v b p q → pos ≡ value_pos k v q → Sealed b pos v.size c → Keeps v b c pos → WritesParts (map_shape w k v) b c p
+value_nested_at w k v kl vl b c p q pos view at is sealed keeps =
+    let there : pos ≡ value_pos k v (item_at w (entry_shape k v).size b p at.0) = is ∙ ap (value_pos k v) at.2 in
+    value_nested w k v kl vl b c p at.0 view at.1 (record { sealed = subst (λ n. Sealed b n v.size c) there sealed; keeps = subst (Keeps v b c) there keeps })
+
+-- where nothing is written, nothing changes
+pub unwritten : (s : Shape) (b : List ℕ) (p : ℕ) → WritesParts s b b p
+unwritten s b p = record { holds = λ lo hi l o o' h. h; sealed = λ lo hi l o o' h. record { same_length = refl; before = refl; after = refl } }

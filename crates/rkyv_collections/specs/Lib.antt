@@ -21,3 +21,4 @@ pub mod BothHashers
 pub mod InPlace
 pub mod ListArchives
 pub mod NestedWrites
+pub mod InPlaceText

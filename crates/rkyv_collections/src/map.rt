@@ -6,6 +6,7 @@ mod equality;
 pub mod finder;
 mod hashing;
 pub mod in_place;
+pub mod in_place_text;
 pub mod iter;
 pub mod iter_seal;
 pub mod laws;

@@ -7,6 +7,7 @@ ghost use Rattle.rkyv_collections.specs.InPlace.{FindsFirstValueAt, FindsValueAt
 ghost use Rattle.rkyv_collections.specs.InPlace.{SetsFirst, SetsValueAt, WritesFound};
 ghost use Rattle.rkyv_collections.specs.Map.{IsKeyPosAt, hash_at, map_shape};
 ghost use Rattle.rkyv_collections.specs.MapFormat.{hash_of};
+ghost use Rattle.rkyv_collections.specs.NestedWrites.{WritesParts};
 
 use crate::map::ArchivedHashMap;
 use crate::map::lookup::found_pos;
@@ -22,7 +23,7 @@ impl<'a, K: KeyElement, V: Element, H: KeyHasher, W: Width> ArchivedHashMap<'a, 
     /// Where the value of the key stands that is asked for, in the map whose header stands at
     /// `root`.
     #[inline]
-    fn value_pos_in<Q: Query<K>>(archive: &[u8], root: u64, key: &Q) -> Option<u64>
+    pub(crate) fn value_pos_in<Q: Query<K>>(archive: &[u8], root: u64, key: &Q) -> Option<u64>
         requires map { Viewed (map_shape W.word K.shape V.shape) archive.now root }
         requires query { Q.can_read key.now }
         ensures walked { IfSome result (λ pos. (place : ℕ)
@@ -87,6 +88,8 @@ pub fn set_value_of<
     ensures listed { SetsFirst W.word K.shape N.encoding K.stands
         (hash_at H.hasher K.key_calls) (A.eq key.now)
         archive.old root value result archive.new }
+    ensures parts { WritesParts (map_shape W.word K.shape (scalar_shape N.encoding))
+        archive.old archive.new root }
 {
     match ArchivedHashMap::<K, N, H, W>::value_pos_in(&*archive, root, key) {
         Some(pos) => {

@@ -2,8 +2,9 @@ use Rattle.std.proofs.Common.{ap, false, refl, subst, true}
 use Rattle.rkyv_scan.specs.Hash.{hash_of_calls}
 use Rattle.rkyv_base.specs.Scalar.{ScalarStands, scalar_element, scalar_near, scalar_shape}
 use Rattle.rkyv_collections.specs.InPlace.{SetsFound}
-use Rattle.rkyv_collections.specs.Map.{hash_at}
+use Rattle.rkyv_collections.specs.Map.{hash_at, map_shape}
 use Rattle.rkyv_collections.proofs.FirstWrites.{first_behind, none_behind}
+use Rattle.rkyv_collections.proofs.NestedWrites.{unwritten, value_nested_at}
 use Rattle.rkyv_collections.proofs.ValueWrites.{map_kept_at}
 use Rattle.rkyv_collections.proofs.map.in_place.set_value_of.Goals as goal
 
@@ -52,3 +53,13 @@ returns-in-None-clause-listed g c = λ factor pairs st.
     none_behind g.W.Width.word g.K.Element.shape (scalar_shape e) g.met.K.Element.laws (scalar_element e g.met.N.Scalar.word) g.K.StandsFor.stands (ScalarStands e)
     (hash_at h.hasher g.K.KeyElement.key_calls) factor b c.args.root pairs c.args.value (g.A.Query.fits c.args.key.now b) (g.A.PartialEq.eq c.args.key.now) c.requires.map
     (λ a q s there. g.met.A.NativeKey.native c.args.key.now a b q s there) st (c.in-None.ensures.first st.homes st.written)
+
+pub returns-in-Some-clause-parts : goal.returns-in-Some-clause-parts
+returns-in-Some-clause-parts g c =
+    let e = g.N.Scalar.encoding in
+    let t = c.in-Some.ensures.walked in
+    value_nested_at g.W.Width.word g.K.Element.shape (scalar_shape e) g.met.K.Element.laws (scalar_element e g.met.N.Scalar.word)
+    c.args.archive.now c.set_at.new.bytes c.args.root t.0 c.in-Some.pos c.requires.map t.1 t.2 c.set_at.ensures.sealed c.set_at.ensures.holds
+
+pub returns-in-None-clause-parts : goal.returns-in-None-clause-parts
+returns-in-None-clause-parts g c = unwritten (map_shape g.W.Width.word g.K.Element.shape (scalar_shape g.N.Scalar.encoding)) c.args.archive.now c.args.root

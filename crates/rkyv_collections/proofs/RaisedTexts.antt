@@ -1,0 +1,88 @@
+-- A text of a map that is written in upper case in place.
+use Rattle.std.proofs.Common.{◌≡◌, ℕ, ◌+◌, ◌≤◌, ◌∙◌, ap, arith, inl, inr, Bool, true, false, List, [], ◌∷◌, length, Option, None, Some, refl, subst, sym}
+use Rattle.std.specs.Borrow.{Bor}
+use Rattle.std.specs.Char.{to_ascii_uppercase}
+use Rattle.std.specs.Int.{Width}
+use Rattle.std.specs.List.{find}
+use Rattle.std.specs.Option.{is_some, option_map}
+use Rattle.std.specs.Prelude.{map}
+use Rattle.std.proofs.lemmas.Bool.{cases_Bool}
+use Rattle.std.proofs.lemmas.Option.{same_Some}
+use Rattle.rkyv_base.specs.Entry.{entry_shape}
+use Rattle.rkyv_base.specs.Format.{StandsNear}
+use Rattle.rkyv_base.specs.Pairs.{PairStands}
+use Rattle.rkyv_base.specs.SealedText.{Raised}
+use Rattle.rkyv_base.specs.Sealing.{value_pos}
+use Rattle.rkyv_base.specs.Shape.{IsElement, Shape, Viewed}
+use Rattle.rkyv_base.specs.Text.{text_at, text_near, text_shape, text_size}
+use Rattle.rkyv_base.proofs.SealedText.{raised_holds, raised_reads, raised_sealed}
+use Rattle.rkyv_keys.specs.OfTexts.{IsTextOf}
+use Rattle.rkyv_table.specs.Table.Reading.{home_positions}
+use Rattle.rkyv_collections.specs.InPlace.{with_first}
+use Rattle.rkyv_collections.specs.InPlaceText.{raised_list, text_raised, with_first_raised}
+use Rattle.rkyv_collections.specs.Lemmas.MapLaws.{HashNear}
+use Rattle.rkyv_collections.specs.ListedLookups.{AsksFor, IsPairOf, first_pair}
+use Rattle.rkyv_collections.specs.Map.{map_shape}
+use Rattle.rkyv_collections.specs.MapFormat.{MapStands}
+use Rattle.rkyv_collections.proofs.FirstWrites.{first_behind, some_place}
+use Rattle.rkyv_collections.proofs.FoundPairs.{first_listed}
+
+-- the list with the first asked text raised is the list with that new value
+raised_first : {A : Type 0} (asks : A → Bool) (pairs : List (A × Bor (List ℕ))) (pair : A × Bor (List ℕ)) → first_pair asks pairs ≡ Some pair → with_first asks (text_raised pair.1) pairs ≡ with_first_raised asks pairs
+raised_first asks [] pair e = absurd cc
+raised_first {A} asks (x ∷ xs) pair e = elim (cases_Bool (asks x.0)) [
+  | inl t ↦
+      let e' : Some x ≡ Some pair = rw t at e in
+      rw t (ap (λ (z : A × Bor (List ℕ)). (x.0, text_raised z.1) ∷ xs) (sym (same_Some x pair e')))
+  | inr f ↦
+      let e' : first_pair asks xs ≡ Some pair = rw f at e in
+      rw f (ap (λ (l : List (A × Bor (List ℕ))). x ∷ l) (raised_first asks xs pair e'))
+]
+
+module _ {A : Type 0} (k v : Shape) (key : List ℕ → ℕ → A → Type 0) (value : List ℕ → ℕ → Bor (List ℕ) → Type 0) (b : List ℕ) where
+  -- the pair that was found, by where it was found
+  pair_of : (place : Option ℕ) (q : ℕ) (o : Option (A × Bor (List ℕ))) → Some q ≡ place → IsPairOf k v key value b place o → (pair : A × Bor (List ℕ)) × (o ≡ Some pair) × PairStands k v key value b q pair
+  pair_of None q o e h = absurd cc
+  pair_of (Some r) q None e h = absurd h
+  pair_of (Some r) q (Some pair) e h = (pair, refl, subst (λ z. PairStands k v key value b z pair) (sym (same_Some q r e)) h)
+
+  no_pair : (f : ℕ → ℕ) (place : Option ℕ) (o : Option (A × Bor (List ℕ))) → None ≡ option_map f place → IsPairOf k v key value b place o → false ≡ is_some o
+  no_pair f None None e h = refl
+  no_pair f None (Some pair) e h = absurd h
+  no_pair f (Some q) o e h = absurd cc
+
+module _ (w : Width) (k : Shape) (kl : IsElement k) (tl : IsElement (text_shape w)) {A : Type 0} (key : List ℕ → ℕ → A → Type 0) (key_hash : List ℕ → ℕ → ℕ) (factor : ℕ × ℕ) (b : List ℕ) (p : ℕ)
+    (pairs : List (A × Bor (List ℕ))) (accept : ℕ → Bool) (asks : A → Bool) (view : Viewed (map_shape w k (text_shape w)) b p) (alike : AsksFor k key b accept asks)
+    (st : MapStands w k (text_shape w) key (IsTextOf w (λ text. text.now)) key_hash factor b p pairs) where
+  abbrev v : Shape
+  v = text_shape w
+
+  abbrev value : List ℕ → ℕ → Bor (List ℕ) → Type 0
+  value = IsTextOf w (λ text. text.now)
+
+  abbrev Stands : List ℕ → List (A × Bor (List ℕ)) → Type 0
+  Stands c l = MapStands w k v key value key_hash factor c p l
+
+  abbrev place : Option ℕ
+  place = find accept (home_positions w (entry_shape k v).size b p st.homes)
+
+  first : IsPairOf k v key value b place (first_pair asks pairs)
+  first = first_listed w k v kl tl key value key_hash factor b p pairs view accept asks alike st
+
+  pub none_raised : None ≡ option_map (value_pos k v) place → (false ≡ is_some (first_pair asks pairs)) × Stands b pairs
+  none_raised found = (no_pair k v key value b (value_pos k v) place (first_pair asks pairs) found first, st)
+
+  pub first_raised : StandsNear k key → HashNear k key_hash → (c : List ℕ) (pos : ℕ) (inline : Bool) → pos + text_size w ≤ length b → Some pos ≡ option_map (value_pos k v) place
+      → Raised w b pos c inline → (true ≡ is_some (first_pair asks pairs)) × Stands c (raised_list w k asks (Some inline) pairs)
+  first_raised kn near c pos false inside found raised =
+      let t = some_place (value_pos k v) place pos found in
+      let pair = pair_of k v key value b place t.0 (first_pair asks pairs) t.1 first in
+      (ap is_some (sym pair.1), subst (λ x. Stands x pairs) (sym raised.1) st)
+  first_raised kn near c pos true inside found raised =
+      let t = some_place (value_pos k v) place pos found in
+      let pair = pair_of k v key value b place t.0 (first_pair asks pairs) t.1 first in
+      let there : text_at w b pos ≡ pair.0.1.now = ap (text_at w b) t.2 ∙ pair.2.1 in
+      let reads : text_at w c pos ≡ map to_ascii_uppercase pair.0.1.now = raised_reads w b pos inside c true raised raised.0 ∙ ap (map to_ascii_uppercase) there in
+      let wrote = first_behind w k v kl tl key value key_hash factor b p pairs (text_raised pair.0.1) accept asks view alike st kn (λ x. text_near w x.now) near c pos found
+      (raised_sealed w b pos inside c true raised) (raised_holds w b pos inside c true raised) reads in
+      (wrote.0, subst (Stands c) (raised_first asks pairs pair.0 pair.1) wrote.1)

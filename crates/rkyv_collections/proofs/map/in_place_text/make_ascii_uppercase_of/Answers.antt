@@ -1,0 +1,53 @@
+use Rattle.std.proofs.Common.{Some, ap, refl, subst}
+use Rattle.rkyv_scan.specs.Hash.{hash_of_calls}
+use Rattle.rkyv_base.specs.Text.{text_element, text_shape}
+use Rattle.rkyv_base.proofs.SealedText.{raised_holds, raised_sealed}
+use Rattle.rkyv_collections.specs.InPlaceText.{RaisesFound}
+use Rattle.rkyv_collections.specs.Map.{hash_at}
+use Rattle.rkyv_collections.proofs.NestedWrites.{value_nested_at}
+use Rattle.rkyv_collections.proofs.RaisedTexts.{first_raised, none_raised}
+use Rattle.rkyv_collections.proofs.ValueWrites.{map_kept_at}
+use Rattle.rkyv_collections.proofs.map.in_place_text.make_ascii_uppercase_of.Goals as goal
+
+pub returns-in-Some-clause-answer : goal.returns-in-Some-clause-answer
+returns-in-Some-clause-answer g c =
+    let w = g.W.Width.word in
+    let h = g.H.KeyHasher in
+    let k = g.K.Element.shape in
+    let key_hash = hash_at h.hasher g.K.KeyElement.key_calls in
+    let b = c.args.archive.now in
+    let t = c.in-Some.ensures.walked in
+    let inside = c.in-Some.ensures.inside in
+    let raised = c.uppercase_at.ensures in
+    let kept = map_kept_at k (text_shape w) g.met.K.Element.laws (text_element w g.met.W.Width.layout.kind) w key_hash
+    (λ x y q lo hi l o holds fixed part. ap (hash_of_calls h.hasher) (g.met.K.KeyElement.key.near x y q lo hi l o holds fixed part))
+    b c.uppercase_at.new.bytes c.args.root t.0 c.in-Some.pos c.requires.map t.1 t.2 (raised_sealed w b c.in-Some.pos inside _ _ raised) (raised_holds w b c.in-Some.pos inside _ _ raised) in
+    subst (RaisesFound w k key_hash b c.args.root (Some c.uppercase_at.result) c.uppercase_at.new.bytes) c.in-Some.ensures.answer (c.uppercase_at.result, refl, raised, (t.1.0, kept))
+
+pub returns-in-Some-clause-listed : goal.returns-in-Some-clause-listed
+returns-in-Some-clause-listed g c = λ factor pairs st.
+    let w = g.W.Width.word in
+    let h = g.H.KeyHasher in
+    let b = c.args.archive.now in
+    first_raised w g.K.Element.shape g.met.K.Element.laws (text_element w g.met.W.Width.layout.kind) g.K.StandsFor.stands (hash_at h.hasher g.K.KeyElement.key_calls) factor b c.args.root pairs
+    (g.A.Query.fits c.args.key.now b) (g.A.PartialEq.eq c.args.key.now) c.requires.map (λ a q s there. g.met.A.NativeKey.native c.args.key.now a b q s there) st g.met.K.StandsFor.near
+    (λ x y q lo hi l o holds fixed part. ap (hash_of_calls h.hasher) (g.met.K.KeyElement.key.near x y q lo hi l o holds fixed part))
+    c.uppercase_at.new.bytes c.in-Some.pos c.uppercase_at.result c.in-Some.ensures.inside (c.in-Some.ensures.first st.homes st.written) c.uppercase_at.ensures
+
+pub returns-in-Some-clause-parts : goal.returns-in-Some-clause-parts
+returns-in-Some-clause-parts g c =
+    let w = g.W.Width.word in
+    let b = c.args.archive.now in
+    let t = c.in-Some.ensures.walked in
+    let inside = c.in-Some.ensures.inside in
+    let raised = c.uppercase_at.ensures in
+    value_nested_at w g.K.Element.shape (text_shape w) g.met.K.Element.laws (text_element w g.met.W.Width.layout.kind) b c.uppercase_at.new.bytes c.args.root t.0 c.in-Some.pos c.requires.map t.1 t.2
+    (raised_sealed w b c.in-Some.pos inside _ _ raised) (raised_holds w b c.in-Some.pos inside _ _ raised)
+
+pub returns-in-None-clause-listed : goal.returns-in-None-clause-listed
+returns-in-None-clause-listed g c = λ factor pairs st.
+    let w = g.W.Width.word in
+    let h = g.H.KeyHasher in
+    let b = c.args.archive.now in
+    none_raised w g.K.Element.shape g.met.K.Element.laws (text_element w g.met.W.Width.layout.kind) g.K.StandsFor.stands (hash_at h.hasher g.K.KeyElement.key_calls) factor b c.args.root pairs
+    (g.A.Query.fits c.args.key.now b) (g.A.PartialEq.eq c.args.key.now) c.requires.map (λ a q s there. g.met.A.NativeKey.native c.args.key.now a b q s there) st (c.in-None.ensures.first st.homes st.written)
