@@ -4,6 +4,7 @@ ghost use Rattle.std.specs.Prelude.{◌≡◌};
 ghost use Rattle.rkyv_c_calls.specs.Archives.{IsNumberArchive, Opens, limit_of, number_key};
 ghost use Rattle.rkyv_c_calls.specs.Archives.{number_map, value_shape, word_of};
 ghost use Rattle.rkyv_c_calls.specs.Calls.{Counts, GivesNumber, SetsNumber, StepsNumbers};
+ghost use Rattle.rkyv_c_calls.specs.Listed.{GivesFirstNumber, SetsFirstNumber};
 ghost use Rattle.rkyv_c_calls.specs.Items.{HandsOut, IsArchiveOfNumbers, NoArchiveOfNumbers};
 
 use rkyv_c_calls::building::Built;
@@ -46,7 +47,8 @@ pub extern "C" fn rkyv_c_get_number(
     value: &mut u64,
 ) -> u32
     requires { IsNumberArchive long_values wide archive.now }
-    ensures { GivesNumber long_values wide archive.now key value.old result value.new }
+    ensures gives { GivesNumber long_values wide archive.now key value.old result value.new }
+    ensures listed { GivesFirstNumber long_values wide archive.now key value.old result value.new }
 {
     get_number(archive, long_values, wide, key, value)
 }
@@ -66,6 +68,7 @@ pub extern "C" fn rkyv_c_set_number(
     requires { IsNumberArchive long_values wide archive.old }
     ensures kept { IsNumberArchive long_values wide archive.new }
     ensures sets { SetsNumber long_values wide archive.old key value result archive.new }
+    ensures listed { SetsFirstNumber long_values wide archive.old key value result archive.new }
 {
     set_number(archive, long_values, wide, key, value)
 }

@@ -5,6 +5,7 @@ ghost use Rattle.std.specs.Str.{IsUtf8};
 ghost use Rattle.rkyv_c_calls.specs.Archives.{IsTextArchive, Opens, limit_of, text_key, text_map};
 ghost use Rattle.rkyv_c_calls.specs.Archives.{value_shape, word_of};
 ghost use Rattle.rkyv_c_calls.specs.Calls.{Counts, GivesText, SetsText, StepsTexts};
+ghost use Rattle.rkyv_c_calls.specs.Listed.{GivesFirstText, SetsFirstText};
 ghost use Rattle.rkyv_c_calls.specs.Items.{HandsOut, IsArchiveOfTexts, NoArchiveOfTexts};
 
 use rkyv_c_calls::building::Built;
@@ -48,7 +49,9 @@ pub extern "C" fn rkyv_c_get_text(
     value: &mut u64,
 ) -> u32
     requires { IsTextArchive long_values wide archive.now }
-    ensures { GivesText long_values wide archive.now key.now value.old result value.new }
+    ensures gives { GivesText long_values wide archive.now key.now value.old result value.new }
+    ensures listed { IsUtf8 key.now
+        → GivesFirstText long_values wide archive.now key.now value.old result value.new }
 {
     get_text(archive, long_values, wide, key, value)
 }
@@ -69,6 +72,8 @@ pub extern "C" fn rkyv_c_set_text(
     requires { IsTextArchive long_values wide archive.old }
     ensures kept { IsTextArchive long_values wide archive.new }
     ensures sets { SetsText long_values wide archive.old key.now value result archive.new }
+    ensures listed { IsUtf8 key.now
+        → SetsFirstText long_values wide archive.old key.now value result archive.new }
 {
     set_text(archive, long_values, wide, key, value)
 }

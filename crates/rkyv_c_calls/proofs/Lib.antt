@@ -1,3 +1,4 @@
 pub mod Writing
 pub mod Forms
 pub mod Collected
+pub mod First

@@ -1,11 +1,9 @@
 -- The pairs that are handed in to be archived, and what is answered of them.
-use Rattle.std.specs.Prelude.{◌≡◌, ℕ, ◌<◌, ◌^◌, ◌≤◌, ◌⊎◌, All, Bool, Contains, List, [], ◌∷◌, map}
+use Rattle.std.specs.Prelude.{◌≡◌, ℕ, ◌<◌, ◌^◌, ◌≤◌, ◌⊎◌, All, Bool, Contains, List, map}
 use Rattle.std.specs.Borrow.{Bor}
 use Rattle.std.specs.Int.{Width, w32}
 use Rattle.std.specs.Str.{IsUtf8}
 use mir.Val.{bits}
-use Rattle.rkyv_scan.specs.Hash.{HasherCall, U32}
-use Rattle.rkyv_base.specs.Bytes.{number_at}
 use Rattle.rkyv_base.specs.Numbers.{unsigned}
 use Rattle.rkyv_base.specs.Scalar.{Encoding, ScalarStands, scalar_format}
 use Rattle.rkyv_base.specs.Pairs.{written_as}
@@ -16,24 +14,14 @@ use Rattle.rkyv_base.specs.declared.writer.NoMemory.{NoMemory}
 use Rattle.rkyv_keys.specs.Calls.{text_calls}
 use Rattle.rkyv_keys.specs.OfTexts.{IsTextOf, text_key_calls}
 use Rattle.rkyv_c_calls.specs.Archives.{limit_of, most_of, number_key, word_of}
-use Rattle.rkyv_c_calls.specs.Lists.{IsArchiveOf, NoArchiveOf, PairsStandAt}
+use Rattle.rkyv_c_calls.specs.Listed.{calls_of_number_at, number_calls}
+use Rattle.rkyv_c_calls.specs.Lists.{IsArchiveOf, NoArchiveOf}
 use Rattle.rkyv_c_calls.specs.Status.{write_refusal}
 use Rattle.rkyv_c_calls.specs.declared.building.Built.{Built}
 use Rattle.rkyv_c_calls.specs.declared.number_items.NumberItem.{NumberItem}
 use Rattle.rkyv_c_calls.specs.declared.text_items.TextItem.{TextItem}
 
--- the calls of a number of 32 bits, and of the one at a position
-abbrev pub number_calls : ℕ → List HasherCall
-number_calls n = U32 n ∷ []
-
-abbrev pub calls_of_number_at : List ℕ → ℕ → List HasherCall
-calls_of_number_at b q = number_calls (number_at w32 b q)
-
 module _ {N : Type 0} (w : Width) (e : Encoding N) where
-  -- a map of pairs of numbers stands at the position
-  abbrev pub NumbersStandAt : ℕ × ℕ → List ℕ → ℕ → List (ℕ × N) → Type 0
-  NumbersStandAt = PairsStandAt w number_key (ScalarStands (unsigned w32)) calls_of_number_at e
-
   -- the bytes are the archive of pairs of numbers
   abbrev pub AreNumbers : ℕ → ℕ → List (ℕ × N) → List ℕ → Type 0
   AreNumbers limit most = IsArchiveOf w number_key (ScalarStands (unsigned w32)) calls_of_number_at
@@ -43,10 +31,6 @@ module _ {N : Type 0} (w : Width) (e : Encoding N) where
   abbrev pub AreNoNumbers : ℕ → ℕ → List (ℕ × N) → WriteError NoMemory → Type 0
   AreNoNumbers limit most = NoArchiveOf w number_key (ScalarStands (unsigned w32))
       calls_of_number_at e limit most (scalar_format (unsigned w32)) number_calls
-
-  -- a map of pairs of texts stands at the position
-  abbrev pub TextsStandAt : ℕ × ℕ → List ℕ → ℕ → List (Bor (List ℕ) × N) → Type 0
-  TextsStandAt = PairsStandAt w (text_shape w) (IsTextOf w (λ text. text.now)) (text_key_calls w) e
 
   -- the bytes are the archive of pairs of texts
   abbrev pub AreTexts : ℕ → ℕ → List (Bor (List ℕ) × N) → List ℕ → Type 0

@@ -1,6 +1,7 @@
 -- Maps that stand for lists of pairs, and the archives of such lists.
-use Rattle.std.specs.Prelude.{ℕ, List}
+use Rattle.std.specs.Prelude.{◌≡◌, ℕ, ◌^◌, ◌≤◌, ◌⊎◌, Bool, List, MatchOption, None, Option, Some}
 use Rattle.std.specs.Int.{Width}
+use mir.Val.{bits}
 use Rattle.rkyv_scan.specs.Hash.{HasherCall, fx_hasher, low_halves}
 use Rattle.rkyv_base.specs.Format.{Format}
 use Rattle.rkyv_base.specs.Root.{ArchiveOf, ArchiveRefused}
@@ -9,8 +10,22 @@ use Rattle.rkyv_base.specs.Shape.{Shape}
 use Rattle.rkyv_base.specs.declared.errors.WriteError.{WriteError}
 use Rattle.rkyv_table.specs.Table.Listed.{listed}
 use Rattle.rkyv_table.specs.Table.TableFormat.{TableResolver}
+use Rattle.rkyv_collections.specs.InPlace.{with_first}
+use Rattle.rkyv_collections.specs.ListedLookups.{first_pair, first_value}
 use Rattle.rkyv_collections.specs.Map.{hash_at, map_shape}
 use Rattle.rkyv_collections.specs.MapFormat.{MapStands, hash_of, map_format}
+use Rattle.rkyv_c_calls.specs.Archives.{root}
+
+-- of each list for which the map at p stands, the value of the first pair whose key is asked for
+-- stands at the place; or there is neither
+abbrev pub PlaceOfFirst : {A B : Type 0} → Width → Shape → Shape → (List ℕ → ℕ → A → Type 0)
+    → (List ℕ → ℕ → B → Type 0) → (List ℕ → ℕ → List HasherCall) → (A → Bool) → List ℕ → ℕ
+    → Option ℕ → Type 0
+PlaceOfFirst {A} {B} w k v key value key_calls asks b p place =
+    (factor : ℕ × ℕ) (pairs : List (A × B))
+    → MapStands w k v key value (hash_at (fx_hasher low_halves) key_calls) factor b p pairs
+    → MatchOption (first_value asks pairs) (place ≡ None)
+    (λ x. (q : ℕ) × (place ≡ Some q) × value b q x)
 
 module _ {A N : Type 0} (w : Width) (k : Shape) (key : List ℕ → ℕ → A → Type 0)
     (key_calls : List ℕ → ℕ → List HasherCall) (e : Encoding N) where
@@ -18,6 +33,29 @@ module _ {A N : Type 0} (w : Width) (k : Shape) (key : List ℕ → ℕ → A �
   abbrev pub PairsStandAt : ℕ × ℕ → List ℕ → ℕ → List (A × N) → Type 0
   PairsStandAt factor = MapStands w k (scalar_shape e) key (ScalarStands e)
       (hash_at (fx_hasher low_halves) key_calls) factor
+
+  -- a map of the pairs stands at the root of an archive
+  abbrev pub PairsStand : ℕ × ℕ → List ℕ → List (A × N) → Type 0
+  PairsStand factor b pairs = PairsStandAt factor b (root w k (scalar_shape e) b) pairs
+
+  -- Of the first pair whose key is asked for, of each list for which the archive stands, the value
+  -- is given; or there is none, and what was there is kept.
+  abbrev pub GivesFirst : (A → Bool) → List ℕ → ℕ → ℕ → ℕ → Type 0
+  GivesFirst asks b before status after = (factor : ℕ × ℕ) (pairs : List (A × N))
+      → PairsStand factor b pairs
+      → MatchOption (first_value asks pairs) ((status ≡ 1) × (after ≡ before))
+      (λ value. (status ≡ 0) × (e.value after ≡ value))
+
+  -- Of each list for which the archive stands, it stands afterwards for the one with the number's
+  -- value in the first pair whose key is asked for, or there is none; or the number has too many
+  -- bits.
+  abbrev pub SetsFirstOf : (A → Bool) → List ℕ → ℕ → ℕ → List ℕ → Type 0
+  SetsFirstOf asks b number status c = (factor : ℕ × ℕ) (pairs : List (A × N))
+      → PairsStand factor b pairs
+      → ((2 ^ bits e.word ≤ number) × (status ≡ 3))
+      ⊎ ((value : N) × (e.code value ≡ number)
+      × MatchOption (first_pair asks pairs) (status ≡ 1) (λ pair. status ≡ 0)
+      × PairsStand factor c (with_first asks value pairs))
 
   module _ {R : Type 0} (limit most : ℕ) (format : Format A R) (calls : A → List HasherCall) where
     -- how the pairs are written, in at most so many buckets

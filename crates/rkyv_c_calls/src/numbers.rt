@@ -11,6 +11,7 @@ ghost use Rattle.rkyv_collections.specs.Map.{map_shape};
 ghost use Rattle.rkyv_c_calls.specs.Archives.{IsNumberArchive, Opens, limit_of, number_key};
 ghost use Rattle.rkyv_c_calls.specs.Archives.{number_map, value_shape, word_of};
 ghost use Rattle.rkyv_c_calls.specs.Calls.{Counts, GivesNumber, SetsNumber, StepsNumbers};
+ghost use Rattle.rkyv_c_calls.specs.Listed.{GivesFirstNumber, SetsFirstNumber};
 ghost use Rattle.rkyv_c_calls.specs.Walking.{NextNumber};
 
 use crate::archives::{open_map, pair_count, root_of};
@@ -75,13 +76,14 @@ pub fn count_numbers(archive: &[u8], long_values: bool, wide: bool) -> usize
 /// `NOT_FOUND` where it isn't found; `value` is kept then. The archive must have been accepted.
 pub fn get_number(archive: &[u8], long_values: bool, wide: bool, key: u32, value: &mut u64) -> u32
     requires { IsNumberArchive long_values wide archive.now }
-    ensures { GivesNumber long_values wide archive.now key value.old result value.new }
+    ensures gives { GivesNumber long_values wide archive.now key value.old result value.new }
+    ensures listed { GivesFirstNumber long_values wide archive.now key value.old result value.new }
 {
     match (long_values, wide) {
-        (false, false) => get_in::<u32, u32, Narrow, u32>(archive, &key, value),
-        (true, false) => get_in::<u32, u64, Narrow, u32>(archive, &key, value),
-        (false, true) => get_in::<u32, u32, Wide, u32>(archive, &key, value),
-        (true, true) => get_in::<u32, u64, Wide, u32>(archive, &key, value),
+        (false, false) => get_in::<u32, u32, u32, Narrow>(archive, &key, value),
+        (true, false) => get_in::<u32, u32, u64, Narrow>(archive, &key, value),
+        (false, true) => get_in::<u32, u32, u32, Wide>(archive, &key, value),
+        (true, true) => get_in::<u32, u32, u64, Wide>(archive, &key, value),
     }
 }
 
@@ -93,6 +95,7 @@ pub fn set_number(archive: &mut [u8], long_values: bool, wide: bool, key: u32, v
     requires { IsNumberArchive long_values wide archive.old }
     ensures kept { IsNumberArchive long_values wide archive.new }
     ensures sets { SetsNumber long_values wide archive.old key value result archive.new }
+    ensures listed { SetsFirstNumber long_values wide archive.old key value result archive.new }
 {
     match (long_values, wide) {
         (false, false) => set_in::<u32, u32, u32, Narrow>(archive, &key, value),

@@ -12,6 +12,7 @@ ghost use Rattle.rkyv_collections.specs.Map.{map_shape};
 ghost use Rattle.rkyv_c_calls.specs.Archives.{Gives, IsTextArchive, Opens, Sets, limit_of};
 ghost use Rattle.rkyv_c_calls.specs.Archives.{text_key, text_map, value_shape, word_of};
 ghost use Rattle.rkyv_c_calls.specs.Calls.{Counts, GivesText, SetsText, StepsTexts, text_found};
+ghost use Rattle.rkyv_c_calls.specs.Listed.{GivesFirstText, SetsFirstText};
 ghost use Rattle.rkyv_c_calls.specs.Walking.{NextText};
 
 use crate::archives::{open_map, pair_count, root_of};
@@ -97,14 +98,16 @@ pub fn count_texts(archive: &[u8], long_values: bool, wide: bool) -> usize
 /// Gives the value of a text.
 fn get_of(archive: &[u8], long_values: bool, wide: bool, key: &str, value: &mut u64) -> u32
     requires { IsTextArchive long_values wide archive.now }
-    ensures { Gives (word_of long_values) archive.now
+    ensures gives { Gives (word_of long_values) archive.now
         (text_found long_values wide archive.now key.now) value.old result value.new }
+    ensures listed { GivesFirstText long_values wide archive.now key.now value.old result
+        value.new }
 {
     match (long_values, wide) {
-        (false, false) => get_in::<Text<Narrow>, u32, Narrow, &str>(archive, &key, value),
-        (true, false) => get_in::<Text<Narrow>, u64, Narrow, &str>(archive, &key, value),
-        (false, true) => get_in::<Text<Wide>, u32, Wide, &str>(archive, &key, value),
-        (true, true) => get_in::<Text<Wide>, u64, Wide, &str>(archive, &key, value),
+        (false, false) => get_in::<&str, Text<Narrow>, u32, Narrow>(archive, &key, value),
+        (true, false) => get_in::<&str, Text<Narrow>, u64, Narrow>(archive, &key, value),
+        (false, true) => get_in::<&str, Text<Wide>, u32, Wide>(archive, &key, value),
+        (true, true) => get_in::<&str, Text<Wide>, u64, Wide>(archive, &key, value),
     }
 }
 
@@ -114,7 +117,9 @@ fn get_of(archive: &[u8], long_values: bool, wide: bool, key: &str, value: &mut 
 /// The archive must have been accepted.
 pub fn get_text(archive: &[u8], long_values: bool, wide: bool, key: &[u8], value: &mut u64) -> u32
     requires { IsTextArchive long_values wide archive.now }
-    ensures { GivesText long_values wide archive.now key.now value.old result value.new }
+    ensures gives { GivesText long_values wide archive.now key.now value.old result value.new }
+    ensures listed { IsUtf8 key.now
+        → GivesFirstText long_values wide archive.now key.now value.old result value.new }
 {
     match text_of(key) {
         Some(text) => get_of(archive, long_values, wide, text, value),
@@ -128,6 +133,7 @@ fn set_of(archive: &mut [u8], long_values: bool, wide: bool, key: &str, value: u
     ensures kept { IsTextArchive long_values wide archive.new }
     ensures sets { Sets (unsigned (word_of long_values)) archive.old
         (text_found long_values wide archive.old key.now) value result archive.new }
+    ensures listed { SetsFirstText long_values wide archive.old key.now value result archive.new }
 {
     match (long_values, wide) {
         (false, false) => set_in::<&str, Text<Narrow>, u32, Narrow>(archive, &key, value),
@@ -146,6 +152,8 @@ pub fn set_text(archive: &mut [u8], long_values: bool, wide: bool, key: &[u8], v
     requires { IsTextArchive long_values wide archive.old }
     ensures kept { IsTextArchive long_values wide archive.new }
     ensures sets { SetsText long_values wide archive.old key.now value result archive.new }
+    ensures listed { IsUtf8 key.now
+        → SetsFirstText long_values wide archive.old key.now value result archive.new }
 {
     match text_of(key) {
         Some(text) => set_of(archive, long_values, wide, text, value),

@@ -2,6 +2,7 @@ use Rattle.std.proofs.Common.{false, true}
 use Rattle.rkyv_base.specs.Numbers.{unsigned}
 use Rattle.rkyv_c_calls.specs.Archives.{IsTextArchive, Sets, word_of}
 use Rattle.rkyv_c_calls.specs.Calls.{text_found}
+use Rattle.rkyv_c_calls.specs.Listed.{SetsFirstText}
 use Rattle.rkyv_c_calls.proofs.Forms.{at_form, of_form}
 use Rattle.rkyv_c_calls.proofs.texts.set_of.Goals as goal
 
@@ -40,3 +41,15 @@ returns-in-false-false-clause-sets c = at_form (λ l w. Sets (unsigned (word_of 
 
 pub set_in-requires-in-false-false-clause-archive : goal.set_in-requires-in-false-false-clause-archive
 set_in-requires-in-false-false-clause-archive c = of_form (λ l w. IsTextArchive l w c.args.archive.now) c.args.long_values c.args.wide false false c.in-false-false.is-0 c.in-false-false.is-1 c.requires
+
+pub returns-in-true-true-clause-listed : goal.returns-in-true-true-clause-listed
+returns-in-true-true-clause-listed c = at_form (λ l w. SetsFirstText l w c.args.archive.now c.args.key.now c.args.value c.set_in.result c.set_in.new.archive) c.args.long_values c.args.wide true true c.in-true-true.is-0 c.in-true-true.is-1 c.set_in.ensures.listed
+
+pub returns-in-true-false-clause-listed : goal.returns-in-true-false-clause-listed
+returns-in-true-false-clause-listed c = at_form (λ l w. SetsFirstText l w c.args.archive.now c.args.key.now c.args.value c.set_in-in-true-false.result c.set_in-in-true-false.new.archive) c.args.long_values c.args.wide true false c.in-true-false.is-0 c.in-true-false.is-1 c.set_in-in-true-false.ensures.listed
+
+pub returns-in-false-true-clause-listed : goal.returns-in-false-true-clause-listed
+returns-in-false-true-clause-listed c = at_form (λ l w. SetsFirstText l w c.args.archive.now c.args.key.now c.args.value c.set_in-in-false-true.result c.set_in-in-false-true.new.archive) c.args.long_values c.args.wide false true c.in-false-true.is-0 c.in-false-true.is-1 c.set_in-in-false-true.ensures.listed
+
+pub returns-in-false-false-clause-listed : goal.returns-in-false-false-clause-listed
+returns-in-false-false-clause-listed c = at_form (λ l w. SetsFirstText l w c.args.archive.now c.args.key.now c.args.value c.set_in-in-false-false.result c.set_in-in-false-false.new.archive) c.args.long_values c.args.wide false false c.in-false-false.is-0 c.in-false-false.is-1 c.set_in-in-false-false.ensures.listed
