@@ -11,13 +11,13 @@ use Rattle.rkyv_keys.specs.Equality.{Comparison, IsEquivalence, StandsOnce}
 use Rattle.rkyv_keys.specs.Keys.{FitsItsEqual, IsKey, IsQuery, ReadsAnywhere}
 use Rattle.rkyv_keys.specs.Fixed.{MakesFixedCalls, text_fixed}
 use Rattle.rkyv_keys.specs.OfValues.{
-  values_same,
   value_calls,
-  value_fits,
   value_equivalence,
+  value_fits,
+  value_fits_its_equal,
   value_key,
   value_query,
-  value_fits_its_equal,
+  values_same,
 }
 
 -- two texts have the same bytes
