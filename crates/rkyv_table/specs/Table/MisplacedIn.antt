@@ -28,8 +28,8 @@ ComparesAs {T} post w s t same = (x y : View T) (r : Bool) → IsItem w s t x �
     → post x y r → r ≡ same x.pos y.pos
 
 -- what is told of the controls, the capacity and the length of a table, of the hash of the item in
--- each bucket, and of whether the items in two are the same; hash_of and same tell of items by their
--- positions
+-- each bucket, and of whether the items in two are the same; hash_of and same tell of items by
+-- their positions
 abbrev pub told_of_table : {T W A : Type 0} → (List ℕ → ℕ → ℕ → (ℕ → ℕ) → (ℕ → ℕ → Bool) → A)
     → Width → Shape → ArchivedHashTable T W → (ℕ → ℕ) → (ℕ → ℕ → Bool) → A
 told_of_table told w s t hash_of same =

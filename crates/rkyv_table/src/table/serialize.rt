@@ -64,51 +64,6 @@ impl<X: Drop, R: Drop> Room<X, R> {
     }
 }
 
-// Takes at least one item, places and writes them, and answers the position of the first control.
-fn fill_and_write<
-    W: Width,
-    G: GroupKind,
-    S: Writer,
-    U: Serialize<S, W>,
-    X: Lend<U> + Drop,
-    H: HandsIn<X>,
->(
-    alloc: Global,
-    given: H,
-    len: usize,
-    cap: usize,
-    room: Room<X, U::Resolver>,
-    serializer: &mut S,
-) -> Result<u64, WriteError<S::Fault>>
-    requires can { H.can given }
-    requires below { len < cap }
-    requires slots { room.slots.items ≡ replicate cap None }
-    requires scratch { room.scratch.items
-        ≡ replicate (control_count cap + U.Archived.shape.size) 255 }
-    requires resolvers { (room.resolvers.items ≡ []) × (len ≤ vec_capacity room.resolvers) }
-    ensures { WritesFilled (H.input given) len cap U.Archived.shape (written_as X.lent U.format)
-        W.LIMIT (S.output serializer.old) (S.output serializer.new) result }
-{
-    let mut slots = room.slots;
-    let mut scratch = room.scratch;
-    let resolvers = room.resolvers;
-    let slots = slots.as_mut_slice();
-    let (controls, bucket) = scratch.as_mut_slice().split_at_mut(control_count(cap));
-    match given.take_into::<G>(len, cap, controls, slots) {
-        Ok(()) => {}
-        Err(actual) => {
-            return Err(WriteError::IteratorLengthMismatch(IteratorLengthMismatch {
-                expected: len,
-                actual,
-            }));
-        }
-    }
-    match write_table::<W, S, U, X>(alloc, slots, controls, bucket, resolvers, serializer) {
-        Ok(pos) => Ok(pos),
-        Err(e) => Err(e),
-    }
-}
-
 // Places and writes at least one item, and answers the position of the first control.
 fn serialize_filled<
     W: Width,
@@ -130,9 +85,32 @@ fn serialize_filled<
     ensures { WritesFilled (H.input given) len cap U.Archived.shape (written_as X.lent U.format)
         W.LIMIT (S.output serializer.old) (S.output serializer.new) result }
 {
-    match Room::new(alloc, len, cap, <U::Archived as Element>::size()) {
-        Ok(room) => fill_and_write::<W, G, S, U, X, H>(alloc, given, len, cap, room, serializer),
-        Err(_) => Err(WriteError::Memory),
+    let room: Room<X, U::Resolver> = match Room::new(
+        alloc,
+        len,
+        cap,
+        <U::Archived as Element>::size(),
+    ) {
+        Ok(room) => room,
+        Err(_) => return Err(WriteError::Memory),
+    };
+    let mut slots = room.slots;
+    let mut scratch = room.scratch;
+    let resolvers = room.resolvers;
+    let slots = slots.as_mut_slice();
+    let (controls, bucket) = scratch.as_mut_slice().split_at_mut(control_count(cap));
+    match given.take_into::<G>(len, cap, controls, slots) {
+        Ok(()) => {}
+        Err(actual) => {
+            return Err(WriteError::IteratorLengthMismatch(IteratorLengthMismatch {
+                expected: len,
+                actual,
+            }));
+        }
+    }
+    match write_table::<W, S, U, X>(alloc, slots, controls, bucket, resolvers, serializer) {
+        Ok(pos) => Ok(pos),
+        Err(e) => Err(e),
     }
 }
 

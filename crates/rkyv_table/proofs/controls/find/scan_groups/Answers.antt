@@ -81,16 +81,12 @@ loop-i-preserved g c =
 pub returns-then-empty-clause-seen : goal.returns-then-empty-clause-seen
 returns-then-empty-clause-seen g c = λ controls e accept answers.
     let n : c.loop-i.i * g.G.GroupKind.kind.width ≡ 16 = groups_end c.loop-i.i g.G.GroupKind.kind.width (width_divides g.G.GroupKind.kind g.met.G.GroupKind.lawful) (rw (c.WIDTH-i-end.ensures, g.met.G.GroupKind.width) at c.loop-i.auto.i-end) (rw (c.WIDTH-i-end.ensures, g.met.G.GroupKind.width) at c.loop-i-test.false) in
-    let a' = rw (n, all_candidates) at (c.loop-i.invariant.none controls e accept answers) in
-    let b' = rw (n, all_empty) at (c.loop-i.invariant.shown controls e) in
-    (a', sym b' ∙ c.if-empty.true)
+    ((rw (n, all_candidates) at (c.loop-i.invariant.none controls e accept answers)), sym (rw (n, all_empty) at (c.loop-i.invariant.shown controls e)) ∙ c.if-empty.true)
 
 pub returns-else-empty-clause-seen : goal.returns-else-empty-clause-seen
 returns-else-empty-clause-seen g c = λ controls e accept answers.
     let n : c.loop-i.i * g.G.GroupKind.kind.width ≡ 16 = groups_end c.loop-i.i g.G.GroupKind.kind.width (width_divides g.G.GroupKind.kind g.met.G.GroupKind.lawful) (rw (c.WIDTH-i-end.ensures, g.met.G.GroupKind.width) at c.loop-i.auto.i-end) (rw (c.WIDTH-i-end.ensures, g.met.G.GroupKind.width) at c.loop-i-test.false) in
-    let a' = rw (n, all_candidates) at (c.loop-i.invariant.none controls e accept answers) in
-    let b' = rw (n, all_empty) at (c.loop-i.invariant.shown controls e) in
-    (a', sym b' ∙ c.if-empty.false)
+    ((rw (n, all_candidates) at (c.loop-i.invariant.none controls e accept answers)), sym (rw (n, all_empty) at (c.loop-i.invariant.shown controls e)) ∙ c.if-empty.false)
 
 pub first_accepted-requires-clause-below : goal.first_accepted-requires-clause-below
 first_accepted-requires-clause-below g c = λ k h.
