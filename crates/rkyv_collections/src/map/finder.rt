@@ -12,6 +12,7 @@ ghost use Rattle.rkyv_collections.specs.MapFormat.{hash_of};
 ghost use Rattle.rkyv_collections.specs.Misplaced.{FindsOneKey};
 
 use crate::map::ArchivedHashMap;
+use crate::map::lookup::is_found;
 use rkyv_base::element::Element;
 use rkyv_base::entry::Entry;
 use rkyv_base::view::View;
@@ -165,6 +166,6 @@ impl<'a, K: KeyElement, V: Element, H: KeyHasher, W: Width> MapFinder<'a, K, V, 
             (hash_at H.hasher K.key_calls) K.same
             (Q.fits key.now (map_bytes (map_of self.entry))) (IsFoundAt result) }
     {
-        self.find_key(key).is_some()
+        is_found(self.find_key(key))
     }
 }

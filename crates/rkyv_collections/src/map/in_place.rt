@@ -5,7 +5,8 @@ ghost use Rattle.rkyv_base.specs.Sealing.{value_pos};
 ghost use Rattle.rkyv_base.specs.Shape.{Viewed};
 ghost use Rattle.rkyv_collections.specs.InPlace.{FindsFirstValueAt, FindsValueAt, MayWriteFound};
 ghost use Rattle.rkyv_collections.specs.InPlace.{SetsFirst, SetsValueAt, WritesFound};
-ghost use Rattle.rkyv_collections.specs.Map.{IsKeyPosAt, hash_at, map_shape};
+ghost use Rattle.rkyv_collections.specs.Map.{IsKeyPosAt, IsMap, hash_at, map_bytes, map_pos};
+ghost use Rattle.rkyv_collections.specs.Map.{map_shape};
 ghost use Rattle.rkyv_collections.specs.MapFormat.{hash_of};
 ghost use Rattle.rkyv_collections.specs.NestedWrites.{WritesParts};
 
@@ -18,6 +19,20 @@ use rkyv_base::view::View;
 use rkyv_base::width::Width;
 use rkyv_keys::keys::{KeyElement, NativeKey, Query};
 use rkyv_scan::hash::KeyHasher;
+
+/// The map whose header stands at a position of an archive.
+#[inline]
+fn map_over<K: Element, V: Element, H, W: Width>(
+    archive: &[u8],
+    root: u64,
+) -> ArchivedHashMap<'_, K, V, H, W>
+    requires { Viewed (map_shape W.word K.shape V.shape) archive.now root }
+    ensures map { IsMap W.word K.shape V.shape result }
+    ensures bytes { map_bytes result ≡ archive.now }
+    ensures pos { map_pos result ≡ root }
+{
+    ArchivedHashMap::of(View::new(archive, root))
+}
 
 impl<'a, K: KeyElement, V: Element, H: KeyHasher, W: Width> ArchivedHashMap<'a, K, V, H, W> {
     /// Where the value of the key stands that is asked for, in the map whose header stands at
@@ -37,8 +52,7 @@ impl<'a, K: KeyElement, V: Element, H: KeyHasher, W: Width> ArchivedHashMap<'a, 
             (hash_at H.hasher K.key_calls) (Q.fits key.now archive.now)
             (λ pos. result ≡ pos) }
     {
-        let map = ArchivedHashMap::<K, V, H, W>::of(View::new(archive, root));
-        found_pos(map.get(key))
+        found_pos(map_over::<K, V, H, W>(archive, root).get(key))
     }
 
     /// What `write` answers of the archive and the place of the value of the key that is asked for,

@@ -1,5 +1,5 @@
 //! Finding a pair by its key.
-ghost use Rattle.std.specs.Prelude.{IfSome, IsSome, Some, ◌<◌, ◌^◌, ◌≡◌};
+ghost use Rattle.std.specs.Prelude.{IfSome, IsSome, Option, Some, ◌<◌, ◌^◌, ◌≡◌, ℕ};
 ghost use Rattle.rkyv_base.specs.Entry.{entry_shape};
 ghost use Rattle.rkyv_base.specs.View.{IsAt, IsView, archive_of, pos_of};
 ghost use Rattle.rkyv_base.specs.declared.view.View.{View};
@@ -28,6 +28,14 @@ pub(crate) fn found_pos<T: Element>(found: Option<View<'_, T>>) -> Option<u64>
         Some(view) => Some(view.pos()),
         None => None,
     }
+}
+
+/// Whether an entry was found.
+#[inline]
+pub(crate) fn is_found<T: Element>(found: Option<View<'_, T>>) -> bool
+    ensures { (place : Option ℕ) → IsEntryAt found.entry place → IsFoundAt result place }
+{
+    found.is_some()
 }
 
 // Every lookup is one call of `find`.
@@ -211,7 +219,7 @@ impl<'a, K: KeyElement, V: Element, H: KeyHasher, W: Width> ArchivedHashMap<'a, 
             (hash_at H.hasher K.key_calls) K.same
             (Q.fits key.now (map_bytes self.entry)) (IsFoundAt result) }
     {
-        self.find_key(key).is_some()
+        is_found(self.find_key(key))
     }
 
     /// The value of the key that is asked for, which must be found, as `contains_key` tells.

@@ -43,6 +43,7 @@ pub fn written_sets_are_looked_up<
 where
     A::Archived: KeyElement,
     A: NativeKey<A::Archived>,
-    ensures { FindsInWrittenSet W.word A.Archived.shape (hash_of H.hasher Q.calls) Q.fits
-        A.Archived.stands Q.can_read ⟦<Hashed<HashSet<A, T>, H> as Archive<W>>⟧.format }
+    ensures { let hash = hash_of H.hasher Q.calls in
+        FindsInWrittenSet W.word A.Archived.shape hash Q.fits A.Archived.stands Q.can_read
+        ⟦<Hashed<HashSet<A, T>, H> as Archive<W>>⟧.format }
 {}
