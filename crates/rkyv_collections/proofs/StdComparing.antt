@@ -1,8 +1,9 @@
 -- What a lookup that is compared with a value says of the map.
-use Rattle.std.proofs.Common.{◌≡◌, ℕ, ◌↔◌, sym, subst, List, ◌∷◌, Option, Some, None}
-use Rattle.std.specs.Prelude.{IsSomeAnd}
+use Rattle.std.proofs.Common.{◌≡◌, ℕ, ◌↔◌, ◌∙◌, arith, refl, sym, subst, Bool, false, true, List, [], ◌∷◌, Option, Some, None}
+use Rattle.std.specs.Prelude.{IsSomeAnd, IsTrue}
 use Rattle.std.specs.List.{All}
 use Rattle.std.specs.Option.{option_map}
+use Rattle.std.proofs.lemmas.Bool.{true≢false}
 use Rattle.std.proofs.lemmas.List.Elements.{All-cons, All-head, All-tail}
 use Rattle.std.proofs.lemmas.Option.{none-some, same_Some}
 
@@ -24,5 +25,18 @@ module _ {X : Type 0} (P : X → Type 0) (whole : List X) where
   pub decides_next : (x : X) (left : List X) → Decides (x ∷ left) → P x → Decides left
   decides_next x left d h = (λ all. d.0 (All-cons P x left h all), λ all. All-tail P x left (d.1 all))
 
-  pub decides_not : (x : X) (left : List X) → Decides (x ∷ left) → (P x → ⊥) → All P whole → ⊥
+  decides_not : (x : X) (left : List X) → Decides (x ∷ left) → (P x → ⊥) → All P whole → ⊥
   decides_not x left d h all = h (All-head P x left (d.1 all))
+
+  -- what is answered of as many: no where another number is there, or one of what is left fails, and yes where nothing is left
+  module _ (n m : ℕ) where
+    pub other_count : (n ≡ m → ⊥) → IsTrue false ↔ ((n ≡ m) × All P whole)
+    other_count ne = (λ t. absurd (true≢false (sym t)), λ h. absurd (ne h.0))
+
+    pub one_fails : (x : X) (left : List X) → Decides (x ∷ left) → (r : Bool) → IsTrue r ↔ P x → r ≡ false → IsTrue false ↔ ((n ≡ m) × All P whole)
+    one_fails x left d r told no' =
+        let apart : P x → ⊥ = λ f. true≢false (sym (told.1 f) ∙ no') in
+        (λ t. absurd (true≢false (sym t)), λ h. absurd (decides_not x left d apart h.1))
+
+    pub all_found : (left : List X) → left ≡ [] → Decides left → n ≡ m → IsTrue true ↔ ((n ≡ m) × All P whole)
+    all_found left none d same = (λ t. (same, d.0 (subst (All P) (sym none) (λ k e h. absurd (omega (arith, h))))), λ h. refl)
