@@ -42,6 +42,10 @@ pub view_there : {T : Type 0} (s : Shape) (v : View T) (archive : Bor (List ℕ)
 view_there s v archive p at viewed =
     subst (λ (x : Bor (List ℕ)). Viewed s x.now v.pos) (sym at.0) (subst (λ q. Viewed s archive.now q) (sym at.1) viewed)
 
+-- what is read by a view is read at the place where it is
+pub view_at : {T X : Type 0} (v : View T) (archive : Bor (List ℕ)) (p : ℕ) → IsAt v archive p → (read : List ℕ → ℕ → X) → read v.archive.now v.pos ≡ read archive.now p
+view_at v archive p at read = ap (λ (x : Bor (List ℕ)). read x.now v.pos) at.0 ∙ ap (read archive.now) at.1
+
 -- the table of places of an index map is viewed where it holds
 pub table_viewed : {V : Type 0} (w : Width) → IsArchiveWord w → (e : Encoding V) → IsPlace w e → (b : List ℕ) (p lo hi m : ℕ)
     → p + 4 * byte_len w ≤ length b → p % byte_len w ≡ 0 → lo ≤ hi → hi ≤ p → TableHolds w (scalar_shape e) b p lo hi m → Viewed (table_shape w (place_shape w)) b p

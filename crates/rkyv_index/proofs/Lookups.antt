@@ -16,9 +16,9 @@ use Rattle.rkyv_base.specs.Text.{IsArchiveWord}
 use Rattle.rkyv_base.specs.View.{IsAt, bytes_of}
 use Rattle.rkyv_base.specs.declared.view.View.{View}
 use Rattle.rkyv_table.specs.Controls.Laws.{IsUnderHash}
-use Rattle.rkyv_table.specs.Table.Reading.{IsItem, IsWalked, WrittenAt, home_positions, item_at, pos_found, pos_of_found, table_bytes, table_pos}
+use Rattle.rkyv_table.specs.Table.Reading.{Answers, FindsFirst, FindsFound, IsItem, IsWalked, WrittenAt, home_positions, item_at, pos_found, pos_of_found, table_bytes, table_pos}
 use Rattle.rkyv_table.specs.declared.table.ArchivedHashTable.{ArchivedHashTable}
-use Rattle.rkyv_index.specs.Index.{AreUnderHash, IsHeld, IsIndexMap, IsPlaceOf, index_archive, index_bytes, index_len, index_of, index_pos, key_pos}
+use Rattle.rkyv_index.specs.Index.{AnswersKeys, AreUnderHash, IsHeld, IsIndexMap, IsKeyOf, IsPlaceOf, IsWritten, index_archive, index_bytes, index_found, index_len, index_of, index_pos, key_pos}
 use Rattle.rkyv_index.specs.IndexFormat.{IndexWrittenAt}
 use Rattle.rkyv_index.specs.IndexLayout.{places_of}
 use Rattle.rkyv_index.specs.declared.map.ArchivedIndexMap.{ArchivedIndexMap}
@@ -43,7 +43,7 @@ module _ {K V H W P N : Type 0} (w : Width) (kind : IsArchiveWord w) (k v : Shap
   bytes_same : table_bytes t ≡ index_bytes m
   bytes_same = ap (λ (x : Bor (List ℕ)). x.now) at.0
 
-  pub found_is : (hash : ℕ) (accept : ℕ → Bool) → pos_found generic_kind w (scalar_shape e).size (table_bytes t) (table_pos t) hash accept
+  found_is : (hash : ℕ) (accept : ℕ → Bool) → pos_found generic_kind w (scalar_shape e).size (table_bytes t) (table_pos t) hash accept
       ≡ pos_found generic_kind w (byte_len w) (index_bytes m) (index_pos m) hash accept
   found_is hash accept =
       ap (λ n. pos_found generic_kind w n (table_bytes t) (table_pos t) hash accept) (ap byte_len place.word)
@@ -88,7 +88,7 @@ module _ {K V H W P N : Type 0} (w : Width) (kind : IsArchiveWord w) (k v : Shap
       (there.0, there.1, ap (number_at w (index_bytes m)) (sym there.2) ∙ ap (λ (x : List ℕ). number_at w x h.pos) (sym (read_there h item)))
 
   -- from the position that is found to the place that is read there
-  pub place_is : (result : Option (View P)) (hash : ℕ) (accept : ℕ → Bool)
+  place_is : (result : Option (View P)) (hash : ℕ) (accept : ℕ → Bool)
       → pos_of_found result ≡ pos_found generic_kind w (scalar_shape e).size (table_bytes t) (table_pos t) hash (λ q. accept (number_at w (index_bytes m) q))
       → option_map (number_at w (index_bytes m)) (pos_of_found result)
       ≡ option_map (number_at w (index_bytes m)) (pos_found generic_kind w (byte_len w) (index_bytes m) (index_pos m) hash (λ q. accept (number_at w (index_bytes m) q)))
@@ -99,10 +99,10 @@ module _ {K V H W P N : Type 0} (w : Width) (kind : IsArchiveWord w) (k v : Shap
     abbrev hashes : List ℕ
     hashes = map (λ i. key_hash (index_bytes m) (key_pos w k v m i)) (places_of (index_len w m))
 
-    pub written_there : WrittenAt w (table_bytes t) (table_pos t) hashes homes
+    written_there : WrittenAt w (table_bytes t) (table_pos t) hashes homes
     written_there = subst (λ q. WrittenAt w (table_bytes t) q hashes homes) (sym at.1) (subst (λ (x : List ℕ). WrittenAt w x (index_pos m) hashes homes) (sym bytes_same) written.table)
 
-    pub under_there : (hash : ℕ) (accept : ℕ → Bool) → AreUnderHash (index_of w k v m) hash key_hash accept
+    under_there : (hash : ℕ) (accept : ℕ → Bool) → AreUnderHash (index_of w k v m) hash key_hash accept
         → IsUnderHash hash hashes (home_positions w (scalar_shape e).size (table_bytes t) (table_pos t) homes) (λ q. accept (number_at w (index_bytes m) q))
     under_there hash accept under i h accepted =
         let n = index_len w m in
@@ -116,10 +116,32 @@ module _ {K V H W P N : Type 0} (w : Width) (kind : IsArchiveWord w) (k v : Shap
         get_or-map (λ j. key_hash (index_bytes m) (key_pos w k v m j)) (places_of n) i 0 0 (omega (arith, below, length-range_with_len 0 n))
         ∙ ap (λ j. key_hash (index_bytes m) (key_pos w k v m j)) (place_read n i below) ∙ under i below here
 
-    pub first_is : (result : Option (View P)) (accept : ℕ → Bool)
+    first_is : (result : Option (View P)) (accept : ℕ → Bool)
         → pos_of_found result ≡ find (λ q. accept (number_at w (index_bytes m) q)) (home_positions w (scalar_shape e).size (table_bytes t) (table_pos t) homes)
         → option_map (number_at w (index_bytes m)) (pos_of_found result) ≡ find accept (places_of (index_len w m))
     first_is result accept found =
         ap (option_map (number_at w (index_bytes m))) (found ∙ ap (find (λ q. accept (number_at w (index_bytes m) q))) (homes_are homes))
         ∙ find-map (number_at w (index_bytes m)) accept (home_positions w (byte_len w) (index_bytes m) (index_pos m) homes)
         ∙ ap (find accept) written.places
+
+  -- What is told of the answer of the table's lookup is told of the place that is read there, where
+  -- the table's comparison answers what a comparison of the key of that place does.
+  module _ (Post : View P → Bool → Type 0) (post : View K → Bool → Type 0) (asks : (h : View P) (r : Bool) → Post h r → (key : View K) × IsKeyOf w k v m (number_at w (bytes_of h) h.pos) key × post key r)
+      (result : Option (View P)) (accept : ℕ → Bool) (answers : AnswersKeys (index_of w k v m) post accept) (hash : ℕ) where
+    abbrev accept_at : ℕ → Bool
+    accept_at q = accept (number_at w (index_bytes m) q)
+
+    items_answer : Answers Post w (scalar_shape e) t accept_at
+    items_answer h r item is =
+        let x = asks h r is in
+        answers (number_at w (bytes_of h) h.pos) x.0 r x.1 x.2 ∙ ap (λ (y : List ℕ). accept (number_at w y h.pos)) (read_there h item)
+
+    pub finds_place : FindsFound Post generic_kind w (scalar_shape e) t hash (pos_of_found result)
+        → option_map (number_at w (index_bytes m)) (pos_of_found result) ≡ index_found w (index_bytes m) (index_pos m) hash accept
+    finds_place found = place_is result hash accept (found accept_at items_answer)
+
+    pub finds_first_place : (key_hash : List ℕ → ℕ → ℕ) → AreUnderHash (index_of w k v m) hash key_hash accept → FindsFirst Post w (scalar_shape e) t hash (pos_of_found result)
+        → (homes : List ℕ) → IsWritten (index_of w k v m) key_hash homes → option_map (number_at w (index_bytes m)) (pos_of_found result) ≡ find accept (places_of (index_len w m))
+    finds_first_place key_hash under found homes written =
+        first_is key_hash homes written result accept
+        (found (hashes key_hash homes written) homes accept_at (written_there key_hash homes written) items_answer (under_there key_hash homes written hash accept under))

@@ -1,5 +1,5 @@
 -- Two entries of one place, as the equality of maps compares them.
-use Rattle.std.proofs.Common.{◌≡◌, ◌∙◌, ap, subst, ℕ, List}
+use Rattle.std.proofs.Common.{◌≡◌, ◌∙◌, ap, subst, Bool, ℕ, List}
 use Rattle.std.specs.Borrow.{Bor}
 use Rattle.std.specs.Int.{Width}
 use Rattle.rkyv_base.specs.Entry.{entry_shape}
@@ -8,9 +8,14 @@ use Rattle.rkyv_base.specs.View.{bytes_of, pos_of}
 use Rattle.rkyv_base.specs.declared.entry.Entry.{Entry}
 use Rattle.rkyv_base.specs.declared.view.View.{View}
 use Rattle.rkyv_keys.specs.Equality.{Comparison}
+use Rattle.rkyv_keys.specs.OfEntries.{entry_same}
 use Rattle.rkyv_index.specs.Equality.{same_at}
 use Rattle.rkyv_index.specs.Index.{IsEntryOf, index_bytes, index_pos, key_pos}
 use Rattle.rkyv_index.specs.declared.map.ArchivedIndexMap.{ArchivedIndexMap}
+
+-- whether the entries of a place of two maps are the same
+abbrev pub same_in : {K V H W : Type 0} → Width → Shape → Shape → Comparison → Comparison → ArchivedIndexMap K V H W → ArchivedIndexMap K V H W → ℕ → Bool
+same_in w k v key value a o = same_at w (entry_shape k v) (entry_same k v key value) (index_bytes a) (index_pos a) (index_bytes o) (index_pos o)
 
 module _ {K V H W : Type 0} (w : Width) (k v : Shape) (same : Comparison) where
   pub same_there : (own other : View (Entry K V)) (x y a o : ArchivedIndexMap K V H W) (i : ℕ) → IsEntryOf w k v x i own → IsEntryOf w k v y i other → x ≡ a → y ≡ o

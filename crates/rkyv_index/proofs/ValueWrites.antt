@@ -31,14 +31,25 @@ use Rattle.rkyv_table.specs.Table.SealedTable.{SameValue}
 use Rattle.rkyv_table.proofs.Items.{controls_accepted, some_cap}
 use Rattle.rkyv_table.proofs.Misplaced.{found_agree, found_walked}
 use Rattle.rkyv_table.proofs.Walks.{walked_full}
-use Rattle.rkyv_index.specs.Index.{fits_in, index_found}
+use Rattle.rkyv_index.specs.Index.{fits_in, hash_at, index_found}
 use Rattle.rkyv_index.specs.IndexFormat.{IndexStands, IndexWrittenAt}
 use Rattle.rkyv_index.specs.IndexLayout.{EntriesIn, IndexHolds, entries_pos, entries_told, entry_at, index_shape, pair_pos, place_shape, places_of}
 use Rattle.rkyv_index.specs.Lemmas.IndexLaws.{each_holds, entry_inside, head_same, index_again, place_element, place_same_at, places_below, same_controls, told_same}
+use Rattle.rkyv_scan.specs.Hash.{Hasher, HasherCall, hash_of_calls}
+use Rattle.rkyv_keys.specs.Equality.{Comparison}
+use Rattle.rkyv_keys.specs.Keys.{IsKey}
 use Rattle.rkyv_index.specs.Lemmas.IndexNear.{HashNear, written_again}
 use Rattle.rkyv_index.specs.SealedIndex.{IsPairPos}
 use Rattle.rkyv_index.specs.ValueWrites.{KeepsEntries, KeepsIndexMap, RestsOnKey, WritesValue}
 use Rattle.rkyv_index.proofs.Held.{begin_is, entries_inside, entry_viewed, place_below, table_there}
+
+-- the hash of a key rests on the bytes on which it rests that the key holds
+pub hash_near : {State : Type 0} (hasher : Hasher State) {k : Shape} {same : Comparison} {calls : List ℕ → ℕ → List HasherCall} → IsKey k same calls → HashNear k (hash_at hasher calls)
+hash_near hasher key b c q lo hi l o holds fixed part = ap (hash_of_calls hasher) (key.near b c q lo hi l o holds fixed part)
+
+-- a value that was written at the place of a pair's value
+pub value_written : (w : Width) (k v : Shape) (b c : List ℕ) (at q : ℕ) → at ≡ value_pos k v q → Sealed b at v.size c → Keeps v b c at → WritesValue w k v b c q
+value_written w k v b c at q is sealed keeps = record { sealed = subst (λ n. Sealed b n v.size c) is sealed; keeps = subst (Keeps v b c) is keeps }
 
 -- two entries share no byte
 entries_apart : (size begin i j : ℕ) → j ≢ i → Outside (entry_at size begin i) size (entry_at size begin j) (entry_at size begin j + size)

@@ -1,15 +1,17 @@
 //! The entries of an index map whose header was read, and the places in its table.
-ghost use Rattle.std.specs.Prelude.{pos as int, unsigned_abs, ℕ, ◌*◌, ◌+ℤ◌, ◌+◌, ◌<◌, ◌^◌};
+ghost use Rattle.std.specs.Prelude.{IfSome, pos as int, unsigned_abs, ℕ, ◌*◌, ◌+◌, ◌<◌, ◌^◌};
 ghost use Rattle.std.specs.Prelude.{◌≡◌};
+ghost use Rattle.std.specs.Option.{option_map};
 ghost use Rattle.rkyv_base.specs.Bytes.{number_at};
 ghost use Rattle.rkyv_base.specs.Scalar.{scalar_shape};
 ghost use Rattle.rkyv_base.specs.View.{IsAt, bytes_of, pos_of};
-ghost use Rattle.rkyv_table.specs.Table.Reading.{IsItem, IsTable};
+ghost use Rattle.rkyv_table.specs.Table.Reading.{IsItem, IsTable, pos_of_found};
 ghost use Rattle.rkyv_index.specs.Index.{AreEntries, IsEntryOf, IsHeld, IsIndexMap, IsKeyOf};
-ghost use Rattle.rkyv_index.specs.Index.{index_archive, index_len, index_pos};
+ghost use Rattle.rkyv_index.specs.Index.{index_archive, index_bytes, index_len, index_pos};
 ghost use Rattle.rkyv_index.specs.IndexLayout.{entry_at};
 
 use crate::map::ArchivedIndexMap;
+use crate::map::check::begin_told;
 use rkyv_base::element::Element;
 use rkyv_base::entry::Entry;
 use rkyv_base::view::View;
@@ -23,13 +25,13 @@ pub(crate) struct Entries<'a, K, V, H, W> {
     pub(crate) begin: u64,
 }
 
-/// The position to which a distance leads.
+/// The position that is told.
 #[inline]
-fn pos_led_to(from: u64, distance: i64) -> u64
-    requires { (at : ℕ) × (int at ≡ int from +ℤ distance) × (at < 2 ^ 64) }
-    ensures { result ≡ unsigned_abs (int from +ℤ distance) }
+fn pos_told(told: i128) -> u64
+    requires { (at : ℕ) × (int at ≡ told) × (at < 2 ^ 64) }
+    ensures { result ≡ unsigned_abs told }
 {
-    (i128::from(from) + i128::from(distance)) as u64
+    told as u64
 }
 
 /// Where entry `i` stands, of entries that begin at `begin`.
@@ -59,11 +61,10 @@ impl<'a, K: Element, V: Element, H, W: Width> ArchivedIndexMap<'a, K, V, H, W> {
         ensures entries { AreEntries W.word K.shape V.shape result }
         ensures map { result.map ≡ self.entry }
     {
-        let at = self.view.pos() + 3 * W::ALIGN as u64;
-        let distance = W::read_distance(self.view.bytes(), at as usize);
+        let told = begin_told::<W>(self.view.bytes(), self.view.pos());
         Entries {
             map: self,
-            begin: pos_led_to(at, distance),
+            begin: pos_told(told),
         }
     }
 }
@@ -95,6 +96,27 @@ impl<'a, K: Element, V: Element, H, W: Width> Entries<'a, K, V, H, W> {
         ensures below { result < index_len W.word self.entry.map }
     {
         W::read_count(held.bytes(), held.pos() as usize) as usize
+    }
+
+    /// The place that a lookup in its table found.
+    #[inline]
+    pub(crate) fn place_found(
+        self,
+        table: ArchivedHashTable<'_, W::Place, W>,
+        held: Option<View<'_, W::Place>>,
+    ) -> Option<usize>
+        requires entries { AreEntries W.word K.shape V.shape self }
+        requires at { IsAt table.view (index_archive self.map) (index_pos self.map) }
+        requires held { IfSome held (IsItem W.word (scalar_shape W.Place.encoding) table) }
+        ensures place { result ≡ option_map (number_at W.word (index_bytes self.entry.map))
+            (pos_of_found held.entry) }
+        ensures held { IfSome result (IsHeld W.word self.entry.map) }
+        ensures below { IfSome result (λ i. i < index_len W.word self.entry.map) }
+    {
+        match held {
+            Some(held) => Some(self.place_held(table, held)),
+            None => None,
+        }
     }
 
     /// The key of the place that a bucket of its table holds.

@@ -64,10 +64,7 @@ impl<'a, K: KeyElement, V: Element, H: KeyHasher, W: Width> ArchivedIndexMap<'a,
             { cmp(key, entries.key_held(table, held)) },
             strides,
         );
-        match held {
-            Some(held) => Some(entries.place_held(table, held)),
-            None => None,
-        }
+        entries.place_found(table, held)
     }
 
     /// The pair of the first place under the hash of `key` whose key the comparison accepts, with

@@ -116,16 +116,13 @@ impl<'a, K: KeyElement, V, H: KeyHasher, W: PlaceWidth> ArchivedIndexMap<'a, K, 
                 }));
             }
         }
-        match write_index::<W, H, S, EntryAdapter<BK, BV, A, B>>(
+        write_index::<W, H, S, EntryAdapter<BK, BV, A, B>>(
             alloc,
             entries.as_slice(),
             resolvers,
             scratch.as_mut_slice(),
             load_factor,
             serializer,
-        ) {
-            Ok(resolver) => Ok(resolver),
-            Err(e) => Err(e),
-        }
+        )
     }
 }

@@ -1,32 +1,30 @@
-use Rattle.std.proofs.Common.{◌≡◌, ◌∙◌, ◌+◌, ◌*◌, ◌+ℤ◌, ◌<◌, ap, arith, length, pos, rules, List, ℕ, Bor, FitsSigned, of_z, subst, sym, to_z, ◌^◌}
+use Rattle.std.proofs.Common.{◌∙◌, ◌+◌, ◌*◌, ◌<◌, ◌≤◌, ◌^◌, ap, arith, length, rules, subst, sym, List, ℕ, Bor, FitsSigned}
 use Rattle.std.specs.Prelude.{unsigned_abs}
-use Rattle.std.specs.Int.{byte_len, w64}
-use Rattle.std.proofs.lemmas.Int.{to_z-of_z}
-use Rattle.rkyv_base.specs.Bytes.{signed_at}
+use Rattle.std.specs.Int.{byte_len, w128}
 use Rattle.rkyv_base.specs.Entry.{entry_element, entry_shape}
-use Rattle.rkyv_index.specs.IndexLayout.{entries_pos}
-use Rattle.rkyv_index.specs.IndexLayout.{entries_told}
+use Rattle.rkyv_index.specs.Index.{index_bytes, index_pos}
+use Rattle.rkyv_index.specs.IndexLayout.{entries_pos, entries_told}
+use Rattle.rkyv_index.proofs.Checking.{told_is}
 use Rattle.rkyv_index.proofs.Held.{begin_told, entries_inside}
 use Rattle.rkyv_index.proofs.map.ArchivedIndexMap.entries.Goals as goal
 
-pub pos_led_to-requires : goal.pos_led_to-requires
-pos_led_to-requires g c =
+pub begin_told-told-requires : goal.begin_told-told-requires
+begin_told-told-requires g c = record {
+  inside = subst (λ (x : Bor (List ℕ)). c.pos.result + 4 * byte_len g.W.Width.word ≤ length x.now) (sym c.bytes.ensures)
+      (subst (λ q. q + 4 * byte_len g.W.Width.word ≤ length (index_bytes c.args.self)) (sym c.pos.ensures) c.requires.inside);
+}
+
+-- the header tells where the entries begin
+pub pos_told-requires : goal.pos_told-requires
+pos_told-requires g c =
     let w = g.W.Width.word in
-    let m = c.args.self.view in
-    let k = g.K.Element.shape in
-    let v = g.V.Element.shape in
-    let s = entry_shape k v in
-    let law = entry_element k v g.met.K.Element.laws g.met.V.Element.laws in
-    let b : List ℕ = m.archive.now in
-    let p : ℕ = m.pos in
-    let r = c.read_distance-distance.result in
-    let read : FitsSigned w64 r = search rules in
-    let align : c.ALIGN.result ≡ byte_len w = c.ALIGN.ensures ∙ g.met.W.Width.layout.align_is in
-    let told : pos (c.pos.result + 3 * c.ALIGN.result) +ℤ to_z w64 (of_z w64 r) ≡ entries_told w b p =
-    ap (λ d. pos (c.pos.result + 3 * c.ALIGN.result) +ℤ d) (to_z-of_z w64 r read ∙ c.read_distance-distance.ensures)
-    ∙ ap (λ (x : Bor (List ℕ)). pos (c.pos.result + 3 * c.ALIGN.result) +ℤ signed_at w x.now (c.pos.result + 3 * c.ALIGN.result)) c.bytes.ensures
-    ∙ ap (λ n. pos (c.pos.result + 3 * n) +ℤ signed_at w b (c.pos.result + 3 * n)) align
-    ∙ ap (λ n. pos (n + 3 * byte_len w) +ℤ signed_at w b (n + 3 * byte_len w)) c.pos.ensures in
+    let b = index_bytes c.args.self in
+    let p = index_pos c.args.self in
+    let s = entry_shape g.K.Element.shape g.V.Element.shape in
+    let law = entry_element g.K.Element.shape g.V.Element.shape g.met.K.Element.laws g.met.V.Element.laws in
+    let fits : FitsSigned w128 c.begin_told-told.result = search rules in
+    let told = told_is c.begin_told-told.result (entries_told w b p) fits
+    (c.begin_told-told.ensures.told ∙ ap (λ (x : Bor (List ℕ)). entries_told w x.now c.pos.result) c.bytes.ensures ∙ ap (entries_told w b) c.pos.ensures) in
     let inside = entries_inside w g.met.W.Width.layout.kind s law b p c.requires in
     let room = c.requires.inside in
     let n : length b < 2 ^ 64 = subst (λ (x : Bor (List ℕ)). length x.now < 2 ^ 64) c.bytes.ensures c.bytes.type_inv.0 in
@@ -35,19 +33,8 @@ pos_led_to-requires g c =
 pub returns-clause-entries : goal.returns-clause-entries
 returns-clause-entries g c =
     let w = g.W.Width.word in
-    let m = c.args.self.view in
-    let k = g.K.Element.shape in
-    let v = g.V.Element.shape in
-    let s = entry_shape k v in
-    let law = entry_element k v g.met.K.Element.laws g.met.V.Element.laws in
-    let b : List ℕ = m.archive.now in
-    let p : ℕ = m.pos in
-    let r = c.read_distance-distance.result in
-    let read : FitsSigned w64 r = search rules in
-    let align : c.ALIGN.result ≡ byte_len w = c.ALIGN.ensures ∙ g.met.W.Width.layout.align_is in
-    let told : pos (c.pos.result + 3 * c.ALIGN.result) +ℤ to_z w64 (of_z w64 r) ≡ entries_told w b p =
-    ap (λ d. pos (c.pos.result + 3 * c.ALIGN.result) +ℤ d) (to_z-of_z w64 r read ∙ c.read_distance-distance.ensures)
-    ∙ ap (λ (x : Bor (List ℕ)). pos (c.pos.result + 3 * c.ALIGN.result) +ℤ signed_at w x.now (c.pos.result + 3 * c.ALIGN.result)) c.bytes.ensures
-    ∙ ap (λ n. pos (c.pos.result + 3 * n) +ℤ signed_at w b (c.pos.result + 3 * n)) align
-    ∙ ap (λ n. pos (n + 3 * byte_len w) +ℤ signed_at w b (n + 3 * byte_len w)) c.pos.ensures in
-    record { map = c.requires; begin = c.pos_led_to.ensures ∙ ap unsigned_abs told }
+    let b = index_bytes c.args.self in
+    let fits : FitsSigned w128 c.begin_told-told.result = search rules in
+    let told = told_is c.begin_told-told.result (entries_told w b (index_pos c.args.self)) fits
+    (c.begin_told-told.ensures.told ∙ ap (λ (x : Bor (List ℕ)). entries_told w x.now c.pos.result) c.bytes.ensures ∙ ap (entries_told w b) c.pos.ensures) in
+    record { map = c.requires; begin = c.pos_told.ensures ∙ ap unsigned_abs told }

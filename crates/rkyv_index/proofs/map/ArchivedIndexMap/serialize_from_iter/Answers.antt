@@ -1,4 +1,4 @@
-use Rattle.std.proofs.Common.{◌≡◌, List, length, ap, sym, subst, ◌∙◌, Ok, Err}
+use Rattle.std.proofs.Common.{◌≡◌, List, length, ap, sym, subst, ◌∙◌}
 use Rattle.std.specs.Iterator.{Drains}
 use Rattle.rkyv_base.specs.declared.adapter.EntryAdapter.{EntryAdapter}
 use Rattle.rkyv_table.specs.Table.Counting.{GaveOther}
@@ -7,20 +7,6 @@ use Rattle.rkyv_index.specs.Handing.{made_of}
 use Rattle.rkyv_index.specs.IndexFormat.{hash_of}
 use Rattle.rkyv_index.proofs.SeenRow.{answers_items}
 use Rattle.rkyv_index.proofs.map.ArchivedIndexMap.serialize_from_iter.Goals as goal
-
-pub returns-in-Ok-write_index : goal.returns-in-Ok-write_index
-returns-in-Ok-write_index g c =
-    let cap = c.in-Ok.ensures in
-    let has : HasCapacity c.args.len c.args.load_factor g.W.Width.MAX_CAPACITY = (cap.0, rw (cap.1, c.MAX_CAPACITY.ensures) at cap.2) in
-    let steps = g.I.Iterator.next_gives in
-    let hash = hash_of g.H.KeyHasher.hasher g.A.KeyHash.calls in
-    let entries : List (EntryAdapter g.row.BK.Denot g.row.BV.Denot g.row.A.Denot g.row.B.Denot) = c.as_slice.result.now in
-    let there = sym c.as_slice.ensures.value in
-    let came : Drains steps c.args.iter (made_of entries) = subst (λ (xs : List (EntryAdapter g.row.BK.Denot g.row.BV.Denot g.row.A.Denot g.row.B.Denot)). Drains steps c.args.iter (made_of xs)) there c.in-Ok-take_entries.ensures.0 in
-    let count : length entries ≡ c.args.len = ap length c.as_slice.ensures.value ∙ c.in-Ok-take_entries.ensures.1 in
-    answers_items g.row.S-Fault.Denot g.BK.Lend.lent g.BV.Lend.lent g.W.Width.word g.W.Place.Scalar.encoding g.K.Element.shape g.V.Element.shape g.A.Archive.format g.B.Archive.format hash c.args.load_factor
-    (Drains steps c.args.iter) (GaveOther steps c.args.len c.args.iter) c.args.len g.W.Width.MAX_CAPACITY g.W.Width.LIMIT has entries came count
-    (g.S.Writer.output c.args.serializer.now) (g.S.Writer.output c.write_index.new.serializer) (Ok c.in-Ok-write_index.resolver) c.in-Ok-write_index.ensures
 
 pub returns : goal.returns
 returns g c =
@@ -34,4 +20,4 @@ returns g c =
     let count : length entries ≡ c.args.len = ap length c.as_slice.ensures.value ∙ c.in-Ok-take_entries.ensures.1 in
     answers_items g.row.S-Fault.Denot g.BK.Lend.lent g.BV.Lend.lent g.W.Width.word g.W.Place.Scalar.encoding g.K.Element.shape g.V.Element.shape g.A.Archive.format g.B.Archive.format hash c.args.load_factor
     (Drains steps c.args.iter) (GaveOther steps c.args.len c.args.iter) c.args.len g.W.Width.MAX_CAPACITY g.W.Width.LIMIT has entries came count
-    (g.S.Writer.output c.args.serializer.now) (g.S.Writer.output c.write_index.new.serializer) (Err c.in-Err-write_index.e) c.in-Err-write_index.ensures
+    (g.S.Writer.output c.args.serializer.now) (g.S.Writer.output c.write_index.new.serializer) c.write_index.result c.write_index.ensures

@@ -1,10 +1,8 @@
 use Rattle.std.proofs.Common.{◌∙◌, ap, subst}
-use Rattle.rkyv_scan.specs.Hash.{hash_of_calls}
 use Rattle.rkyv_base.specs.Scalar.{ScalarStands, scalar_element, scalar_near, scalar_shape}
-use Rattle.rkyv_base.specs.Sealing.{Keeps, Sealed, with_value}
+use Rattle.rkyv_base.specs.Sealing.{with_value}
 use Rattle.rkyv_index.specs.Index.{hash_at}
-use Rattle.rkyv_index.specs.ValueWrites.{WritesValue, pair_at}
-use Rattle.rkyv_index.proofs.ValueWrites.{index_kept, written_value_stands}
+use Rattle.rkyv_index.proofs.ValueWrites.{hash_near, index_kept, value_written, written_value_stands}
 use Rattle.rkyv_index.proofs.map.in_place.set_value_at.Goals as goal
 
 pub returns-clause-written : goal.returns-clause-written
@@ -14,35 +12,17 @@ returns-clause-written g c =
 pub returns-clause-kept : goal.returns-clause-kept
 returns-clause-kept g c =
     let e = g.N.Scalar.encoding in
-    let h = g.H.KeyHasher in
-    let k = g.K.Element.shape in
-    let w = g.W.Width.word in
-    let b = c.args.archive.now in
-    let d = c.set_at.new.bytes in
-    let set = c.set_at.ensures in
-    let at = c.value_pos_at-pos.ensures.at in
-    let i = c.args.place in
-    let writes : WritesValue w k (scalar_shape e) b d (pair_at w k (scalar_shape e) b c.args.root i) =
-    record { sealed = subst (λ q. Sealed b q (scalar_shape e).size d) at set.sealed; keeps = subst (Keeps (scalar_shape e) b d) at set.holds } in
-    index_kept w g.met.W.Width.layout.kind k (scalar_shape e) g.met.K.Element.laws (scalar_element e g.met.N.Scalar.word) b c.args.root c.requires.map d i c.requires.below writes
-    (hash_at h.hasher g.K.KeyElement.key_calls)
-    (λ x y q lo hi l o holds fixed part. ap (hash_of_calls h.hasher) (g.met.K.KeyElement.key.near x y q lo hi l o holds fixed part))
+    let v = scalar_shape e in
+    index_kept g.W.Width.word g.met.W.Width.layout.kind g.K.Element.shape v g.met.K.Element.laws (scalar_element e g.met.N.Scalar.word) c.args.archive.now c.args.root c.requires.map c.set_at.new.bytes c.args.place c.requires.below
+    (value_written g.W.Width.word g.K.Element.shape v _ _ _ _ c.value_pos_at-pos.ensures.at c.set_at.ensures.sealed c.set_at.ensures.holds)
+    (hash_at g.H.KeyHasher.hasher g.K.KeyElement.key_calls) (hash_near g.H.KeyHasher.hasher g.met.K.KeyElement.key)
 
 pub returns-clause-listed : goal.returns-clause-listed
 returns-clause-listed g c = λ factor pairs pair st there.
     let e = g.N.Scalar.encoding in
-    let h = g.H.KeyHasher in
-    let k = g.K.Element.shape in
-    let w = g.W.Width.word in
-    let b = c.args.archive.now in
-    let d = c.set_at.new.bytes in
-    let set = c.set_at.ensures in
-    let at = c.value_pos_at-pos.ensures.at in
-    let i = c.args.place in
-    let writes : WritesValue w k (scalar_shape e) b d (pair_at w k (scalar_shape e) b c.args.root i) =
-    record { sealed = subst (λ q. Sealed b q (scalar_shape e).size d) at set.sealed; keeps = subst (Keeps (scalar_shape e) b d) at set.holds } in
-    written_value_stands w g.met.W.Width.layout.kind k (scalar_shape e) g.met.K.Element.laws (scalar_element e g.met.N.Scalar.word) b c.args.root c.requires.map d i c.requires.below writes
-    (hash_at h.hasher g.K.KeyElement.key_calls)
-    (λ x y q lo hi l o holds fixed part. ap (hash_of_calls h.hasher) (g.met.K.KeyElement.key.near x y q lo hi l o holds fixed part))
+    let v = scalar_shape e in
+    written_value_stands g.W.Width.word g.met.W.Width.layout.kind g.K.Element.shape v g.met.K.Element.laws (scalar_element e g.met.N.Scalar.word) c.args.archive.now c.args.root c.requires.map c.set_at.new.bytes c.args.place c.requires.below
+    (value_written g.W.Width.word g.K.Element.shape v _ _ _ _ c.value_pos_at-pos.ensures.at c.set_at.ensures.sealed c.set_at.ensures.holds)
+    (hash_at g.H.KeyHasher.hasher g.K.KeyElement.key_calls) (hash_near g.H.KeyHasher.hasher g.met.K.KeyElement.key)
     g.K.StandsFor.stands (ScalarStands e) g.met.K.StandsFor.near (scalar_near e g.met.N.Scalar.word) factor pairs pair c.args.value st there
-    (subst (λ q. ScalarStands e d q c.args.value) at set.reads)
+    (subst (λ q. ScalarStands e c.set_at.new.bytes q c.args.value) c.value_pos_at-pos.ensures.at c.set_at.ensures.reads)

@@ -1,9 +1,7 @@
-use Rattle.std.proofs.Common.{ap}
-use Rattle.rkyv_scan.specs.Hash.{hash_of_calls}
 use Rattle.rkyv_keys.specs.Asking.{rests_on_keys}
 use Rattle.rkyv_index.specs.Index.{hash_at}
 use Rattle.rkyv_index.specs.IndexFormat.{hash_of}
-use Rattle.rkyv_index.proofs.ValueWrites.{index_kept, rests_on_each}
+use Rattle.rkyv_index.proofs.ValueWrites.{hash_near, index_kept, rests_on_each}
 use Rattle.rkyv_index.proofs.map.laws.value_writes_keep_answers.Goals as goal
 
 pub returns : goal.returns
@@ -12,7 +10,7 @@ returns g c = λ b d p i view below writes q can.
     let k = g.K.Element.shape in
     let kept = index_kept g.W.Width.word g.met.W.Width.layout.kind k g.V.Element.shape g.met.K.Element.laws g.met.V.Element.laws b p view d i below writes
     (hash_at h.hasher g.K.KeyElement.key_calls)
-    (λ x y r lo hi l o holds fixed part. ap (hash_of_calls h.hasher) (g.met.K.KeyElement.key.near x y r lo hi l o holds fixed part)) in
+    (hash_near h.hasher g.met.K.KeyElement.key) in
     let rests = rests_on_keys g.met.K.Element.laws g.met.K.ElementEquiv.equivalence g.met.K.KeyElement.key g.met.Q.Query.query in
     kept.lookups (hash_of h.hasher g.Q.KeyHash.calls q) (g.Q.Query.fits q) (g.met.H.KeyHasher.fits (g.Q.KeyHash.calls q))
     (rests_on_each k g.Q.KeyHash.can_read g.Q.Query.fits rests q can)

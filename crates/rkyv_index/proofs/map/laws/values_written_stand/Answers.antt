@@ -1,10 +1,8 @@
 use Rattle.std.proofs.Common.{◌<◌, arith}
-use Rattle.std.proofs.Common.{ap}
 use Rattle.std.proofs.lemmas.Option.{slice_get_within}
-use Rattle.rkyv_scan.specs.Hash.{hash_of_calls}
 use Rattle.rkyv_table.specs.Table.Header.{len_at}
 use Rattle.rkyv_index.specs.Index.{hash_at}
-use Rattle.rkyv_index.proofs.ValueWrites.{written_value_stands}
+use Rattle.rkyv_index.proofs.ValueWrites.{hash_near, written_value_stands}
 use Rattle.rkyv_index.proofs.map.laws.values_written_stand.Goals as goal
 
 pub returns : goal.returns
@@ -16,5 +14,5 @@ returns g c = λ b d p n factor pairs pair new view st there writes stands.
     let below : n < len_at w b p = omega (arith, count, within) in
     written_value_stands w g.met.W.Width.layout.kind g.K.Element.shape g.V.Element.shape g.met.K.Element.laws g.met.V.Element.laws b p view d n below writes
     (hash_at h.hasher g.K.KeyElement.key_calls)
-    (λ x y q lo hi l o holds fixed part. ap (hash_of_calls h.hasher) (g.met.K.KeyElement.key.near x y q lo hi l o holds fixed part))
+    (hash_near h.hasher g.met.K.KeyElement.key)
     g.K.StandsFor.stands g.V.StandsFor.stands g.met.K.StandsFor.near g.met.V.StandsFor.near factor pairs pair new st there stands
