@@ -5,3 +5,6 @@ pub mod pair;
 pub mod pair_keys;
 pub mod tuple;
 pub mod tuple_keys;
+
+pub use pair::{AsPair, FromPair, Seen};
+pub use tuple::{AsTuple, FromTuple, Tupled};

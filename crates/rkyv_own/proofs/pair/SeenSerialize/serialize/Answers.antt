@@ -1,5 +1,5 @@
-use Rattle.std.proofs.Common.{◌≡◌, ◌∙◌, ap, subst, MatchResult}
-use Rattle.rkyv_base.specs.Format.{GaveUp, Serialized}
+use Rattle.std.proofs.Common.{◌≡◌, ◌∙◌, ap, subst}
+use Rattle.rkyv_base.specs.Format.{Serializes}
 use Rattle.rkyv_base.specs.Pairs.{pair_format}
 use Rattle.rkyv_own.proofs.pair.SeenSerialize.serialize.Goals as goal
 
@@ -12,9 +12,7 @@ returns g c =
     g.B.Archive.format in
     let first = ap (λ a. a.now) c.new-adapter.ensures.key ∙ c.first.ensures in
     let second = ap (λ a. a.now) c.new-adapter.ensures.value ∙ c.second.ensures in
-    subst (λ pair. MatchResult c.serialize.result (Serialized g.W.Width.LIMIT f pair
-    (g.S.Writer.output c.args.serializer.now) (g.S.Writer.output c.serialize.new.serializer))
-    (GaveUp g.W.Width.LIMIT f pair (g.S.Writer.output c.args.serializer.now) (g.S.Writer.output
-    c.serialize.new.serializer)))
+    subst (λ pair. Serializes g.W.Width.LIMIT f pair (g.S.Writer.output c.args.serializer.now)
+    (g.S.Writer.output c.serialize.new.serializer) c.serialize.result)
     (same_pair c.new-adapter.result.key.now c.new-adapter.result.value.now (g.T.AsPair.pair
     c.args.self.now.0) first second) c.serialize.ensures
