@@ -97,6 +97,10 @@ module _ {X : Type 0} (cap : ℕ) (pairs : List (ℕ × X)) (slots : List (Optio
   pub placed_count : Placed cap pairs slots controls → filled slots ≡ length pairs
   placed_count p = p.slotted.full ∙ p.written.placed.count ∙ length-map pairs (λ (y : ℕ × X). y.0)
 
+  -- the first empty bucket that a hash shows has a slot
+  pub bucket_inside : 0 < cap → Placed cap pairs slots controls → (h b : ℕ) → find (is_empty_at controls) (shown h cap) ≡ Some b → b < length slots
+  bucket_inside pos p h b e = omega (arith, shown_below (is_empty_at controls) cap b (strides h cap) pos e, p.slotted.count)
+
   -- some bucket is empty
   pub placed_room : Placed cap pairs slots controls → length pairs < cap → HasRoom cap controls
   placed_room p h =

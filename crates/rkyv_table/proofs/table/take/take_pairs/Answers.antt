@@ -1,9 +1,6 @@
 use Rattle.std.proofs.Common.{arith, ◌≡◌, ◌<◌, ◌^◌, ◌+◌, ◌++◌, ◌∷◌, [], refl, ap, ◌∙◌, inr, rules}
 use Rattle.std.proofs.lemmas.List.{length_push}
-use Rattle.rkyv_table.specs.Controls.Shown.{is_empty_at}
-use Rattle.rkyv_table.specs.Controls.Probe.{strides}
-use Rattle.rkyv_table.proofs.Taking.{placed_more, placed_none, placed_room, yields_more}
-use Rattle.rkyv_table.proofs.Written.{shown_below}
+use Rattle.rkyv_table.proofs.Taking.{bucket_inside, placed_more, placed_none, placed_room, yields_more}
 use Rattle.rkyv_table.proofs.table.take.take_pairs.Goals as goal
 
 pub loop-count-init : goal.loop-count-init
@@ -25,10 +22,7 @@ place_one-bucket-requires-clause-room g c =
 pub put-requires : goal.put-requires
 put-requires g c =
     let i = c.loop-count.invariant.taken in
-    let r = c.requires.room in
-    let hb : c.place_one-bucket.result < c.args.cap = shown_below (is_empty_at c.loop-count.controls) c.args.cap c.place_one-bucket.result (strides c.in-Some.hash c.args.cap) (omega arith) c.place_one-bucket.ensures.first in
-    let n = i.3.slotted.count in
-    omega arith
+    bucket_inside c.args.cap i.0 c.loop-count.slots c.loop-count.controls (omega (arith, c.requires.room)) i.3 c.in-Some.hash c.place_one-bucket.result c.place_one-bucket.ensures.first
 
 pub loop-count-preserved : goal.loop-count-preserved
 loop-count-preserved g c =

@@ -1,12 +1,9 @@
 use Rattle.std.proofs.Common.{arith, ◌≡◌, ◌<◌, ◌^◌, ◌+◌, ◌++◌, ◌∷◌, [], ℕ, List, length, refl, ap, ◌∙◌, inl, inr, rules, length-append, Option, Some}
 use Rattle.std.specs.Iterator.{Yields}
 use Rattle.std.proofs.lemmas.List.{length_push, length-map, map-append}
-use Rattle.rkyv_table.specs.Controls.Probe.{strides}
-use Rattle.rkyv_table.specs.Controls.Shown.{is_empty_at}
-use Rattle.rkyv_table.proofs.Written.{shown_below}
 use Rattle.rkyv_table.specs.Table.Counting.{Counted, CountedOn}
 use Rattle.rkyv_table.specs.Table.Taking.{items_of, hashes_of}
-use Rattle.rkyv_table.proofs.Taking.{yields_more, yields_join, placed_more, placed_none, placed_room}
+use Rattle.rkyv_table.proofs.Taking.{bucket_inside, yields_more, yields_join, placed_more, placed_none, placed_room}
 use Rattle.rkyv_table.proofs.table.take_two.take_two.Goals as goal
 
 pub loop-count-init : goal.loop-count-init
@@ -22,23 +19,18 @@ pub place_one-bucket-requires-clause-room : goal.place_one-bucket-requires-claus
 place_one-bucket-requires-clause-room g c =
     let i = c.loop-count.invariant.taken in
     let r = c.requires.room in
-    let n = i.3 in
     let t = c.loop-count-test.true in
     placed_room c.args.cap i.0 c.loop-count.slots c.loop-count.controls i.4 (omega (arith, i.3))
 
 pub put-requires : goal.put-requires
 put-requires g c =
     let i = c.loop-count.invariant.taken in
-    let r = c.requires.room in
-    let hb : c.place_one-bucket.result < c.args.cap = shown_below (is_empty_at c.loop-count.controls) c.args.cap c.place_one-bucket.result (strides c.in-Some-next_item.hash c.args.cap) (omega arith) c.place_one-bucket.ensures.first in
-    let n = i.4.slotted.count in
-    omega arith
+    bucket_inside c.args.cap i.0 c.loop-count.slots c.loop-count.controls (omega (arith, c.requires.room)) i.4 c.in-Some-next_item.hash c.place_one-bucket.result c.place_one-bucket.ensures.first
 
 pub loop-count-preserved : goal.loop-count-preserved
 loop-count-preserved g c =
     let i = c.loop-count.invariant.taken in
     let r = c.requires.room in
-    let h : ℕ = c.in-Some-next_item.hash in
     let hash_fits : c.in-Some-next_item.hash < 2 ^ 64 = search rules in
     let m = placed_more c.args.cap i.0 c.loop-count.slots c.loop-count.controls c.in-Some-next_item.hash c.place_one-bucket.result c.in-Some.item (omega arith) i.4 hash_fits c.place_one-bucket.ensures.first in
     let mi = map-append (λ (y : ℕ × g.row.X.Denot). y.1) i.0 ((c.in-Some-next_item.hash, c.in-Some.item) ∷ []) in
