@@ -60,36 +60,34 @@ progress_moved old now next script held kept rest s p m = record {
   };
 }
 
--- it ends: what is held back is never written
-pub progress_stopped : (old now : Option (List ℕ)) (script held : List ℕ) (rest : List (List ℕ)) (s : State)
-    → Progress old now script held rest s → AppendsBeginning old now script
-progress_stopped old now script held rest s p = record {
+-- a beginning of what the lines answered that are done is written
+progress_ends : (old now next : Option (List ℕ)) (script held : List ℕ) (rest : List (List ℕ)) (s : State)
+    → (p : Progress old now script held rest s) → AppendsFront old next p.output → AppendsBeginning old next script
+progress_ends old now next script held rest s p front = record {
   done = p.done;
   rest = rest;
   lines = p.lines;
   output = p.output;
   last = s;
   runs = p.runs;
-  front = record { front = p.moved.moved; rest = held; parts = sym p.moved.parts; appended = p.moved.appended };
+  front = front;
 }
+
+-- it ends: what is held back is never written
+pub progress_stopped : (old now : Option (List ℕ)) (script held : List ℕ) (rest : List (List ℕ)) (s : State)
+    → Progress old now script held rest s → AppendsBeginning old now script
+progress_stopped old now script held rest s p =
+    progress_ends old now now script held rest s p (record { front = p.moved.moved; rest = held; parts = sym p.moved.parts; appended = p.moved.appended })
 
 -- a beginning of it is written
 pub progress_front : (old now next : Option (List ℕ)) (script held : List ℕ) (rest : List (List ℕ)) (s : State)
     → Progress old now script held rest s → AppendsFront now next held → AppendsBeginning old next script
-progress_front old now next script held rest s p f = record {
-  done = p.done;
-  rest = rest;
-  lines = p.lines;
-  output = p.output;
-  last = s;
-  runs = p.runs;
-  front = record {
-    front = p.moved.moved ++ f.front;
-    rest = f.rest;
-    parts = append_assoc p.moved.moved f.front f.rest ∙ ap (λ l. p.moved.moved ++ l) f.parts ∙ sym p.moved.parts;
-    appended = Appends-trans old now next p.moved.moved f.front p.moved.appended f.appended;
-  };
-}
+progress_front old now next script held rest s p f = progress_ends old now next script held rest s p (record {
+  front = p.moved.moved ++ f.front;
+  rest = f.rest;
+  parts = append_assoc p.moved.moved f.front f.rest ∙ ap (λ l. p.moved.moved ++ l) f.parts ∙ sym p.moved.parts;
+  appended = Appends-trans old now next p.moved.moved f.front p.moved.appended f.appended;
+})
 
 -- all of it is written, and no line is left
 pub progress_whole : (old now next : Option (List ℕ)) (script held : List ℕ) (s : State)

@@ -95,6 +95,11 @@ refused_in Text bits factor (numbers pairs) e = ⊥
 abbrev pub BuildRefused : {F : Type 0} → Form → ℕ × ℕ → Pairs → WriteError F → Type 0
 BuildRefused form factor pairs e = refused_in form.kind form.bits factor pairs e
 
+-- the bytes are the archive of the pairs in this form, or the cause stands for which there is none
+abbrev pub Builds : {F Z : Type 0} → Form → ℕ × ℕ → Pairs → Result (Vec ℕ Z) (WriteError F) → Type 0
+Builds form factor pairs result =
+    MatchResult result (λ v. IsBuilt form factor pairs v.items) (BuildRefused form factor pairs)
+
 -- a map of the pairs stands at the root, in whatever archive
 abbrev pub holds_in : Kind → Bits → ℕ × ℕ → List ℕ → Pairs → Type 0
 holds_in Num bits factor b (numbers pairs) =

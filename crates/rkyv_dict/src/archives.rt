@@ -10,7 +10,7 @@ ghost use Rattle.rkyv_dict.specs.Archives.{IsArchive, IsMapArchive, IsRefused, M
 ghost use Rattle.rkyv_dict.specs.Archives.{entry_count, keys_misplaced, line, line_at, listing};
 ghost use Rattle.rkyv_dict.specs.Archives.{misplaced_count, pair_count, pair_lines, root};
 ghost use Rattle.rkyv_dict.specs.Archives.{value_found, value_line, value_under};
-ghost use Rattle.rkyv_dict.specs.Built.{BuildRefused, BuildsArchive, Holds, IsBuilt, form_of_pairs};
+ghost use Rattle.rkyv_dict.specs.Built.{Builds, BuildsArchive, Holds, form_of_pairs};
 ghost use Rattle.rkyv_dict.specs.First.{FindsFirstValue, first_value};
 ghost use Rattle.rkyv_dict.specs.Forms.{Pairs, key_seen, pairs_seen};
 ghost use Rattle.rkyv_dict.specs.Parts.{parts_by};
@@ -260,10 +260,8 @@ pub fn build(
     list: &PairList<'_>,
     load_factor: (usize, usize),
 ) -> Result<Vec<u8>, WriteError<NoMemory>>
-    ensures { let pairs = pairs_seen list.now in let form = form_of_pairs bits pairs in
-        MatchResult result
-        (λ v. IsBuilt form load_factor pairs v.items)
-        (BuildRefused form load_factor pairs) }
+    ensures { let pairs = pairs_seen list.now in
+        Builds (form_of_pairs bits pairs) load_factor pairs result }
 {
     match (list, bits) {
         (PairList::Numbers(pairs), Bits::Bits32) => {

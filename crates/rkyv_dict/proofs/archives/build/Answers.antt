@@ -1,5 +1,7 @@
-use Rattle.std.proofs.Common.{subst, sym, MatchResult}
-use Rattle.rkyv_dict.specs.Built.{BuildRefused, IsBuilt, form_of_pairs}
+use Rattle.std.proofs.Common.{◌≡◌, ℕ, Result, subst, sym}
+use Rattle.std.specs.declared.vec.Vec.{Vec}
+use Rattle.rkyv_base.specs.declared.errors.WriteError.{WriteError}
+use Rattle.rkyv_dict.specs.Built.{Builds, form_of_pairs}
 use Rattle.rkyv_dict.specs.Forms.{pairs_seen}
 use Rattle.rkyv_dict.specs.declared.form.Bits.{Bits}
 use Rattle.rkyv_dict.specs.declared.form.Bits.TheVariants.{Bits32, Bits64}
@@ -7,20 +9,19 @@ use Rattle.rkyv_dict.specs.declared.form.PairList.{PairList}
 use Rattle.rkyv_dict.proofs.TextLists.{texts_built}
 use Rattle.rkyv_dict.proofs.archives.build.Goals as goal
 
+-- what is built of a list and a width that are known is built of these
+of_known : {F Z : Type 0} (factor : ℕ × ℕ) (result : Result (Vec ℕ Z) (WriteError F)) (bits width : Bits) (list known : PairList) → bits ≡ width → list ≡ known
+    → Builds (form_of_pairs width (pairs_seen known)) factor (pairs_seen known) result → Builds (form_of_pairs bits (pairs_seen list)) factor (pairs_seen list) result
+of_known factor result bits width list known e h built =
+    let Built : Bits → PairList → Type 0 = λ b l. Builds (form_of_pairs b (pairs_seen l)) factor (pairs_seen l) result in
+    subst (λ b. Built b list) (sym e) (subst (Built width) (sym h) built)
+
 pub returns-in-Texts-Bits32 : goal.returns-in-Texts-Bits32
 returns-in-Texts-Bits32 c =
-    let pairs = c.in-Texts-Bits32.pairs in
-    let factor = c.args.load_factor in
-    let result = c.build_map-in-Texts-Bits32.result in
-    let Answers : Bits → PairList → Type 0 = λ bits list. MatchResult result (λ v. IsBuilt (form_of_pairs bits (pairs_seen list)) factor (pairs_seen list) v.items) (BuildRefused (form_of_pairs bits (pairs_seen list)) factor (pairs_seen list)) in
-    subst (λ bits. Answers bits c.args.list.now) (sym c.in-Texts-Bits32.is-1) (subst (Answers Bits32) (sym c.in-Texts-Bits32.is-0)
-    (texts_built (λ v. v.items) Bits32 factor pairs.items result (rw c.as_slice-in-Texts-Bits32.ensures.value at c.build_map-in-Texts-Bits32.ensures)))
+    let made = rw c.as_slice-in-Texts-Bits32.ensures.value at c.build_map-in-Texts-Bits32.ensures in
+    of_known c.args.load_factor c.build_map-in-Texts-Bits32.result _ Bits32 _ _ c.in-Texts-Bits32.is-1 c.in-Texts-Bits32.is-0 (texts_built (λ v. v.items) Bits32 c.args.load_factor c.in-Texts-Bits32.pairs.items c.build_map-in-Texts-Bits32.result made)
 
 pub returns-in-Texts-Bits64 : goal.returns-in-Texts-Bits64
 returns-in-Texts-Bits64 c =
-    let pairs = c.in-Texts-Bits64.pairs in
-    let factor = c.args.load_factor in
-    let result = c.build_map-in-Texts-Bits64.result in
-    let Answers : Bits → PairList → Type 0 = λ bits list. MatchResult result (λ v. IsBuilt (form_of_pairs bits (pairs_seen list)) factor (pairs_seen list) v.items) (BuildRefused (form_of_pairs bits (pairs_seen list)) factor (pairs_seen list)) in
-    subst (λ bits. Answers bits c.args.list.now) (sym c.in-Texts-Bits64.is-1) (subst (Answers Bits64) (sym c.in-Texts-Bits64.is-0)
-    (texts_built (λ v. v.items) Bits64 factor pairs.items result (rw c.as_slice-in-Texts-Bits64.ensures.value at c.build_map-in-Texts-Bits64.ensures)))
+    let made = rw c.as_slice-in-Texts-Bits64.ensures.value at c.build_map-in-Texts-Bits64.ensures in
+    of_known c.args.load_factor c.build_map-in-Texts-Bits64.result _ Bits64 _ _ c.in-Texts-Bits64.is-1 c.in-Texts-Bits64.is-0 (texts_built (λ v. v.items) Bits64 c.args.load_factor c.in-Texts-Bits64.pairs.items c.build_map-in-Texts-Bits64.result made)
