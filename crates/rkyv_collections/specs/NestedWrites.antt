@@ -12,7 +12,7 @@ use Rattle.rkyv_collections.specs.Map.{FindsFirstKeyAt, IsKeyPosAt, MapWrittenAt
 use Rattle.rkyv_collections.specs.MapFormat.{MapStands}
 use Rattle.rkyv_collections.specs.ValueWrites.{WritesValue, entry_at}
 
--- The value at q in b is written in c, and no bytes change but some of its parts: wherever it holds,
+-- The value at q in b is written in c, and no bytes change but some of its parts: where it holds,
 -- it holds again with the same lower end, and what lies outside its parts is as before.
 pub record WritesParts (s : Shape) (b c : List ℕ) (q : ℕ) : Type 0 where
   pub holds : (lo hi l : ℕ) → lo ≤ hi → hi ≤ q → s.holds b q lo hi l → s.holds c q lo hi l

@@ -2,13 +2,13 @@
 use Rattle.std.proofs.Common.{◌≡◌, ℕ, Bool, List, Option, None, Some, Result, Ok, Err, MatchResult, IfOk, ap, false, refl, subst, sym, ◌∙◌}
 use Rattle.std.specs.Borrow.{Bor}
 use Rattle.std.specs.Int.{w32}
-use Rattle.std.specs.Option.{is_some}
+use Rattle.std.specs.Option.{is_some, option_map}
 use Rattle.rkyv_base.specs.Numbers.{unsigned}
 use Rattle.rkyv_base.specs.declared.view.View.{View}
 use Rattle.rkyv_collections.specs.InPlace.{SetsFound, with_first}
 use Rattle.rkyv_collections.specs.ListedLookups.{IsFoundValue, first_pair}
 use Rattle.rkyv_collections.specs.declared.lists.pairs.MapPairs.{MapPairs}
-use Rattle.rkyv_message.specs.Message.{FieldList, FieldsStand, PartStands, SetsIn, StandsIfFound, is_named, name_hash, name_shape, number_in, number_of_part}
+use Rattle.rkyv_message.specs.Message.{FieldList, FieldsStand, PartStands, Parts, PartsStand, StandsIfFound, is_named, name_hash, name_shape, number_in, number_of_part, with_field, with_part}
 
 -- what holds at a place of some bytes holds at the same place of the same bytes
 pub moved : (P : List ℕ → ℕ → Type 0) (b c : List ℕ) (p q : ℕ) → b ≡ c → p ≡ q → P b p → P c q
@@ -40,16 +40,25 @@ module _ (b : List ℕ) (field : List ℕ) where
   none_told None s = refl
   none_told (Some part) s = absurd s
 
-  module _ (number : ℕ) where
-    pub number_set : (c : List ℕ) (found : Bool) (p : ℕ) (o : Option (MapPairs (Bor (List ℕ)) ℕ ℕ)) → StandsIfFound b o (Some p)
-        → ((factor : ℕ × ℕ) (list : FieldList) → FieldsStand factor b p list → (found ≡ is_some (first_pair (is_named field) list)) × FieldsStand factor c p (with_first (is_named field) number list))
-        → SetsIn field number o b c found
-    number_set c found p None s set = absurd s
-    number_set c found p (Some part) s set = let told = set part.load_factor part.pairs.now s in (p, s, told.0, told.1)
+some_either : {A B : Type 0} (f : A → B) (o : Option A) → is_some o ≡ is_some (option_map f o)
+some_either f None = refl
+some_either f (Some x) = refl
 
-    pub none_set : (o : Option (MapPairs (Bor (List ℕ)) ℕ ℕ)) → StandsIfFound b o None → SetsIn field number o b b false
-    none_set None s = (refl, refl)
-    none_set (Some part) s = absurd s
+module _ (b c : List ℕ) (part field : List ℕ) (number : ℕ) (parts : Parts) (p : ℕ) where
+  -- the number is set in the first part of the name, if there is one
+  pub number_set : (found : Bool) (pos : ℕ) (o : Option (MapPairs (Bor (List ℕ)) ℕ ℕ)) → StandsIfFound b o (Some pos)
+      → ((factor : ℕ × ℕ) (list : FieldList) → FieldsStand factor b pos list → (found ≡ is_some (first_pair (is_named field) list)) × FieldsStand factor c pos (with_first (is_named field) number list))
+      → ((new : MapPairs (Bor (List ℕ)) ℕ ℕ) → PartStands c pos new → PartsStand (7, 8) c p (with_first (is_named part) new parts))
+      → (found ≡ is_some (number_of_part field o)) × PartsStand (7, 8) c p (with_part part field number parts o)
+  number_set found pos None s set outer = absurd s
+  number_set found pos (Some fields) s set outer =
+      let told = set fields.load_factor fields.pairs.now s in
+      (told.0 ∙ some_either (λ pair. pair.1) (first_pair (is_named field) fields.pairs.now), outer (with_field field number fields) told.1)
+
+pub none_set : (b part field : List ℕ) (number : ℕ) (parts : Parts) (p : ℕ) (o : Option (MapPairs (Bor (List ℕ)) ℕ ℕ)) → StandsIfFound b o None → PartsStand (7, 8) b p parts
+    → (false ≡ is_some (number_of_part field o)) × PartsStand (7, 8) b p (with_part part field number parts o)
+none_set b part field number parts p None s stands = (refl, stands)
+none_set b part field number parts p (Some fields) s stands = absurd s
 
 pub unfound_kept : (b c : List ℕ) (p n : ℕ) (found : Bool) (place : Option ℕ) → SetsFound w32 name_shape (unsigned w32) name_hash b p n found c place → found ≡ false → c ≡ b
 unfound_kept b c p n found None h e = h.1

@@ -1,8 +1,8 @@
 -- Messages: what is one, which parts one stands for, and the number of a field of a part.
-use Rattle.std.specs.Prelude.{◌≡◌, ℕ, ◌-◌, Bool, List, length, false, Option, None, Some}
+use Rattle.std.specs.Prelude.{◌≡◌, ℕ, ◌-◌, Bool, List, length, Option, None, Some}
 use Rattle.std.specs.Borrow.{Bor}
 use Rattle.std.specs.Int.{w32}
-use Rattle.std.specs.Option.{is_some}
+use Rattle.std.specs.Option.{is_some, option_map}
 use Rattle.rkyv_scan.specs.Hash.{fx_hasher, low_halves}
 use Rattle.rkyv_base.specs.Access.{Accepted, AccessFails}
 use Rattle.rkyv_base.specs.Format.{Format}
@@ -10,8 +10,9 @@ use Rattle.rkyv_base.specs.Numbers.{unsigned}
 use Rattle.rkyv_base.specs.Pairs.{written_as}
 use Rattle.rkyv_base.specs.Root.{ArchiveOf, ArchiveRefused}
 use Rattle.rkyv_base.specs.Scalar.{ScalarStands, scalar_format, scalar_shape}
+use Rattle.rkyv_base.specs.Sealing.{value_pos}
 use Rattle.rkyv_base.specs.Shape.{Shape, Viewed}
-use Rattle.rkyv_base.specs.Text.{text_shape}
+use Rattle.rkyv_base.specs.Text.{text_at, text_shape}
 use Rattle.rkyv_base.specs.TextWriting.{text_format}
 use Rattle.rkyv_base.specs.declared.errors.VerifyError.{VerifyError}
 use Rattle.rkyv_base.specs.declared.errors.WriteError.{WriteError}
@@ -20,8 +21,8 @@ use Rattle.rkyv_keys.specs.OfTexts.{IsTextOf, same_bytes, text_key_calls}
 use Rattle.rkyv_table.specs.Table.Listed.{listed, written_under}
 use Rattle.rkyv_table.specs.Table.TableFormat.{TableResolver}
 use Rattle.rkyv_collections.specs.InPlace.{with_first}
-use Rattle.rkyv_collections.specs.ListedLookups.{first_pair, first_value}
-use Rattle.rkyv_collections.specs.Map.{hash_at, map_shape}
+use Rattle.rkyv_collections.specs.ListedLookups.{first_value}
+use Rattle.rkyv_collections.specs.Map.{FindsFirstKeyAt, IsKeyPosAt, hash_at, map_shape}
 use Rattle.rkyv_collections.specs.MapFormat.{MapStands, hash_of, map_format}
 use Rattle.rkyv_collections.specs.declared.lists.pairs.MapPairs.{MapPairs}
 
@@ -143,17 +144,41 @@ StandsIfFound b (Some part) None = ⊥
 abbrev pub ArePartsFields : List ℕ → List ℕ → Parts → Option ℕ → Type 0
 ArePartsFields b part parts p = StandsIfFound b (first_value (is_named part) parts) p
 
--- There is no part, and no byte is changed; or its fields stand at a position, and there then stand
--- the fields with the new number in the first of the name, where there is one.
-abbrev pub SetsIn : List ℕ → ℕ → Option (MapPairs (Bor (List ℕ)) ℕ ℕ) → List ℕ → List ℕ → Bool
-    → Type 0
-SetsIn field number None b c found = (found ≡ false) × (c ≡ b)
-SetsIn field number (Some part) b c found =
-    (p : ℕ) × PartStands b p part
-    × (found ≡ is_some (first_pair (is_named field) part.pairs.now))
-    × FieldsStand part.load_factor c p (with_first (is_named field) number part.pairs.now)
+-- the name at the position is this one
+abbrev pub is_named_at : List ℕ → List ℕ → ℕ → Bool
+is_named_at name b q = same_bytes name (text_at w32 b q)
 
--- so of the first part of the name
-abbrev pub SetsNumber : List ℕ → List ℕ → ℕ → Parts → List ℕ → List ℕ → Bool → Type 0
-SetsNumber part field number parts b c found =
-    SetsIn field number (first_value (is_named part) parts) b c found
+-- the fields of a part of the message stand at the position, behind its name
+abbrev pub IsPartsPos : List ℕ → ℕ → Type 0
+IsPartsPos b p = (q : ℕ) × IsKeyPosAt w32 name_shape fields_shape b (root b) q
+    × (p ≡ value_pos name_shape fields_shape q)
+
+-- in a message that was written, the position is that of the fields of the first part whose name is
+-- this one
+abbrev pub FindsFirstPart : List ℕ → List ℕ → Option ℕ → Type 0
+FindsFirstPart b part found = FindsFirstKeyAt w32 name_shape fields_shape b (root b) name_hash
+    (is_named_at part b) (λ place. found ≡ option_map (value_pos name_shape fields_shape) place)
+
+-- the part, with this number in the first field of the name
+abbrev pub with_field : List ℕ → ℕ → MapPairs (Bor (List ℕ)) ℕ ℕ → MapPairs (Bor (List ℕ)) ℕ ℕ
+with_field field number part = record part {
+  pairs = record part.pairs { now = with_first (is_named field) number part.pairs.now };
+}
+
+-- the parts, with this number in the first part of the name, where there is one
+abbrev pub with_part : List ℕ → List ℕ → ℕ → Parts → Option (MapPairs (Bor (List ℕ)) ℕ ℕ) → Parts
+with_part part field number parts None = parts
+with_part part field number parts (Some fields) =
+    with_first (is_named part) (with_field field number fields) parts
+
+-- the parts, with this number in the first field of the name in the first part of the name
+abbrev pub with_number : List ℕ → List ℕ → ℕ → Parts → Parts
+with_number part field number parts =
+    with_part part field number parts (first_value (is_named part) parts)
+
+-- it is told whether there is such a field, and the message stands for the parts with the new
+-- number
+abbrev pub SetsNumber : List ℕ → List ℕ → ℕ → Parts → List ℕ → Bool → Type 0
+SetsNumber part field number parts message found =
+    (found ≡ is_some (first_number part field parts))
+    × StandsFor message (with_number part field number parts)

@@ -5,9 +5,11 @@ ghost use Rattle.rkyv_message.specs.Message.{
   ArePartsFields,
   FieldList,
   FieldsStand,
+  FindsFirstPart,
   IsFields,
   IsMessage,
   IsMessageOf,
+  IsPartsPos,
   IsRefused,
   NoMessageOf,
   Parts,
@@ -29,6 +31,7 @@ use rkyv_base::width::Narrow;
 use rkyv_base::writer::NoMemory;
 use rkyv_collections::map::in_place::set_value_of;
 use rkyv_collections::map::laws::lookups_find_listed;
+use rkyv_collections::map::nested::{nested_writes_keep_maps, nested_writes_stand};
 use rkyv_collections::map::{ArchivedHashMap, HashMapOf};
 use rkyv_collections::{FxHasher64, MapPairs};
 use std::alloc::Global;
@@ -71,6 +74,8 @@ fn pos_of_part(message: &[u8], part: &str) -> Result<Option<u64>, VerifyError>
     ensures checked { MatchResult result (λ _. IsMessage message.now) (IsRefused message.now) }
     ensures accepts { IsMessage message.now → IsOk result }
     ensures viewed { IfOk result (λ found. IfSome found (IsFields message.now)) }
+    ensures at { IfOk result (λ found. IfSome found (IsPartsPos message.now)) }
+    ensures first { IfOk result (FindsFirstPart message.now part.now) }
     ensures listed { (parts : Parts) → StandsFor message.now parts
         → IfOk result (λ found. ArePartsFields message.now part.now parts found) }
 {
@@ -118,9 +123,12 @@ pub fn set_number(
     ensures refused { IfErr result (λ e. IsRefused message.old e × (message.new ≡ message.old)) }
     ensures accepts { IsMessage message.old → IsOk result }
     ensures missed { IfOk result (λ found. found ≡ false → message.new ≡ message.old) }
+    ensures kept { IfOk result (λ _. IsMessage message.new) }
     ensures listed { (parts : Parts) → StandsFor message.old parts
-        → IfOk result (SetsNumber part.now field.now number parts message.old message.new) }
+        → IfOk result (SetsNumber part.now field.now number parts message.new) }
 {
+    nested_writes_keep_maps::<Text, HashMapOf<Text, u32>, FxHasher64, Narrow>();
+    nested_writes_stand::<&str, Fields<'_>, Text, HashMapOf<Text, u32>, FxHasher64, Narrow>();
     match pos_of_part(&*message, part) {
         Ok(Some(pos)) => Ok(set_value_of::<&str, Text, u32, FxHasher64, Narrow>(
             message, pos, &field, number,

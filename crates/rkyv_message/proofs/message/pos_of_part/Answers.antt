@@ -1,6 +1,10 @@
-use Rattle.std.proofs.Common.{None, Some, ap, sym, ◌∙◌}
+use Rattle.std.proofs.Common.{◌≡◌, ℕ, None, Option, Some, ap, sym, ◌∙◌}
+use Rattle.std.specs.Int.{w32}
+use Rattle.std.specs.Option.{option_map}
+use Rattle.rkyv_base.specs.Sealing.{value_pos}
 use Rattle.rkyv_keys.specs.OfTexts.{same_bytes}
-use Rattle.rkyv_message.specs.Message.{IsFields, IsMessage, IsRefused, PartsStand, StandsFor, is_named}
+use Rattle.rkyv_collections.specs.Map.{FindsFirstKeyAt, IsKeyPosAt}
+use Rattle.rkyv_message.specs.Message.{IsFields, IsMessage, IsRefused, PartsStand, StandsFor, fields_shape, is_named, is_named_at, name_hash, name_shape}
 use Rattle.rkyv_message.proofs.Found.{moved, no_part_found, part_found}
 use Rattle.rkyv_message.proofs.message.pos_of_part.Goals as goal
 
@@ -44,3 +48,30 @@ returns-in-None-clause-listed c = λ parts stands.
 pub returns-in-Err-clause-accepts : goal.returns-in-Err-clause-accepts
 unfolding IsMessage
 returns-in-Err-clause-accepts c = c.in-Err.ensures.accepts
+
+pub returns-in-Some-clause-at : goal.returns-in-Some-clause-at
+returns-in-Some-clause-at c =
+    let at = c.in-Ok.ensures.root.1 in
+    let bytes = ap (λ v. v.archive.now) c.of-map.ensures.view ∙ ap (λ a. a.now) at.0 in
+    let pos = ap (λ v. v.pos) c.of-map.ensures.view ∙ at.1 in
+    let is = c.in-Some.ensures.walked in
+    (is.key, moved (λ b p. IsKeyPosAt w32 name_shape fields_shape b p is.key) _ _ _ _ bytes pos is.walked, c.pos.ensures ∙ is.at.1)
+
+pub returns-in-Some-clause-first : goal.returns-in-Some-clause-first
+returns-in-Some-clause-first c = λ homes written.
+    let at = c.in-Ok.ensures.root.1 in
+    let bytes = ap (λ v. v.archive.now) c.of-map.ensures.view ∙ ap (λ a. a.now) at.0 in
+    let pos = ap (λ v. v.pos) c.of-map.ensures.view ∙ at.1 in
+    let found : ℕ = c.in-Some.fields.pos in
+    ap Some c.pos.ensures
+    ∙ moved (λ b p. FindsFirstKeyAt w32 name_shape fields_shape b p name_hash (is_named_at c.args.part.now b) (λ place. Some found ≡ option_map (value_pos name_shape fields_shape) place)) _ _ _ _
+    bytes pos c.in-Some.ensures.first homes written
+
+pub returns-in-None-clause-first : goal.returns-in-None-clause-first
+returns-in-None-clause-first c =
+    let at = c.in-Ok.ensures.root.1 in
+    let bytes = ap (λ v. v.archive.now) c.of-map.ensures.view ∙ ap (λ a. a.now) at.0 in
+    let pos = ap (λ v. v.pos) c.of-map.ensures.view ∙ at.1 in
+    let none : Option ℕ = None in
+    moved (λ b p. FindsFirstKeyAt w32 name_shape fields_shape b p name_hash (is_named_at c.args.part.now b) (λ place. none ≡ option_map (value_pos name_shape fields_shape) place)) _ _ _ _
+    bytes pos c.in-None.ensures.first

@@ -1,17 +1,60 @@
-use Rattle.std.proofs.Common.{◌≡◌, Some, None, subst}
-use Rattle.rkyv_message.specs.Message.{ArePartsFields}
+use Rattle.std.proofs.Common.{◌≡◌, ◌-◌, ◌%◌, IfSome, Some, None, ap, arith, subst, sym}
+use Rattle.rkyv_base.specs.Access.{root_viewed}
+use Rattle.rkyv_base.specs.Shape.{Standing}
+use Rattle.rkyv_collections.specs.NestedWrites.{WritesParts}
+use Rattle.rkyv_message.specs.Message.{ArePartsFields, FindsFirstPart, IsFields, IsMessage, IsPartsPos, PartsStand, StandsFor, fields_shape, header_shape, root, with_number}
 use Rattle.rkyv_message.proofs.Found.{none_set, number_set, unfound_kept}
 use Rattle.rkyv_message.proofs.message.set_number.Goals as goal
 
 pub returns-in-Ok-Some-clause-missed : goal.returns-in-Ok-Some-clause-missed
 returns-in-Ok-Some-clause-missed c = λ missed. unfound_kept _ _ _ _ _ _ c.set_value_of.ensures.answer missed
 
+pub returns-in-Ok-Some-clause-kept : goal.returns-in-Ok-Some-clause-kept
+unfolding IsMessage
+returns-in-Ok-Some-clause-kept c =
+    let same : c.in-Ok-Some.field-0 ≡ Some c.in-Ok-Some.pos = cc in
+    let b = c.args.message.now in
+    let is = c.in-Ok-Some.ensures.checked in
+    let view = root_viewed 4_294_967_295 header_shape b is in
+    let fields = subst (λ o. IfSome o (IsFields b)) same c.in-Ok-Some.ensures.viewed in
+    let at = subst (λ o. IfSome o (IsPartsPos b)) same c.in-Ok-Some.ensures.at in
+    let wrote = c.set_value_of.ensures.parts in
+    let long = (wrote.sealed 0 c.in-Ok-Some.pos fields.stands.0 (omega arith) (omega arith) fields.stands.1).same_length in
+    let kept = c.nested_writes_keep_maps.ensures b c.set_value_of.new.archive (root b) at.0 view at.1 (subst (WritesParts fields_shape b c.set_value_of.new.archive) at.2 wrote) in
+    let there : root b ≡ root c.set_value_of.new.archive = ap (λ n. n - header_shape.size) (sym long) in
+    let inside = is.inside in
+    let within = is.within in
+    record {
+      within = omega (arith, long, within);
+      inside = omega (arith, long, inside);
+      aligned = subst (λ n. n % header_shape.align ≡ 0) there kept.stands.aligned;
+      stands = subst (Standing header_shape c.set_value_of.new.archive) there kept.stands.stands;
+    }
+
+pub returns-in-Ok-None-clause-kept : goal.returns-in-Ok-None-clause-kept
+returns-in-Ok-None-clause-kept c = c.in-Ok-None.ensures.checked
+
 pub returns-in-Ok-Some-clause-listed : goal.returns-in-Ok-Some-clause-listed
+unfolding IsMessage StandsFor
 returns-in-Ok-Some-clause-listed c = λ parts stands.
     let same : c.in-Ok-Some.field-0 ≡ Some c.in-Ok-Some.pos = cc in
-    number_set c.args.message.now c.args.field.now c.args.number _ _ c.in-Ok-Some.pos _ (subst (ArePartsFields c.args.message.now c.args.part.now parts) same (c.in-Ok-Some.ensures.listed parts stands)) c.set_value_of.ensures.listed
+    let b = c.args.message.now in
+    let d = c.set_value_of.new.archive in
+    let part = c.args.part in
+    let pos = c.in-Ok-Some.pos in
+    let view = root_viewed 4_294_967_295 header_shape b c.in-Ok-Some.ensures.checked in
+    let fields = subst (λ o. IfSome o (IsFields b)) same c.in-Ok-Some.ensures.viewed in
+    let wrote = c.set_value_of.ensures.parts in
+    let long = (wrote.sealed 0 pos fields.stands.0 (omega arith) (omega arith) fields.stands.1).same_length in
+    let there : root b ≡ root d = ap (λ n. n - header_shape.size) (sym long) in
+    let first = subst (FindsFirstPart b part.now) same c.in-Ok-Some.ensures.first in
+    let set = number_set b d part.now c.args.field.now c.args.number parts (root b) _ pos _ (subst (ArePartsFields b part.now parts) same (c.in-Ok-Some.ensures.listed parts stands)) c.set_value_of.ensures.listed
+    (λ new new_stands. c.nested_writes_stand.ensures b d (root b) pos (7, 8) parts part new view stands first wrote new_stands) in
+    (set.0, subst (λ n. PartsStand (7, 8) d n (with_number part.now c.args.field.now c.args.number parts)) there set.1)
 
 pub returns-in-Ok-None-clause-listed : goal.returns-in-Ok-None-clause-listed
+unfolding StandsFor
 returns-in-Ok-None-clause-listed c = λ parts stands.
     let same : c.in-Ok-None.field-0 ≡ None = cc in
-    none_set c.args.message.now c.args.field.now c.args.number _ (subst (ArePartsFields c.args.message.now c.args.part.now parts) same (c.in-Ok-None.ensures.listed parts stands))
+    let b = c.args.message.now in
+    none_set b c.args.part.now c.args.field.now c.args.number parts (root b) _ (subst (ArePartsFields b c.args.part.now parts) same (c.in-Ok-None.ensures.listed parts stands)) stands
