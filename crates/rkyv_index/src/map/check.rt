@@ -9,6 +9,8 @@ ghost use Rattle.rkyv_table.specs.Table.Places.{FirstFails, SomeHold};
 ghost use Rattle.rkyv_table.specs.Table.Reading.{item_positions};
 ghost use Rattle.rkyv_table.specs.Table.Layout.{table_shape};
 ghost use Rattle.rkyv_index.specs.IndexLayout.{
+  EntriesFail,
+  EntriesIn,
   FirstNotBelow,
   PlacesBelow,
   entries_told,
@@ -100,6 +102,32 @@ fn entries_size(len: usize, size: usize) -> u128
     len as u128 * size as u128
 }
 
+/// Checks the part of `len` entries of the index map whose header stands at `pos`: it stands in the
+/// range, where the header tells, and so do the entries' own parts, in order. Answers where it ends.
+fn check_part<W: Width, T: Element>(
+    bytes: &[u8],
+    pos: u64,
+    len: usize,
+    range: PartRange,
+) -> Result<u64, VerifyError>
+    requires header { pos + 4 * byte_len W.word ≤ length bytes.now }
+    requires before { range.hi ≤ pos }
+    ensures { MatchResult result
+        (EntriesIn T.shape bytes.now (entries_told W.word bytes.now pos) len range.lo range.hi)
+        (EntriesFail T.shape bytes.now (entries_told W.word bytes.now pos) len range.lo range.hi) }
+{
+    let size = T::size();
+    let told = begin_told::<W>(bytes, pos);
+    let begin = match part_in(told, entries_size(len, size), T::align() as u64, range) {
+        Ok(begin) => begin,
+        Err(e) => return Err(e),
+    };
+    match check_entries::<T>(bytes, begin, len, range.lo) {
+        Ok(()) => Ok(begin + (len * size) as u64),
+        Err(e) => Err(e),
+    }
+}
+
 /// Checks the index map of entries T whose header stands at `pos`.
 pub(crate) fn check_index<W: Width, T: Element>(
     bytes: &[u8],
@@ -121,15 +149,9 @@ pub(crate) fn check_index<W: Width, T: Element>(
         Ok(len) => len,
         Err(e) => return Err(e),
     };
-    let size = T::size();
-    let told = begin_told::<W>(bytes, pos);
-    let begin = match part_in(told, entries_size(len, size), T::align() as u64, rest) {
-        Ok(begin) => begin,
-        Err(e) => return Err(e),
-    };
-    match check_entries::<T>(bytes, begin, len, rest.lo) {
-        Ok(()) => Ok(PartRange {
-            lo: begin + (len * size) as u64,
+    match check_part::<W, T>(bytes, pos, len, rest) {
+        Ok(end) => Ok(PartRange {
+            lo: end,
             hi: range.hi,
         }),
         Err(e) => Err(e),
