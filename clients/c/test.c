@@ -148,6 +148,20 @@ static void texts(void) {
     answers("set a number", rkyv_map_set_number(&map, 1, 1), RKYV_WRONG_KIND);
 }
 
+/* Positions count from the first byte, wherever that lies in memory. */
+static void anywhere(void) {
+    uint8_t bytes[112];
+    size_t length = empty_to_seven(bytes);
+    for (size_t at = 1; at < 8; at++) {
+        uint64_t value = 9;
+        rkyv_map map;
+        memmove(bytes + at, bytes + at - 1, length);
+        answers("open", rkyv_map_open(bytes + at, length, RKYV_TEXT_TO_U64, 64, &map), RKYV_OK);
+        answers("get", rkyv_map_get_text(&map, "", 0, &value), RKYV_OK);
+        same("value", value, 7);
+    }
+}
+
 /* Opens the map of 1 to 2 with one byte changed. */
 static rkyv_status damaged(size_t place, uint8_t byte) {
     uint8_t bytes[64];
@@ -357,6 +371,7 @@ static void refused_items(void) {
 int main(void) {
     numbers();
     texts();
+    anywhere();
     refusals();
     built_numbers();
     built_texts();

@@ -4,6 +4,7 @@ use Rattle.std.specs.Prelude.{slice_get, slice_index}
 use Rattle.std.specs.Int.{Width}
 use mir.Val.{bits}
 use Rattle.rkyv_scan.specs.Hash.{HasherCall, fx_hasher, low_halves}
+use Rattle.rkyv_base.specs.Access.{Accepted}
 use Rattle.rkyv_base.specs.Entry.{entry_shape}
 use Rattle.rkyv_base.specs.Format.{Format}
 use Rattle.rkyv_base.specs.Pairs.{PairStands}
@@ -88,3 +89,8 @@ module _ {A N : Type 0} (w : Width) (k : Shape) (key : List ℕ → ℕ → A �
     unfoldable pub NoArchiveOf : {F : Type 0} → List (A × N) → WriteError F → Type 0
     NoArchiveOf pairs error = ArchiveRefused limit (map_shape w k (scalar_shape e)) pairs_format
         pairs error
+
+    -- an archive of a list is accepted, and stands for the list
+    abbrev pub ArchivesStand : Type 0
+    ArchivesStand = (pairs : List (A × N)) (b : List ℕ) → IsArchiveOf pairs b
+        → Accepted limit (map_shape w k (scalar_shape e)) b × PairsStand (7, 8) b pairs
