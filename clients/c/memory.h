@@ -6,6 +6,10 @@
 #include <stdbool.h>
 #include <stddef.h>
 
+#ifdef __cplusplus
+extern "C" {
+#endif
+
 /* Whether there is memory, and where. */
 struct rattle_block {
     bool is_there;
@@ -21,5 +25,9 @@ struct rattle_block rattle_realloc(void *block, size_t kept, size_t size, size_t
 
 /* Gives a block back. */
 void rattle_dealloc(void *block);
+
+#ifdef __cplusplus
+}
+#endif
 
 #endif

@@ -301,7 +301,7 @@ static uint8_t *made_with(size_t one, uint32_t kind, size_t *length) {
     while (again(rkyv_builder_new(kind, 32, &builder))) {
     }
     for (uint32_t i = 0; i < 40; i++) {
-        memset(key, 'a' + i % 26, sizeof key);
+        memset(key, (int)('a' + i % 26), sizeof key);
         while (again(kind == RKYV_TEXT_TO_U64 ? rkyv_builder_put_text(builder, key, i, i)
                                               : rkyv_builder_put_number(builder, i, i))) {
         }

@@ -316,6 +316,10 @@ pub struct Map<'a, K: ?Sized, V> {
     bytes: PhantomData<(&'a [u8], V, *const K)>,
 }
 
+// SAFETY: a map is a shared borrow of the bytes, which its calls read alone.
+unsafe impl<K: ?Sized, V> Send for Map<'_, K, V> {}
+unsafe impl<K: ?Sized, V> Sync for Map<'_, K, V> {}
+
 impl<'a, K: Key + ?Sized, V: Value> Map<'a, K, V> {
     /// The map whose archive the bytes are.
     pub fn open(bytes: &'a [u8], width: Width) -> Result<Self, Refusal> {
@@ -416,6 +420,9 @@ pub struct Builder<K: ?Sized, V> {
     pairs: PhantomData<(V, *const K)>,
 }
 
+// SAFETY: nothing else has the builder, and its calls keep no state of their own.
+unsafe impl<K: ?Sized, V> Send for Builder<K, V> {}
+
 impl<K: Key + ?Sized, V: Value> Builder<K, V> {
     /// A builder of no pairs yet.
     ///
@@ -465,6 +472,10 @@ pub struct Archive {
     bytes: *mut u8,
     length: usize,
 }
+
+// SAFETY: nothing else has the bytes, and a shared archive is only read.
+unsafe impl Send for Archive {}
+unsafe impl Sync for Archive {}
 
 impl Deref for Archive {
     type Target = [u8];

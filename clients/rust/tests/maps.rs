@@ -84,3 +84,29 @@ fn built_texts_are_written_in_place() {
     assert_eq!((map.set("", u64::MAX), map.set("a", 1)), (true, false));
     assert_eq!(map.as_map().get(""), Some(u64::MAX));
 }
+
+#[test]
+fn threads_share_a_map() {
+    let mut numbers: Builder<u32, u64> = Builder::new(Width::Narrow).unwrap();
+    for key in 0..100 {
+        numbers.put(&key, u64::from(key) << 40).unwrap();
+    }
+    let archive = std::thread::spawn(move || numbers.finish().unwrap())
+        .join()
+        .unwrap();
+    let map: Map<u32, u64> = Map::open(&archive, Width::Narrow).unwrap();
+    let found = std::thread::scope(|scope| {
+        let even = scope.spawn(|| {
+            (0..100)
+                .step_by(2)
+                .filter_map(|key| map.get(&key))
+                .sum::<u64>()
+        });
+        let odd = (1..100)
+            .step_by(2)
+            .filter_map(|key| map.get(&key))
+            .sum::<u64>();
+        even.join().unwrap() + odd
+    });
+    assert_eq!(found, 4950 << 40);
+}
