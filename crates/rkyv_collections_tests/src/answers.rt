@@ -6,18 +6,15 @@ use rkyv_base::element::Element;
 use rkyv_base::errors::VerifyError;
 use rkyv_base::root::to_bytes;
 use rkyv_base::scalars::Scalar;
-use rkyv_base::view::View;
 use rkyv_base::width::{Narrow, Width};
 use rkyv_base::writer::VecWriter;
 use rkyv_collections::map::{ArchivedHashMap, HashMapOf};
 use rkyv_collections::set::{ArchivedHashSet, HashSetOf};
 use rkyv_keys::debug::ElementDebug;
 use rkyv_keys::equality::ElementEq;
-use rkyv_keys::hash::KeyHash;
 use rkyv_keys::keys::{KeyElement, Query};
 use rkyv_scan::hash::KeyHasher;
 use std::alloc::Global;
-use std::cell::Cell;
 
 /// Whether these are the bytes of a value.
 pub(crate) fn is_archive_of<V: Serialize<VecWriter, Narrow>>(
@@ -80,39 +77,6 @@ pub(crate) fn has_key<K: KeyElement, V: Element, H: KeyHasher, W: Width, Q: Quer
     let root = access_in::<W, HashMapOf<K, V, H, W>>(bytes)?;
     let map = ArchivedHashMap::<K, V, H, W>::of(root);
     Ok(map.contains_key(key))
-}
-
-/// What a comparison that always answers this finds under the hash of a key, by the value alone and
-/// with the key, and how often each lookup asks.
-pub(crate) fn found_with<K: KeyElement, V: Element, H: KeyHasher, W: Width, Q: KeyHash>(
-    bytes: &[u8],
-    key: &Q,
-    accepts: bool,
-) -> Result<([Option<u64>; 2], [usize; 2]), VerifyError>
-    requires { Q.can_read key.now }
-{
-    let root = access_in::<W, HashMapOf<K, V, H, W>>(bytes)?;
-    let map = ArchivedHashMap::<K, V, H, W>::of(root);
-    let (asks, asks_of_both) = (Cell::new(0usize), Cell::new(0usize));
-    let value = match map.get_with(key, |_: &Q, _: View<'_, K>| answer(&asks, accepts)) {
-        Some(value) => Some(value.pos()),
-        None => None,
-    };
-    let by_pair = map.get_key_value_with(
-        key,
-        |_: &Q, _: View<'_, K>| answer(&asks_of_both, accepts),
-    );
-    let behind_key = match by_pair {
-        Some((_, value)) => Some(value.pos()),
-        None => None,
-    };
-    Ok(([value, behind_key], [asks.get(), asks_of_both.get()]))
-}
-
-// Counts an ask, and answers it.
-fn answer(asks: &Cell<usize>, accepts: bool) -> bool {
-    asks.set(asks.get().wrapping_add(1));
-    accepts
 }
 
 /// Whether two maps are equal, by the call of maps and by that of elements.

@@ -12,8 +12,6 @@ mod finders;
 #[cfg(test)]
 mod first;
 #[cfg(test)]
-mod lists;
-#[cfg(test)]
 mod nested;
 #[cfg(test)]
 mod reading;

@@ -3,33 +3,25 @@
 
 use crate::answers::is_archive_of;
 use crate::bytes::TWO_MAPS;
-use crate::lists::Pairs;
 use rkyv_base::access::access;
 use rkyv_base::entry::Entry;
 use rkyv_base::errors::VerifyError;
+use rkyv_collections::MapPairs;
 use rkyv_collections::map::{ArchivedHashMap, HashMapOf};
-use rkyv_scan::hash::FxHasher64;
-use std::alloc::{AllocError, Global};
-use std::marker::PhantomData;
-use std::test::Fail;
+use std::alloc::Global;
 
 type Inner = HashMapOf<u16, u16>;
 
 type Outer = HashMapOf<Entry<u8, u8>, Inner>;
 
-type Numbers = Pairs<u16, u16, FxHasher64>;
+type Numbers<'a> = MapPairs<'a, u16, u16>;
 
-fn one_inner(alloc: Global) -> Result<Numbers, AllocError> {
-    Ok(Pairs(vec![in alloc; (1337, 42)]?, PhantomData))
-}
-
-// The pairs (1, 2) and (3, 4), each to the map of 1337 to 42.
-fn two_maps(alloc: Global) -> Result<Pairs<(u8, u8), Numbers, FxHasher64>, AllocError> {
-    let (first, second) = (one_inner(alloc)?, one_inner(alloc)?);
-    Ok(Pairs(
-        vec![in alloc; ((1, 2), first), ((3, 4), second)]?,
-        PhantomData,
-    ))
+// Whether the pairs (1, 2) and (3, 4), each to the map of 1337 to 42, are archived as these bytes.
+fn two_maps_are(alloc: Global, bytes: &[u8]) -> bool {
+    let inner: Numbers<'_> = MapPairs::new(&[(1337, 42)]);
+    let pairs = [((1u8, 2u8), inner), ((3, 4), inner)];
+    let list: MapPairs<'_, (u8, u8), Numbers<'_>> = MapPairs::new(&pairs);
+    is_archive_of(alloc, &list, bytes)
 }
 
 // How many values of the outer map lead 1337 to 42, and whether it has each of these keys.
@@ -51,10 +43,8 @@ fn reads(bytes: &[u8]) -> Result<(usize, [bool; 3]), VerifyError> {
 }
 
 #[test]
-fn two_maps_are_written(rt: HostRuntime) -> Result<(), Fail> {
-    let list = two_maps(rt.alloc())?;
-    assert!(rt; is_archive_of(rt.alloc(), &list, &TWO_MAPS));
-    Ok(())
+fn two_maps_are_written(rt: HostRuntime) {
+    assert!(rt; two_maps_are(rt.alloc(), &TWO_MAPS));
 }
 
 #[test]

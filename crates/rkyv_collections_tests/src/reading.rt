@@ -1,8 +1,6 @@
 //! Maps of given bytes, read in place.
 
-use crate::answers::{
-    counts, equal_maps, found_with, has_key, map_prints, misplaced, number_of, pair_of,
-};
+use crate::answers::{counts, equal_maps, has_key, map_prints, misplaced, number_of, pair_of};
 use crate::bytes::{
     EMPTY, FOUR_PAIRS, FOUR_PAIRS_BACKWARDS, NESTED, ONE_KEY_TWICE, ONE_PAIR, ONE_SYMBOL,
     ONE_WIDE_NUMBER,
@@ -10,11 +8,13 @@ use crate::bytes::{
 use rkyv_base::access::{access, access_in};
 use rkyv_base::errors::VerifyError;
 use rkyv_base::text::Text;
+use rkyv_base::view::View;
 use rkyv_base::width::{Narrow, Wide};
 use rkyv_collections::map::laws::{equal_maps_have_the_same_pairs, repeated_keys_are_misplaced};
 use rkyv_collections::map::{ArchivedHashMap, HashMapOf};
 use rkyv_scan::hash::FxHasher64;
 use std::alloc::Global;
+use std::cell::Cell;
 
 type Small = HashMapOf<i8, i8>;
 
@@ -88,9 +88,39 @@ fn one_pair_is_found(rt: HostRuntime) {
     );
 }
 
-// The value found by a comparison that always answers this, and how often it is asked.
-fn small_with(bytes: &[u8], key: i8, accepts: bool) -> Option<([Option<u64>; 2], [usize; 2])> {
-    found_with::<i8, i8, FxHasher64, Narrow, i8>(bytes, &key, accepts).ok()
+// Counts an ask, and answers it.
+fn answer(asks: &Cell<usize>, accepts: bool) -> bool {
+    asks.set(asks.get().wrapping_add(1));
+    accepts
+}
+
+// The value that a comparison finds under a key which always answers this, and how often it is
+// asked.
+fn value_with(bytes: &[u8], key: i8, accepts: bool) -> Result<(Option<u64>, usize), VerifyError> {
+    let map = ArchivedHashMap::of(access::<Small>(bytes)?);
+    let asks = Cell::new(0usize);
+    match map.get_with(&key, |_: &i8, _: View<'_, i8>| answer(&asks, accepts)) {
+        Some(value) => Ok((Some(value.pos()), asks.get())),
+        None => Ok((None, asks.get())),
+    }
+}
+
+// The same of the lookup that gives the key too.
+fn pair_with(bytes: &[u8], key: i8, accepts: bool) -> Result<(Option<u64>, usize), VerifyError> {
+    let map = ArchivedHashMap::of(access::<Small>(bytes)?);
+    let asks = Cell::new(0usize);
+    match map.get_key_value_with(&key, |_: &i8, _: View<'_, i8>| answer(&asks, accepts)) {
+        Some((_, value)) => Ok((Some(value.pos()), asks.get())),
+        None => Ok((None, asks.get())),
+    }
+}
+
+// What both find.
+fn small_with(bytes: &[u8], key: i8, accepts: bool) -> [Option<(Option<u64>, usize)>; 2] {
+    [
+        value_with(bytes, key, accepts).ok(),
+        pair_with(bytes, key, accepts).ok(),
+    ]
 }
 
 // In a small table each control stands twice, and each pair is asked of twice.
@@ -106,11 +136,11 @@ fn a_comparison_may_be_handed_in(rt: HostRuntime) {
     assert_eq!(rt;
         found,
         [
-            Some(([Some(1); 2], [1; 2])),
-            Some(([None; 2], [2; 2])),
-            Some(([None; 2], [0; 2])),
-            Some(([Some(5); 2], [1; 2])),
-            Some(([None; 2], [4; 2]))
+            [Some((Some(1), 1)); 2],
+            [Some((None, 2)); 2],
+            [Some((None, 0)); 2],
+            [Some((Some(5), 1)); 2],
+            [Some((None, 4)); 2]
         ]
     );
 }

@@ -13,9 +13,8 @@ ghost use Rattle.rkyv_scan.specs.Hash.{hash_of_calls};
 ghost use Rattle.rkyv_collections.specs.Map.{FindsKeyAt, IsKeyPosAt, hash_at, map_shape};
 ghost use Rattle.rkyv_collections.specs.ValueWrites.{KeepsMap};
 
-use crate::answers::{is_archive_of, number_of};
+use crate::answers::number_of;
 use crate::bytes::{FOUR_PAIRS, ONE_NUMBER};
-use crate::lists::Pairs;
 use rkyv_base::access::{access, access_in, access_mut};
 use rkyv_base::element::Element;
 use rkyv_base::entry::Entry;
@@ -26,13 +25,12 @@ use rkyv_base::seal::set_at;
 use rkyv_base::text::Text;
 use rkyv_base::view::View;
 use rkyv_base::width::{Narrow, Width};
+use rkyv_collections::MapPairs;
 use rkyv_collections::map::sealed::{value_writes_keep_maps, values_written_stand};
 use rkyv_collections::map::{ArchivedHashMap, HashMapOf};
 use rkyv_keys::keys::{KeyElement, Query};
 use rkyv_scan::hash::{FxHasher64, KeyHasher};
-use std::alloc::{AllocError, Global};
-use std::marker::PhantomData;
-use std::test::Fail;
+use std::alloc::Global;
 
 type Numbers = HashMapOf<u32, u32>;
 
@@ -387,24 +385,18 @@ fn pairs_are_written_by_position(rt: HostRuntime) {
     assert_eq!(rt; (first, same), (Some(Some((4, 8, 5, 3))), true));
 }
 
-// The map of three texts, to these values.
-fn texts<'a>(
-    alloc: Global,
-    values: [&'a str; 3],
-) -> Result<Pairs<&'a str, &'a str, FxHasher64>, AllocError> {
-    let pairs = vec![in alloc;
-        ("hello", values[0]),
-        ("foo", values[1]),
-        ("baz", values[2]),
-    ]?;
-    Ok(Pairs(pairs, PhantomData))
+// The archive of three texts, to these values.
+fn archive_of(alloc: Global, values: [&str; 3]) -> Option<Vec<u8>> {
+    let pairs = [("hello", values[0]), ("foo", values[1]), ("baz", values[2])];
+    let list: MapPairs<'_, &str, &str> = MapPairs::new(&pairs);
+    to_bytes(alloc, &list).ok()
 }
 
-// Whether these are the bytes of that map.
-fn is_archive_of_texts(alloc: Global, values: [&str; 3], bytes: &[u8]) -> bool {
-    match texts(alloc, values) {
-        Ok(list) => is_archive_of(alloc, &list, bytes),
-        Err(_) => false,
+// Whether these are the bytes of that archive.
+fn is_archive_of(alloc: Global, values: [&str; 3], bytes: &[u8]) -> bool {
+    match archive_of(alloc, values) {
+        Some(archive) => archive.as_slice() == bytes,
+        None => false,
     }
 }
 
@@ -453,42 +445,55 @@ fn raise_three(bytes: &mut [u8]) -> Result<Option<usize>, VerifyError> {
     Ok(Some(raised))
 }
 
-#[test]
-fn a_text_is_raised_in_place(rt: HostRuntime) -> Result<(), Fail> {
-    let alloc = rt.alloc();
-    let list = texts(alloc, ["world", "bar", "bat"])?;
-    let mut bytes = to_bytes(alloc, &list)?;
-    let read = is_text_in_place(bytes.as_mut_slice(), "hello", "world").ok();
-    let raised = raise(bytes.as_mut_slice(), "hello").ok();
-    let same = is_archive_of_texts(alloc, ["WORLD", "bar", "bat"], bytes.as_slice());
-    let found = is_text(bytes.as_slice(), "hello", "WORLD").ok();
-    assert_eq!(rt;
-        (read, raised, same, found),
-        (Some(Some(true)), Some(Some(true)), true, Some(Some(true)))
-    );
-    Ok(())
+// What is read of a key before, what raising it answers, and what is read of it then.
+fn raise_and_read(bytes: &mut [u8]) -> [Option<Option<bool>>; 3] {
+    [
+        is_text_in_place(&mut *bytes, "hello", "world").ok(),
+        raise(&mut *bytes, "hello").ok(),
+        is_text(&*bytes, "hello", "WORLD").ok(),
+    ]
+}
+
+// The same of an archive, and whether that is then the archive of the other text.
+fn raised(alloc: Global) -> Option<([Option<Option<bool>>; 3], bool)> {
+    let mut bytes = archive_of(alloc, ["world", "bar", "bat"])?;
+    let answers = raise_and_read(bytes.as_mut_slice());
+    let same = is_archive_of(alloc, ["WORLD", "bar", "bat"], bytes.as_slice());
+    Some((answers, same))
 }
 
 #[test]
-fn each_text_is_raised_in_place(rt: HostRuntime) -> Result<(), Fail> {
-    let alloc = rt.alloc();
-    let list = texts(alloc, ["world", "bar", "bat"])?;
-    let mut bytes = to_bytes(alloc, &list)?;
+fn a_text_is_raised_in_place(rt: HostRuntime) {
+    assert_eq!(rt; raised(rt.alloc()), Some(([Some(Some(true)); 3], true)));
+}
+
+// How many texts of an archive are raised, and whether it is then that of the other texts.
+fn each_raised(alloc: Global) -> Option<(Option<Option<usize>>, bool)> {
+    let mut bytes = archive_of(alloc, ["world", "bar", "bat"])?;
     let raised = raise_three(bytes.as_mut_slice()).ok();
-    let same = is_archive_of_texts(alloc, ["WORLD", "BAR", "BAT"], bytes.as_slice());
-    assert_eq!(rt; (raised, same), (Some(Some(3)), true));
-    Ok(())
+    let same = is_archive_of(alloc, ["WORLD", "BAR", "BAT"], bytes.as_slice());
+    Some((raised, same))
 }
 
 #[test]
-fn a_text_out_of_line_stays(rt: HostRuntime) -> Result<(), Fail> {
-    let alloc = rt.alloc();
-    let list = texts(alloc, ["wonderful", "bar", "bat"])?;
-    let mut bytes = to_bytes(alloc, &list)?;
+fn each_text_is_raised_in_place(rt: HostRuntime) {
+    assert_eq!(rt; each_raised(rt.alloc()), Some((Some(Some(3)), true)));
+}
+
+// What raising a text out of line answers, and whether its archive stays.
+fn raised_out_of_line(alloc: Global) -> Option<(Option<Option<bool>>, bool)> {
+    let mut bytes = archive_of(alloc, ["wonderful", "bar", "bat"])?;
     let raised = raise(bytes.as_mut_slice(), "hello").ok();
-    let same = is_archive_of_texts(alloc, ["wonderful", "bar", "bat"], bytes.as_slice());
-    assert_eq!(rt; (raised, same), (Some(Some(false)), true));
-    Ok(())
+    let same = is_archive_of(alloc, ["wonderful", "bar", "bat"], bytes.as_slice());
+    Some((raised, same))
+}
+
+#[test]
+fn a_text_out_of_line_stays(rt: HostRuntime) {
+    assert_eq!(rt;
+        raised_out_of_line(rt.alloc()),
+        Some((Some(Some(false)), true))
+    );
 }
 
 // Whether both texts of a key are those that are asked for.
@@ -517,13 +522,15 @@ fn is_text_of_two(
     }
 }
 
+// Whether it is the value of such a key in an archive of two.
+fn is_found_of_two(alloc: Global) -> Option<Option<bool>> {
+    let pairs = [(("my", "key"), "value"), (("wrong", "key"), "wrong value")];
+    let list: MapPairs<'_, (&str, &str), &str> = MapPairs::new(&pairs);
+    let bytes = to_bytes(alloc, &list).ok()?;
+    is_text_of_two(bytes.as_slice(), ("my", "key"), "value").ok()
+}
+
 #[test]
-fn a_key_of_two_texts_is_compared(rt: HostRuntime) -> Result<(), Fail> {
-    let alloc = rt.alloc();
-    let pairs = vec![in alloc; (("my", "key"), "value"), (("wrong", "key"), "wrong value")]?;
-    let list: Pairs<(&str, &str), &str, FxHasher64> = Pairs(pairs, PhantomData);
-    let bytes = to_bytes(alloc, &list)?;
-    let found = is_text_of_two(bytes.as_slice(), ("my", "key"), "value").ok();
-    assert_eq!(rt; found, Some(Some(true)));
-    Ok(())
+fn a_key_of_two_texts_is_compared(rt: HostRuntime) {
+    assert_eq!(rt; is_found_of_two(rt.alloc()), Some(Some(true)));
 }

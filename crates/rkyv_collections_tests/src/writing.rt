@@ -2,21 +2,20 @@
 
 use crate::answers::{counts, is_archive_of, number_of};
 use crate::bytes::{EMPTY, NESTED, THREE};
-use crate::lists::Pairs;
 use rkyv_base::archive::Serialize;
 use rkyv_base::element::StandsFor;
 use rkyv_base::errors::WriteError;
 use rkyv_base::root::to_bytes;
 use rkyv_base::width::Narrow;
 use rkyv_base::writer::{NoMemory, VecWriter};
+use rkyv_collections::MapPairs;
 use rkyv_collections::map::ArchivedHashMap;
 use rkyv_collections::map::written::written_maps_stand;
 use rkyv_collections::set::ArchivedHashSet;
 use rkyv_collections::set::written::written_sets_stand;
 use rkyv_keys::keys::{KeyElement, NativeKey};
 use rkyv_scan::hash::FxHasher64;
-use std::alloc::{AllocError, Global};
-use std::marker::PhantomData;
+use std::alloc::Global;
 
 // Whether each of these controls is empty.
 fn are_empty(controls: &[u8]) -> bool {
@@ -149,30 +148,19 @@ fn the_header_of_a_set(rt: HostRuntime) {
     assert_eq!(rt; set_header(rt.alloc()).ok(), Some((header, true)));
 }
 
-fn list_of(alloc: Global, pairs: &[(i8, i8)]) -> Result<Pairs<i8, i8, FxHasher64>, AllocError> {
-    let mut list = Vec::new(alloc);
-    for pair in pairs {
-        list.push(*pair)?;
-    }
-    Ok(Pairs(list, PhantomData))
-}
-
-// Whether a list of no pairs is archived as these bytes.
-fn none_are(alloc: Global, bytes: &[u8]) -> bool {
-    match list_of(alloc, &[]) {
-        Ok(list) => is_archive_of(alloc, &list, bytes),
-        Err(_) => false,
-    }
-}
+// A list of small numbers.
+type Small<'a> = MapPairs<'a, i8, i8>;
 
 #[test]
 fn the_empty_map(rt: HostRuntime) {
-    assert!(rt; none_are(rt.alloc(), &EMPTY));
+    let list: Small<'_> = MapPairs::new(&[]);
+    let same = is_archive_of(rt.alloc(), &list, &EMPTY);
+    assert!(rt; same);
 }
 
 // The archive of a list of five pairs, of which two have one key.
 fn archived_list(alloc: Global) -> Option<Vec<u8>> {
-    let list = list_of(alloc, &[(1, 2), (3, 4), (5, 6), (7, 8), (3, 9)]).ok()?;
+    let list: Small<'_> = MapPairs::new(&[(1, 2), (3, 4), (5, 6), (7, 8), (3, 9)]);
     to_bytes(alloc, &list).ok()
 }
 
@@ -206,21 +194,12 @@ fn a_list_is_looked_up(rt: HostRuntime) {
     );
 }
 
-// The list of one pair, of 1 and these pairs.
-fn outer_of(
-    alloc: Global,
-    pairs: &[(i8, i8)],
-) -> Result<Pairs<i8, Pairs<i8, i8, FxHasher64>, FxHasher64>, AllocError> {
-    let inner = list_of(alloc, pairs)?;
-    Ok(Pairs(vec![in alloc; (1, inner)]?, PhantomData))
-}
-
 // Whether the list of one pair, of 1 and the pair 1 and 2, is archived as these bytes.
 fn one_in_one_is(alloc: Global, bytes: &[u8]) -> bool {
-    match outer_of(alloc, &[(1, 2)]) {
-        Ok(list) => is_archive_of(alloc, &list, bytes),
-        Err(_) => false,
-    }
+    let inner: Small<'_> = MapPairs::new(&[(1, 2)]);
+    let pairs = [(1i8, inner)];
+    let list: MapPairs<'_, i8, Small<'_>> = MapPairs::new(&pairs);
+    is_archive_of(alloc, &list, bytes)
 }
 
 #[test]
