@@ -52,85 +52,77 @@ fn padded(controls: [u8; 8]) -> [u8; 16] {
     all
 }
 
-#[test]
-fn marks_a_byte(rt: HostRuntime) {
-    let controls = padded([0x28, 0x29, 0xff, 0xff, 0xff, 0xff, 0xff, 0xff]);
-    let empty = [2, 3, 4, 5, 6, 7, 8, 9, 10, 11, 12, 13, 14, 15];
-    let word = Places {
-        byte: &[0, 1],
-        empty: &empty[..6],
-        full: &[0, 1],
-    };
+// The places that the kinds mark of eight controls and eight empty ones behind them: the byte's,
+// and what the word marks for it; the empty ones among the eight, and all; the full ones.
+#[derive(Clone, Copy)]
+struct Marked<'a> {
+    byte: &'a [usize],
+    by_word: &'a [usize],
+    empty_of_eight: &'a [usize],
+    empty: &'a [usize],
+    full: &'a [usize],
+}
+
+// Whether each kind marks these places.
+fn each_kind_matches(eight: [u8; 8], byte: u8, marked: &Marked) -> [bool; 3] {
+    let controls = padded(eight);
     let exact = Places {
-        byte: &[0],
-        empty: &empty[..6],
-        full: &[0, 1],
+        byte: marked.byte,
+        empty: marked.empty_of_eight,
+        full: marked.full,
+    };
+    let word = Places {
+        byte: marked.by_word,
+        ..exact
     };
     let wide = Places {
+        empty: marked.empty,
+        ..exact
+    };
+    [
+        matches::<generic::Group>(&controls, byte, &word),
+        matches::<bytewise::Group>(&controls, byte, &exact),
+        matches::<lanes::Group>(&controls, byte, &wide),
+    ]
+}
+
+#[test]
+fn marks_a_byte(rt: HostRuntime) {
+    let controls = [0x28, 0x29, 0xff, 0xff, 0xff, 0xff, 0xff, 0xff];
+    let marked = Marked {
         byte: &[0],
-        empty: &empty,
+        by_word: &[0, 1],
+        empty_of_eight: &[2, 3, 4, 5, 6, 7],
+        empty: &[2, 3, 4, 5, 6, 7, 8, 9, 10, 11, 12, 13, 14, 15],
         full: &[0, 1],
     };
-    let right = [
-        matches::<generic::Group>(&controls, 0x28, &word),
-        matches::<bytewise::Group>(&controls, 0x28, &exact),
-        matches::<lanes::Group>(&controls, 0x28, &wide),
-    ];
-    assert_eq!(rt; right, [true; 3]);
+    assert_eq!(rt; each_kind_matches(controls, 0x28, &marked), [true; 3]);
 }
 
 #[test]
 fn marks_above_a_mark(rt: HostRuntime) {
-    let controls = padded([0x29, 0x28, 0x29, 0x28, 0x00, 0xff, 0xff, 0x29]);
-    let empty = [5, 6, 8, 9, 10, 11, 12, 13, 14, 15];
-    let word = Places {
-        byte: &[1, 2, 3],
-        empty: &empty[..2],
-        full: &[0, 1, 2, 3, 4, 7],
-    };
-    let exact = Places {
+    let controls = [0x29, 0x28, 0x29, 0x28, 0x00, 0xff, 0xff, 0x29];
+    let marked = Marked {
         byte: &[1, 3],
-        empty: &empty[..2],
+        by_word: &[1, 2, 3],
+        empty_of_eight: &[5, 6],
+        empty: &[5, 6, 8, 9, 10, 11, 12, 13, 14, 15],
         full: &[0, 1, 2, 3, 4, 7],
     };
-    let wide = Places {
-        byte: &[1, 3],
-        empty: &empty,
-        full: &[0, 1, 2, 3, 4, 7],
-    };
-    let right = [
-        matches::<generic::Group>(&controls, 0x28, &word),
-        matches::<bytewise::Group>(&controls, 0x28, &exact),
-        matches::<lanes::Group>(&controls, 0x28, &wide),
-    ];
-    assert_eq!(rt; right, [true; 3]);
+    assert_eq!(rt; each_kind_matches(controls, 0x28, &marked), [true; 3]);
 }
 
 #[test]
 fn marks_zero(rt: HostRuntime) {
-    let controls = padded([0x00, 0x01, 0x02, 0xff, 0xff, 0xff, 0xff, 0xff]);
-    let empty = [3, 4, 5, 6, 7, 8, 9, 10, 11, 12, 13, 14, 15];
-    let word = Places {
-        byte: &[0, 1],
-        empty: &empty[..5],
-        full: &[0, 1, 2],
-    };
-    let exact = Places {
+    let controls = [0x00, 0x01, 0x02, 0xff, 0xff, 0xff, 0xff, 0xff];
+    let marked = Marked {
         byte: &[0],
-        empty: &empty[..5],
+        by_word: &[0, 1],
+        empty_of_eight: &[3, 4, 5, 6, 7],
+        empty: &[3, 4, 5, 6, 7, 8, 9, 10, 11, 12, 13, 14, 15],
         full: &[0, 1, 2],
     };
-    let wide = Places {
-        byte: &[0],
-        empty: &empty,
-        full: &[0, 1, 2],
-    };
-    let right = [
-        matches::<generic::Group>(&controls, 0x00, &word),
-        matches::<bytewise::Group>(&controls, 0x00, &exact),
-        matches::<lanes::Group>(&controls, 0x00, &wide),
-    ];
-    assert_eq!(rt; right, [true; 3]);
+    assert_eq!(rt; each_kind_matches(controls, 0x00, &marked), [true; 3]);
 }
 
 #[test]
