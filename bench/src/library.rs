@@ -59,6 +59,37 @@ unsafe extern "C" {
         count: usize,
     ) -> u64;
     fn rkyv_bench_walk_u32(archive: *const u8, len: usize) -> u64;
+    fn rkyv_bench_build_index_u32(
+        keys: *const u32,
+        key_count: usize,
+        values: *const u32,
+        value_count: usize,
+        out: *mut u8,
+        room: usize,
+    ) -> usize;
+    fn rkyv_bench_access_index_u32(archive: *const u8, len: usize) -> usize;
+    fn rkyv_bench_lookup_index_u32(
+        archive: *const u8,
+        len: usize,
+        keys: *const u32,
+        key_count: usize,
+    ) -> u64;
+    fn rkyv_bench_lookup_index_u32_by_finder(
+        archive: *const u8,
+        len: usize,
+        keys: *const u32,
+        key_count: usize,
+    ) -> u64;
+    fn rkyv_bench_walk_index_u32(archive: *const u8, len: usize) -> u64;
+    fn rkyv_bench_build_std_u32(
+        keys: *const u32,
+        key_count: usize,
+        values: *const u32,
+        value_count: usize,
+        out: *mut u8,
+        room: usize,
+    ) -> usize;
+    fn rkyv_bench_read_std_u32(archive: *const u8, len: usize) -> usize;
     fn rkyv_bench_walk_text(archive: *const u8, len: usize) -> u64;
 
     fn malloc(size: usize) -> *mut c_void;
@@ -125,6 +156,9 @@ pub trait Keys {
 
     /// The sum of all pairs of an archive.
     fn walk(archive: &Accepted<'_, Self>) -> u64;
+
+    /// How many entries a map of std's has that is read back from an archive.
+    fn read_back(archive: &Accepted<'_, Self>) -> usize;
 }
 
 /// An archive of a map with such keys.
@@ -200,6 +234,124 @@ impl Keys for Numbers {
     fn walk(archive: &Accepted<'_, Self>) -> u64 {
         // SAFETY: as above, and the archive was accepted.
         unsafe { rkyv_bench_walk_u32(archive.archive.as_ptr(), archive.archive.len()) }
+    }
+
+    fn read_back(archive: &Accepted<'_, Self>) -> usize {
+        // SAFETY: as above, and the archive was accepted.
+        unsafe { rkyv_bench_read_std_u32(archive.archive.as_ptr(), archive.archive.len()) }
+    }
+}
+
+/// Numbers that become an index map.
+pub struct Ordered(pub Numbers);
+
+impl Keys for Ordered {
+    fn hash(&self) -> u64 {
+        self.0.hash()
+    }
+
+    fn build(&self, values: &[u32], out: &mut [u8]) -> usize {
+        let keys = &self.0 .0;
+        // SAFETY: each pointer and the length behind it are those of one slice.
+        unsafe {
+            rkyv_bench_build_index_u32(
+                keys.as_ptr(),
+                keys.len(),
+                values.as_ptr(),
+                values.len(),
+                out.as_mut_ptr(),
+                out.len(),
+            )
+        }
+    }
+
+    fn access(archive: &[u8]) -> usize {
+        // SAFETY: pointer and length are those of one slice.
+        unsafe { rkyv_bench_access_index_u32(archive.as_ptr(), archive.len()) }
+    }
+
+    fn lookup(&self, archive: &Accepted<'_, Self>) -> u64 {
+        let (archive, keys) = (archive.archive, &self.0 .0);
+        // SAFETY: as above, and the archive was accepted.
+        unsafe {
+            rkyv_bench_lookup_index_u32(archive.as_ptr(), archive.len(), keys.as_ptr(), keys.len())
+        }
+    }
+
+    fn lookup_by_finder(&self, archive: &Accepted<'_, Self>) -> u64 {
+        let (archive, keys) = (archive.archive, &self.0 .0);
+        // SAFETY: as above, and the archive was accepted.
+        unsafe {
+            rkyv_bench_lookup_index_u32_by_finder(
+                archive.as_ptr(),
+                archive.len(),
+                keys.as_ptr(),
+                keys.len(),
+            )
+        }
+    }
+
+    fn walk(archive: &Accepted<'_, Self>) -> u64 {
+        // SAFETY: as above, and the archive was accepted.
+        unsafe { rkyv_bench_walk_index_u32(archive.archive.as_ptr(), archive.archive.len()) }
+    }
+
+    fn read_back(_archive: &Accepted<'_, Self>) -> usize {
+        unreachable!("no call reads an index map back")
+    }
+}
+
+/// Numbers that become a map of std's, which is archived as a hash map.
+pub struct InStd(pub Numbers);
+
+impl<'a> Accepted<'a, InStd> {
+    /// The same archive, as that of a hash map.
+    fn as_map(&self) -> Accepted<'a, Numbers> {
+        Accepted {
+            archive: self.archive,
+            kind: std::marker::PhantomData,
+        }
+    }
+}
+
+impl Keys for InStd {
+    fn hash(&self) -> u64 {
+        self.0.hash()
+    }
+
+    fn build(&self, values: &[u32], out: &mut [u8]) -> usize {
+        let keys = &self.0 .0;
+        // SAFETY: each pointer and the length behind it are those of one slice.
+        unsafe {
+            rkyv_bench_build_std_u32(
+                keys.as_ptr(),
+                keys.len(),
+                values.as_ptr(),
+                values.len(),
+                out.as_mut_ptr(),
+                out.len(),
+            )
+        }
+    }
+
+    fn access(archive: &[u8]) -> usize {
+        Numbers::access(archive)
+    }
+
+    fn lookup(&self, archive: &Accepted<'_, Self>) -> u64 {
+        self.0.lookup(&archive.as_map())
+    }
+
+    fn lookup_by_finder(&self, archive: &Accepted<'_, Self>) -> u64 {
+        self.0.lookup_by_finder(&archive.as_map())
+    }
+
+    fn walk(archive: &Accepted<'_, Self>) -> u64 {
+        Numbers::walk(&archive.as_map())
+    }
+
+    fn read_back(archive: &Accepted<'_, Self>) -> usize {
+        Numbers::read_back(&archive.as_map())
     }
 }
 
@@ -298,5 +450,9 @@ impl Keys for Texts {
     fn walk(archive: &Accepted<'_, Self>) -> u64 {
         // SAFETY: as above, and the archive was accepted.
         unsafe { rkyv_bench_walk_text(archive.archive.as_ptr(), archive.archive.len()) }
+    }
+
+    fn read_back(_archive: &Accepted<'_, Self>) -> usize {
+        unreachable!("no call reads a map of texts back")
     }
 }

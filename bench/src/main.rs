@@ -7,7 +7,7 @@ mod random;
 
 use clock::now;
 use fx::BuildFx;
-use library::{Accepted, Keys, Numbers, Texts};
+use library::{Accepted, InStd, Keys, Numbers, Ordered, Texts};
 use random::{XorShift32, XorShift64};
 use std::borrow::Borrow;
 use std::collections::HashMap;
@@ -33,9 +33,24 @@ enum Measure {
     HitsByFinder,
     MissesByFinder,
     Walk,
+    // An archive is read back into a map of std's, where std's map is filled anew.
+    ReadBack,
 }
 
-const MEASURES: [Measure; 9] = [
+// Those of each kind of keys.
+
+const OF_NUMBERS: &[Measure] = &[
+    Measure::Hash,
+    Measure::Build,
+    Measure::Access,
+    Measure::Hits,
+    Measure::Misses,
+    Measure::HitsByFinder,
+    Measure::MissesByFinder,
+    Measure::Walk,
+];
+
+const OF_TEXTS: &[Measure] = &[
     Measure::Hash,
     Measure::Build,
     Measure::BuildBorrowed,
@@ -46,6 +61,20 @@ const MEASURES: [Measure; 9] = [
     Measure::MissesByFinder,
     Measure::Walk,
 ];
+
+// The hashes of an index map's keys are those of a hash map's.
+const OF_INDEX_MAPS: &[Measure] = &[
+    Measure::Build,
+    Measure::Access,
+    Measure::Hits,
+    Measure::Misses,
+    Measure::HitsByFinder,
+    Measure::MissesByFinder,
+    Measure::Walk,
+];
+
+// An archived map of std's is a hash map.
+const OF_STD_MAPS: &[Measure] = &[Measure::Build, Measure::ReadBack];
 
 impl Measure {
     fn name(self) -> &'static str {
@@ -59,6 +88,7 @@ impl Measure {
             Measure::HitsByFinder => "lookup by a finder, found",
             Measure::MissesByFinder => "lookup by a finder, not found",
             Measure::Walk => "walk",
+            Measure::ReadBack => "read back",
         }
     }
 }
@@ -78,9 +108,6 @@ trait Key: Copy + Eq + Hash {
 
     type Owned: Eq + Hash + Borrow<Self::Asked>;
 
-    /// Whether a map can borrow its keys.
-    const IS_BORROWED: bool;
-
     fn asked(&self) -> &Self::Asked;
 
     fn own(self) -> Self::Owned;
@@ -93,8 +120,6 @@ impl Key for u32 {
     type Asked = u32;
 
     type Owned = u32;
-
-    const IS_BORROWED: bool = false;
 
     fn asked(&self) -> &u32 {
         self
@@ -113,8 +138,6 @@ impl Key for &str {
     type Asked = str;
 
     type Owned = String;
-
-    const IS_BORROWED: bool = true;
 
     fn asked(&self) -> &str {
         self
@@ -139,6 +162,22 @@ struct Workload<'a, K, Q> {
     hit_list: &'a [Q],
     miss_list: &'a [Q],
     values: &'a [u32],
+}
+
+fn workload<'a, K, Q>(
+    [keys, hits, misses]: &'a [K; 3],
+    [key_list, hit_list, miss_list]: &'a [Vec<Q>; 3],
+    values: &'a [u32],
+) -> Workload<'a, K, Q> {
+    Workload {
+        keys,
+        hits,
+        misses,
+        key_list,
+        hit_list,
+        miss_list,
+        values,
+    }
 }
 
 /// The time of one call, of several in a row, and what the last one answered.
@@ -224,6 +263,10 @@ fn measure_std<Q: Key, K, S: BuildHasher + Default>(
                 .iter()
                 .map(|(key, value)| Q::weight(key.borrow()).wrapping_add(u64::from(*value))))
         }),
+        Measure::ReadBack => time(times, || {
+            let keys = black_box(work.key_list).iter().map(|key| key.own());
+            build_std::<Q::Owned, S>(keys, work.values).len() as u64
+        }),
     }
 }
 
@@ -251,6 +294,7 @@ fn measure_ours<Q, K: Keys>(
             time(times, || black_box(work.misses).lookup_by_finder(accepted))
         }
         Measure::Walk => time(times, || K::walk(black_box(accepted))),
+        Measure::ReadBack => time(times, || K::read_back(black_box(accepted)) as u64),
     }
 }
 
@@ -259,7 +303,12 @@ fn median(mut times: Vec<Duration>) -> f64 {
     times[times.len() / 2].as_nanos() as f64
 }
 
-fn run<Q: Key, K: Keys>(kind: &str, work: &Workload<'_, K, Q>, rounds: usize) {
+fn run<Q: Key, K: Keys>(
+    kind: &str,
+    measures: &[Measure],
+    work: &Workload<'_, K, Q>,
+    rounds: usize,
+) {
     let count = work.values.len();
     let mut out = vec![0; 128 * count + 1024];
     let len = work.keys.build(work.values, &mut out);
@@ -271,8 +320,6 @@ fn run<Q: Key, K: Keys>(kind: &str, work: &Workload<'_, K, Q>, rounds: usize) {
     let sip: HashMap<Q::Owned, u32, RandomState> = build_std(owned(), work.values);
     let fx: HashMap<Q::Owned, u32, BuildFx> = build_std(owned(), work.values);
 
-    let mut measures = MEASURES.to_vec();
-    measures.retain(|measure| Q::IS_BORROWED || *measure != Measure::BuildBorrowed);
     let mut tasks: Vec<(Measure, Contestant)> = Vec::new();
     for measure in measures.iter().copied() {
         for contestant in CONTESTANTS {
@@ -304,7 +351,7 @@ fn run<Q: Key, K: Keys>(kind: &str, work: &Workload<'_, K, Q>, rounds: usize) {
             let expected = match measure {
                 Measure::Hash if *contestant == Contestant::Sip => answer,
                 Measure::Hash => hash_sum,
-                Measure::Build | Measure::BuildBorrowed => count as u64,
+                Measure::Build | Measure::BuildBorrowed | Measure::ReadBack => count as u64,
                 Measure::Access => count as u64 + 1,
                 Measure::Hits | Measure::HitsByFinder => hit_sum,
                 Measure::Misses | Measure::MissesByFinder => MISS * count as u64,
@@ -320,7 +367,7 @@ fn run<Q: Key, K: Keys>(kind: &str, work: &Workload<'_, K, Q>, rounds: usize) {
             .filter(|(m, c, _)| (*m, *c) == (measure, contestant));
         median(of_task.map(|(_, _, duration)| *duration).collect())
     };
-    for measure in measures {
+    for measure in measures.iter().copied() {
         let ours = median_of(measure, Contestant::Ours);
         print!(
             "| {kind} | {count} | {} | {:.2} |",
@@ -383,33 +430,38 @@ fn main() {
         let values = numbers(&mut random, count);
         let mut hits = keys.clone();
         XorShift64::new().shuffle(&mut hits);
-        let of_texts = [&keys, &hits, &misses].map(|list| texts(list));
-        let [key_texts, hit_texts, miss_texts] = &of_texts;
-        let lists = of_texts
+        let lists = [keys, hits, misses];
+        let of_numbers = lists.each_ref().map(|list| Numbers(list.clone()));
+        run(
+            "u32",
+            OF_NUMBERS,
+            &workload(&of_numbers, &lists, &values),
+            rounds,
+        );
+        let of_texts = lists.each_ref().map(|list| texts(list));
+        let text_lists = of_texts
             .each_ref()
             .map(|list| list.iter().collect::<Vec<&str>>());
-        let of_numbers = [keys, hits, misses].map(Numbers);
-        let [key_numbers, hit_numbers, miss_numbers] = &of_numbers;
-        let work = Workload {
-            keys: key_numbers,
-            hits: hit_numbers,
-            misses: miss_numbers,
-            key_list: &key_numbers.0,
-            hit_list: &hit_numbers.0,
-            miss_list: &miss_numbers.0,
-            values: &values,
-        };
-        run("u32", &work, rounds);
-        let work = Workload {
-            keys: key_texts,
-            hits: hit_texts,
-            misses: miss_texts,
-            key_list: &lists[0],
-            hit_list: &lists[1],
-            miss_list: &lists[2],
-            values: &values,
-        };
-        run("text", &work, rounds);
+        run(
+            "text",
+            OF_TEXTS,
+            &workload(&of_texts, &text_lists, &values),
+            rounds,
+        );
+        let of_index_maps = of_numbers.map(Ordered);
+        run(
+            "index u32",
+            OF_INDEX_MAPS,
+            &workload(&of_index_maps, &lists, &values),
+            rounds,
+        );
+        let of_std_maps = of_index_maps.map(|list| InStd(list.0));
+        run(
+            "std u32",
+            OF_STD_MAPS,
+            &workload(&of_std_maps, &lists, &values),
+            rounds,
+        );
     }
     println!();
     println!("Load after: {}.", load());

@@ -12,14 +12,15 @@ use Rattle.rkyv_base.specs.Root.{ArchiveOf}
 use Rattle.rkyv_base.specs.Scalar.{ScalarStands, scalar_format}
 use Rattle.rkyv_base.specs.Shape.{Shape}
 use Rattle.rkyv_base.specs.View.{IsAt}
+use Rattle.rkyv_scan.specs.Hash.{HasherCall}
 use Rattle.rkyv_table.specs.Table.Header.{len_at}
 use Rattle.rkyv_table.specs.Table.Listed.{listed}
-use Rattle.rkyv_index.specs.Index.{index_found, pair_positions}
+use Rattle.rkyv_index.specs.Index.{index_bytes, index_found, index_pos, pair_positions}
 use Rattle.rkyv_index.specs.IndexFormat.{IndexStands, index_format}
 use Rattle.rkyv_index.specs.IndexLayout.{index_shape, pair_pos}
 use Rattle.rkyv_index.specs.declared.map.ArchivedIndexMap.{ArchivedIndexMap}
 use Rattle.rkyv_bench_calls.specs.Archives.{number_shape}
-use Rattle.rkyv_bench_calls.specs.Totals.{number_hash}
+use Rattle.rkyv_bench_calls.specs.Totals.{hash_by, number_hash}
 
 -- an index map of such keys to numbers of 32 bits
 abbrev pub index_map_of : Shape → Shape
@@ -57,7 +58,13 @@ abbrev pub index_looked_up : Shape → List ℕ → ℕ → ℕ → (ℕ → Boo
 index_looked_up key b p hash fits = place_or_miss key b p
     (index_found w32 b p hash (λ i. fits (index_key_pos key b p i)))
 
--- of a number, in the archive whose header stands at p
+-- that of the index map, for a key that makes these calls, where fits tells which keys are it
+abbrev pub index_answer : {K V H W : Type 0} → Shape → ArchivedIndexMap K V H W → List HasherCall
+    → (List ℕ → ℕ → Bool) → ℕ
+index_answer key m calls fits =
+    index_looked_up key (index_bytes m) (index_pos m) (hash_by calls) (fits (index_bytes m))
+
+-- that of a number, in the archive whose header stands at p
 abbrev pub index_number_looked_up_at : List ℕ → ℕ → ℕ → ℕ
 index_number_looked_up_at b p number =
     index_looked_up number_shape b p (number_hash number) (λ q. number == number_at w32 b q)

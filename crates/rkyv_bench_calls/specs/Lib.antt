@@ -3,3 +3,4 @@ pub mod Cuts
 pub mod Totals
 pub mod Building
 pub mod Index
+pub mod Std

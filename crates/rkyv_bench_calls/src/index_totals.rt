@@ -8,8 +8,8 @@ ghost use Rattle.rkyv_index.specs.Index.{IsIndexMap, index_bytes, index_pos};
 ghost use Rattle.rkyv_index.specs.IndexMapFinder.{IsIndexMapFinder, map_of};
 ghost use Rattle.rkyv_bench_calls.specs.Archives.{number_shape};
 ghost use Rattle.rkyv_bench_calls.specs.Index.{IsIndexArchive, IsIndexAtRoot, IsIndexLengthAnd1};
-ghost use Rattle.rkyv_bench_calls.specs.Index.{index_looked_up, index_walked};
-ghost use Rattle.rkyv_bench_calls.specs.Totals.{hash_by, pair_weight, total};
+ghost use Rattle.rkyv_bench_calls.specs.Index.{index_answer, index_walked};
+ghost use Rattle.rkyv_bench_calls.specs.Totals.{pair_weight, total};
 
 use crate::weighing::Weigh;
 use rkyv_base::access::{access, access_unchecked};
@@ -54,9 +54,7 @@ pub(crate) fn index_finder_in<'a, K: Element>(archive: &'a [u8]) -> IndexMapFind
 fn index_value<K: KeyElement, Q: Query<K>>(map: ArchivedIndexMap<'_, K, u32>, key: &Q) -> u64
     requires map { IsIndexMap w32 K.shape number_shape map }
     requires read { Q.can_read key.now }
-    ensures { let b = index_bytes map.entry in
-        result ≡ index_looked_up K.shape b (index_pos map.entry) (hash_by (Q.calls key.now))
-        (Q.fits key.now b) }
+    ensures { result ≡ index_answer K.shape map.entry (Q.calls key.now) (Q.fits key.now) }
 {
     match map.get(key) {
         Some(value) => u64::from(value.to_native()),
@@ -76,10 +74,9 @@ pub(crate) fn index_lookup_total<
     requires can { I.can_next keys }
     requires ends { IsFinite (I.remaining keys) }
     requires read { (key : Q) → Q.can_read key }
-    ensures { let b = index_bytes map.entry in
-        (items : List B) × Drains I.next_gives keys items
-        × (result ≡ total (λ item. index_looked_up K.shape b (index_pos map.entry)
-        (hash_by (Q.calls (B.lent item))) (Q.fits (B.lent item) b)) items) }
+    ensures { (items : List B) × Drains I.next_gives keys items
+        × (result ≡ total (λ item. index_answer K.shape map.entry (Q.calls (B.lent item))
+        (Q.fits (B.lent item))) items) }
 {
     let mut total = 0u64;
     for key in keys {
@@ -96,9 +93,8 @@ fn index_value_by_finder<K: KeyElement, Q: Query<K>>(
 ) -> u64
     requires finder { IsIndexMapFinder w32 (unsigned w32) K.shape number_shape finder }
     requires read { Q.can_read key.now }
-    ensures { let b = index_bytes (map_of finder.entry) in
-        result ≡ index_looked_up K.shape b (index_pos (map_of finder.entry))
-        (hash_by (Q.calls key.now)) (Q.fits key.now b) }
+    ensures { result ≡ index_answer K.shape (map_of finder.entry) (Q.calls key.now)
+        (Q.fits key.now) }
 {
     match finder.get(key) {
         Some(value) => u64::from(value.to_native()),
@@ -118,10 +114,9 @@ pub(crate) fn index_lookup_total_by_finder<
     requires can { I.can_next keys }
     requires ends { IsFinite (I.remaining keys) }
     requires read { (key : Q) → Q.can_read key }
-    ensures { let m = map_of finder.entry in let b = index_bytes m in
-        (items : List B) × Drains I.next_gives keys items
-        × (result ≡ total (λ item. index_looked_up K.shape b (index_pos m)
-        (hash_by (Q.calls (B.lent item))) (Q.fits (B.lent item) b)) items) }
+    ensures { (items : List B) × Drains I.next_gives keys items
+        × (result ≡ total (λ item. index_answer K.shape (map_of finder.entry)
+        (Q.calls (B.lent item)) (Q.fits (B.lent item))) items) }
 {
     let mut total = 0u64;
     for key in keys {

@@ -4,4 +4,8 @@
 #[cfg(test)]
 mod finders;
 #[cfg(test)]
+mod index_maps;
+#[cfg(test)]
 mod maps;
+#[cfg(test)]
+mod std_maps;

@@ -1,0 +1,67 @@
+//! The calls that write std's maps of numbers and read them back.
+
+ghost use Rattle.std.specs.HashMap.{IsFromIterResult};
+ghost use Rattle.std.specs.List.{zip};
+ghost use Rattle.std.specs.Prelude.{IfOk};
+ghost use Rattle.rkyv_bench_calls.specs.Archives.{IsArchive, number_shape};
+ghost use Rattle.rkyv_bench_calls.specs.Building.{IsBuilt};
+ghost use Rattle.rkyv_bench_calls.specs.Std.{IsReadBack, StdMapsNumbers};
+
+use crate::building::build;
+use crate::totals::map_in;
+use rkyv_base::errors::ReadError;
+use rkyv_collections::std_maps::hashed::Hashed;
+use rkyv_scan::hash::FxHasher64;
+use std::alloc::{AllocError, Global};
+use std::collections::HashMap;
+use std::hash::{BuildHasherDefault, Hash};
+
+/// A map of std's into which the keys are inserted, each with the value at its place.
+fn std_map<A: Eq + Hash + Copy, B: Copy>(
+    alloc: Global,
+    keys: &[A],
+    values: &[B],
+) -> Result<HashMap<A, B>, AllocError>
+    ensures { IfOk result (IsFromIterResult A.eq (zip keys.now values.now)) }
+{
+    keys.iter()
+        .copied()
+        .zip(values.iter().copied())
+        .collect(alloc)
+}
+
+/// Makes a map of std's of the keys, each with the value at its place, archives it into the front
+/// of `out`, and answers the archive's length.
+///
+/// Answers 0 and leaves `out` as it was where the archive is refused, doesn't fit or wants memory.
+/// Of keys and values as many are paired as there are of both; of equal keys the later has its
+/// value.
+pub fn build_std_u32(alloc: Global, keys: &[u32], values: &[u32], out: &mut [u8]) -> usize
+    ensures { IsBuilt (StdMapsNumbers keys.now values.now) out.old out.new result }
+{
+    match std_map(alloc, keys, values) {
+        Ok(map) => {
+            let hashed: Hashed<HashMap<u32, u32>, FxHasher64> = Hashed::new(map);
+            build(alloc, &hashed, out)
+        }
+        Err(_) => 0,
+    }
+}
+
+/// Reads a map of std's back from an archive, drops it, and answers how many entries it had, or 0
+/// where memory is wanted.
+///
+/// The archive must have been accepted: `access_u32` answered more than 0.
+pub fn read_std_u32(alloc: Global, archive: &[u8]) -> usize
+    requires { IsArchive number_shape archive.now }
+    ensures { IsReadBack archive.now result }
+{
+    let back: Result<HashMap<u32, u32>, ReadError> = map_in::<u32>(archive).deserialize_std(
+        alloc,
+        BuildHasherDefault::new(),
+    );
+    match back {
+        Ok(map) => map.len(),
+        Err(_) => 0,
+    }
+}
