@@ -12,5 +12,6 @@ pub mod IndexSteps
 pub mod SeenRow
 pub mod Taking
 pub mod Repeats
+pub mod ReadPairs
 pub mod ValueWrites
 pub mod SealedIndex

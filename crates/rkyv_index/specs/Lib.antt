@@ -12,5 +12,6 @@ pub mod SetFormat
 pub mod Complete
 pub mod IndexMapFinder
 pub mod IndexSetFinder
+pub mod Reading
 pub mod Handing
 pub mod Lemmas

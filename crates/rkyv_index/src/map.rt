@@ -2,6 +2,7 @@
 
 mod check;
 mod debug;
+pub mod deserialize;
 mod element;
 pub(crate) mod entries;
 mod equality;

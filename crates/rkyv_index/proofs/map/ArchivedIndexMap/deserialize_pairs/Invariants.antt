@@ -1,0 +1,9 @@
+use Rattle.std.proofs.Common.{◌≡◌, length}
+use Rattle.rkyv_index.specs.Reading.{ArePairsRead}
+use Rattle.rkyv_index.proofs.map.ArchivedIndexMap.deserialize_pairs.Given as goal
+
+-- the pairs of the places so far were read
+abbrev pub invariant-loop-place : goal.invariant-loop-place
+invariant-loop-place g l =
+    (length l.list.items ≡ l.place)
+    × ArePairsRead g.W.Width.word g.K.Element.shape g.V.Element.shape g.K.StandsFor.stands g.V.StandsFor.stands l.self l.list.items
