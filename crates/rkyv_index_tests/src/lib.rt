@@ -14,6 +14,8 @@ mod interning;
 #[cfg(test)]
 mod lookups;
 #[cfg(test)]
+mod reading_back;
+#[cfg(test)]
 mod sealed;
 #[cfg(test)]
 mod sets;
