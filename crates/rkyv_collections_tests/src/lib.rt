@@ -22,6 +22,8 @@ mod sets;
 #[cfg(test)]
 mod std_maps;
 #[cfg(test)]
+mod texts_by_key;
+#[cfg(test)]
 mod there_and_back;
 #[cfg(test)]
 mod walks;

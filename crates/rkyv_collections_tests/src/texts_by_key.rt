@@ -1,0 +1,62 @@
+//! Texts of a map that are written in upper case by key, over bare bytes.
+
+use rkyv_base::access::access;
+use rkyv_base::errors::VerifyError;
+use rkyv_base::root::to_bytes;
+use rkyv_base::text::Text;
+use rkyv_base::width::Narrow;
+use rkyv_collections::map::in_place_text::make_ascii_uppercase_of;
+use rkyv_collections::map::{ArchivedHashMap, HashMapOf};
+use rkyv_collections::{FxHasher64, MapPairs};
+use std::alloc::Global;
+use std::test::Fail;
+
+// The archive of two keys, of which one stands twice: two texts stand inline, one elsewhere.
+fn texts(alloc: Global) -> Result<Vec<u8>, Fail> {
+    let pairs = [("a", "hello"), ("b", "wonderful"), ("a", "again")];
+    let list: MapPairs<'_, &str, &str> = MapPairs::new(&pairs);
+    Ok(to_bytes(alloc, &list)?)
+}
+
+// Writes the text of a key in upper case: what the call answers.
+fn raise(bytes: &mut [u8], key: &str) -> Result<Option<bool>, VerifyError> {
+    let root = match access::<HashMapOf<Text, Text>>(&*bytes) {
+        Ok(root) => root.pos(),
+        Err(refused) => return Err(refused),
+    };
+    Ok(make_ascii_uppercase_of::<&str, Text, FxHasher64, Narrow>(bytes, root, &key))
+}
+
+// Whether the value of a key is this text.
+fn is_text(bytes: &[u8], key: &str, text: &str) -> Result<Option<bool>, VerifyError> {
+    let map = ArchivedHashMap::of(access::<HashMapOf<Text, Text>>(bytes)?);
+    match map.get(&key) {
+        Some(value) => Ok(Some(value.as_str() == text)),
+        None => Ok(None),
+    }
+}
+
+// What three calls answer, and whether the texts are then as they should.
+fn raised(alloc: Global) -> Result<([Option<bool>; 3], [Option<bool>; 2]), Fail> {
+    let mut bytes = texts(alloc)?;
+    let told = [
+        raise(bytes.as_mut_slice(), "a")?,
+        raise(bytes.as_mut_slice(), "b")?,
+        raise(bytes.as_mut_slice(), "c")?,
+    ];
+    let after = [
+        is_text(bytes.as_slice(), "a", "HELLO")?,
+        is_text(bytes.as_slice(), "b", "wonderful")?,
+    ];
+    Ok((told, after))
+}
+
+#[test]
+fn inline_text_is_raised_by_key(rt: HostRuntime) -> Result<(), Fail> {
+    let seen = raised(rt.alloc())?;
+    assert_eq!(rt;
+        seen,
+        ([Some(true), Some(false), None], [Some(true), Some(true)])
+    );
+    Ok(())
+}
