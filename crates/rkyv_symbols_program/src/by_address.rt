@@ -1,19 +1,38 @@
 //! Indexes of symbols: archives of index maps of addresses to names, in ascending order of address.
 ghost use Rattle.std.specs.Int.{w32, w64};
-ghost use Rattle.std.specs.List.Sorted.{IsNonDecreasingBy};
-ghost use Rattle.std.specs.Prelude.{IfOk};
+ghost use Rattle.std.specs.Prelude.{IfOk, ◌≡◌};
 ghost use Rattle.rkyv_base.specs.Numbers.{unsigned};
 ghost use Rattle.rkyv_base.specs.Scalar.{scalar_shape};
 ghost use Rattle.rkyv_base.specs.Text.{text_shape};
 ghost use Rattle.rkyv_index.specs.Index.{IsIndexMap};
+ghost use Rattle.rkyv_symbols_program.specs.ByAddress.{IsAscending, IsIndexOf, turned};
 
 use rkyv_base::access::access;
+use rkyv_base::archive::Archive;
+use rkyv_base::element::{Element, StandsFor};
 use rkyv_base::errors::{VerifyError, WriteError};
 use rkyv_base::root::to_bytes;
 use rkyv_base::text::Text;
+use rkyv_base::width::Narrow;
 use rkyv_base::writer::NoMemory;
 use rkyv_index::{ArchivedIndexMap, IndexMapOf, OrderedPairs};
 use std::alloc::{AllocError, Global};
+
+/// The lists that indexes are archived of.
+type Row<'a> = OrderedPairs<u64, &'a str>;
+
+/// The root of an index.
+type Index = IndexMapOf<u64, Text>;
+
+/// The addresses with their names, in the order of the list.
+fn turned<'a>(alloc: Global, symbols: &[(&'a str, u64)]) -> Result<Vec<(u64, &'a str)>, AllocError>
+    ensures { IfOk result (λ row. row.items ≡ turned symbols.now) }
+{
+    symbols
+        .iter()
+        .map(|symbol| (symbol.1, symbol.0))
+        .collect(alloc)
+}
 
 /// The addresses with their names, by ascending address; names of one address in the order of the
 /// list.
@@ -21,12 +40,9 @@ fn ascending<'a>(
     alloc: Global,
     symbols: &[(&'a str, u64)],
 ) -> Result<Vec<(u64, &'a str)>, AllocError>
-    ensures { IfOk result (λ row. IsNonDecreasingBy (λ entry. entry.0) row.items) }
+    ensures { IfOk result (λ row. IsAscending (turned symbols.now) row.items) }
 {
-    let mut row = Vec::new(alloc);
-    for (name, address) in symbols {
-        row.push((*address, *name))?;
-    }
+    let mut row = turned(alloc, symbols)?;
     row.sort_by_key(|entry| entry.0)?;
     Ok(row)
 }
@@ -35,9 +51,16 @@ fn ascending<'a>(
 ///
 /// # Errors
 /// Those of `to_bytes` of an index map, as where a growth is refused.
-pub fn archive(alloc: Global, symbols: &[(&str, u64)]) -> Result<Vec<u8>, WriteError<NoMemory>> {
+pub fn archive(alloc: Global, symbols: &[(&str, u64)]) -> Result<Vec<u8>, WriteError<NoMemory>>
+    ensures { IfOk result (λ index. IsIndexOf ⟦<Index as Element>⟧.shape
+        ⟦<Index as StandsFor<Row<'static>>>⟧.stands
+        ⟦<Row<'static> as Archive<Narrow>>⟧.format symbols.now index.items) }
+{
     match ascending(alloc, symbols) {
-        Ok(row) => to_bytes(alloc, &OrderedPairs(row)),
+        Ok(row) => {
+            let index = to_bytes(alloc, &OrderedPairs(row))?;
+            Ok(index)
+        }
         Err(_) => Err(WriteError::Memory),
     }
 }
