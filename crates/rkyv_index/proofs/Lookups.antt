@@ -88,7 +88,7 @@ module _ {K V H W P N : Type 0} (w : Width) (kind : IsArchiveWord w) (k v : Shap
       (there.0, there.1, ap (number_at w (index_bytes m)) (sym there.2) ∙ ap (λ (x : List ℕ). number_at w x h.pos) (sym (read_there h item)))
 
   -- from the position that is found to the place that is read there
-  place_is : (result : Option (View P)) (hash : ℕ) (accept : ℕ → Bool)
+  pub place_is : (result : Option (View P)) (hash : ℕ) (accept : ℕ → Bool)
       → pos_of_found result ≡ pos_found generic_kind w (scalar_shape e).size (table_bytes t) (table_pos t) hash (λ q. accept (number_at w (index_bytes m) q))
       → option_map (number_at w (index_bytes m)) (pos_of_found result)
       ≡ option_map (number_at w (index_bytes m)) (pos_found generic_kind w (byte_len w) (index_bytes m) (index_pos m) hash (λ q. accept (number_at w (index_bytes m) q)))
@@ -99,10 +99,10 @@ module _ {K V H W P N : Type 0} (w : Width) (kind : IsArchiveWord w) (k v : Shap
     abbrev hashes : List ℕ
     hashes = map (λ i. key_hash (index_bytes m) (key_pos w k v m i)) (places_of (index_len w m))
 
-    written_there : WrittenAt w (table_bytes t) (table_pos t) hashes homes
+    pub written_there : WrittenAt w (table_bytes t) (table_pos t) hashes homes
     written_there = subst (λ q. WrittenAt w (table_bytes t) q hashes homes) (sym at.1) (subst (λ (x : List ℕ). WrittenAt w x (index_pos m) hashes homes) (sym bytes_same) written.table)
 
-    under_there : (hash : ℕ) (accept : ℕ → Bool) → AreUnderHash (index_of w k v m) hash key_hash accept
+    pub under_there : (hash : ℕ) (accept : ℕ → Bool) → AreUnderHash (index_of w k v m) hash key_hash accept
         → IsUnderHash hash hashes (home_positions w (scalar_shape e).size (table_bytes t) (table_pos t) homes) (λ q. accept (number_at w (index_bytes m) q))
     under_there hash accept under i h accepted =
         let n = index_len w m in
@@ -116,7 +116,7 @@ module _ {K V H W P N : Type 0} (w : Width) (kind : IsArchiveWord w) (k v : Shap
         get_or-map (λ j. key_hash (index_bytes m) (key_pos w k v m j)) (places_of n) i 0 0 (omega (arith, below, length-range_with_len 0 n))
         ∙ ap (λ j. key_hash (index_bytes m) (key_pos w k v m j)) (place_read n i below) ∙ under i below here
 
-    first_is : (result : Option (View P)) (accept : ℕ → Bool)
+    pub first_is : (result : Option (View P)) (accept : ℕ → Bool)
         → pos_of_found result ≡ find (λ q. accept (number_at w (index_bytes m) q)) (home_positions w (scalar_shape e).size (table_bytes t) (table_pos t) homes)
         → option_map (number_at w (index_bytes m)) (pos_of_found result) ≡ find accept (places_of (index_len w m))
     first_is result accept found =
