@@ -70,6 +70,7 @@ module _ {N : Type 0} (e : Encoding N) where
   abbrev pub text_pair : TextItem → List ℕ × N
   text_pair item = (item.key.now, e.value item.value)
 
+  -- the bytes of the text, and the value
   abbrev pub text_seen : Bor (List ℕ) × N → List ℕ × N
   text_seen pair = (pair.0.now, pair.1)
 
@@ -98,31 +99,34 @@ module _ {N : Type 0} (w : Width) (e : Encoding N) (limit most : ℕ) where
       ⊎ ((pairs : List (ℕ × N)) × (error : WriteError NoMemory) × ArePairsOfNumbers e items pairs
       × AreNoNumbers w e limit most pairs error × (status ≡ write_refusal error))
 
-  -- the same of texts
+  -- the bytes are the archive of the pairs of the items
   abbrev pub TextsMade : List TextItem → List ℕ → Type 0
   TextsMade items b = (pairs : List (Bor (List ℕ) × N)) × ArePairsOfTexts e items pairs
       × AreTexts w e limit most pairs b
 
+  -- there are no pairs, or the cause stands for which there is no archive of them
   abbrev pub TextsRefused : List TextItem → ℕ → Type 0
   TextsRefused items status = NoPairsOfTexts e items status
       ⊎ ((pairs : List (Bor (List ℕ) × N)) × (error : WriteError NoMemory)
       × ArePairsOfTexts e items pairs × AreNoTexts w e limit most pairs error
       × (status ≡ write_refusal error))
 
--- the bytes are the archive of the pairs of the items, in one of the forms, and nothing else
+-- the bytes are the archive of the pairs of numbers, in one of the forms, and nothing else
 abbrev pub IsArchiveOfNumbers : Bool → Bool → List NumberItem → List ℕ → Type 0
 IsArchiveOfNumbers long_values wide = NumbersMade (word_of wide) (unsigned (word_of long_values))
     (limit_of wide) (most_of wide)
 
+-- the bytes are the archive of the pairs of texts, in one of the forms, and nothing else
 abbrev pub IsArchiveOfTexts : Bool → Bool → List TextItem → List ℕ → Type 0
 IsArchiveOfTexts long_values wide = TextsMade (word_of wide) (unsigned (word_of long_values))
     (limit_of wide) (most_of wide)
 
--- the status tells why there is no archive of the items
+-- the status tells why there is no archive of the pairs of numbers
 abbrev pub NoArchiveOfNumbers : Bool → Bool → List NumberItem → ℕ → Type 0
 NoArchiveOfNumbers long_values wide = NumbersRefused (word_of wide)
     (unsigned (word_of long_values)) (limit_of wide) (most_of wide)
 
+-- the status tells why there is no archive of the pairs of texts
 abbrev pub NoArchiveOfTexts : Bool → Bool → List TextItem → ℕ → Type 0
 NoArchiveOfTexts long_values wide = TextsRefused (word_of wide) (unsigned (word_of long_values))
     (limit_of wide) (most_of wide)

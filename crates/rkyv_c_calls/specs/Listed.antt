@@ -10,10 +10,11 @@ use Rattle.rkyv_keys.specs.OfTexts.{IsTextOf, same_bytes, text_key_calls}
 use Rattle.rkyv_c_calls.specs.Archives.{number_key, text_key, word_of}
 use Rattle.rkyv_c_calls.specs.Lists.{GivesFirst, SetsFirstOf}
 
--- the calls of a number of 32 bits, and of the one at a position
+-- the calls of a number of 32 bits
 abbrev pub number_calls : ℕ → List HasherCall
 number_calls n = U32 n ∷ []
 
+-- the calls of the number at a position
 abbrev pub calls_of_number_at : List ℕ → ℕ → List HasherCall
 calls_of_number_at b q = number_calls (number_at w32 b q)
 
