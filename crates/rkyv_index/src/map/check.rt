@@ -102,8 +102,8 @@ fn entries_size(len: usize, size: usize) -> u128
     len as u128 * size as u128
 }
 
-/// Checks the part of `len` entries of the index map whose header stands at `pos`: it stands in the
-/// range, where the header tells, and so do the entries' own parts, in order. Answers where it ends.
+/// Checks the part of `len` entries of the index map whose header stands at `pos`, and answers
+/// where it ends: it stands in the range, where the header tells, and the entries hold in order.
 fn check_part<W: Width, T: Element>(
     bytes: &[u8],
     pos: u64,
