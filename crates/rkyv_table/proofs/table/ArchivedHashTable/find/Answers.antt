@@ -15,3 +15,6 @@ returns-clause-bounded g c = rw c.of-items.ensures.table at c.find.ensures.bound
 
 pub returns-clause-counted : goal.returns-clause-counted
 returns-clause-counted g c = rw c.of-items.ensures.table at c.find.ensures.counted
+
+pub returns-clause-accepted : goal.returns-clause-accepted
+returns-clause-accepted g c = c.find.ensures.accepted
