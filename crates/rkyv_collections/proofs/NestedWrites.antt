@@ -1,5 +1,5 @@
 -- A write among the parts of one value keeps the map, and the list that it stands for but for that value.
-use Rattle.std.proofs.Common.{◌≡◌, ◌≢◌, ℕ, ◌+◌, ◌-◌, ◌<◌, ◌≤◌, ◌∙◌, inl, inr, refl, sym, ap, subst, arith, Bool, List, length, map, Option, Some, None, slice_index, get_or}
+use Rattle.std.proofs.Common.{◌≡◌, ◌≢◌, ℕ, ◌+◌, ◌-◌, ◌<◌, ◌≤◌, ◌∙◌, inl, inr, refl, sym, ap, subst, arith, Bool, List, length, map, Some, slice_index, get_or}
 use Rattle.std.specs.Prelude.{slice_get, slice_set}
 use Rattle.std.specs.Int.{Width}
 use Rattle.std.specs.List.{find}
@@ -7,14 +7,14 @@ use Rattle.std.specs.Option.{option_map}
 use Rattle.std.proofs.lemmas.Bool.{cases_eq, cases_lt}
 use Rattle.std.proofs.lemmas.List.{ext_get_or, get_or-map, get_or-set_other, get_or-set_same, length-map, length-set}
 use Rattle.std.proofs.lemmas.Option.{get_or_from_slice_get, same_Some, slice_get-get_or, slice_get_within}
-use Rattle.rkyv_base.specs.Bytes.{Same, same_part}
+use Rattle.rkyv_base.specs.Bytes.{same_part}
 use Rattle.rkyv_base.specs.Entry.{entry_element, entry_shape, parts_inside, same_key, same_value, size_of_small, whole_size}
 use Rattle.rkyv_base.specs.Format.{StandsNear}
 use Rattle.rkyv_base.specs.Pairs.{PairStands}
 use Rattle.rkyv_base.specs.Sealing.{Keeps, Sealed, value_pos}
 use Rattle.rkyv_base.specs.Shape.{IsElement, Shape, Viewed}
 use Rattle.rkyv_base.proofs.Sealing.{sealed_wider, viewed_kept}
-use Rattle.rkyv_table.specs.Table.Header.{cap_at, len_at}
+use Rattle.rkyv_table.specs.Table.Header.{cap_at}
 use Rattle.rkyv_table.specs.Controls.Numbers.{capacity}
 use Rattle.rkyv_table.specs.Table.Reading.{IsWalked, WrittenAt, home_positions, item_at}
 use Rattle.rkyv_table.specs.Lemmas.ItemPositions.{holds_at, item_holds}

@@ -1,6 +1,6 @@
 -- What a call does that writes the inline text of a key in upper case over the bare bytes of an
 -- archive.
-use Rattle.std.specs.Prelude.{◌≡◌, ℕ, Bool, List, [], ◌∷◌, None, Option, Some, cond, map, true}
+use Rattle.std.specs.Prelude.{◌≡◌, ℕ, Bool, List, [], ◌∷◌, None, Option, Some, cond, map}
 use Rattle.std.specs.Borrow.{Bor}
 use Rattle.std.specs.Char.{to_ascii_uppercase}
 use Rattle.std.specs.Int.{Width}
