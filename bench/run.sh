@@ -3,4 +3,4 @@
 set -euo pipefail
 cd "$(dirname "$0")"
 (cd ../crates/rkyv_bench && rt lib) >&2
-exec cargo run --release --offline
+exec cargo run --release --offline "$@"

@@ -44,12 +44,14 @@ unsafe extern "C" {
         ends: *const u32,
         count: usize,
     ) -> u64;
+    #[cfg_attr(feature = "older", link_name = "rkyv_bench_lookup_u32")]
     fn rkyv_bench_lookup_u32_by_finder(
         archive: *const u8,
         len: usize,
         keys: *const u32,
         key_count: usize,
     ) -> u64;
+    #[cfg_attr(feature = "older", link_name = "rkyv_bench_lookup_text")]
     fn rkyv_bench_lookup_text_by_finder(
         archive: *const u8,
         archive_len: usize,
@@ -89,6 +91,7 @@ unsafe extern "C" {
         out: *mut u8,
         room: usize,
     ) -> usize;
+    #[cfg_attr(feature = "older", link_name = "rkyv_bench_access_u32")]
     fn rkyv_bench_read_std_u32(archive: *const u8, len: usize) -> usize;
     fn rkyv_bench_walk_text(archive: *const u8, len: usize) -> u64;
 

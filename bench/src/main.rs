@@ -1,5 +1,8 @@
 //! Measures archived hash maps against std's `HashMap`, and prints a table in Markdown.
 
+// What an older library doesn't have isn't measured of it.
+#![cfg_attr(feature = "older", allow(dead_code, unused_imports))]
+
 mod clock;
 mod fx;
 mod library;
@@ -45,7 +48,9 @@ const OF_NUMBERS: &[Measure] = &[
     Measure::Access,
     Measure::Hits,
     Measure::Misses,
+    #[cfg(not(feature = "older"))]
     Measure::HitsByFinder,
+    #[cfg(not(feature = "older"))]
     Measure::MissesByFinder,
     Measure::Walk,
 ];
@@ -57,7 +62,9 @@ const OF_TEXTS: &[Measure] = &[
     Measure::Access,
     Measure::Hits,
     Measure::Misses,
+    #[cfg(not(feature = "older"))]
     Measure::HitsByFinder,
+    #[cfg(not(feature = "older"))]
     Measure::MissesByFinder,
     Measure::Walk,
 ];
@@ -414,6 +421,30 @@ fn load() -> String {
     }
 }
 
+// Index maps, and std's maps written and read back.
+#[cfg(not(feature = "older"))]
+fn run_other_maps(
+    numbers: [Numbers; 3],
+    lists: &[Vec<u32>; 3],
+    values: &[u32],
+    rounds: usize,
+) {
+    let of_index_maps = numbers.map(Ordered);
+    run(
+        "index u32",
+        OF_INDEX_MAPS,
+        &workload(&of_index_maps, lists, values),
+        rounds,
+    );
+    let of_std_maps = of_index_maps.map(|list| InStd(list.0));
+    run(
+        "std u32",
+        OF_STD_MAPS,
+        &workload(&of_std_maps, lists, values),
+        rounds,
+    );
+}
+
 fn main() {
     let cores = std::thread::available_parallelism().map_or(0, usize::from);
     println!(
@@ -448,20 +479,8 @@ fn main() {
             &workload(&of_texts, &text_lists, &values),
             rounds,
         );
-        let of_index_maps = of_numbers.map(Ordered);
-        run(
-            "index u32",
-            OF_INDEX_MAPS,
-            &workload(&of_index_maps, &lists, &values),
-            rounds,
-        );
-        let of_std_maps = of_index_maps.map(|list| InStd(list.0));
-        run(
-            "std u32",
-            OF_STD_MAPS,
-            &workload(&of_std_maps, &lists, &values),
-            rounds,
-        );
+        #[cfg(not(feature = "older"))]
+        run_other_maps(of_numbers, &lists, &values, rounds);
     }
     println!();
     println!("Load after: {}.", load());

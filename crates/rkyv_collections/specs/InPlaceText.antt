@@ -9,6 +9,7 @@ use Rattle.rkyv_base.specs.SealedText.{Raised}
 use Rattle.rkyv_base.specs.Shape.{Shape}
 use Rattle.rkyv_base.specs.Text.{text_shape}
 use Rattle.rkyv_keys.specs.OfTexts.{IsTextOf}
+use Rattle.rkyv_collections.specs.InPlace.{FindsValueAt}
 use Rattle.rkyv_collections.specs.ListedLookups.{first_pair}
 use Rattle.rkyv_collections.specs.MapFormat.{MapStands}
 use Rattle.rkyv_collections.specs.ValueWrites.{KeepsMap}
@@ -32,6 +33,13 @@ module _ (w : Width) (k : Shape) where
   RaisesFound key_hash b p result c (Some q) =
       (inline : Bool) × (result ≡ Some inline) × Raised w b q c inline
       × ((i : ℕ) × KeepsMap w k (text_shape w) key_hash b c p i)
+
+  -- The text that a lookup finds, under a hash among the keys that are accepted, is written so; or
+  -- none is found.
+  abbrev pub RaisesTextAt : (List ℕ → ℕ → ℕ) → List ℕ → ℕ → ℕ → (ℕ → Bool) → Option Bool → List ℕ
+      → Type 0
+  RaisesTextAt key_hash b p hash accept result c =
+      FindsValueAt w k (text_shape w) b p hash accept (RaisesFound key_hash b p result c)
 
   -- what becomes of a list of which the first asked text was written, by what is answered
   abbrev pub raised_list : {A : Type 0} → (A → Bool) → Option Bool → List (A × Bor (List ℕ))

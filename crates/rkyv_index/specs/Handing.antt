@@ -1,15 +1,14 @@
 -- What writing an index map answers.
 use Rattle.std.specs.Prelude.{◌≡◌, ℕ, ◌⊎◌, List, MatchResult, Option, Result, length, map}
 use Rattle.std.specs.Int.{Width}
-use Rattle.std.specs.Iterator.{Drains}
 use Rattle.rkyv_base.specs.declared.adapter.EntryAdapter.{EntryAdapter}
 use Rattle.rkyv_base.specs.declared.errors.WriteError.{WriteError}
 use Rattle.rkyv_base.specs.Format.{Format, GaveUp, Serialized}
 use Rattle.rkyv_base.specs.Scalar.{Encoding, scalar_format, scalar_shape}
 use Rattle.rkyv_base.specs.Shape.{Shape}
 use Rattle.rkyv_base.specs.Writing.{Output}
-use Rattle.rkyv_table.specs.Table.Counting.{GaveOther}
-use Rattle.rkyv_table.specs.Table.Serializing.{NoItems, OwnCause, WroteItems}
+use Rattle.rkyv_table.specs.Table.Input.{from_iter}
+use Rattle.rkyv_table.specs.Table.Serializing.{OwnCause, WritesItems}
 use Rattle.rkyv_table.specs.Table.TableFormat.{TableResolver, table_format}
 use Rattle.rkyv_index.specs.IndexFormat.{places_from, row_format}
 use Rattle.rkyv_index.specs.IndexHeader.{IndexResolver}
@@ -48,13 +47,10 @@ module _ {F P X : Type 0} (w : Width) (e : Encoding P) where
       MatchResult result (Serialized limit f xs o o')
       (OwnOrGaveUp (length xs) load_factor max NoOther limit f xs o o')
 
--- The items that an iterator gives were written, as many as were claimed; or else a cause of the
--- call's own stands, among them that another number came, and nothing was written; or writing gave
--- up.
-abbrev pub WritesItems : {F S A R : Type 0} → (S → Option A → S → Type 0) → S → ℕ → ℕ × ℕ → ℕ → ℕ
+-- The items that an iterator gives were written by the format of the load factor, as many as were
+-- claimed; or else a cause of the call's own stands, among them that another number came, and
+-- nothing was written; or writing gave up.
+abbrev pub WritesUnder : {F S A R : Type 0} → (S → Option A → S → Type 0) → S → ℕ → ℕ × ℕ → ℕ → ℕ
     → (ℕ × ℕ → Format (List A) R) → Output → Output → Result R (WriteError F) → Type 0
-WritesItems steps iter len load_factor max limit format o o' result =
-    let gave = Drains steps iter in
-    let f = format load_factor in
-    MatchResult result (WroteItems gave len load_factor max f o o' limit)
-    (NoItems gave len load_factor max f o o' limit (GaveOther steps len iter))
+WritesUnder steps iter len load_factor max limit format o o' result =
+    WritesItems (from_iter steps iter) len load_factor max limit (format load_factor) o o' result

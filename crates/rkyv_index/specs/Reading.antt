@@ -1,5 +1,5 @@
 -- What is read back of an index map.
-use Rattle.std.specs.Prelude.{◌≡◌, ℕ, ◌<◌, ◌⊎◌, List, Some, length, slice_get}
+use Rattle.std.specs.Prelude.{◌≡◌, ℕ, ◌<◌, ◌⊎◌, List, MatchResult, Result, Some, length, slice_get}
 use Rattle.std.specs.Int.{Width}
 use Rattle.rkyv_base.specs.Pairs.{PairStands}
 use Rattle.rkyv_base.specs.Shape.{Shape}
@@ -9,6 +9,13 @@ use Rattle.rkyv_keys.specs.OfEntries.{entry_refuses}
 use Rattle.rkyv_keys.specs.Reading.{Refusals}
 use Rattle.rkyv_index.specs.Index.{index_bytes, index_len, key_pos}
 use Rattle.rkyv_index.specs.declared.map.ArchivedIndexMap.{ArchivedIndexMap}
+
+-- The pair whose entry stands at a position is read back, or reading its key or its value may fail.
+abbrev pub ReadsPair : {A B : Type 0} → Shape → Shape → (List ℕ → ℕ → A → Type 0)
+    → (List ℕ → ℕ → B → Type 0) → Refusals → Refusals → List ℕ → ℕ → Result (A × B) ReadError → Type 0
+ReadsPair k v key value key_refuses value_refuses b at result =
+    MatchResult result (PairStands k v key value b at)
+    (entry_refuses k v key_refuses value_refuses b at)
 
 module _ {K V H W A B : Type 0} (w : Width) (k v : Shape) (key : List ℕ → ℕ → A → Type 0)
     (value : List ℕ → ℕ → B → Type 0) (m : ArchivedIndexMap K V H W) where

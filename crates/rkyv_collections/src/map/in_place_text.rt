@@ -1,12 +1,10 @@
 //! Writing the inline text of a key over the bare bytes of an archive.
-ghost use Rattle.std.specs.Option.{option_map};
 ghost use Rattle.std.specs.Prelude.{length, ◌+◌, ◌≤◌};
 ghost use Rattle.rkyv_base.specs.SealedText.{Raised};
-ghost use Rattle.rkyv_base.specs.Sealing.{value_pos};
 ghost use Rattle.rkyv_base.specs.Shape.{Viewed};
 ghost use Rattle.rkyv_base.specs.Text.{text_shape, text_size};
-ghost use Rattle.rkyv_collections.specs.InPlaceText.{RaisesFirst, RaisesFound};
-ghost use Rattle.rkyv_collections.specs.Map.{FindsKeyAt, hash_at, map_shape};
+ghost use Rattle.rkyv_collections.specs.InPlaceText.{RaisesFirst, RaisesTextAt};
+ghost use Rattle.rkyv_collections.specs.Map.{hash_at, map_shape};
 ghost use Rattle.rkyv_collections.specs.MapFormat.{hash_of};
 ghost use Rattle.rkyv_collections.specs.NestedWrites.{WritesParts};
 
@@ -45,11 +43,8 @@ pub fn make_ascii_uppercase_of<
 >(archive: &mut [u8], root: u64, key: &A) -> Option<bool>
     requires map { Viewed (map_shape W.word K.shape (text_shape W.word)) archive.old root }
     requires query { A.can_read key.now }
-    ensures answer { FindsKeyAt W.word K.shape (text_shape W.word) archive.old root
-        (hash_of H.hasher A.calls key.now) (A.fits key.now archive.old)
-        (λ place. RaisesFound W.word K.shape (hash_at H.hasher K.key_calls)
-        archive.old root result archive.new
-        (option_map (value_pos K.shape (text_shape W.word)) place)) }
+    ensures answer { RaisesTextAt W.word K.shape (hash_at H.hasher K.key_calls) archive.old root
+        (hash_of H.hasher A.calls key.now) (A.fits key.now archive.old) result archive.new }
     ensures listed { RaisesFirst W.word K.shape K.stands (hash_at H.hasher K.key_calls)
         (A.eq key.now) archive.old root result archive.new }
     ensures parts { WritesParts (map_shape W.word K.shape (text_shape W.word))

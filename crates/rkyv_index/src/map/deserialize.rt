@@ -1,9 +1,7 @@
 //! Reading an index map back.
 ghost use Rattle.std.specs.Prelude.{MatchResult, ◌<◌};
-ghost use Rattle.rkyv_base.specs.Pairs.{PairStands};
 ghost use Rattle.rkyv_index.specs.Index.{IsIndexMap, index_bytes, index_len, key_pos};
-ghost use Rattle.rkyv_index.specs.Reading.{ReadsPairs, pairs_refuse};
-ghost use Rattle.rkyv_keys.specs.OfEntries.{entry_refuses};
+ghost use Rattle.rkyv_index.specs.Reading.{ReadsPair, ReadsPairs, pairs_refuse};
 
 use crate::map::ArchivedIndexMap;
 use rkyv_base::element::Element;
@@ -22,9 +20,8 @@ impl<'a, K: Element, V: Element, H, W: Width> ArchivedIndexMap<'a, K, V, H, W> {
         V: Deserialize<B>,
         requires map { IsIndexMap W.word K.shape V.shape self }
         requires below { place < index_len W.word self }
-        ensures { let at = key_pos W.word K.shape V.shape self.entry place in MatchResult result
-            (PairStands K.shape V.shape K.stands V.stands (index_bytes self.entry) at)
-            (entry_refuses K.shape V.shape K.refuses V.refuses (index_bytes self.entry) at) }
+        ensures { ReadsPair K.shape V.shape K.stands V.stands K.refuses V.refuses
+            (index_bytes self.entry) (key_pos W.word K.shape V.shape self.entry place) result }
     {
         Entry::<K, V>::deserialize(alloc, self.entries().entry(place))
     }

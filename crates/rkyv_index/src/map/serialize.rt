@@ -4,7 +4,7 @@ ghost use Rattle.std.specs.Prelude.{List, ℕ};
 ghost use Rattle.rkyv_base.specs.Format.{Format};
 ghost use Rattle.rkyv_base.specs.Pairs.{written_as};
 ghost use Rattle.rkyv_table.specs.Table.Lent.{lent_pairs};
-ghost use Rattle.rkyv_index.specs.Handing.{WritesItems};
+ghost use Rattle.rkyv_index.specs.Handing.{WritesUnder};
 ghost use Rattle.rkyv_index.specs.IndexFormat.{hash_of};
 ghost use Rattle.rkyv_index.specs.IndexFormat.{index_format};
 ghost use Rattle.rkyv_index.specs.IndexHeader.{IndexResolver};
@@ -84,7 +84,7 @@ impl<'a, K: KeyElement, V, H: KeyHasher, W: PlaceWidth> ArchivedIndexMap<'a, K, 
         K: StandsFor<A>,
         V: StandsFor<B>,
         requires can { I.can_next iter }
-        ensures { WritesItems I.next_gives iter len load_factor W.MAX_CAPACITY W.LIMIT
+        ensures { WritesUnder I.next_gives iter len load_factor W.MAX_CAPACITY W.LIMIT
             ⟦<IndexMapOf<K, V, H, W> as ListFormat<(BK, BV), (A, B)>>⟧.format
             (S.output serializer.old) (S.output serializer.new) result }
     {

@@ -3,7 +3,7 @@
 ghost use Rattle.std.specs.Prelude.{◌≡◌, ◌+◌, ◌<◌, ◌^◌, MatchResult, length};
 ghost use Rattle.rkyv_base.specs.Pairs.{written_as};
 ghost use Rattle.rkyv_table.specs.Controls.Numbers.{capacity};
-ghost use Rattle.rkyv_index.specs.Handing.{WritesItems};
+ghost use Rattle.rkyv_index.specs.Handing.{WritesUnder};
 ghost use Rattle.rkyv_index.specs.IndexFormat.{hash_of};
 ghost use Rattle.rkyv_index.specs.IndexHeader.{IndexFar, IsIndexHeader};
 ghost use Rattle.rkyv_index.specs.SetFormat.{index_set_format};
@@ -86,7 +86,7 @@ impl<'a, K: KeyElement, H: KeyHasher, W: PlaceWidth> ArchivedIndexSet<'a, K, H, 
     where
         K: StandsFor<A>,
         requires can { I.can_next iter }
-        ensures { WritesItems I.next_gives iter len load_factor W.MAX_CAPACITY W.LIMIT
+        ensures { WritesUnder I.next_gives iter len load_factor W.MAX_CAPACITY W.LIMIT
             ⟦<IndexSetOf<K, H, W> as ListFormat<BK, A>>⟧.format
             (S.output serializer.old) (S.output serializer.new) result }
     {
