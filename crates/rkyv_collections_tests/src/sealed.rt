@@ -90,7 +90,7 @@ fn stored<K: KeyElement, N: Scalar, H: KeyHasher, W: Width, Q: Query<K>>(
     requires query { Q.can_read key.now }
     ensures { let hash = hash_of_calls H.hasher (Q.calls key.now) in
         FindsKeyAt W.word K.shape (scalar_shape N.encoding) bytes.old root hash
-        (Q.fits key.now bytes.old) (λ place. result ≡ option_map (λ _. value) place) }
+        (Q.fits key.now bytes.old) (λ at. result ≡ option_map (λ _. value) at) }
 {
     let pos = match value_found::<K, N, H, W, Q>(&*bytes, root, key) {
         Some(pos) => pos,

@@ -12,7 +12,8 @@ use Rattle.rkyv_index.specs.declared.map.ArchivedIndexMap.{ArchivedIndexMap}
 
 -- The pair whose entry stands at a position is read back, or reading its key or its value may fail.
 abbrev pub ReadsPair : {A B : Type 0} → Shape → Shape → (List ℕ → ℕ → A → Type 0)
-    → (List ℕ → ℕ → B → Type 0) → Refusals → Refusals → List ℕ → ℕ → Result (A × B) ReadError → Type 0
+    → (List ℕ → ℕ → B → Type 0) → Refusals → Refusals → List ℕ → ℕ → Result (A × B) ReadError
+    → Type 0
 ReadsPair k v key value key_refuses value_refuses b at result =
     MatchResult result (PairStands k v key value b at)
     (entry_refuses k v key_refuses value_refuses b at)
