@@ -14,6 +14,7 @@ pub mod StdComparing
 pub mod StdFinding
 pub mod Headline
 pub mod FoundPairs
+pub mod WalkedPairs
 pub mod FoundEntries
 pub mod Alike
 pub mod FirstWrites

@@ -17,6 +17,7 @@ pub mod StdEquality
 pub mod StdSet
 pub mod StdLookups
 pub mod ListedLookups
+pub mod ListedWalks
 pub mod BothHashers
 pub mod InPlace
 pub mod ListArchives

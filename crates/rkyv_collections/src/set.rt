@@ -3,6 +3,7 @@
 mod debug;
 mod equality;
 pub mod finder;
+pub mod laws;
 mod reading;
 pub mod writing;
 pub mod written;

@@ -2,6 +2,7 @@
 ghost use Rattle.rkyv_collections.specs.BothHashers.{ComparedAlike, QueriedAlike, WrittenAlike};
 ghost use Rattle.rkyv_collections.specs.Equality.{EqualHaveSamePairs};
 ghost use Rattle.rkyv_collections.specs.ListedLookups.{LookupsFindListed};
+ghost use Rattle.rkyv_collections.specs.ListedWalks.{WalksGiveListed, WalksVisitPairs};
 ghost use Rattle.rkyv_collections.specs.Map.{hash_at};
 ghost use Rattle.rkyv_collections.specs.Misplaced.{RepeatedKeysAreMisplaced};
 
@@ -38,6 +39,23 @@ pub fn lookups_find_listed<
     W: Width,
 >()
     ensures { LookupsFindListed K.shape V.shape K.stands V.stands K V H W W.word
+        (hash_at H.hasher K.key_calls) }
+{}
+
+/// In a map that stands for a list of pairs, a walk visits the home of each pair once, ascending,
+/// and nothing else, and in the n-th home stands the n-th pair. So at the places that `iter`,
+/// `keys` and `values` begin with stand the pairs of the list, each exactly once, in some order.
+pub fn walks_give_listed<
+    A,
+    B,
+    K: KeyElement + StandsFor<A>,
+    V: StandsFor<B>,
+    H: KeyHasher,
+    W: Width,
+>()
+    ensures homes { WalksVisitPairs W.word K.shape V.shape K.stands V.stands
+        (hash_at H.hasher K.key_calls) }
+    ensures pairs { WalksGiveListed W.word K.shape V.shape K.stands V.stands
         (hash_at H.hasher K.key_calls) }
 {}
 

@@ -1,0 +1,170 @@
+-- A walk over a map that stands for a list gives each item of the list once.
+use Rattle.std.proofs.Common.{◌≡◌, ◌∙◌, ℕ, zero, suc, ◌<◌, List, [], ◌∷◌, false, Some, ap, arith, eqb, get_or, inl, inr, length, map, refl, remove, slice_get, slice_index, slice_set, subst, swap, sym, IsPermutation}
+use Rattle.std.specs.Int.{Width}
+use Rattle.std.specs.List.{AllPairs, AllZip, Contains, IsDistinct}
+use Rattle.std.specs.Prelude.{◌↔◌}
+use Rattle.std.proofs.lemmas.Bool.{eq-eqb, true≢false}
+use Rattle.std.proofs.lemmas.List.{length-map}
+use Rattle.std.proofs.lemmas.List.Sorted.{Contains-permutation, IsPermutation-cons, IsPermutation-keeps, IsPermutation-map, IsPermutation-refl, IsPermutation-remove, IsPermutation-swap, IsPermutation-sym, IsPermutation-trans, length_permutation}
+use Rattle.std.proofs.lemmas.Map.Keys.{IsDistinct-tail, apart_from_distinct}
+use Rattle.std.proofs.lemmas.Option.{slice_get-map, slice_get_within}
+use Rattle.std.specs.Option.{option_map}
+use Rattle.rkyv_base.specs.Empty.{unit_shape, unit_stands}
+use Rattle.rkyv_base.specs.Entry.{entry_shape}
+use Rattle.rkyv_base.specs.Pairs.{PairStands}
+use Rattle.rkyv_base.specs.Shape.{Shape}
+use Rattle.rkyv_table.specs.Controls.Placing.{walk}
+use Rattle.rkyv_table.specs.Table.Header.{cap_at}
+use Rattle.rkyv_table.specs.Table.Lent.{with_units}
+use Rattle.rkyv_table.specs.Table.Reading.{WrittenAt, home_positions, item_at, table_controls}
+use Rattle.rkyv_table.specs.Table.WalkLaws.{VisitsHomes}
+use Rattle.rkyv_table.proofs.WalkedHomes.{walked_homes}
+use Rattle.rkyv_table.proofs.Walks.{walk_none}
+use Rattle.rkyv_table.proofs.WrittenTables.{home_count, home_pos}
+use Rattle.rkyv_collections.specs.ListedWalks.{GivesEach, SetWalksGiveListed, WalksGiveListed, WalksVisitPairs, key_positions_at}
+use Rattle.rkyv_collections.specs.MapFormat.{MapStands}
+
+none_visits : (controls : List ℕ) → VisitsHomes 0 [] controls
+unfolding IsDistinct
+none_visits controls = record {
+  members = λ bucket. subst (λ (xs : List ℕ). Contains xs bucket ↔ Contains [] bucket) (sym (walk_none controls)) (λ h. h, λ h. h);
+  ascending = subst (AllPairs (λ a b. a < b)) (sym (walk_none controls)) (λ i j d less below. absurd (omega arith));
+  once = tt;
+  count = ap length (walk_none controls);
+}
+
+-- ---- distinct numbers, and a list as long in which each of them stands
+
+-- what stands in a list and isn't its first stands behind it
+behind : (x z : ℕ) (xs : List ℕ) → (x ≡ z → ⊥) → Contains (x ∷ xs) z → Contains xs z
+behind x z xs other (zero, inside, is) = absurd (other is)
+behind x z xs other (suc k, inside, is) = (k, omega (arith, inside), is)
+
+pub permuted : (xs ys : List ℕ) → IsDistinct eqb xs → length ys ≡ length xs → ((x : ℕ) → Contains xs x → Contains ys x) → IsPermutation xs ys
+permuted [] [] distinct long within = IsPermutation-refl []
+permuted [] (y ∷ ys) distinct long within = absurd (omega (arith, long))
+permuted (x ∷ xs) ys distinct long within =
+    let at = within x (0, omega arith, refl) in
+    let rest = remove ys at.0 in
+    let moved : IsPermutation ys (x ∷ rest) = IsPermutation-remove ys at.0 x at.1 (sym at.2) in
+    let count = length_permutation ys (x ∷ rest) moved in
+    let other : (z : ℕ) → Contains xs z → x ≡ z → ⊥ = λ z c e.
+    let apart : eqb x (get_or xs c.0 z) ≡ false = apart_from_distinct eqb (x ∷ xs) 0 (suc c.0) z distinct (omega arith) (omega (arith, c.1)) in
+    true≢false (sym (eq-eqb x z e) ∙ ap (eqb x) (sym c.2) ∙ apart) in
+    IsPermutation-trans (x ∷ xs) (x ∷ rest) ys
+    (IsPermutation-cons x xs rest (permuted xs rest (IsDistinct-tail eqb x xs distinct) (omega (arith, count, long))
+    (λ z c. behind x z rest (other z c) (Contains-permutation ys (x ∷ rest) z moved (within z (suc c.0, omega (arith, c.1), c.2))))))
+    (IsPermutation-sym ys (x ∷ rest) moved)
+
+-- ---- two lists place by place
+
+module _ {X : Type 0} (R : ℕ → X → Type 0) where
+  zip_from : (places : List ℕ) (xs : List X) → length places ≡ length xs → ((n : ℕ) (x : X) → slice_get xs n ≡ Some x → R (slice_index places n) x) → AllZip R places xs
+  zip_from [] [] long each = tt
+  zip_from [] (x ∷ xs) long each = absurd (omega (arith, long))
+  zip_from (q ∷ places) [] long each = absurd (omega (arith, long))
+  zip_from (q ∷ places) (x ∷ xs) long each = (each 0 x refl, zip_from places xs (omega (arith, long)) (λ n. each (suc n)))
+
+  zip_at : (places : List ℕ) (xs : List X) (i d : ℕ) (e : X) → AllZip R places xs → i < length places → R (get_or places i d) (get_or xs i e)
+  zip_at [] xs i d e h below = absurd (omega (arith, below))
+  zip_at (q ∷ places) [] i d e h below = absurd h
+  zip_at (q ∷ places) (x ∷ xs) zero d e h below = h.0
+  zip_at (q ∷ places) (x ∷ xs) (suc i) d e h below = zip_at places xs i d e h.1 (omega (arith, below))
+
+  zip_set : (places : List ℕ) (xs : List X) (i q : ℕ) (x : X) → AllZip R places xs → R q x → AllZip R (slice_set places i q) (slice_set xs i x)
+  zip_set [] [] i q x h r = tt
+  zip_set [] (y ∷ xs) i q x h r = absurd h
+  zip_set (p ∷ places) [] i q x h r = absurd h
+  zip_set (p ∷ places) (y ∷ xs) zero q x h r = (r, h.1)
+  zip_set (p ∷ places) (y ∷ xs) (suc i) q x h r = (h.0, zip_set places xs i q x h.1 r)
+
+  zip_length : (places : List ℕ) (xs : List X) → AllZip R places xs → length xs ≡ length places
+  zip_length [] [] h = refl
+  zip_length [] (x ∷ xs) h = absurd h
+  zip_length (q ∷ places) [] h = absurd h
+  zip_length (q ∷ places) (x ∷ xs) h = ap suc (zip_length places xs h.1)
+
+  zip_swap : (places : List ℕ) (xs : List X) (i j : ℕ) → i < length places → j < length places → AllZip R places xs → AllZip R (swap places i j) (swap xs i j)
+  zip_swap [] xs i j hi hj h = absurd (omega (arith, hi))
+  zip_swap (q ∷ places) [] i j hi hj h = absurd h
+  zip_swap (q ∷ places) (x ∷ xs) i j hi hj h =
+      let qs = q ∷ places in
+      let ys = x ∷ xs in
+      zip_set (slice_set qs i (get_or qs j q)) (slice_set ys i (get_or ys j x)) j (get_or qs i q) (get_or ys i x)
+      (zip_set qs ys i (get_or qs j q) (get_or ys j x) h (zip_at qs ys j q x h hj)) (zip_at qs ys i q x h hi)
+
+  -- what stands at places stands at them in another order
+  pub given_along : (places others : List ℕ) (xs : List X) → IsPermutation places others → AllZip R places xs → GivesEach R others xs
+  given_along places others xs moved h =
+      IsPermutation-keeps places (λ qs. GivesEach R qs xs) (record { given = xs; each = IsPermutation-refl xs; stand = h })
+      (λ qs i j hi hj so_far.
+      let ys = so_far.given in
+      let long = zip_length qs ys so_far.stand in
+      record {
+        given = swap ys i j;
+        each = IsPermutation-trans xs ys (swap ys i j) so_far.each (IsPermutation-swap ys (swap ys i j) i j (omega (arith, hi, long)) (omega (arith, hj, long)) refl);
+        stand = zip_swap qs ys i j hi hj so_far.stand;
+      })
+      others moved
+
+-- ---- the walk
+
+module _ {A B : Type 0} (w : Width) (k v : Shape) (key : List ℕ → ℕ → A → Type 0) (value : List ℕ → ℕ → B → Type 0) (key_hash : List ℕ → ℕ → ℕ) where
+  module _ (factor : ℕ × ℕ) (b : List ℕ) (p : ℕ) (pairs : List (A × B)) (stands : MapStands w k v key value key_hash factor b p pairs) where
+    places : List ℕ
+    places = home_positions w (entry_shape k v).size b p stands.homes
+
+    hashes : List ℕ
+    hashes = map (key_hash b) places
+
+    written : WrittenAt w b p hashes stands.homes
+    unfolding hashes places
+    written = stands.written
+
+    pair_count : length stands.homes ≡ length pairs
+    pair_count = home_count w b p hashes stands.homes written ∙ sym written.count ∙ stands.len
+
+    walk_visits : VisitsHomes (cap_at w b p) stands.homes (table_controls w b p)
+    walk_visits =
+        let controls = table_controls w b p in
+        elim written.placed [
+          | inl none ↦
+              let n : length pairs ≡ 0 = sym pair_count ∙ ap length none.1 in
+              let cap : cap_at w b p ≡ 0 = stands.cap ∙ rw n refl in
+              subst (λ n. VisitsHomes n stands.homes controls) (sym cap) (subst (λ (xs : List ℕ). VisitsHomes 0 xs controls) (sym none.1) (none_visits controls))
+          | inr some ↦ walked_homes (cap_at w b p) hashes stands.homes controls some.0 written.fit some.1
+        ]
+
+    -- the places of the walk are those of the homes, in another order
+    walk_moved : IsPermutation places (key_positions_at w k v b p)
+    unfolding places
+    walk_moved =
+        let visits = walk_visits in
+        let walked = walk (table_controls w b p) (cap_at w b p) in
+        IsPermutation-map (item_at w (entry_shape k v).size b p) stands.homes walked
+        (permuted stands.homes walked visits.once visits.count (λ bucket. (visits.members bucket).1))
+
+    -- what each pair has where it stands is given at the places of the walk
+    pub given_walked : {X : Type 0} (R : ℕ → X → Type 0) (xs : List X) → length xs ≡ length pairs → ((n : ℕ) (x : X) → slice_get xs n ≡ Some x → R (slice_index (home_positions w (entry_shape k v).size b p stands.homes) n) x)
+        → GivesEach R (key_positions_at w k v b p) xs
+    unfolding places
+    given_walked R xs long each =
+        let count : length places ≡ length xs = length-map stands.homes (item_at w (entry_shape k v).size b p) ∙ pair_count ∙ sym long in
+        given_along R places (key_positions_at w k v b p) xs walk_moved (zip_from R places xs count each)
+
+    pair_at_home : (n : ℕ) (pair : A × B) → slice_get pairs n ≡ Some pair → PairStands k v key value b (item_at w (entry_shape k v).size b p (slice_index stands.homes n)) pair
+    pair_at_home n pair at =
+        let below : n < length stands.homes = omega (arith, slice_get_within pairs n pair at, pair_count) in
+        subst (λ q. PairStands k v key value b q pair) (home_pos w (entry_shape k v).size b p stands.homes n below) (stands.at n pair at)
+
+  pub walks_visit_pairs : WalksVisitPairs w k v key value key_hash
+  walks_visit_pairs factor b p pairs stands = (walk_visits factor b p pairs stands, pair_at_home factor b p pairs stands)
+
+  pub walks_give_listed : WalksGiveListed w k v key value key_hash
+  walks_give_listed factor b p pairs stands = given_walked factor b p pairs stands (PairStands k v key value b) pairs refl stands.at
+
+pub set_walks_give_listed : {A : Type 0} (w : Width) (k : Shape) (key : List ℕ → ℕ → A → Type 0) (key_hash : List ℕ → ℕ → ℕ) → SetWalksGiveListed w k key key_hash
+set_walks_give_listed {A} w k key key_hash factor b p keys stands =
+    let unit_behind : A → A × Unit {0} = λ x. (x, tt) in
+    given_walked w k unit_shape key unit_stands key_hash factor b p (with_units keys) stands (key b) keys (sym (length-map keys unit_behind))
+    (λ n x at. (stands.at n (x, tt) (slice_get-map unit_behind keys n ∙ ap (option_map unit_behind) at)).0)
