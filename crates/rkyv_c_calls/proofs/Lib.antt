@@ -2,4 +2,3 @@ pub mod Writing
 pub mod Forms
 pub mod Collected
 pub mod First
-pub mod WalkedPairs

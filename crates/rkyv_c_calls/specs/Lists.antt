@@ -1,24 +1,19 @@
 -- Maps that stand for lists of pairs, and the archives of such lists.
 use Rattle.std.specs.Prelude.{◌≡◌, ℕ, ◌^◌, ◌≤◌, ◌⊎◌, Bool, List, MatchOption, None, Option, Some}
-use Rattle.std.specs.Prelude.{slice_get, slice_index}
 use Rattle.std.specs.Int.{Width}
 use mir.Val.{bits}
 use Rattle.rkyv_scan.specs.Hash.{HasherCall, fx_hasher, low_halves}
 use Rattle.rkyv_base.specs.Access.{Accepted}
-use Rattle.rkyv_base.specs.Entry.{entry_shape}
 use Rattle.rkyv_base.specs.Format.{Format}
-use Rattle.rkyv_base.specs.Pairs.{PairStands}
 use Rattle.rkyv_base.specs.Root.{ArchiveOf, ArchiveRefused}
 use Rattle.rkyv_base.specs.Scalar.{Encoding, ScalarStands, scalar_format, scalar_shape}
 use Rattle.rkyv_base.specs.Shape.{Shape}
 use Rattle.rkyv_base.specs.declared.errors.WriteError.{WriteError}
-use Rattle.rkyv_table.specs.Table.Header.{cap_at}
 use Rattle.rkyv_table.specs.Table.Listed.{listed}
-use Rattle.rkyv_table.specs.Table.Reading.{item_at, table_controls}
 use Rattle.rkyv_table.specs.Table.TableFormat.{TableResolver}
-use Rattle.rkyv_table.specs.Table.WalkLaws.{VisitsHomes}
 use Rattle.rkyv_collections.specs.InPlace.{with_first}
 use Rattle.rkyv_collections.specs.ListedLookups.{first_pair, first_value}
+use Rattle.rkyv_collections.specs.ListedWalks.{WalksVisitPairs}
 use Rattle.rkyv_collections.specs.Map.{hash_at, map_shape}
 use Rattle.rkyv_collections.specs.MapFormat.{MapStands, hash_of, map_format}
 use Rattle.rkyv_c_calls.specs.Archives.{root}
@@ -67,12 +62,8 @@ module _ {A N : Type 0} (w : Width) (k : Shape) (key : List ℕ → ℕ → A �
   -- A walk over an archive that stands for a list visits the homes of its pairs, each once and
   -- ascending, and nothing else; and in the n-th home stands the n-th pair.
   abbrev pub WalksVisitListed : Type 0
-  WalksVisitListed = (factor : ℕ × ℕ) (b : List ℕ) (p : ℕ) (pairs : List (A × N))
-      → (stands : PairsStandAt factor b p pairs)
-      → VisitsHomes (cap_at w b p) stands.homes (table_controls w b p)
-      × ((n : ℕ) (pair : A × N) → slice_get pairs n ≡ Some pair
-      → PairStands k (scalar_shape e) key (ScalarStands e) b
-      (item_at w (entry_shape k (scalar_shape e)).size b p (slice_index stands.homes n)) pair)
+  WalksVisitListed = WalksVisitPairs w k (scalar_shape e) key (ScalarStands e)
+      (hash_at (fx_hasher low_halves) key_calls)
 
   module _ {R : Type 0} (limit most : ℕ) (format : Format A R) (calls : A → List HasherCall) where
     -- how the pairs are written, in at most so many buckets
