@@ -107,6 +107,18 @@ module _ {X : Type 0} (R : ℕ → X → Type 0) where
       })
       others moved
 
+-- What a caller reads at the places that a walk has is a function of what stands there: so the walk
+-- reads what the function tells of the items of the list, in some order.
+pub given_seen : {X Y : Type 0} (R : ℕ → X → Type 0) (read : ℕ → Y) (told : X → Y) → ((q : ℕ) (x : X) → R q x → read q ≡ told x)
+    → (places : List ℕ) (items : List X) → GivesEach R places items → IsPermutation (map told items) (map read places)
+given_seen {X} R read told same places items gives = subst (IsPermutation (map told items)) (sym (zip_seen places gives.given gives.stand)) (IsPermutation-map told items gives.given gives.each)
+  where
+    zip_seen : (qs : List ℕ) (xs : List X) → AllZip R qs xs → map read qs ≡ map told xs
+    zip_seen [] [] h = refl
+    zip_seen [] (x ∷ xs) h = absurd h
+    zip_seen (q ∷ qs) [] h = absurd h
+    zip_seen (q ∷ qs) (x ∷ xs) h = rw (same q x h.0, zip_seen qs xs h.1) refl
+
 -- ---- the walk
 
 module _ {A B : Type 0} (w : Width) (k v : Shape) (key : List ℕ → ℕ → A → Type 0) (value : List ℕ → ℕ → B → Type 0) (key_hash : List ℕ → ℕ → ℕ) where
