@@ -36,7 +36,8 @@ module _ {A B : Type 0} (w : Width) (k v : Shape) (key : List ℕ → ℕ → A 
       × ((n : ℕ) (pair : A × B) → slice_get pairs n ≡ Some pair → PairStands k v key value b
       (item_at w (entry_shape k v).size b p (slice_index stands.homes n)) pair)
 
-  -- so at the places of the walk stand the pairs of the list, each once, and nothing else
+  -- at the places of a walk over a map that stands for a list of pairs stand these, each once, and
+  -- nothing else
   abbrev pub WalksGiveListed : Type 0
   WalksGiveListed = (factor : ℕ × ℕ) (b : List ℕ) (p : ℕ) (pairs : List (A × B))
       → MapStands w k v key value key_hash factor b p pairs
