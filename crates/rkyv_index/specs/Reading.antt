@@ -1,14 +1,21 @@
--- What is read back of an index map.
-use Rattle.std.specs.Prelude.{◌≡◌, ℕ, ◌<◌, ◌⊎◌, List, MatchResult, Result, Some, length, slice_get}
+-- What is read back of an index map and of an index set.
+use Rattle.std.specs.Prelude.{◌≡◌, ℕ, ◌<◌, ◌⊎◌, ◌&&◌, List, Bool, true, MatchResult, Result, Some}
+use Rattle.std.specs.Prelude.{length, slice_get}
+use Rattle.std.specs.Cmp.Lexicographic.{pointwise}
 use Rattle.std.specs.Int.{Width}
+use Rattle.rkyv_base.specs.Empty.{unit_shape}
 use Rattle.rkyv_base.specs.Pairs.{PairStands}
 use Rattle.rkyv_base.specs.Shape.{Shape}
 use Rattle.rkyv_base.specs.declared.errors.ReadError.{ReadError}
 use Rattle.rkyv_base.specs.declared.errors.ReadError.TheVariants.{Memory}
 use Rattle.rkyv_keys.specs.OfEntries.{entry_refuses}
 use Rattle.rkyv_keys.specs.Reading.{Refusals}
-use Rattle.rkyv_index.specs.Index.{index_bytes, index_len, key_pos}
+use Rattle.rkyv_index.specs.Index.{IsIndexMap, index_bytes, index_len, index_pos, key_pos}
+use Rattle.rkyv_index.specs.IndexFormat.{IndexStands}
+use Rattle.rkyv_index.specs.IndexSet.{IsIndexSet, keys_of, set_bytes, set_pos}
+use Rattle.rkyv_index.specs.SetFormat.{IndexSetStands}
 use Rattle.rkyv_index.specs.declared.map.ArchivedIndexMap.{ArchivedIndexMap}
+use Rattle.rkyv_index.specs.declared.set.ArchivedIndexSet.{ArchivedIndexSet}
 
 -- The pair whose entry stands at a position is read back, or reading its key or its value may fail.
 abbrev pub ReadsPair : {A B : Type 0} → Shape → Shape → (List ℕ → ℕ → A → Type 0)
@@ -35,3 +42,47 @@ abbrev pub pairs_refuse : {K V H W : Type 0} → Width → Shape → Shape → R
 pairs_refuse w k v key value m e = (e ≡ Memory)
     ⊎ ((i : ℕ) × (i < index_len w m)
     × entry_refuses k v key value (index_bytes m) (key_pos w k v m i) e)
+
+module _ {K H W A : Type 0} (w : Width) (k : Shape) (key : List ℕ → ℕ → A → Type 0)
+    (s : ArchivedIndexSet K H W) where
+  -- each of the first items, in order, stands where the key of its place does
+  abbrev pub AreItemsRead : List A → Type 0
+  AreItemsRead items = (i : ℕ) (item : A) → slice_get items i ≡ Some item
+      → key (set_bytes s) (key_pos w k unit_shape (keys_of s) i) item
+
+  -- the list has an item for each place, in order: the one that stands there
+  abbrev pub ReadsItems : List A → Type 0
+  ReadsItems items = (length items ≡ index_len w (keys_of s)) × AreItemsRead items
+
+-- reading the items back may fail for want of memory, and where reading a key may
+abbrev pub items_refuse : {K H W : Type 0} → Width → Shape → Refusals → ArchivedIndexSet K H W
+    → ReadError → Type 0
+items_refuse w k key s e = (e ≡ Memory) ⊎ ((i : ℕ) × (i < index_len w (keys_of s))
+    × key (set_bytes s) (key_pos w k unit_shape (keys_of s) i) e)
+
+-- both parts are equal
+abbrev pub pairs_equal : {A B : Type 0} → (A → A → Bool) → (B → B → Bool) → A × B → A × B → Bool
+pairs_equal first second x y = first x.0 y.0 && second x.1 y.1
+
+-- Where an index map stands for a list of pairs, a list that is read back of it is equal to that
+-- one: it has as many pairs, and each equals the one at its place.
+abbrev pub PairsReadBackAreListed : (K V H W : Type 0) → {A B : Type 0} → Width → Shape → Shape
+    → (List ℕ → ℕ → A → Type 0) → (List ℕ → ℕ → B → Type 0) → (List ℕ → ℕ → ℕ)
+    → (A → A → Bool) → (B → B → Bool) → Type 0
+PairsReadBackAreListed K V H W {A} {B} w k v key value hash key_equal value_equal =
+    (m : ArchivedIndexMap K V H W) (factor : ℕ × ℕ) (listed read : List (A × B))
+    → IsIndexMap w k v m
+    → IndexStands w k v key value hash factor (index_bytes m) (index_pos m) listed
+    → ReadsPairs w k v key value m read
+    → pointwise (pairs_equal key_equal value_equal) listed read ≡ true
+
+-- Where an index set stands for a list of keys, a list that is read back of it is equal to that
+-- one: it has as many keys, and each equals the one at its place.
+abbrev pub ItemsReadBackAreListed : (K H W : Type 0) → {A : Type 0} → Width → Shape
+    → (List ℕ → ℕ → A → Type 0) → (List ℕ → ℕ → ℕ) → (A → A → Bool) → Type 0
+ItemsReadBackAreListed K H W {A} w k key hash equal =
+    (s : ArchivedIndexSet K H W) (factor : ℕ × ℕ) (listed read : List A)
+    → IsIndexSet w k s
+    → IndexSetStands w k key hash factor (set_bytes s) (set_pos s) listed
+    → ReadsItems w k key s read
+    → pointwise equal listed read ≡ true

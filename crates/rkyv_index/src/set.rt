@@ -1,9 +1,11 @@
 //! Index sets: index maps of their keys to the unit value.
 
 mod debug;
+pub mod deserialize;
 mod element;
 mod equality;
 pub mod finder;
+pub mod laws;
 mod reading;
 pub mod writing;
 

@@ -1,11 +1,13 @@
-//! Index maps that are read back into lists.
+//! Index maps and index sets that are read back into lists.
 
-use crate::archives::{four_pairs, no_pairs, one_key_twice, wide_pair};
-use rkyv_base::access::access_in;
+use crate::archives::{four_pairs, no_pairs, one_key, one_key_twice, wide_pair};
+use rkyv_base::access::{access, access_in};
+use rkyv_base::root::to_bytes;
 use rkyv_base::width::{Narrow, Wide, Width};
-use rkyv_index::{ArchivedIndexMap, IndexMapOf};
+use rkyv_index::{ArchivedIndexMap, ArchivedIndexSet, IndexMapOf, IndexSetOf, OrderedItems};
 use rkyv_scan::hash::FxHasher64;
 use std::alloc::Global;
+use std::test::Fail;
 
 // The pairs in the archive of an index map, where it is accepted and memory is there.
 fn read<W: Width>(alloc: Global, bytes: &[u8]) -> Option<Vec<(i8, i8)>> {
@@ -34,4 +36,34 @@ fn pairs_are_read_back_in_their_order(rt: HostRuntime) {
         is_read::<Narrow>(alloc, &four_pairs(), &[(1, 2), (3, 4), (7, 8), (5, 6)]),
     ];
     assert_eq!(rt; read, [true, true, true, true, false]);
+}
+
+// The items in the archive of an index set, where it is accepted and memory is there.
+fn items(alloc: Global, bytes: &[u8]) -> Option<Vec<i8>> {
+    match access::<IndexSetOf<i8>>(bytes) {
+        Ok(root) => ArchivedIndexSet::of(root).deserialize_items(alloc).ok(),
+        Err(_) => None,
+    }
+}
+
+// Whether these are the items that are read.
+fn are_items(alloc: Global, bytes: &[u8], expected: &[i8]) -> bool {
+    match items(alloc, bytes) {
+        Some(list) => list.as_slice() == expected,
+        None => false,
+    }
+}
+
+#[test]
+fn items_are_read_back_in_their_order(rt: HostRuntime) -> Result<(), Fail> {
+    let alloc = rt.alloc();
+    let written = to_bytes(alloc, &OrderedItems(vec![in alloc; 4i8, 1, 3]?))?;
+    let read = [
+        are_items(alloc, written.as_slice(), &[4, 1, 3]),
+        are_items(alloc, &one_key(), &[1]),
+        are_items(alloc, &no_pairs(), &[]),
+        are_items(alloc, written.as_slice(), &[1, 3, 4]),
+    ];
+    assert_eq!(rt; read, [true, true, true, false]);
+    Ok(())
 }

@@ -1,6 +1,8 @@
-//! Laws of index maps of which one value is written in place, over their definitions alone.
+//! Laws of index maps, over their definitions alone: of one of which one value is written in place,
+//! and of one that is read back.
 ghost use Rattle.rkyv_index.specs.Index.{hash_at};
 ghost use Rattle.rkyv_index.specs.IndexFormat.{hash_of};
+ghost use Rattle.rkyv_index.specs.Reading.{PairsReadBackAreListed};
 ghost use Rattle.rkyv_index.specs.ValueWrites.{
   ValueWritesKeepAnswers,
   ValueWritesKeepIndexMaps,
@@ -9,6 +11,7 @@ ghost use Rattle.rkyv_index.specs.ValueWrites.{
 
 use rkyv_base::element::{Element, StandsFor};
 use rkyv_base::width::Width;
+use rkyv_keys::equality::StandsAlone;
 use rkyv_keys::keys::{KeyElement, Query};
 use rkyv_scan::hash::KeyHasher;
 
@@ -38,4 +41,18 @@ pub fn values_written_stand<
 >()
     ensures { ValuesWrittenStand W.word K.shape V.shape K.stands V.stands
         (hash_at H.hasher K.key_calls) }
+{}
+
+/// Where an index map stands for a list of pairs, as what was written of that list does, the list
+/// that `deserialize_pairs` answers is that list: they are equal by `==`.
+pub fn pairs_read_back_are_listed<
+    A: PartialEq,
+    B: PartialEq,
+    K: KeyElement + StandsAlone<A>,
+    V: StandsAlone<B>,
+    H: KeyHasher,
+    W: Width,
+>()
+    ensures { PairsReadBackAreListed K V H W W.word K.shape V.shape K.stands V.stands
+        (hash_at H.hasher K.key_calls) A.eq B.eq }
 {}

@@ -1,0 +1,24 @@
+use Rattle.std.proofs.Common.{◌≡◌, ◌+◌, ◌++◌, ◌∷◌, ◌∙◌, [], List, ap, arith, inr, length, subst, sym, ℕ}
+use Rattle.std.proofs.lemmas.List.{length_push}
+use Rattle.std.specs.List.{slice_get}
+use Rattle.rkyv_base.specs.Empty.{unit_shape}
+use Rattle.rkyv_index.specs.Index.{key_pos}
+use Rattle.rkyv_index.specs.IndexSet.{keys_of, set_bytes}
+use Rattle.rkyv_index.proofs.ReadPairs.{pushed_too}
+use Rattle.rkyv_index.proofs.set.ArchivedIndexSet.deserialize_items.Goals as goal
+
+pub loop-place-preserved : goal.loop-place-preserved
+loop-place-preserved g c =
+    let s = c.args.self in
+    let read : List g.row.A.Denot = c.loop-place.list.items in
+    let Stands : ℕ → g.row.A.Denot → Type 0 = λ i item.
+    g.K.StandsFor.stands (set_bytes s) (key_pos g.W.Width.word g.K.Element.shape unit_shape (keys_of s) i) item in
+    let items : c.push.new.self.items ≡ read ++ c.in-Ok.item ∷ [] = c.in-Ok-push.ensures.items in
+    let inv = c.loop-place.invariant in
+    let here = subst (λ n. Stands n c.in-Ok.item) (sym inv.0) c.in-Ok.ensures in (
+      ap length items ∙ length_push read c.in-Ok.item ∙ ap (λ n. n + 1) inv.0,
+      λ i item e. pushed_too Stands read c.in-Ok.item inv.1 here i item (ap (λ (xs : List g.row.A.Denot). slice_get xs i) (sym items) ∙ e),
+    )
+
+pub returns-in-Err : goal.returns-in-Err
+returns-in-Err g c = inr (c.loop-place.place, omega arith, c.in-Err.ensures)
