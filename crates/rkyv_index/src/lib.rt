@@ -3,6 +3,7 @@
 
 pub mod lists;
 pub mod map;
+pub mod round_trip;
 pub mod set;
 pub mod width;
 

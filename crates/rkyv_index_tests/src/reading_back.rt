@@ -4,7 +4,10 @@ use crate::archives::{four_pairs, no_pairs, one_key, one_key_twice, wide_pair};
 use rkyv_base::access::{access, access_in};
 use rkyv_base::root::to_bytes;
 use rkyv_base::width::{Narrow, Wide, Width};
-use rkyv_index::{ArchivedIndexMap, ArchivedIndexSet, IndexMapOf, IndexSetOf, OrderedItems};
+use rkyv_index::round_trip::{items_come_back, pairs_come_back};
+use rkyv_index::{
+    ArchivedIndexMap, ArchivedIndexSet, IndexMapOf, IndexSetOf, OrderedItems, OrderedPairs,
+};
 use rkyv_scan::hash::FxHasher64;
 use std::alloc::Global;
 use std::test::Fail;
@@ -66,4 +69,28 @@ fn items_are_read_back_in_their_order(rt: HostRuntime) -> Result<(), Fail> {
     ];
     assert_eq!(rt; read, [true, true, true, false]);
     Ok(())
+}
+
+// Whether the list of these names comes back through a wide archive.
+fn names_come_back(alloc: Global, first: &str, second: &str) -> Option<bool> {
+    let first = String::from_str(alloc, first).ok()?;
+    let second = String::from_str(alloc, second).ok()?;
+    let names = OrderedItems(vec![in alloc; first, second].ok()?);
+    items_come_back::<Wide, String>(alloc, &names).ok()
+}
+
+// Whether a list of pairs, of which two have one key, comes back through a narrow archive.
+fn numbers_come_back(alloc: Global) -> Option<bool> {
+    let pairs = OrderedPairs(vec![in alloc; (3i8, 4i8), (1, 2), (3, 5)].ok()?);
+    pairs_come_back::<Narrow, i8, i8>(alloc, &pairs).ok()
+}
+
+#[test]
+fn lists_come_back(rt: HostRuntime) {
+    let alloc = rt.alloc();
+    let back = [
+        names_come_back(alloc, "main", "a name of more than eight bytes"),
+        numbers_come_back(alloc),
+    ];
+    assert_eq!(rt; back, [Some(true); 2]);
 }

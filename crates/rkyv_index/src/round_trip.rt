@@ -1,0 +1,91 @@
+//! Lists that are archived as index maps and index sets, and read back.
+
+ghost use Rattle.std.specs.Prelude.{◌≡◌, IfOk, true};
+
+use crate::lists::{OrderedItems, OrderedPairs};
+use crate::map::laws::pairs_read_back_are_listed;
+use crate::map::{ArchivedIndexMap, IndexMapOf};
+use crate::set::laws::items_read_back_are_listed;
+use crate::set::{ArchivedIndexSet, IndexSetOf};
+use crate::width::PlaceWidth;
+use rkyv_base::access::access_in;
+use rkyv_base::archive::Serialize;
+use rkyv_base::errors::{ReadError, WriteError};
+use rkyv_base::root::to_bytes_in;
+use rkyv_base::writer::{NoMemory, VecWriter};
+use rkyv_keys::equality::StandsAlone;
+use rkyv_keys::keys::{KeyElement, NativeKey};
+use rkyv_keys::reading::Deserialize;
+use rkyv_scan::hash::FxHasher64;
+use std::alloc::Global;
+
+/// Why a list didn't come back.
+#[derive(Debug, Drop)]
+pub enum Lost {
+    /// It wasn't written.
+    Write(WriteError<NoMemory>),
+    /// It wasn't read back.
+    Read(ReadError),
+}
+
+/// Whether the archive of a list of pairs is accepted and is read back as an equal list: wherever
+/// it can be written and read back.
+///
+/// # Errors
+/// Those of `to_bytes_in` and of `deserialize_pairs`.
+pub fn pairs_come_back<
+    W: PlaceWidth,
+    A: Serialize<VecWriter, W> + Drop,
+    B: Serialize<VecWriter, W> + PartialEq + Drop,
+>(alloc: Global, pairs: &OrderedPairs<A, B>) -> Result<bool, Lost>
+where
+    A::Archived: KeyElement + Deserialize<A> + StandsAlone<A>,
+    A: NativeKey<A::Archived>,
+    B::Archived: Deserialize<B> + StandsAlone<B>,
+    ensures { IfOk result (λ same. same ≡ true) }
+{
+    pairs_read_back_are_listed::<A, B, A::Archived, B::Archived, FxHasher64, W>();
+    let bytes = match to_bytes_in::<W, OrderedPairs<A, B>>(alloc, pairs) {
+        Ok(bytes) => bytes,
+        Err(e) => return Err(Lost::Write(e)),
+    };
+    let root = match access_in::<W, IndexMapOf<A::Archived, B::Archived, FxHasher64, W>>(
+        bytes.as_slice(),
+    ) {
+        Ok(root) => root,
+        Err(_) => return Ok(false),
+    };
+    match ArchivedIndexMap::of(root).deserialize_pairs::<A, B>(alloc) {
+        Ok(back) => Ok(pairs.0 == back),
+        Err(e) => Err(Lost::Read(e)),
+    }
+}
+
+/// Whether the archive of a list of keys is accepted and is read back as an equal list: wherever it
+/// can be written and read back.
+///
+/// # Errors
+/// Those of `to_bytes_in` and of `deserialize_items`.
+pub fn items_come_back<W: PlaceWidth, A: Serialize<VecWriter, W> + Drop>(
+    alloc: Global,
+    items: &OrderedItems<A>,
+) -> Result<bool, Lost>
+where
+    A::Archived: KeyElement + Deserialize<A> + StandsAlone<A>,
+    A: NativeKey<A::Archived>,
+    ensures { IfOk result (λ same. same ≡ true) }
+{
+    items_read_back_are_listed::<A, A::Archived, FxHasher64, W>();
+    let bytes = match to_bytes_in::<W, OrderedItems<A>>(alloc, items) {
+        Ok(bytes) => bytes,
+        Err(e) => return Err(Lost::Write(e)),
+    };
+    let root = match access_in::<W, IndexSetOf<A::Archived, FxHasher64, W>>(bytes.as_slice()) {
+        Ok(root) => root,
+        Err(_) => return Ok(false),
+    };
+    match ArchivedIndexSet::of(root).deserialize_items::<A>(alloc) {
+        Ok(back) => Ok(items.0 == back),
+        Err(e) => Err(Lost::Read(e)),
+    }
+}
