@@ -1,11 +1,14 @@
 //! Index maps and sets that are archived.
 
 use crate::bytes::{FOUR_ENTRIES, ONE_KEY};
-use rkyv_base::errors::WriteError;
+use rkyv_base::access::access;
+use rkyv_base::errors::{ReadError, VerifyError, WriteError};
 use rkyv_base::root::to_bytes;
 use rkyv_base::width::Narrow;
 use rkyv_base::writer::{NoMemory, VecWriter, append};
-use rkyv_index::{ArchivedIndexMap, OrderedItems, OrderedPairs};
+use rkyv_index::{
+    ArchivedIndexMap, ArchivedIndexSet, IndexMapOf, IndexSetOf, OrderedItems, OrderedPairs,
+};
 use rkyv_scan::hash::FxHasher64;
 use std::alloc::Global;
 
@@ -107,4 +110,47 @@ fn no_byte_is_written_before_the_growths(rt: HostRuntime) {
 #[test]
 fn a_map_behind_a_byte_succeeds(rt: HostRuntime) {
     assert_eq!(rt; behind_a_nine(rt.alloc()), Some((true, true)));
+}
+
+// Whether the four pairs are read back from their archive, or why they aren't.
+fn pairs_back(alloc: Global) -> Result<Result<bool, ReadError>, VerifyError> {
+    let root = ArchivedIndexMap::of(access::<IndexMapOf<i8, i8>>(&FOUR_ENTRIES)?);
+    let back: Result<Vec<(i8, i8)>, ReadError> = root.deserialize_pairs(alloc);
+    match back {
+        Ok(list) => Ok(Ok(list.as_slice() == [(1i8, 2i8), (3, 4), (5, 6), (7, 8)].as_slice())),
+        Err(e) => Ok(Err(e)),
+    }
+}
+
+// Whether the one key is read back from its archive, or why it isn't.
+fn items_back(alloc: Global) -> Result<Result<bool, ReadError>, VerifyError> {
+    let root = ArchivedIndexSet::of(access::<IndexSetOf<i8>>(&ONE_KEY)?);
+    let back: Result<Vec<i8>, ReadError> = root.deserialize_items(alloc);
+    match back {
+        Ok(list) => Ok(Ok(list.as_slice() == [1i8].as_slice())),
+        Err(e) => Ok(Err(e)),
+    }
+}
+
+// Whether the list is whole, or memory was wanted for it.
+fn is_back_or_wants_memory(back: Result<Result<bool, ReadError>, VerifyError>) -> bool {
+    match back {
+        Ok(Ok(whole)) => whole,
+        Ok(Err(cause)) => matches!(cause, ReadError::Memory),
+        Err(_) => false,
+    }
+}
+
+#[test]
+fn lists_are_read_back_or_want_memory(rt: HostRuntime) {
+    let pairs = is_back_or_wants_memory(pairs_back(rt.alloc()));
+    let items = is_back_or_wants_memory(items_back(rt.alloc()));
+    assert!(rt; pairs && items);
+}
+
+#[test]
+fn reading_lists_back_succeeds(rt: HostRuntime) {
+    let pairs = matches!(pairs_back(rt.alloc()), Ok(Ok(true)));
+    let items = matches!(items_back(rt.alloc()), Ok(Ok(true)));
+    assert!(rt; pairs && items);
 }
