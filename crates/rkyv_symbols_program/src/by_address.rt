@@ -1,6 +1,7 @@
 //! Indexes of symbols: archives of index maps of addresses to names, in ascending order of address.
 ghost use Rattle.std.specs.Int.{w32, w64};
-ghost use Rattle.std.specs.Prelude.{IfOk, ◌≡◌};
+ghost use Rattle.std.specs.Prelude.{IfErr, IfOk, IsOk, ◌≡◌};
+ghost use Rattle.rkyv_base.specs.Access.{AccessFails, Accepted};
 ghost use Rattle.rkyv_base.specs.Numbers.{unsigned};
 ghost use Rattle.rkyv_base.specs.Scalar.{scalar_shape};
 ghost use Rattle.rkyv_base.specs.Text.{text_shape};
@@ -70,7 +71,9 @@ pub fn archive(alloc: Global, symbols: &[(&str, u64)]) -> Result<Vec<u8>, WriteE
 /// # Errors
 /// The first point at which the bytes are no index.
 pub fn open(index: &[u8]) -> Result<ArchivedIndexMap<'_, u64, Text>, VerifyError>
-    ensures { IfOk result (IsIndexMap w32 (scalar_shape (unsigned w64)) (text_shape w32)) }
+    ensures map { IfOk result (IsIndexMap w32 (scalar_shape (unsigned w64)) (text_shape w32)) }
+    ensures refused { IfErr result (AccessFails 4294967295 ⟦<Index as Element>⟧.shape index.now) }
+    ensures accepts { Accepted 4294967295 ⟦<Index as Element>⟧.shape index.now → IsOk result }
 {
     match access::<IndexMapOf<u64, Text>>(index) {
         Ok(root) => Ok(ArchivedIndexMap::of(root)),
