@@ -2,22 +2,4 @@
 #![tactic(auto)]
 
 #[cfg(test)]
-mod errors;
-#[cfg(test)]
-mod lending;
-#[cfg(test)]
-mod own;
-#[cfg(test)]
-mod parts;
-#[cfg(test)]
-mod refusals;
-#[cfg(test)]
-mod roots;
-#[cfg(test)]
-mod scalars;
-#[cfg(test)]
-mod seals;
-#[cfg(test)]
-mod text;
-#[cfg(test)]
-mod writing;
+mod tests;

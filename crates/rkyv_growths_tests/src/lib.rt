@@ -5,12 +5,4 @@
 #![tactic(auto)]
 
 #[cfg(test)]
-mod asks;
-#[cfg(test)]
-mod bytes;
-#[cfg(test)]
-mod dictionaries;
-#[cfg(test)]
-mod index_maps;
-#[cfg(test)]
-mod std_maps;
+mod tests;

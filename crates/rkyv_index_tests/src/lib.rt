@@ -2,22 +2,4 @@
 #![tactic(auto)]
 
 #[cfg(test)]
-mod archives;
-#[cfg(test)]
-mod changes;
-#[cfg(test)]
-mod checking;
-#[cfg(test)]
-mod finders;
-#[cfg(test)]
-mod interning;
-#[cfg(test)]
-mod lookups;
-#[cfg(test)]
-mod reading_back;
-#[cfg(test)]
-mod sealed;
-#[cfg(test)]
-mod sets;
-#[cfg(test)]
-mod writing;
+mod tests;

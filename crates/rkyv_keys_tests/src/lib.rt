@@ -2,14 +2,4 @@
 #![tactic(auto)]
 
 #[cfg(test)]
-mod elements;
-#[cfg(test)]
-mod equality;
-#[cfg(test)]
-mod hashing;
-#[cfg(test)]
-mod own;
-#[cfg(test)]
-mod queries;
-#[cfg(test)]
-mod written;
+mod tests;

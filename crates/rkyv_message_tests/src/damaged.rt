@@ -3,6 +3,7 @@
 use rkyv_base::errors::VerifyError;
 use rkyv_collections::MapPairs;
 use rkyv_message::message::{archive, number_of, set_number};
+use rkyv_testing::changes::answered_flips;
 use std::alloc::Global;
 use std::test::Fail;
 
@@ -48,24 +49,11 @@ fn each_front_is_answered(rt: HostRuntime) -> Result<(), Fail> {
     Ok(())
 }
 
-// How many of the changed bytes are answered.
-fn changed(bytes: &mut [u8]) -> usize {
-    let mut answered = 0usize;
-    for at in 0..bytes.len() {
-        bytes[at] ^= 0xff;
-        if is_answered(bytes) {
-            answered = answered.wrapping_add(1);
-        }
-        bytes[at] ^= 0xff;
-    }
-    answered
-}
-
 #[test]
 fn each_changed_byte_is_answered(rt: HostRuntime) -> Result<(), Fail> {
     let mut bytes = message(rt.alloc())?;
     let len = bytes.len();
-    let answered = changed(bytes.as_mut_slice());
+    let answered = answered_flips(bytes.as_mut_slice(), is_answered);
     assert_eq!(rt; answered, len);
     Ok(())
 }

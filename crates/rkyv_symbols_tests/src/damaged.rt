@@ -2,6 +2,7 @@
 
 use rkyv_base::errors::VerifyError;
 use rkyv_symbols::table::{address_of, archive};
+use rkyv_testing::changes::answered_flips;
 use std::alloc::Global;
 use std::test::Fail;
 
@@ -57,24 +58,14 @@ fn each_front_is_answered(rt: HostRuntime) -> Result<(), Fail> {
     Ok(())
 }
 
-// How many of the changed bytes are answered.
-fn changed(bytes: &mut [u8]) -> usize {
-    let mut answered = 0usize;
-    for at in 0..bytes.len() {
-        bytes[at] ^= 0xff;
-        if is_answered(bytes) {
-            answered = answered.wrapping_add(1);
-        }
-        bytes[at] ^= 0xff;
-    }
-    answered
-}
-
 #[test]
 fn each_changed_byte_is_answered(rt: HostRuntime) -> Result<(), Fail> {
     let mut bytes = table(rt.alloc())?;
     let len = bytes.len();
-    let answered = changed(bytes.as_mut_slice());
+    let answered = answered_flips(
+        bytes.as_mut_slice(),
+        |table: &mut [u8]| is_answered(&*table),
+    );
     assert_eq!(rt; answered, len);
     Ok(())
 }

@@ -1,0 +1,149 @@
+//! Types of a user's own that meet the traits.
+ghost use Rattle.std.specs.Prelude.{[], length, ⊤, ◌≡◌};
+ghost use Rattle.std.specs.Int.{w32};
+ghost use Rattle.std.proofs.Common.{inl, inr, lit≤, refl};
+ghost use Rattle.rkyv_base.specs.Lemmas.AnyBytes.{any_bytes, any_bytes-element};
+ghost use Rattle.rkyv_base.specs.Format.{nothing_far, nothing_next};
+
+use crate::tests::refusals::{Refusal, refused};
+use rkyv_base::access::access;
+use rkyv_base::{
+    Archive, DistanceTooLarge, Element, Entry, Narrow, PartRange, Scalar, Serialize, StandsFor,
+    VecWriter, VerifyError, Width, WriteError, Writer, to_bytes, whole_size,
+};
+use rkyv_testing::written::is_archived_as;
+use std::alloc::Global;
+
+// A scalar of one's own.
+#[derive(Clone, Copy, Debug, PartialEq, Eq)]
+struct Grams(u32);
+
+impl Scalar for Grams {
+    ghost encoding = { record {
+      word = w32;
+      code = λ g. g.0;
+      value = λ n. record { 0 = n };
+      IsCode =
+          λ n. ⊤;
+    } };
+
+    fn byte_count() -> usize {
+        4
+    }
+
+    fn is_value(_bytes: &[u8]) -> bool {
+        true
+    }
+
+    fn read(bytes: &[u8]) -> Grams {
+        Grams(u32::read(bytes))
+    }
+
+    fn write(self, bytes: &mut [u8]) {
+        self.0.write(bytes);
+    }
+
+    ghost word = { inr (inr (inl refl)) };
+}
+
+// An element of one's own, as large as one may be. Any bytes are it.
+struct Huge;
+
+impl Element for Huge {
+    ghost shape = { any_bytes 1073741824 1 };
+
+    fn size() -> usize {
+        1_073_741_824
+    }
+
+    fn align() -> usize {
+        1
+    }
+
+    fn check(_bytes: &[u8], _pos: u64, range: PartRange) -> Result<PartRange, VerifyError> {
+        Ok(range)
+    }
+
+    ghost laws = { any_bytes-element 1073741824 1 (inl refl) refl (lit≤ tt) };
+}
+
+impl StandsFor<Huge> for Huge {
+    ghost stands = { λ b p v. ⊤ };
+
+    ghost near = { λ v b c p lo hi l o h same part st. st };
+}
+
+impl<W: Width> Archive<W> for Huge {
+    type Archived = Huge;
+
+    type Resolver = ();
+
+    ghost format = { record {
+      parts = λ v p part r. part ≡ [];
+      next = nothing_next;
+      image = λ v r p out. length out ≡ 1073741824;
+      far = nothing_far;
+    } };
+
+    fn resolve(&self, _resolver: (), _pos: u64, _out: &mut [u8]) -> Result<(), DistanceTooLarge> {
+        Ok(())
+    }
+
+    ghost laws = { record {
+      whole = λ v r p out i. i;
+      clear = λ v r p out i f. f;
+      sound = λ v r c p0 p part out h i s t o al. (p0, refl, tt);
+    } };
+}
+
+impl<S: Writer, W: Width> Serialize<S, W> for Huge {
+    fn serialize(&self, _alloc: Global, _serializer: &mut S) -> Result<(), WriteError<S::Fault>> {
+        Ok(())
+    }
+}
+
+// The value of an entry of a bool and such a scalar.
+fn grams_of(bytes: &[u8]) -> Result<Grams, VerifyError> {
+    Ok(access::<Entry<bool, Grams>>(bytes)?.value().to_native())
+}
+
+#[test]
+fn an_own_scalar_is_archived(rt: HostRuntime) {
+    let bytes = [1, 0, 0, 0, 2, 1, 0, 0];
+    let archived = is_archived_as(rt.alloc(), &(true, Grams(258)), &bytes);
+    assert_eq!(rt; (archived, grams_of(&bytes).ok()), (true, Some(Grams(258))));
+}
+
+// Whether a value is refused with 0 where it is archived.
+fn is_refused<V: Serialize<VecWriter, Narrow>>(alloc: Global, value: &V) -> bool {
+    matches!(to_bytes(alloc, value), Err(WriteError::Refused(0)))
+}
+
+#[test]
+fn an_entry_too_large_is_refused(rt: HostRuntime) {
+    let sizes = [
+        <Entry<Huge, ()> as Element>::size(),
+        whole_size::<Huge, u16>(),
+        <Entry<Huge, u16> as Element>::size(),
+        <Entry<Huge, u16> as Element>::align(),
+    ];
+    let refusals = [
+        refused::<Narrow, Entry<Huge, ()>>(&[]),
+        refused::<Narrow, Entry<Huge, u16>>(&[]),
+    ];
+    let refused = [
+        is_refused(rt.alloc(), &(Huge, 7u16)),
+        is_refused(rt.alloc(), &(1u8, (7u16, Huge))),
+    ];
+    assert_eq!(rt;
+        (sizes, refusals, refused),
+        (
+            [1_073_741_824, 1_073_741_826, 0, 2],
+            [
+                Some(Refusal::OutOfRange(-1_073_741_824, 1_073_741_824)),
+                Some(Refusal::Refused(0))
+            ],
+            [true; 2]
+        )
+    );
+}

@@ -1,0 +1,15 @@
+//! The tests, by what they call.
+
+mod answers;
+mod asks;
+mod finders;
+mod first;
+mod nested;
+mod reading;
+mod sealed;
+mod sets;
+mod std_maps;
+mod texts_by_key;
+mod there_and_back;
+mod walks;
+mod writing;

@@ -1,0 +1,154 @@
+//! What tests ask of archived maps and sets, answered in plain numbers.
+
+use rkyv_base::access::access_in;
+use rkyv_base::element::Element;
+use rkyv_base::errors::VerifyError;
+use rkyv_base::scalars::Scalar;
+use rkyv_base::width::Width;
+use rkyv_collections::map::{ArchivedHashMap, HashMapOf};
+use rkyv_collections::set::{ArchivedHashSet, HashSetOf};
+use rkyv_keys::debug::ElementDebug;
+use rkyv_keys::equality::ElementEq;
+use rkyv_keys::keys::{KeyElement, Query};
+use rkyv_scan::hash::KeyHasher;
+use std::alloc::Global;
+
+/// Whether a map is empty, its length and its capacity.
+pub(crate) fn counts<K: Element, V: Element, H, W: Width>(
+    bytes: &[u8],
+) -> Result<(bool, usize, usize), VerifyError> {
+    let root = access_in::<W, HashMapOf<K, V, H, W>>(bytes)?;
+    let map = ArchivedHashMap::<K, V, H, W>::of(root);
+    Ok((map.is_empty(), map.len(), map.capacity()))
+}
+
+/// The number that a key leads to.
+pub(crate) fn number_of<K: KeyElement, N: Scalar, H: KeyHasher, W: Width, Q: Query<K>>(
+    bytes: &[u8],
+    key: &Q,
+) -> Result<Option<N>, VerifyError>
+    requires { Q.can_read key.now }
+{
+    let root = access_in::<W, HashMapOf<K, N, H, W>>(bytes)?;
+    let map = ArchivedHashMap::<K, N, H, W>::of(root);
+    match map.get(key) {
+        Some(value) => Ok(Some(value.to_native())),
+        None => Ok(None),
+    }
+}
+
+/// Where the pair of a key stands: its key and its value.
+pub(crate) fn pair_of<K: KeyElement, V: Element, H: KeyHasher, W: Width, Q: Query<K>>(
+    bytes: &[u8],
+    key: &Q,
+) -> Result<Option<(u64, u64)>, VerifyError>
+    requires { Q.can_read key.now }
+{
+    let root = access_in::<W, HashMapOf<K, V, H, W>>(bytes)?;
+    let map = ArchivedHashMap::<K, V, H, W>::of(root);
+    match map.get_key_value(key) {
+        Some((found, value)) => Ok(Some((found.pos(), value.pos()))),
+        None => Ok(None),
+    }
+}
+
+/// Whether a map has a key.
+pub(crate) fn has_key<K: KeyElement, V: Element, H: KeyHasher, W: Width, Q: Query<K>>(
+    bytes: &[u8],
+    key: &Q,
+) -> Result<bool, VerifyError>
+    requires { Q.can_read key.now }
+{
+    let root = access_in::<W, HashMapOf<K, V, H, W>>(bytes)?;
+    let map = ArchivedHashMap::<K, V, H, W>::of(root);
+    Ok(map.contains_key(key))
+}
+
+/// Whether two maps are equal, by the call of maps and by that of elements.
+pub(crate) fn equal_maps<K: KeyElement, V: ElementEq, H: KeyHasher, W: Width>(
+    bytes: &[u8],
+    other: &[u8],
+) -> Result<(bool, bool), VerifyError> {
+    let root = access_in::<W, HashMapOf<K, V, H, W>>(bytes)?;
+    let map = ArchivedHashMap::<K, V, H, W>::of(root);
+    let stranger = access_in::<W, HashMapOf<K, V, H, W>>(other)?;
+    let others = ArchivedHashMap::<K, V, H, W>::of(stranger);
+    let same = HashMapOf::<K, V, H, W>::same(root, stranger);
+    Ok((map.eq_map(others), same))
+}
+
+/// The same of sets.
+pub(crate) fn equal_sets<K: KeyElement, H: KeyHasher, W: Width>(
+    bytes: &[u8],
+    other: &[u8],
+) -> Result<(bool, bool), VerifyError> {
+    let root = access_in::<W, HashSetOf<K, H, W>>(bytes)?;
+    let set = ArchivedHashSet::<K, H, W>::of(root);
+    let stranger = access_in::<W, HashSetOf<K, H, W>>(other)?;
+    let others = ArchivedHashSet::<K, H, W>::of(stranger);
+    let same = HashSetOf::<K, H, W>::same(root, stranger);
+    Ok((set.eq_set(others), same))
+}
+
+/// How many keys of a map are misplaced.
+pub(crate) fn misplaced<K: KeyElement, V: Element, H: KeyHasher, W: Width>(
+    bytes: &[u8],
+) -> Result<usize, VerifyError> {
+    let root = access_in::<W, HashMapOf<K, V, H, W>>(bytes)?;
+    let map = ArchivedHashMap::<K, V, H, W>::of(root);
+    Ok(map.misplaced())
+}
+
+/// Whether a map is printed as this text.
+pub(crate) fn map_prints<K: ElementDebug, V: ElementDebug, H, W: Width>(
+    alloc: Global,
+    bytes: &[u8],
+    text: &str,
+) -> bool {
+    match access_in::<W, HashMapOf<K, V, H, W>>(bytes) {
+        Ok(root) => {
+            let map = ArchivedHashMap::<K, V, H, W>::of(root);
+            matches!(format!(in alloc; "{map:?}"), Ok(shown) if shown.as_str() == text)
+        }
+        Err(_) => false,
+    }
+}
+
+/// Whether a set is printed as this text.
+pub(crate) fn set_prints<K: ElementDebug, H, W: Width>(
+    alloc: Global,
+    bytes: &[u8],
+    text: &str,
+) -> bool {
+    match access_in::<W, HashSetOf<K, H, W>>(bytes) {
+        Ok(root) => {
+            let set = ArchivedHashSet::<K, H, W>::of(root);
+            matches!(format!(in alloc; "{set:?}"), Ok(shown) if shown.as_str() == text)
+        }
+        Err(_) => false,
+    }
+}
+
+/// Whether a set is empty, its length, how many of its keys are misplaced.
+pub(crate) fn set_counts<K: KeyElement, H: KeyHasher, W: Width>(
+    bytes: &[u8],
+) -> Result<(bool, usize, usize), VerifyError> {
+    let root = access_in::<W, HashSetOf<K, H, W>>(bytes)?;
+    let set = ArchivedHashSet::<K, H, W>::of(root);
+    Ok((set.is_empty(), set.len(), set.misplaced()))
+}
+
+/// Whether a set has a key, and where that stands.
+pub(crate) fn member_of<K: KeyElement, H: KeyHasher, W: Width, Q: Query<K>>(
+    bytes: &[u8],
+    key: &Q,
+) -> Result<(bool, Option<u64>), VerifyError>
+    requires { Q.can_read key.now }
+{
+    let root = access_in::<W, HashSetOf<K, H, W>>(bytes)?;
+    let set = ArchivedHashSet::<K, H, W>::of(root);
+    match set.get(key) {
+        Some(found) => Ok((set.contains(key), Some(found.pos()))),
+        None => Ok((set.contains(key), None)),
+    }
+}

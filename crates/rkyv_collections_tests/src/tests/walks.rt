@@ -1,0 +1,208 @@
+//! Walks over maps and sets: what is given, in which order, and what is left.
+ghost use Rattle.rkyv_base.specs.Entry.{entry_shape};
+ghost use Rattle.rkyv_table.specs.Table.RawItems.{AllStand};
+
+use rkyv_base::access::access;
+use rkyv_base::element::Element;
+use rkyv_base::errors::VerifyError;
+use rkyv_collections::map::iter::{Iter, Keys, Values};
+use rkyv_collections::map::{ArchivedHashMap, HashMapOf};
+use rkyv_collections::set::{ArchivedHashSet, HashSetOf};
+use rkyv_testing::archives::{four_pairs, no_items, one_unit, three_keys};
+
+// The next pair of a walk: where its key and its value stand.
+#[tactic(auto, using(crate::proofs::Steps::stand_after, crate::proofs::Steps::stand_at_end))]
+fn next_pair<K: Element, V: Element, H, W>(rest: &mut Iter<'_, K, V, H, W>) -> Option<(u64, u64)>
+    requires { AllStand (entry_shape K.shape V.shape) rest.old }
+    ensures { AllStand (entry_shape K.shape V.shape) rest.new }
+{
+    match rest.next() {
+        Some((key, value)) => Some((key.pos(), value.pos())),
+        None => None,
+    }
+}
+
+// The next key: where it stands.
+#[tactic(auto, using(crate::proofs::Steps::stand_after, crate::proofs::Steps::stand_at_end))]
+fn next_key<K: Element, V: Element, H, W>(rest: &mut Keys<'_, K, V, H, W>) -> Option<u64>
+    requires { AllStand (entry_shape K.shape V.shape) rest.old }
+    ensures { AllStand (entry_shape K.shape V.shape) rest.new }
+{
+    match rest.next() {
+        Some(key) => Some(key.pos()),
+        None => None,
+    }
+}
+
+// The next value: where it stands.
+#[tactic(auto, using(crate::proofs::Steps::stand_after, crate::proofs::Steps::stand_at_end))]
+fn next_value<K: Element, V: Element, H, W>(rest: &mut Values<'_, K, V, H, W>) -> Option<u64>
+    requires { AllStand (entry_shape K.shape V.shape) rest.old }
+    ensures { AllStand (entry_shape K.shape V.shape) rest.new }
+{
+    match rest.next() {
+        Some(value) => Some(value.pos()),
+        None => None,
+    }
+}
+
+// What a walk over the pairs of a map gives at its first six asks, and how many are left before,
+// after two of them and then, by both calls.
+fn pairs_of<K: Element, V: Element>(
+    bytes: &[u8],
+) -> Result<
+    (
+        [Option<(u64, u64)>; 6],
+        [(usize, (usize, Option<usize>)); 3],
+    ),
+    VerifyError,
+> {
+    let map = ArchivedHashMap::of(access::<HashMapOf<K, V>>(bytes)?);
+    let mut rest = map.iter();
+    let before = (rest.len(), rest.size_hint());
+    let (first, second) = (next_pair(&mut rest), next_pair(&mut rest));
+    let between = (rest.len(), rest.size_hint());
+    let others = [
+        first,
+        second,
+        next_pair(&mut rest),
+        next_pair(&mut rest),
+        next_pair(&mut rest),
+        next_pair(&mut rest),
+    ];
+    Ok((others, [before, between, (rest.len(), rest.size_hint())]))
+}
+
+// The same of keys, with what is left after one of them.
+fn keys_of<K: Element, V: Element>(
+    bytes: &[u8],
+) -> Result<([Option<u64>; 6], (usize, (usize, Option<usize>))), VerifyError> {
+    let map = ArchivedHashMap::of(access::<HashMapOf<K, V>>(bytes)?);
+    let mut rest = map.keys();
+    let first = next_key(&mut rest);
+    let left = (rest.len(), rest.size_hint());
+    let keys = [
+        first,
+        next_key(&mut rest),
+        next_key(&mut rest),
+        next_key(&mut rest),
+        next_key(&mut rest),
+        next_key(&mut rest),
+    ];
+    Ok((keys, left))
+}
+
+// The same of values.
+fn values_of<K: Element, V: Element>(
+    bytes: &[u8],
+) -> Result<([Option<u64>; 6], (usize, (usize, Option<usize>))), VerifyError> {
+    let map = ArchivedHashMap::of(access::<HashMapOf<K, V>>(bytes)?);
+    let mut rest = map.values();
+    let first = next_value(&mut rest);
+    let left = (rest.len(), rest.size_hint());
+    let values = [
+        first,
+        next_value(&mut rest),
+        next_value(&mut rest),
+        next_value(&mut rest),
+        next_value(&mut rest),
+        next_value(&mut rest),
+    ];
+    Ok((values, left))
+}
+
+// How many pairs are found by their own keys, where they stand.
+fn found_by_own_keys(bytes: &[u8]) -> Result<usize, VerifyError> {
+    let map = ArchivedHashMap::of(access::<HashMapOf<i8, i8>>(bytes)?);
+    let mut count = 0usize;
+    for (key, value) in map.iter() {
+        match map.get(&key.to_native()) {
+            Some(found) => {
+                if found.pos() == value.pos() {
+                    count = count.wrapping_add(1);
+                }
+            }
+            None => {}
+        }
+    }
+    Ok(count)
+}
+
+// What the walk over a set gives at its first five asks, and how many are left before and then.
+fn members<K: Element>(
+    bytes: &[u8],
+) -> Result<(usize, [Option<u64>; 5], (usize, Option<usize>)), VerifyError> {
+    let set = ArchivedHashSet::of(access::<HashSetOf<K>>(bytes)?);
+    let mut rest = set.iter();
+    let before = rest.len();
+    let given = [
+        next_key(&mut rest),
+        next_key(&mut rest),
+        next_key(&mut rest),
+        next_key(&mut rest),
+        next_key(&mut rest),
+    ];
+    Ok((before, given, rest.size_hint()))
+}
+
+// The pairs 5 and 6, 7 and 8, 1 and 2, 3 and 4 stand in this order, the first in the last two bytes
+// before the controls.
+#[test]
+fn pairs_are_walked_by_ascending_bucket(rt: HostRuntime) {
+    let bytes = four_pairs();
+    let pairs = pairs_of::<i8, i8>(&bytes).ok();
+    let (a, b, c, d) = ((8, 9), (6, 7), (2, 3), (0, 1));
+    let left = [(4, (4, Some(4))), (2, (2, Some(2))), (0, (0, Some(0)))];
+    assert_eq!(rt;
+        (pairs, found_by_own_keys(&bytes).ok()),
+        (
+            Some(([Some(a), Some(b), Some(c), Some(d), None, None], left)),
+            Some(4)
+        )
+    );
+}
+
+#[test]
+fn keys_and_values_are_walked_by_ascending_bucket(rt: HostRuntime) {
+    let bytes = four_pairs();
+    let keys = keys_of::<i8, i8>(&bytes).ok();
+    let values = values_of::<i8, i8>(&bytes).ok();
+    let left = (3, (3, Some(3)));
+    assert_eq!(rt;
+        (keys, values),
+        (
+            Some(([Some(8), Some(6), Some(2), Some(0), None, None], left)),
+            Some(([Some(9), Some(7), Some(3), Some(1), None, None], left))
+        )
+    );
+}
+
+#[test]
+fn a_walk_over_the_empty_map_gives_nothing(rt: HostRuntime) {
+    let bytes = no_items();
+    let pairs = pairs_of::<i8, i8>(&bytes).ok();
+    let keys = keys_of::<i8, i8>(&bytes).ok();
+    let values = values_of::<i8, i8>(&bytes).ok();
+    let left = (0, (0, Some(0)));
+    assert_eq!(rt;
+        (pairs, keys, values),
+        (
+            Some(([None; 6], [left; 3])),
+            Some(([None; 6], left)),
+            Some(([None; 6], left))
+        )
+    );
+}
+
+#[test]
+fn keys_of_a_set_are_walked_by_ascending_bucket(rt: HostRuntime) {
+    let three = members::<u8>(&three_keys()).ok();
+    let one_unit = members::<()>(&one_unit()).ok();
+    assert_eq!(rt;
+        (three, one_unit),
+        (
+            Some((3, [Some(2), Some(1), Some(0), None, None], (0, Some(0)))),
+            Some((1, [Some(0), None, None, None, None], (0, Some(0))))
+        )
+    );
+}

@@ -1,0 +1,186 @@
+//! What is written of maps and sets, byte for byte.
+
+use crate::tests::answers::{counts, number_of};
+use rkyv_base::archive::Serialize;
+use rkyv_base::element::StandsFor;
+use rkyv_base::errors::WriteError;
+use rkyv_base::root::to_bytes;
+use rkyv_base::width::Narrow;
+use rkyv_base::writer::{NoMemory, VecWriter};
+use rkyv_collections::MapPairs;
+use rkyv_collections::map::ArchivedHashMap;
+use rkyv_collections::map::written::written_maps_stand;
+use rkyv_collections::set::ArchivedHashSet;
+use rkyv_collections::set::written::written_sets_stand;
+use rkyv_keys::keys::{KeyElement, NativeKey};
+use rkyv_scan::hash::FxHasher64;
+use rkyv_testing::archives::{nested, no_items, three_keys};
+use rkyv_testing::written::{is_archived_as, is_then_empty};
+use std::alloc::Global;
+
+type Numbers = ArchivedHashMap<'static, i8, i8, FxHasher64, Narrow>;
+
+// The position that resolves the map of these pairs, written at position 0, where its bytes are
+// these and then so many empty controls.
+fn map_pos(
+    alloc: Global,
+    pairs: &[(i8, i8)],
+    front: &[u8],
+    empty: usize,
+) -> Result<Option<u64>, WriteError<NoMemory>> {
+    let mut writer = VecWriter::new(alloc);
+    let resolver = Numbers::serialize_from_iter::<VecWriter, i8, i8, i8, i8, _>(
+        alloc,
+        pairs.iter().copied(),
+        pairs.len(),
+        (7, 8),
+        &mut writer,
+    )?;
+    if is_then_empty(writer.bytes(), front, empty) {
+        return Ok(Some(resolver.pos()));
+    }
+    Ok(None)
+}
+
+// The same of the set of these keys.
+fn set_pos<
+    K: KeyElement + NativeKey<K> + Serialize<VecWriter, Narrow, Archived = K> + Copy + StandsFor<K>,
+>(
+    alloc: Global,
+    keys: &[K],
+    front: &[u8],
+    empty: usize,
+) -> Result<Option<u64>, WriteError<NoMemory>> {
+    let mut writer = VecWriter::new(alloc);
+    let resolver = ArchivedHashSet::<K, FxHasher64, Narrow>::serialize_from_iter::<
+        VecWriter,
+        K,
+        &K,
+        _,
+    >(alloc, keys.iter(), keys.len(), (7, 8), &mut writer)?;
+    if is_then_empty(writer.bytes(), front, empty) {
+        return Ok(Some(resolver.pos()));
+    }
+    Ok(None)
+}
+
+#[test]
+fn maps_are_written(rt: HostRuntime) {
+    written_maps_stand::<Narrow, FxHasher64, i8, i8, i8, i8>();
+    let alloc = rt.alloc();
+    let one = [1, 2, 0, 0, 0xff, 0x28, 0xff, 0x28];
+    let twice = [0, 0, 1, 9, 1, 2, 0x28, 0x28, 0xff, 0x28, 0x28, 0xff];
+    let four = [
+        3, 4, 1, 2, 0, 0, 7, 8, 5, 6, 0x4b, 0x1d, 0xff, 0x28, 0x7a, 0x4b, 0x1d, 0xff, 0x28, 0x7a,
+    ];
+    let written = [
+        map_pos(alloc, &[(1, 2)], &one, 27).ok(),
+        map_pos(alloc, &[(1, 2), (1, 9)], &twice, 25).ok(),
+        map_pos(alloc, &[(1, 2), (3, 4), (5, 6), (7, 8)], &four, 21).ok(),
+        map_pos(alloc, &[], &[], 0).ok(),
+    ];
+    assert_eq!(rt;
+        written,
+        [Some(Some(4)), Some(Some(6)), Some(Some(10)), Some(Some(0))]
+    );
+}
+
+#[test]
+fn sets_are_written(rt: HostRuntime) {
+    written_sets_stand::<Narrow, FxHasher64, u8, u8>();
+    let alloc = rt.alloc();
+    let three = [3, 2, 1, 0, 0xff, 0x28, 0x51, 0x7a, 0xff, 0x28, 0x51, 0x7a];
+    let written = [
+        set_pos::<()>(alloc, &[()], &[0, 0xff, 0], 28).ok(),
+        set_pos::<u8>(alloc, &[1, 2, 3], &three, 23).ok(),
+        set_pos::<u8>(alloc, &[], &[], 0).ok(),
+    ];
+    assert_eq!(rt; written, [Some(Some(0)), Some(Some(4)), Some(Some(0))]);
+}
+
+// The header of the set of 1, 2 and 3 at position 36, and whether it fits.
+fn set_header(alloc: Global) -> Result<([u8; 12], bool), WriteError<NoMemory>> {
+    let mut writer = VecWriter::new(alloc);
+    let resolver = ArchivedHashSet::<u8, FxHasher64, Narrow>::serialize_from_iter::<
+        VecWriter,
+        u8,
+        u8,
+        _,
+    >(alloc, [1u8, 2, 3].into_iter(), 3, (7, 8), &mut writer)?;
+    let (len, load_factor) = (resolver.len(), resolver.load_factor());
+    let mut header = [0u8; 12];
+    let fits = ArchivedHashSet::<u8, FxHasher64, Narrow>::resolve_from_len(
+        len,
+        load_factor,
+        resolver,
+        36,
+        &mut header,
+    ).is_ok();
+    Ok((header, fits))
+}
+
+#[test]
+fn the_header_of_a_set(rt: HostRuntime) {
+    let mut header = [0; 12];
+    header.copy_from_slice(&three_keys()[36..]);
+    assert_eq!(rt; set_header(rt.alloc()).ok(), Some((header, true)));
+}
+
+// A list of small numbers.
+type Small<'a> = MapPairs<'a, i8, i8>;
+
+#[test]
+fn the_empty_map(rt: HostRuntime) {
+    let list: Small<'_> = MapPairs::new(&[]);
+    let same = is_archived_as(rt.alloc(), &list, &no_items());
+    assert!(rt; same);
+}
+
+// The archive of a list of five pairs, of which two have one key.
+fn archived_list(alloc: Global) -> Option<Vec<u8>> {
+    let list: Small<'_> = MapPairs::new(&[(1, 2), (3, 4), (5, 6), (7, 8), (3, 9)]);
+    to_bytes(alloc, &list).ok()
+}
+
+// The values of three keys in a map.
+fn three_values(bytes: &[u8]) -> [Option<Option<i8>>; 3] {
+    [
+        number_of::<i8, i8, FxHasher64, Narrow, i8>(bytes, &3).ok(),
+        number_of::<i8, i8, FxHasher64, Narrow, i8>(bytes, &7).ok(),
+        number_of::<i8, i8, FxHasher64, Narrow, i8>(bytes, &2).ok(),
+    ]
+}
+
+// The same of that list, and its counts.
+fn list_values(alloc: Global) -> Option<([Option<Option<i8>>; 3], Option<(bool, usize, usize)>)> {
+    let bytes = archived_list(alloc)?;
+    let bytes = bytes.as_slice();
+    Some((
+        three_values(bytes),
+        counts::<i8, i8, FxHasher64, Narrow>(bytes).ok(),
+    ))
+}
+
+#[test]
+fn a_list_is_looked_up(rt: HostRuntime) {
+    assert_eq!(rt;
+        list_values(rt.alloc()),
+        Some((
+            [Some(Some(4)), Some(Some(8)), Some(None)],
+            Some((false, 5, 6))
+        ))
+    );
+}
+
+// Whether the list of one pair, of 1 and the pair 1 and 2, is archived as these bytes.
+fn one_in_one_is(alloc: Global, bytes: &[u8]) -> bool {
+    let inner: Small<'_> = MapPairs::new(&[(1, 2)]);
+    let pairs = [(1i8, inner)];
+    let list: MapPairs<'_, i8, Small<'_>> = MapPairs::new(&pairs);
+    is_archived_as(alloc, &list, bytes)
+}
+
+#[test]
+fn a_map_of_maps(rt: HostRuntime) {
+    assert!(rt; one_in_one_is(rt.alloc(), &nested()));
+}

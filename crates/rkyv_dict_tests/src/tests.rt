@@ -1,0 +1,10 @@
+//! The tests, by what they call.
+
+mod archives;
+mod lines;
+mod numbers;
+mod scripts;
+mod strangers;
+mod streams;
+mod texts;
+mod widths;

@@ -1,0 +1,12 @@
+use Rattle.std.proofs.Common.{◌<◌, ◌∙◌, ap}
+use Rattle.std.specs.Prelude.{IfSome}
+use Rattle.rkyv_table.specs.Table.Header.{len_at}
+use Rattle.rkyv_index.proofs.SealedIndex.{as_read}
+use Rattle.rkyv_index_tests.proofs.tests.sealed.place_of.Goals as goal
+
+pub returns : goal.returns
+returns g c =
+    let bytes = ap (λ v. v.archive.now) c.of.ensures.view ∙ ap (λ a. a.now) c.new.ensures.0 in
+    let place = ap (λ v. v.pos) c.of.ensures.view ∙ c.new.ensures.1 in
+    let w = g.W.Width.word in
+    as_read c.of.result c.args.bytes.now c.args.root bytes place (λ d r. IfSome c.get_index_of.result (λ i. i < len_at w d r)) c.get_index_of.ensures.below

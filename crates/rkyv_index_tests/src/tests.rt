@@ -1,0 +1,12 @@
+//! The tests, by what they call.
+
+mod archives;
+mod changes;
+mod checking;
+mod finders;
+mod interning;
+mod lookups;
+mod reading_back;
+mod sealed;
+mod sets;
+mod writing;

@@ -1,0 +1,52 @@
+//! Index maps of given bytes.
+
+// The map of 1 to 2: the place from 4 on, controls from 8 on, the entry at 39, header at 44.
+pub(crate) fn one_pair() -> [u8; 60] {
+    let mut bytes = [0xff; 60];
+    bytes[..12].copy_from_slice(&[0, 0, 0, 0, 0, 0, 0, 0, 0xff, 0x28, 0xff, 0x28]);
+    bytes[39..45].copy_from_slice(&[1, 2, 0, 0, 0, 0xdc]);
+    bytes[48..57].copy_from_slice(&[1, 0, 0, 0, 2, 0, 0, 0, 0xef]);
+    bytes
+}
+
+// The empty map.
+pub(crate) fn no_pairs() -> [u8; 16] {
+    [1, 0, 0, 0, 0, 0, 0, 0, 0, 0, 0, 0, 0xf4, 0xff, 0xff, 0xff]
+}
+
+// What is written of the set of 1 before its header.
+pub(crate) fn one_key_parts() -> [u8; 40] {
+    let mut bytes = [0xff; 40];
+    bytes[..12].copy_from_slice(&[0, 0, 0, 0, 0, 0, 0, 0, 0xff, 0x28, 0xff, 0x28]);
+    bytes[39] = 1;
+    bytes
+}
+
+// The wide map of 1 to 2: the place from 8 on, controls from 16 on, the entry at 47, header at 56.
+pub(crate) fn wide_pair() -> [u8; 88] {
+    let mut bytes = [0xff; 88];
+    bytes[..16].copy_from_slice(&[0; 16]);
+    bytes[16..20].copy_from_slice(&[0xff, 0x28, 0xff, 0x28]);
+    bytes[47..57].copy_from_slice(&[1, 2, 0, 0, 0, 0, 0, 0, 0, 0xd8]);
+    bytes[64..81].copy_from_slice(&[1, 0, 0, 0, 0, 0, 0, 0, 2, 0, 0, 0, 0, 0, 0, 0, 0xdf]);
+    bytes
+}
+
+// The empty wide map.
+pub(crate) fn no_wide_pairs() -> [u8; 32] {
+    let mut bytes = [0; 32];
+    bytes[0] = 1;
+    bytes[24..].copy_from_slice(&[0xe8, 0xff, 0xff, 0xff, 0xff, 0xff, 0xff, 0xff]);
+    bytes
+}
+
+// The map of 1 to 2 and 1 to 9: places from 0 on, controls from 12 on, entries from 43 on, header
+// at 48.
+pub(crate) fn one_key_twice() -> [u8; 64] {
+    let mut bytes = [0xff; 64];
+    bytes[..12].copy_from_slice(&[0, 0, 0, 0, 1, 0, 0, 0, 0, 0, 0, 0]);
+    bytes[12..18].copy_from_slice(&[0x28, 0x28, 0xff, 0x28, 0x28, 0xff]);
+    bytes[43..49].copy_from_slice(&[1, 2, 1, 9, 0, 0xdc]);
+    bytes[52..61].copy_from_slice(&[2, 0, 0, 0, 3, 0, 0, 0, 0xef]);
+    bytes
+}

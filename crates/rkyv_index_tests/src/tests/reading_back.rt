@@ -1,0 +1,97 @@
+//! Index maps and index sets that are read back into lists.
+
+use crate::tests::archives::{no_pairs, one_key_twice, wide_pair};
+use rkyv_base::access::{access, access_in};
+use rkyv_base::root::to_bytes;
+use rkyv_base::width::{Narrow, Wide, Width};
+use rkyv_index::round_trip::{items_come_back, pairs_come_back};
+use rkyv_index::{
+    ArchivedIndexMap, ArchivedIndexSet, IndexMapOf, IndexSetOf, OrderedItems, OrderedPairs,
+};
+use rkyv_scan::hash::FxHasher64;
+use rkyv_testing::archives::{four_entries, one_index_key};
+use std::alloc::Global;
+use std::test::Fail;
+
+// The pairs in the archive of an index map, where it is accepted and memory is there.
+fn read<W: Width>(alloc: Global, bytes: &[u8]) -> Option<Vec<(i8, i8)>> {
+    match access_in::<W, IndexMapOf<i8, i8, FxHasher64, W>>(bytes) {
+        Ok(root) => ArchivedIndexMap::of(root).deserialize_pairs(alloc).ok(),
+        Err(_) => None,
+    }
+}
+
+// Whether these are the pairs that are read.
+fn is_read<W: Width>(alloc: Global, bytes: &[u8], pairs: &[(i8, i8)]) -> bool {
+    match read::<W>(alloc, bytes) {
+        Some(list) => list.as_slice() == pairs,
+        None => false,
+    }
+}
+
+#[test]
+fn pairs_are_read_back_in_their_order(rt: HostRuntime) {
+    let alloc = rt.alloc();
+    let read = [
+        is_read::<Narrow>(alloc, &four_entries(), &[(1, 2), (3, 4), (5, 6), (7, 8)]),
+        is_read::<Narrow>(alloc, &one_key_twice(), &[(1, 2), (1, 9)]),
+        is_read::<Narrow>(alloc, &no_pairs(), &[]),
+        is_read::<Wide>(alloc, &wide_pair(), &[(1, 2)]),
+        is_read::<Narrow>(alloc, &four_entries(), &[(1, 2), (3, 4), (7, 8), (5, 6)]),
+    ];
+    assert_eq!(rt; read, [true, true, true, true, false]);
+}
+
+// The items in the archive of an index set, where it is accepted and memory is there.
+fn items(alloc: Global, bytes: &[u8]) -> Option<Vec<i8>> {
+    match access::<IndexSetOf<i8>>(bytes) {
+        Ok(root) => ArchivedIndexSet::of(root).deserialize_items(alloc).ok(),
+        Err(_) => None,
+    }
+}
+
+// Whether these are the items that are read.
+fn are_items(alloc: Global, bytes: &[u8], expected: &[i8]) -> bool {
+    match items(alloc, bytes) {
+        Some(list) => list.as_slice() == expected,
+        None => false,
+    }
+}
+
+#[test]
+fn items_are_read_back_in_their_order(rt: HostRuntime) -> Result<(), Fail> {
+    let alloc = rt.alloc();
+    let written = to_bytes(alloc, &OrderedItems(vec![in alloc; 4i8, 1, 3]?))?;
+    let read = [
+        are_items(alloc, written.as_slice(), &[4, 1, 3]),
+        are_items(alloc, &one_index_key(), &[1]),
+        are_items(alloc, &no_pairs(), &[]),
+        are_items(alloc, written.as_slice(), &[1, 3, 4]),
+    ];
+    assert_eq!(rt; read, [true, true, true, false]);
+    Ok(())
+}
+
+// Whether the list of these names comes back through a wide archive.
+fn names_come_back(alloc: Global, first: &str, second: &str) -> Option<bool> {
+    let first = String::from_str(alloc, first).ok()?;
+    let second = String::from_str(alloc, second).ok()?;
+    let names = OrderedItems(vec![in alloc; first, second].ok()?);
+    items_come_back::<Wide, String>(alloc, &names).ok()
+}
+
+// Whether a list of pairs, of which two have one key, comes back through a narrow archive.
+fn numbers_come_back(alloc: Global) -> Option<bool> {
+    let pairs = OrderedPairs(vec![in alloc; (3i8, 4i8), (1, 2), (3, 5)].ok()?);
+    pairs_come_back::<Narrow, i8, i8>(alloc, &pairs).ok()
+}
+
+#[test]
+fn lists_come_back(rt: HostRuntime) {
+    let alloc = rt.alloc();
+    let back = [
+        names_come_back(alloc, "main", "a name of more than eight bytes"),
+        numbers_come_back(alloc),
+    ];
+    assert_eq!(rt; back, [Some(true); 2]);
+}

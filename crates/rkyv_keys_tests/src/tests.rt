@@ -1,0 +1,8 @@
+//! The tests, by what they call.
+
+mod elements;
+mod equality;
+mod hashing;
+mod own;
+mod queries;
+mod written;

@@ -1,0 +1,19 @@
+//! The tests, by what they call.
+
+mod archives;
+mod asks;
+mod changes;
+mod finders;
+mod headers;
+mod in_place;
+mod lookups;
+mod misplaced;
+mod nested;
+mod reading;
+mod refusals;
+mod sealed;
+mod strangers;
+mod walks;
+mod wide;
+mod writers;
+mod writing;

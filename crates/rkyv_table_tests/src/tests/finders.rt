@@ -1,0 +1,145 @@
+//! Finders: many lookups in one table, none of which divides.
+
+use crate::tests::archives::{SIXTEEN, archived};
+use rkyv_base::access::access_in;
+use rkyv_base::errors::VerifyError;
+use rkyv_base::width::{Narrow, Wide, Width};
+use rkyv_table::controls::find::Strides;
+use rkyv_table::controls::reciprocal::Reciprocal;
+use rkyv_table::table::{ArchivedHashTable, TableOf};
+use std::test::Fail;
+
+// One bucket, in which no item stands.
+const ONE_BUCKET: [u8; 44] = [
+    0x00, 0xff, 0xff, 0xff, 0xff, 0xff, 0xff, 0xff, 0xff, 0xff, 0xff, 0xff, 0xff, 0xff, 0xff, 0xff,
+    0xff, 0xff, 0xff, 0xff, 0xff, 0xff, 0xff, 0xff, 0xff, 0xff, 0xff, 0xff, 0xff, 0xff, 0xff, 0xff,
+    0xe1, 0xff, 0xff, 0xff, 0x00, 0x00, 0x00, 0x00, 0x01, 0x00, 0x00, 0x00,
+];
+
+// The number 7 under the hash 1, in a wide archive.
+const WIDE_SEVEN: [u8; 64] = [
+    0x07, 0x00, 0xff, 0x00, 0xff, 0x00, 0xff, 0xff, 0xff, 0xff, 0xff, 0xff, 0xff, 0xff, 0xff, 0xff,
+    0xff, 0xff, 0xff, 0xff, 0xff, 0xff, 0xff, 0xff, 0xff, 0xff, 0xff, 0xff, 0xff, 0xff, 0xff, 0xff,
+    0xff, 0x00, 0x00, 0x00, 0x00, 0x00, 0x00, 0x00, 0xda, 0xff, 0xff, 0xff, 0xff, 0xff, 0xff, 0xff,
+    0x01, 0x00, 0x00, 0x00, 0x00, 0x00, 0x00, 0x00, 0x02, 0x00, 0x00, 0x00, 0x00, 0x00, 0x00, 0x00,
+];
+
+// The number that is found under a hash where this one is accepted, and the strides that are read.
+fn counted<W: Width>(
+    bytes: &[u8],
+    hash: u64,
+    wanted: u8,
+) -> Result<(Option<u8>, u64), VerifyError> {
+    let finder = ArchivedHashTable::of(access_in::<W, TableOf<u8, W>>(bytes)?).finder();
+    let mut strides = Strides::new();
+    match finder.get_counted(hash, |item| item.to_native() == wanted, &mut strides) {
+        Some(item) => Ok((Some(item.to_native()), strides.count())),
+        None => Ok((None, strides.count())),
+    }
+}
+
+// The number alone, and where it stands.
+fn viewed_and_placed(
+    bytes: &[u8],
+    hash: u64,
+    wanted: u8,
+) -> Result<(Option<u8>, Option<u64>), VerifyError> {
+    let finder = ArchivedHashTable::of(access_in::<Narrow, TableOf<u8>>(bytes)?).finder();
+    let place = finder.get_pos_with(hash, |item| item.to_native() == wanted);
+    match finder.get_with(hash, |item| item.to_native() == wanted) {
+        Some(item) => Ok((Some(item.to_native()), place)),
+        None => Ok((None, place)),
+    }
+}
+
+#[test]
+fn the_rest_of_a_division(rt: HostRuntime) {
+    let rests = [
+        Reciprocal::new(1).rest(u64::MAX),
+        Reciprocal::new(3).rest(u64::MAX),
+        Reciprocal::new(5).rest(5),
+        Reciprocal::new(7).rest(6),
+        Reciprocal::new(10).rest(u64::MAX),
+        Reciprocal::new(1 << 63).rest(u64::MAX),
+        Reciprocal::new(u64::MAX).rest(u64::MAX - 1),
+        Reciprocal::new(u64::MAX).rest(u64::MAX),
+    ];
+    assert_eq!(rt;
+        rests,
+        [
+            0,
+            0,
+            0,
+            6,
+            5,
+            9_223_372_036_854_775_807,
+            18_446_744_073_709_551_614,
+            0
+        ]
+    );
+}
+
+// Of seventeen buckets the last one has the first item, and the first fifteen have the others.
+#[test]
+fn a_finder_finds_what_is_there(rt: HostRuntime) -> Result<(), Fail> {
+    let bytes = archived(rt.alloc(), &SIXTEEN, &[16; 16], (1, 1))?;
+    let bytes = bytes.as_slice();
+    let counted = [
+        counted::<Narrow>(bytes, 16, 1).ok(),
+        counted::<Narrow>(bytes, 16, 16).ok(),
+        counted::<Narrow>(bytes, 16, 17).ok(),
+        counted::<Narrow>(bytes, 0, 1).ok(),
+        counted::<Narrow>(bytes, 33, 1).ok(),
+    ];
+    let placed = [
+        viewed_and_placed(bytes, 16, 1).ok(),
+        viewed_and_placed(bytes, 16, 2).ok(),
+        viewed_and_placed(bytes, 16, 17).ok(),
+    ];
+    assert_eq!(rt;
+        (counted, placed),
+        (
+            [
+                Some((Some(1), 1)),
+                Some((Some(16), 1)),
+                Some((None, 2)),
+                Some((None, 1)),
+                Some((Some(1), 1))
+            ],
+            [
+                Some((Some(1), Some(0))),
+                Some((Some(2), Some(16))),
+                Some((None, None))
+            ]
+        )
+    );
+    Ok(())
+}
+
+#[test]
+fn a_finder_of_no_items_reads_nothing(rt: HostRuntime) -> Result<(), Fail> {
+    let bytes = archived::<u8>(rt.alloc(), &[], &[], (7, 8))?;
+    let bytes = bytes.as_slice();
+    let counted = [
+        counted::<Narrow>(bytes, 3, 0).ok(),
+        counted::<Narrow>(&ONE_BUCKET, 3, 0).ok(),
+    ];
+    assert_eq!(rt;
+        (counted, viewed_and_placed(bytes, 3, 0).ok()),
+        ([Some((None, 0)); 2], Some((None, None)))
+    );
+    Ok(())
+}
+
+#[test]
+fn a_finder_in_a_wide_archive(rt: HostRuntime) {
+    let counted = [
+        counted::<Wide>(&WIDE_SEVEN, 1, 7).ok(),
+        counted::<Wide>(&WIDE_SEVEN, 0, 7).ok(),
+        counted::<Wide>(&WIDE_SEVEN, 1, 8).ok(),
+    ];
+    assert_eq!(rt;
+        counted,
+        [Some((Some(7), 1)), Some((Some(7), 1)), Some((None, 1))]
+    );
+}

@@ -1,0 +1,71 @@
+//! Each item of a table set in place, by a cursor over the bare bytes: proved for every scalar and
+//! both widths, and run over numbers.
+ghost use Rattle.rkyv_base.specs.Scalar.{scalar_shape};
+ghost use Rattle.rkyv_base.specs.Seal.{LiesIn, SealStays, bytes_in, seal_pos};
+ghost use Rattle.rkyv_base.specs.Sealing.{Keeps, Sealed};
+ghost use Rattle.rkyv_base.specs.Shape.{Viewed};
+ghost use Rattle.rkyv_table.specs.Table.Layout.{table_shape};
+ghost use Rattle.std.specs.Int.{byte_len};
+
+use crate::tests::archives::two_archived;
+use rkyv_base::access::access;
+use rkyv_base::errors::VerifyError;
+use rkyv_base::scalars::Scalar;
+use rkyv_base::seal::Seal;
+use rkyv_base::width::{Narrow, Width};
+use rkyv_table::table::{ArchivedHashTable, TableOf};
+
+// Sets each item of a table: it is still one.
+fn set_all<N: Scalar, W: Width>(archive: &mut [u8], pos: u64, value: N)
+    requires { Viewed (table_shape W.word (scalar_shape N.encoding)) archive.old pos }
+    ensures { Viewed (table_shape W.word (scalar_shape N.encoding)) archive.new pos }
+{
+    let mut rest = ArchivedHashTable::<N, W>::raw_iter_over(archive, pos);
+    while let Some(next) = rest.next_pos() {
+        rest.set_at(next, value);
+    }
+}
+
+// Sets each item of a table, by seals: it is still one.
+fn set_all_by_seals<N: Scalar, W: Width>(archive: &mut [u8], pos: u64, value: N)
+    requires { Viewed (table_shape W.word (scalar_shape N.encoding)) archive.old pos }
+    ensures { Viewed (table_shape W.word (scalar_shape N.encoding)) archive.new pos }
+{
+    let mut rest = ArchivedHashTable::<N, W>::raw_iter_over(archive, pos);
+    for _ in 0..rest.len() {
+        rest.next_seal_with(
+            |seal: &mut Seal<'_, N>|
+                requires { LiesIn (scalar_shape N.encoding) seal.old }
+                ensures stays { SealStays seal.old seal.new }
+                ensures sealed { Sealed (bytes_in seal.old) (seal_pos seal.old)
+                    (byte_len N.encoding.word) (bytes_in seal.new) }
+                ensures holds { Keeps (scalar_shape N.encoding) (bytes_in seal.old)
+                    (bytes_in seal.new) (seal_pos seal.old) }
+            {
+                seal.set(value);
+            },
+        );
+    }
+}
+
+// Sets each number of an archived table to 7, and then by seals to 9: the bytes after each.
+fn set_twice(bytes: &mut [u8; 48]) -> Result<([u8; 48], [u8; 48]), VerifyError> {
+    let pos = access::<TableOf<u8>>(bytes)?.pos();
+    set_all::<u8, Narrow>(bytes, pos, 7);
+    let first = *bytes;
+    set_all_by_seals::<u8, Narrow>(bytes, pos, 9);
+    Ok((first, *bytes))
+}
+
+#[test]
+fn each_item_is_set(rt: HostRuntime) {
+    let mut bytes = two_archived();
+    let written = set_twice(&mut bytes).ok();
+    let mut sevens = two_archived();
+    sevens[0] = 7;
+    sevens[2] = 7;
+    let mut nines = two_archived();
+    nines[0] = 9;
+    nines[2] = 9;
+    assert_eq!(rt; written, Some((sevens, nines)));
+}

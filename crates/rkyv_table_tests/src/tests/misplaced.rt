@@ -1,0 +1,72 @@
+//! Items that a lookup of their own doesn't answer.
+
+use crate::tests::archives::{hash_of_i8, hash_of_u32, two_archived};
+use rkyv_base::access::access;
+use rkyv_base::entry::Entry;
+use rkyv_base::errors::VerifyError;
+use rkyv_table::table::{ArchivedHashTable, TableOf};
+use rkyv_testing::archives::{four_pairs, no_items, one_key_twice, one_number, two_units};
+
+// How many pairs of a table are misplaced, each of which is told by its key.
+fn misplaced_small(bytes: &[u8]) -> Result<usize, VerifyError> {
+    let table = ArchivedHashTable::of(access::<TableOf<Entry<i8, i8>>>(bytes)?);
+    Ok(table.misplaced_by(
+        |pair| hash_of_i8(pair.key().to_native()),
+        |own, other| own.key().to_native() == other.key().to_native(),
+    ))
+}
+
+fn misplaced(bytes: &[u8]) -> Result<usize, VerifyError> {
+    let table = ArchivedHashTable::of(access::<TableOf<Entry<u32, u32>>>(bytes)?);
+    Ok(table.misplaced_by(
+        |pair| hash_of_u32(pair.key().to_native()),
+        |own, other| own.key().to_native() == other.key().to_native(),
+    ))
+}
+
+#[test]
+fn pairs_that_were_written_are_in_their_places(rt: HostRuntime) {
+    let misplaced = [
+        misplaced_small(&four_pairs()).ok(),
+        misplaced(&one_number()).ok(),
+        misplaced_small(&no_items()).ok(),
+    ];
+    assert_eq!(rt; misplaced, [Some(0); 3]);
+}
+
+#[test]
+fn a_repeated_key_is_misplaced(rt: HostRuntime) {
+    assert_eq!(rt; misplaced_small(&one_key_twice()).ok(), Some(1));
+}
+
+// How many units of a table are misplaced, where each is the same as each.
+fn misplaced_units(bytes: &[u8]) -> Result<usize, VerifyError> {
+    let table = ArchivedHashTable::of(access::<TableOf<()>>(bytes)?);
+    Ok(table.misplaced_by(|_| 0, |_, _| true))
+}
+
+#[test]
+fn items_of_no_bytes_are_told_by_their_buckets(rt: HostRuntime) {
+    assert_eq!(rt; misplaced_units(&two_units()).ok(), Some(1));
+}
+
+#[test]
+fn a_changed_key_is_misplaced(rt: HostRuntime) {
+    let mut bytes = one_number();
+    bytes[0] = 5;
+    assert_eq!(rt; misplaced(&bytes).ok(), Some(1));
+}
+
+// How many numbers are misplaced under the hash 2, where each is the same as those that aren't
+// less, and where it is the same as those that aren't greater.
+fn misplaced_by_order(bytes: &[u8]) -> Result<(usize, usize), VerifyError> {
+    let table = ArchivedHashTable::of(access::<TableOf<u8>>(bytes)?);
+    let by_less = table.misplaced_by(|_| 2, |own, other| own.to_native() <= other.to_native());
+    let by_more = table.misplaced_by(|_| 2, |own, other| own.to_native() >= other.to_native());
+    Ok((by_less, by_more))
+}
+
+#[test]
+fn the_own_item_is_asked_of_first(rt: HostRuntime) {
+    assert_eq!(rt; misplaced_by_order(&two_archived()).ok(), Some((0, 1)));
+}

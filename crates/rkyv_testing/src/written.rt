@@ -1,0 +1,37 @@
+//! Whether bytes are what should be written.
+
+use rkyv_base::archive::Serialize;
+use rkyv_base::root::to_bytes;
+use rkyv_base::width::Narrow;
+use rkyv_base::writer::VecWriter;
+use std::alloc::Global;
+
+/// Whether a value is archived as these bytes.
+pub fn is_archived_as<V: Serialize<VecWriter, Narrow>>(
+    alloc: Global,
+    value: &V,
+    bytes: &[u8],
+) -> bool {
+    match to_bytes(alloc, value) {
+        Ok(archive) => archive.as_slice() == bytes,
+        Err(_) => false,
+    }
+}
+
+// Whether each of these controls is empty.
+fn are_empty(controls: &[u8]) -> bool {
+    for control in controls {
+        if *control != 0xff {
+            return false;
+        }
+    }
+    true
+}
+
+/// Whether the bytes are these, and then so many empty controls.
+pub fn is_then_empty(bytes: &[u8], front: &[u8], empty: usize) -> bool {
+    match bytes.split_at_checked(front.len()) {
+        Some((first, others)) => first == front && others.len() == empty && are_empty(others),
+        None => false,
+    }
+}
