@@ -9,6 +9,12 @@ use crate::width::Width;
 use crate::writer::Writer;
 use std::alloc::Global;
 
+/// What resolving answers.
+pub type ResolveResult = Result<(), DistanceTooLarge>;
+
+/// What writing an R into a writer S answers.
+pub type WriteResult<R, S> = Result<R, WriteError<<S as Writer>::Fault>>;
+
 /// A type whose values are archived as values of an element, in archives of the width W.
 pub trait Archive<W: Width> {
     /// What its values are in an archive.

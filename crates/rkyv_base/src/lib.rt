@@ -30,7 +30,7 @@ pub use access::{
     access_in, access_mut, access_mut_in, access_mut_with, access_mut_with_in, access_unchecked,
 };
 pub use adapter::EntryAdapter;
-pub use archive::{Archive, Serialize};
+pub use archive::{Archive, ResolveResult, Serialize, WriteResult};
 pub use element::{Element, PartRange, StandsFor};
 pub use entry::{Entry, LARGEST, value_offset, whole_size};
 pub use errors::{DistanceTooLarge, IteratorLengthMismatch, ReadError, VerifyError, WriteError};

@@ -29,7 +29,7 @@ use Rattle.rkyv_table.specs.Table.Reading.{table_controls}
 use Rattle.rkyv_table.specs.Table.Taking.{hashes_of, items_of}
 use Rattle.rkyv_table.specs.Table.WalkLaws.{VisitsHomes, WalkVisitsHomes}
 use Rattle.rkyv_table.specs.Table.WrittenTables.{StandingWereWritten}
-use Rattle.rkyv_table.proofs.Walks.{walk_none}
+use Rattle.rkyv_table.proofs.WalkedHomes.{none_visits}
 use Rattle.rkyv_table.specs.Table.TableFormat.{TableResolver, TableStands, resolved_capacity, table_format}
 use Rattle.rkyv_headline.specs.Listing.{ListBytes, ListLost, ListsStand, NoList, SeesList, StandsList, VisitsItems, WroteList}
 use Rattle.rkyv_headline.specs.Seeing.{NotSeen, SeesTable}
@@ -92,15 +92,6 @@ appended_sits o o' x from a =
     let all : Sits b 0 b = record { inside = omega arith; there = rw k (take_all (length b) b (omega arith)) } in
     let at : 0 + length o.bytes ≡ end_of o = omega (arith, from) in
     subst (λ (c : List ℕ). Sits c (end_of o) x) (sym a.bytes) (subst (λ q. Sits b q x) at (sits_back b 0 o.bytes x all))
-
-none_visits : (controls : List ℕ) → VisitsHomes 0 [] controls
-unfolding IsDistinct
-none_visits controls = record {
-  members = λ bucket. subst (λ (xs : List ℕ). Contains xs bucket ↔ Contains [] bucket) (sym (walk_none controls)) (λ h. h, λ h. h);
-  ascending = subst (AllPairs (λ a b. a < b)) (sym (walk_none controls)) (λ i j d less below. absurd (omega arith));
-  once = tt;
-  count = ap length (walk_none controls);
-}
 
 module _ {X : Type 0} (w : Width) (s : Shape) (stands : List ℕ → ℕ → X → Type 0) (load_factor : ℕ × ℕ) (were : StandingWereWritten w s stands load_factor) (visits : WalkVisitsHomes) where
   -- the walk over a table that stands

@@ -1,5 +1,5 @@
 -- Steps of looking over a table.
-use Rattle.std.proofs.Common.{◌≡◌, ℕ, ◌+◌, ◌*◌, ◌/◌, ◌%◌, ◌≤◌, ◌∙◌, sym, ap, subst, arith, Bool, List, length, map, Option, Some, None}
+use Rattle.std.proofs.Common.{◌≡◌, ℕ, ◌+◌, ◌*◌, ◌/◌, ◌%◌, ◌≤◌, ◌∙◌, refl, sym, ap, subst, arith, Bool, true, List, length, map, Option, Some, None}
 use Rattle.std.specs.Prelude.{IfSome}
 use Rattle.std.specs.Int.{Width, byte_len}
 use Rattle.std.specs.List.{All, Contains}
@@ -17,8 +17,9 @@ use Rattle.rkyv_table.specs.Lemmas.TableLaws.{table_element}
 use Rattle.rkyv_table.specs.Table.Bare.{AcceptedOf, LooksUp, ReadsExactly}
 use Rattle.rkyv_table.specs.Table.Header.{cap_at, len_at}
 use Rattle.rkyv_table.specs.Table.Layout.{table_shape}
-use Rattle.rkyv_table.specs.Table.Reading.{CountsWithin, item_at, item_positions, table_controls}
+use Rattle.rkyv_table.specs.Table.Reading.{CountsWithin, FindsFirst, FindsFound, IsItem, item_at, item_positions, pos_of_found, table_controls}
 use Rattle.rkyv_table.specs.declared.table.ArchivedHashTable.{ArchivedHashTable}
+use Rattle.rkyv_table.proofs.Bare.{looks_up_none, looks_up_some}
 use Rattle.rkyv_table.proofs.RawWalks.{places_count, places_viewed}
 use Rattle.rkyv_table.proofs.Walks.{full_walked}
 use Rattle.rkyv_headline.specs.Seeing.{ReadsFew, SeesTable}
@@ -62,6 +63,13 @@ module _ {T : Type 0} (post : View T → Bool → Type 0) (w : Width) (s : Shape
     reads = reads;
     exact = exact;
   }
+
+-- what a lookup answers in the table it answers in the bytes
+pub looks_found : {T W : Type 0} (post : View T → Bool → Type 0) (w : Width) (s : Shape) (b : List ℕ) (p : ℕ) (t : ArchivedHashTable T W) → t.view.archive.now ≡ b → t.view.pos ≡ p
+    → (hash : ℕ) (found : Option (View T)) → IfSome found (IsItem w s t) → IfSome found (λ v. post v true) → FindsFound post generic_kind w s t hash (pos_of_found found)
+    → FindsFirst post w s t hash (pos_of_found found) → LooksUp post generic_kind w s b p hash (pos_of_found found)
+looks_found post w s b p t bytes place hash None walked accepted answer first = looks_up_none w s b p t bytes place post generic_kind hash answer first
+looks_found post w s b p t bytes place hash (Some v) walked accepted answer first = looks_up_some w s b p t bytes place post generic_kind hash v.pos answer first (v, walked, refl, accepted)
 
 -- what a lookup reads of the table it reads of the bytes
 pub few_read : {T W : Type 0} (w : Width) (b : List ℕ) (p : ℕ) (t : ArchivedHashTable T W) → t.view.archive.now ≡ b → t.view.pos ≡ p

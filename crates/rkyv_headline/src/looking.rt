@@ -6,7 +6,7 @@ ghost use Rattle.rkyv_base.specs.Shape.{Viewed};
 ghost use Rattle.rkyv_scan.specs.Groups.{generic_kind};
 ghost use Rattle.rkyv_table.specs.Table.Bare.{LooksUp, MayAskOf, ReadsExactly};
 ghost use Rattle.rkyv_table.specs.Table.Layout.{table_shape};
-ghost use Rattle.rkyv_table.specs.Table.Reading.{item_positions};
+ghost use Rattle.rkyv_table.specs.Table.Reading.{item_positions, pos_of_found};
 ghost use Rattle.rkyv_headline.specs.Seeing.{NotSeen, ReadsFew, Sees};
 
 use rkyv_base::element::{Element, PartRange};
@@ -60,6 +60,16 @@ fn walk<W: Width, T: Element>(alloc: Global, bytes: &[u8], pos: u64) -> Result<V
     Ok(walked)
 }
 
+// Where an item stands that may have been found.
+fn found_pos<T: Element>(found: Option<View<'_, T>>) -> Option<u64>
+    ensures { result ≡ pos_of_found found.entry }
+{
+    match found {
+        Some(item) => Some(item.pos()),
+        None => None,
+    }
+}
+
 // What a lookup in the table at `pos` answers, and how many strides it reads.
 fn look_up<W: Width, T: Element, F: Fn(View<'_, T>) -> bool>(
     bytes: &[u8],
@@ -77,15 +87,10 @@ fn look_up<W: Width, T: Element, F: Fn(View<'_, T>) -> bool>(
 {
     let table = ArchivedHashTable::<T, W>::of(View::new(bytes, pos));
     let mut strides = Strides::new();
-    match table.get_counted(hash, cmp, &mut strides) {
-        Some(item) => Answer {
-            found: Some(item.pos()),
-            strides: strides.count(),
-        },
-        None => Answer {
-            found: None,
-            strides: strides.count(),
-        },
+    let found = found_pos(table.get_counted(hash, cmp, &mut strides));
+    Answer {
+        found,
+        strides: strides.count(),
     }
 }
 

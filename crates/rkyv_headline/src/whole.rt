@@ -88,14 +88,8 @@ pub fn write_and_look_over<
         (held serializer.old) (held serializer.new)) }
 {
     let begin = serializer.pos();
-    let at = match write_list::<W, VecWriter, U, X, I, J>(
-        alloc,
-        items,
-        hashes,
-        len,
-        load_factor,
-        serializer,
-    ) {
+    let wrote = write_list::<W, _, U, _, _, _>(alloc, items, hashes, len, load_factor, serializer);
+    let at = match wrote {
         Ok(at) => at,
         Err(e) => return Err(Lost::Write(e)),
     };

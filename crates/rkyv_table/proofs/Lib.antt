@@ -1,3 +1,4 @@
+pub mod Moved
 pub mod Triangle
 pub mod Lists
 pub mod Modulus
@@ -35,12 +36,14 @@ pub mod Bare
 pub mod WalkedHomes
 pub mod TableNear
 pub mod SealedLookup
+pub mod PairSeals
 pub mod SealedItems
 pub mod MisplacedIn
 pub mod RawSteps
 pub mod ItemSteps
 pub mod WholeStride
 pub mod HalvesFound
+pub mod FoundItems
 pub mod Listing
 pub mod Through
 pub mod UnitItems

@@ -1,12 +1,13 @@
 -- Lists made by `filter`, `map` and `range_with_len`: membership, distinctness, and the first that passes.
-use Rattle.std.proofs.Common.{◌≡◌, ℕ, zero, suc, ◌+◌, ◌<◌, ◌≤◌, inl, inr, refl, sym, ap, ◌∙◌, arith, List, [], ◌∷◌, Bool, true, false, ◌&&◌, ◌||◌, eqb, map, filter, Some, None}
+use Rattle.std.proofs.Common.{◌≡◌, ◌≢◌, ℕ, zero, suc, ◌+◌, ◌<◌, ◌≤◌, inl, inr, refl, sym, ap, subst, ◌∙◌, arith, List, [], ◌∷◌, Bool, true, false, ◌&&◌, ◌||◌, eqb, filter, get_or, length, map, Some, None}
+use Rattle.std.specs.Prelude.{slice_get, slice_set}
 use Rattle.std.specs.List.{list_any, Contains, find, range_with_len, flat_map, IsDistinct, AllByRecursion}
 use Rattle.std.specs.Option.{option_map}
-use Rattle.std.proofs.lemmas.List.{get_or_default}
+use Rattle.std.proofs.lemmas.List.{get_or_default, get_or-set_other, get_or-set_same, length-set}
 use Rattle.std.proofs.lemmas.List.FromFn.{length-range_with_len, get_or-range_with_len, length-map-range_with_len, get_or-map-range_with_len}
 use Rattle.std.proofs.lemmas.List.Folds.{list_any-append, list_any_at, Any-from_list_any}
 use Rattle.std.proofs.lemmas.Bool.{cases_eq, cases_Bool, eqb-true, eq-eqb, ne_eqb, or_parts, or_left, or_right, or_from, false≢true}
-use Rattle.std.proofs.lemmas.Option.{none-some, same_Some}
+use Rattle.std.proofs.lemmas.Option.{get_or_from_slice_get, none-some, same_Some, slice_get-get_or, slice_get_within}
 use Rattle.std.proofs.lemmas.Map.Keys.{IsDistinct-from_apart}
 
 -- ---- membership
@@ -174,3 +175,18 @@ range_first P a (suc n) q f = elim (cases_eq a q) [
       let t = f.no a (omega arith) (omega arith) in
       rw t (range_first P (a + 1) n q (record { from = omega arith; to = omega arith; yes = f.yes; no = λ i l u. f.no i (omega arith) u }))
 ]
+
+-- of a list of which one item is set, what holds of the new item and of all others holds of each
+pub set_each : {X : Type 0} (P : ℕ → X → Type 0) (xs : List X) (n : ℕ) (y : X) → n < length xs → P n y → ((j : ℕ) (x : X) → slice_get xs j ≡ Some x → j ≢ n → P j x)
+    → (j : ℕ) (x : X) → slice_get (slice_set xs n y) j ≡ Some x → P j x
+set_each P xs n y inside own others j x e =
+    let h : j < length xs = omega (arith, slice_get_within (slice_set xs n y) j x e, length-set xs n y) in
+    let is : get_or (slice_set xs n y) j x ≡ x = get_or_from_slice_get (slice_set xs n y) j x x e in
+    elim (cases_eq j n) [
+      | inl same ↦
+          let one : y ≡ x = sym (get_or-set_same xs n y x inside) ∙ ap (λ m. get_or (slice_set xs n y) m x) (sym same) ∙ is in
+          subst (λ m. P m x) (sym same) (subst (P n) one own)
+      | inr ne ↦
+          let one : get_or xs j x ≡ x = sym (get_or-set_other xs n j y x ne) ∙ is in
+          others j x (slice_get-get_or xs j x h ∙ ap Some one) ne
+    ]

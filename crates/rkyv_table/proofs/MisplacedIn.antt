@@ -1,11 +1,11 @@
 -- The steps of counting misplaced items.
-use Rattle.std.proofs.Common.{◌≡◌, ℕ, suc, refl, ap, subst, ◌∙◌, List, ◌∷◌, Bool, true, false, not, length, filter, Option}
+use Rattle.std.proofs.Common.{◌≡◌, ℕ, suc, ◌+◌, refl, sym, ap, subst, ◌∙◌, arith, List, ◌∷◌, Bool, true, false, not, length, filter, Option}
 use Rattle.std.specs.Int.{Width}
 use Rattle.rkyv_base.specs.Shape.{Shape}
 use Rattle.rkyv_base.specs.declared.view.View.{View}
 use Rattle.rkyv_scan.specs.Groups.{Kind}
 use Rattle.rkyv_table.specs.Table.Misplaced.{is_answer}
-use Rattle.rkyv_table.specs.Table.MisplacedIn.{ComparesAs, FindsOwn, HashesAs, bucket_misplaced}
+use Rattle.rkyv_table.specs.Table.MisplacedIn.{ComparesAs, FindsOwn, HashesAs, bucket_misplaced, table_misplaced}
 use Rattle.rkyv_table.specs.Table.Reading.{IsItemIn, bucket_found, item_at, table_bytes, table_pos}
 use Rattle.rkyv_table.specs.declared.table.ArchivedHashTable.{ArchivedHashTable}
 
@@ -26,3 +26,27 @@ module _ {T W : Type 0} (kind : Kind) (w : Width) (s : Shape) (read self : Archi
       let found = subst (λ t. FindsOwn compares kind w s t hash bucket result) one finds same same_as in
       let under : hash ≡ hash_of (at bucket) = hash_as item hash (bucket, here) hashed ∙ ap hash_of here.place in
       ap (λ o. not (is_answer bucket o)) (found ∙ ap (λ z. bucket_found kind w s.size (table_bytes self) (table_pos self) z (same (at bucket))) under)
+
+-- what is counted and what is left make up all misplaced items
+module _ {T W : Type 0} (kind : Kind) (w : Width) (s : Shape) (t : ArchivedHashTable T W) (hashes : View T → ℕ → Type 0) (compares : View T → View T → Bool → Type 0) where
+  abbrev pub Counting : ℕ → List ℕ → Type 0
+  Counting count left = (hash_of : ℕ → ℕ) (same : ℕ → ℕ → Bool) → HashesAs hashes w s t hash_of → ComparesAs compares w s t same
+      → count + length (filter (bucket_misplaced kind w s t hash_of same) left) ≡ table_misplaced kind w s t hash_of same
+
+  -- the answer tells whether the bucket's item is misplaced
+  abbrev pub TellsMisplaced : ℕ → Bool → Type 0
+  TellsMisplaced bucket told = (hash_of : ℕ → ℕ) (same : ℕ → ℕ → Bool) → HashesAs hashes w s t hash_of → ComparesAs compares w s t same
+      → told ≡ bucket_misplaced kind w s t hash_of same bucket
+
+  module _ (count bucket : ℕ) (buckets left : List ℕ) (steps : buckets ≡ bucket ∷ left) (told : Bool) (tells : TellsMisplaced bucket told) (before : Counting count buckets) where
+    pub counted_one : told ≡ true → Counting (count + 1) left
+    counted_one hit = λ hash_of same hash_as same_as.
+        let n = count_taken (bucket_misplaced kind w s t hash_of same) bucket buckets left steps (sym (tells hash_of same hash_as same_as) ∙ hit) in
+        let e = before hash_of same hash_as same_as in
+        omega (arith, n, e)
+
+    pub counted_none : told ≡ false → Counting count left
+    counted_none miss = λ hash_of same hash_as same_as.
+        let n = count_passed (bucket_misplaced kind w s t hash_of same) bucket buckets left steps (sym (tells hash_of same hash_as same_as) ∙ miss) in
+        let e = before hash_of same hash_as same_as in
+        omega (arith, n, e)

@@ -27,6 +27,33 @@ filled_front xs i =
     omega arith
 
 module _ {X R : Type 0} (f : Format X R) where
+  -- the part of one value, and what stands behind it
+  abbrev pub PartThen : X → (ℕ → List ℕ → List R → Type 0) → ℕ → List ℕ → List R → Type 0
+  PartThen x Rest p part rs = (a : List ℕ) × (r : R) × (b : List ℕ) × (qs : List R) × f.parts x p a r × Rest (p + length a) b qs × (part ≡ a ++ b) × (rs ≡ r ∷ qs)
+
+  -- alone it is followed by nothing
+  pub part_last : (Rest : ℕ → List ℕ → List R → Type 0) (p : ℕ) (part : List ℕ) (rs : List R) (x : X) (a : List ℕ) (r : R) → (part ≡ []) × (rs ≡ [])
+      → ((q : ℕ) → Rest q [] []) → f.parts x (p + length part) a r → PartThen x Rest p (part ++ a) (rs ++ r ∷ [])
+  part_last Rest p part rs x a r h none g =
+      let z : p + length part ≡ p = ap (λ (l : List ℕ). p + length l) h.0 ∙ omega arith in
+      (a, r, [], [], subst (λ n. f.parts x n a r) z g, none (p + length a), ap (λ l. l ++ a) h.0 ∙ sym (append-nil a), ap (λ l. l ++ r ∷ []) h.1)
+
+  -- and what is added at the end is added behind it
+  pub part_longer : (Rest Longer : ℕ → List ℕ → List R → Type 0) (y : X) (p : ℕ) (part : List ℕ) (rs : List R) (x : X) (a : List ℕ) (r : R) → PartThen y Rest p part rs
+      → ((q : ℕ) (b : List ℕ) (qs : List R) → Rest q b qs → f.parts x (q + length b) a r → Longer q (b ++ a) (qs ++ r ∷ []))
+      → f.parts x (p + length part) a r → PartThen y Longer p (part ++ a) (rs ++ r ∷ [])
+  part_longer Rest Longer y p part rs x a r h longer g =
+      let n : p + length part ≡ p + length h.0 + length h.2 = ap (λ (l : List ℕ). p + length l) h.6 ∙ omega (arith, length-append h.0 h.2) in (
+        h.0,
+        h.1,
+        h.2 ++ a,
+        h.3 ++ r ∷ [],
+        h.4,
+        longer (p + length h.0) h.2 h.3 h.5 (subst (λ k. f.parts x k a r) n g),
+        ap (λ l. l ++ a) h.6 ∙ append_assoc h.0 h.2 a,
+        ap (λ l. l ++ r ∷ []) h.7,
+      )
+
   pub parts_none : (ss : List (Option X)) (p : ℕ) (part : List ℕ) (rs : List R) → SlotParts f ss p part rs → SlotParts f (ss ++ None ∷ []) p part rs
   parts_none [] p part rs h = h
   parts_none (None ∷ ss) p part rs h = parts_none ss p part rs h
@@ -34,21 +61,10 @@ module _ {X R : Type 0} (f : Format X R) where
 
   pub parts_some : (ss : List (Option X)) (p : ℕ) (part : List ℕ) (rs : List R) (x : X) (a : List ℕ) (r : R)
       → SlotParts f ss p part rs → f.parts x (p + length part) a r → SlotParts f (ss ++ Some x ∷ []) p (part ++ a) (rs ++ r ∷ [])
-  parts_some [] p part rs x a r h g =
-      let z : p + length part ≡ p = ap (λ (l : List ℕ). p + length l) h.0 ∙ omega arith in
-      (a, r, [], [], subst (λ n. f.parts x n a r) z g, (refl, refl), ap (λ l. l ++ a) h.0 ∙ sym (append-nil a), ap (λ l. l ++ r ∷ []) h.1)
+  parts_some [] p part rs x a r h g = part_last (SlotParts f []) p part rs x a r h (λ q. (refl, refl)) g
   parts_some (None ∷ ss) p part rs x a r h g = parts_some ss p part rs x a r h g
   parts_some (Some y ∷ ss) p part rs x a r h g =
-      let n : p + length part ≡ p + length h.0 + length h.2 = ap (λ (l : List ℕ). p + length l) h.6 ∙ omega (arith, length-append h.0 h.2) in (
-        h.0,
-        h.1,
-        h.2 ++ a,
-        h.3 ++ r ∷ [],
-        h.4,
-        parts_some ss (p + length h.0) h.2 h.3 x a r h.5 (subst (λ k. f.parts x k a r) n g),
-        ap (λ l. l ++ a) h.6 ∙ append_assoc h.0 h.2 a,
-        ap (λ l. l ++ r ∷ []) h.7,
-      )
+      part_longer (SlotParts f ss) (SlotParts f (ss ++ Some x ∷ [])) y p part rs x a r h (λ q b qs k. parts_some ss q b qs x a r k) g
 
   pub parts_filled : (ss : List (Option X)) (p : ℕ) (part : List ℕ) (rs : List R) → SlotParts f ss p part rs → length rs ≡ filled ss
   parts_filled [] p part rs h = ap length h.1

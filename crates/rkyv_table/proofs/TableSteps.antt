@@ -9,6 +9,18 @@ use Rattle.rkyv_base.proofs.GivingUp.{appends_after, end-appends, told_after, to
 use Rattle.rkyv_table.specs.Table.Buckets.{images_length}
 use Rattle.rkyv_table.specs.Table.Slots.{SlotParts, SlotImages, PartsNext, BucketNext, TableNext, TableBytes, WroteBuckets}
 
+-- the zeros behind what was appended, by where that begins
+pub zeros_behind : (align : ℕ) (o o1 : Output) (a : List ℕ) → Appends o o1 a → zeros (padding align (end_of o1)) ≡ zeros (padding align (end_of o + length a))
+zeros_behind align o o1 a appended = ap (λ (n : ℕ). zeros (padding align n)) (end-appends o o1 a appended)
+
+-- one piece behind what was appended: where it is the next step, what stops it stops all
+pub told_piece : {F : Type 0} (limit : ℕ) (Next : List ℕ → Step → Type 0) (o o1 o2 : Output) (a bytes : List ℕ) (e : WriteError F) → Appends o o1 a → Within limit o1 a
+    → ((step : Step) → step ≡ piece bytes → Next a step) → Told limit (Only (piece bytes)) o1 o2 e → Told limit Next o o2 e
+told_piece limit Next o o1 o2 a bytes e appended inside next t =
+    told_after limit Next (Only (piece bytes)) o o1 o2 a e appended inside
+    (λ g step h. let k : a ++ g ≡ a = ap (λ (y : List ℕ). a ++ y) h.0 ∙ append-nil a in rw k (next step h.1))
+    t
+
 module _ (F : Type 0) {X R : Type 0} (s : Shape) (limit : ℕ) (f : Format X R) (sized : (x : X) (r : R) (p : ℕ) (out : List ℕ) → f.image x r p out → length out ≡ s.size)
     (slots : List (Option X)) (controls : List ℕ) (o : Output) where
   abbrev Next : List ℕ → Step → Type 0
@@ -24,16 +36,9 @@ module _ (F : Type 0) {X R : Type 0} (s : Shape) (limit : ℕ) (f : Format X R) 
     abbrev pad : List ℕ
     pad = zeros (padding s.align (end_of o1))
 
-    same_zeros : pad ≡ zeros (padding s.align (end_of o + length a))
-    same_zeros = ap (λ (n : ℕ). zeros (padding s.align n)) (end-appends o o1 a aa)
-
     pub stopped_zeros : (o2 : Output) (e : WriteError F) → Told limit (Only (piece pad)) o1 o2 e → Stopped o2 e
     stopped_zeros o2 e t =
-        told_after limit Next (Only (piece pad)) o o1 o2 a e aa inside
-        (λ g step h.
-        let k : a ++ g ≡ a = ap (λ (y : List ℕ). a ++ y) h.0 ∙ append-nil a in
-        rw k (inr (inl (rs, made, h.1 ∙ ap piece same_zeros))))
-        t
+        told_piece limit Next o o1 o2 a pad e aa inside (λ step is. inr (inl (rs, made, is ∙ ap piece (zeros_behind s.align o o1 a aa)))) t
 
     module _ (o2 : Output) (bb : Appended limit pad o1 o2) where
       abbrev front : List ℕ
@@ -43,7 +48,7 @@ module _ (F : Type 0) {X R : Type 0} (s : Shape) (limit : ℕ) (f : Format X R) 
       table_front = appends_after o o1 o2 a pad aa bb.0
 
       front_is : front ≡ a ++ zeros (padding s.align (end_of o + length a))
-      front_is = ap (λ (y : List ℕ). a ++ y) same_zeros
+      front_is = ap (λ (y : List ℕ). a ++ y) (zeros_behind s.align o o1 a aa)
 
       pub stopped_buckets : (o3 : Output) (e : WriteError F) → Told limit (BucketNext s.size f slots rs (end_of o2)) o2 o3 e → Stopped o3 e
       stopped_buckets o3 e t =
@@ -57,10 +62,8 @@ module _ (F : Type 0) {X R : Type 0} (s : Shape) (limit : ℕ) (f : Format X R) 
         stopped_controls o4 e t =
             let whole : Appends o o3 (front ++ w.0) = appends_after o o2 o3 front w.0 table_front w.1.0 in
             let at : end_of o3 ≡ end_of o + length (front ++ w.0) = end-appends o o3 (front ++ w.0) whole in
-            told_after limit Next (Only (piece controls)) o o3 o4 (front ++ w.0) e whole (inr w.1.1)
-            (λ g step h.
-            let k : (front ++ w.0) ++ g ≡ front ++ w.0 = ap (λ (y : List ℕ). (front ++ w.0) ++ y) h.0 ∙ append-nil (front ++ w.0) in
-            rw k (inr (inr (inr (a, rs, front, w.0, (made, front_is), subst (λ n. SlotImages s.size f slots rs n w.0) at w.2, refl, h.1)))))
+            told_piece limit Next o o3 o4 (front ++ w.0) controls e whole (inr w.1.1)
+            (λ step is. inr (inr (inr (a, rs, front, w.0, (made, front_is), subst (λ n. SlotImages s.size f slots rs n w.0) at w.2, refl, is))))
             t
 
         pub table_wrote : (o4 : Output) → Appended limit controls o3 o4 → (bytes : List ℕ) × Appended limit bytes o o4 × TableBytes s f slots controls (end_of o) (end_of o3) bytes

@@ -1,6 +1,6 @@
 -- A walk over written controls visits the homes.
-use Rattle.std.proofs.Common.{◌≡◌, ℕ, ◌<◌, ◌∙◌, inl, inr, sym, ap, subst, arith, eqb, not, List, length, take, slice_index, get_or}
-use Rattle.std.specs.List.{AllPairs, Contains, list_any, range_with_len}
+use Rattle.std.proofs.Common.{◌≡◌, ℕ, ◌<◌, ◌∙◌, ◌↔◌, inl, inr, sym, ap, subst, arith, eqb, not, List, [], length, take, slice_index, get_or}
+use Rattle.std.specs.List.{AllPairs, Contains, IsDistinct, list_any, range_with_len}
 use Rattle.std.proofs.lemmas.Bool.{cases_Bool, ne_eqb, not-false, true≢false}
 use Rattle.std.proofs.lemmas.List.{get_or-take, get_or_default, length-take}
 use Rattle.std.proofs.lemmas.List.FromFn.{get_or-range_with_len, length-range_with_len}
@@ -13,7 +13,7 @@ use Rattle.rkyv_table.specs.Controls.Placing.{Written, is_free, walk}
 use Rattle.rkyv_table.specs.Controls.Probe.{shown}
 use Rattle.rkyv_table.specs.Table.WalkLaws.{VisitsHomes}
 use Rattle.rkyv_table.proofs.Lists.{contains_member, member_contains, some_find}
-use Rattle.rkyv_table.proofs.Walks.{full_walked, walked_full}
+use Rattle.rkyv_table.proofs.Walks.{full_walked, walk_none, walked_full}
 use Rattle.rkyv_table.proofs.WrittenAccepted.{accepted_written}
 use Rattle.rkyv_table.proofs.WrittenStep.{home_below}
 
@@ -67,3 +67,13 @@ module _ (cap : ℕ) (hashes homes controls : List ℕ) (room : length hashes < 
         homes_differ i j ij h (get_or_default homes i 0 d (omega arith) ∙ e ∙ get_or_default homes j d 0 h)));
     count = (accepted_written cap hashes homes controls room w (λ j l. fit j 0 l)).full ∙ sym w.placed.count;
   }
+
+-- where there is no bucket, none is visited
+pub none_visits : (controls : List ℕ) → VisitsHomes 0 [] controls
+unfolding IsDistinct
+none_visits controls = record {
+  members = λ bucket. subst (λ (xs : List ℕ). Contains xs bucket ↔ Contains [] bucket) (sym (walk_none controls)) (λ h. h, λ h. h);
+  ascending = subst (AllPairs (λ a b. a < b)) (sym (walk_none controls)) (λ i j d less below. absurd (omega arith));
+  once = tt;
+  count = ap length (walk_none controls);
+}

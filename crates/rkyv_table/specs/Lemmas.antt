@@ -3,6 +3,7 @@ pub mod PlaceLaws
 pub mod TableLaws
 pub mod ItemPositions
 pub mod SameHeader
+pub mod SameControls
 pub mod SlotWalk
 pub mod SlotSound
 pub mod HeaderReads

@@ -15,10 +15,12 @@ pub mod Listed
 pub mod Lent
 pub mod Buckets
 pub mod RawItems
+pub mod Hints
 pub mod PairWalks
 pub mod WalkLaws
 pub mod SealedTable
 pub mod SealedLookup
+pub mod PairSeals
 pub mod Misplaced
 pub mod WrittenTables
 pub mod FirstItem

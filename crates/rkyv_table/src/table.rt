@@ -8,6 +8,7 @@ mod hands_in;
 mod header;
 pub(crate) mod items;
 pub mod laws;
+pub mod lent;
 mod lookup;
 pub mod misplaced;
 mod parts;

@@ -1,12 +1,12 @@
 -- What a lookup answers.
 use Rattle.std.specs.Prelude.{◌≡◌, ℕ, suc, ◌+◌, ◌*◌, ◌-◌, ◌/◌, ◌%◌, ◌<◌, ◌≤◌, List, Bool, ◌||◌}
-use Rattle.std.specs.Prelude.{take, drop, Option, None, map, filter, cond, ◌==◌}
+use Rattle.std.specs.Prelude.{take, drop, Option, None, map, filter, cond, ◌==◌, IfSome, true}
 use Rattle.std.specs.List.{find, list_any, range_with_len, position_or_len}
 use Rattle.std.specs.Option.{option_and_then}
 use Rattle.rkyv_scan.specs.Groups.{Kind}
-use Rattle.rkyv_table.specs.Controls.Shown.{is_empty_at}
+use Rattle.rkyv_table.specs.Controls.Shown.{IsFullBucket, is_empty_at}
 use Rattle.rkyv_table.specs.Controls.Probe.{strides}
-use Rattle.rkyv_table.specs.Controls.Numbers.{tag}
+use Rattle.rkyv_table.specs.Controls.Numbers.{probe_capacity, tag}
 
 -- the kind of group marks the place q for the tag t, where the stride from p on is read in groups
 abbrev pub marked : Kind → List ℕ → ℕ → ℕ → ℕ → Bool
@@ -51,3 +51,15 @@ pub record ReadsWithin (len bound before after : ℕ) : Type 0 where
   pub none : len ≡ 0 → after ≡ before
   pub some : 0 < len → before < after
   pub most : after ≤ before + bound
+
+-- What a lookup by a comparison says of the bucket that it answers and of the strides that it
+-- reads: whatever the comparison answers, and where it answers as a function of the bucket does.
+pub record FindsBucket (kind : Kind) (post : ℕ → Bool → Type 0) (controls : List ℕ)
+    (cap len hash before after : ℕ) (result : Option ℕ) : Type 0 where
+  pub walked : IfSome result (IsFullBucket cap controls)
+  pub accepted : IfSome result (λ b. post b true)
+  pub bounded : ReadsWithin len (probe_capacity cap / 16) before after
+  pub answer : (accept : ℕ → Bool) → AnswersAs post (IsFullBucket cap controls) accept
+      → result ≡ found kind controls cap len hash accept
+  pub counted : (accept : ℕ → Bool) → AnswersAs post (IsFullBucket cap controls) accept
+      → after ≡ before + end kind controls cap len hash accept

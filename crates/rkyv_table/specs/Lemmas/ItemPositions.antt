@@ -32,6 +32,18 @@ pub record HoldsWithin (s : Shape) (b : List ℕ) (q lo hi l : ℕ) : Type 0 whe
   pub ends : rest ≤ l
   pub holds : s.holds b q lower hi rest
 
+-- so it does in a range that begins lower
+abbrev pub within_lower : (s : Shape) (b : List ℕ) (q lo lo' hi l : ℕ) → lo' ≤ lo
+    → HoldsWithin s b q lo hi l → HoldsWithin s b q lo' hi l
+within_lower s b q lo lo' hi l less h = record {
+  lower = h.lower;
+  rest = h.rest;
+  above = omega (arith, less, h.above);
+  below = h.below;
+  ends = h.ends;
+  holds = h.holds;
+}
+
 module _ (s : Shape) (law : IsElement s) (at : ℕ → ℕ) where
   -- each of the values that hold, one after the other, holds so
   pub each_holds : (P : ℕ → Bool) (b : List ℕ) (hi a n lo l i : ℕ) → lo ≤ hi
@@ -55,16 +67,8 @@ module _ (s : Shape) (law : IsElement s) (at : ℕ → ℕ) where
             holds = h'.1;
           })
           | inr ne ↦
-              let r = each_holds P b hi (a + 1) n h'.0 l i k.1 h'.2 (omega arith) (omega arith) t in
-              record {
-                lower = r.lower;
-                rest = r.rest;
-                above = omega (arith, k.0, r.above);
-                below =
-                    r.below;
-                ends = r.ends;
-                holds = r.holds;
-              }
+              within_lower s b (at i) h'.0 lo hi l k.0
+              (each_holds P b hi (a + 1) n h'.0 l i k.1 h'.2 (omega arith) (omega arith) t)
         ]
     | inr y ↦
         let h' : AllHold s at b hi (filter P (range_with_len (a + 1) n)) lo l = rw y at h in

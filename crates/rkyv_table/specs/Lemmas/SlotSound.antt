@@ -9,6 +9,7 @@ use Rattle.rkyv_base.specs.Shape.{IsAlign, IsElement, Shape, by_align, sum_multi
 use Rattle.rkyv_base.specs.Writing.{zeros}
 use Rattle.rkyv_table.specs.Table.Buckets.{images_length}
 use Rattle.rkyv_table.specs.Table.Places.{AllHold}
+use Rattle.rkyv_table.specs.Lemmas.PlaceLaws.{all_lower}
 use Rattle.rkyv_table.specs.Lemmas.SlotWalk.{filled_from}
 use Rattle.rkyv_table.specs.Table.Slots.{SlotImages, SlotParts}
 use Rattle.rkyv_table.specs.Table.Layout.{bucket_at}
@@ -19,26 +20,12 @@ zero_times n = omega arith
 times_one : (n size : ℕ) → suc n * size ≡ n * size + size
 times_one n size = omega arith
 
-same_head : {A : Type 0} (x y : A) (xs ys : List A) → x ∷ xs ≡ y ∷ ys → x ≡ y
-same_head x y xs ys e = same_Some x y (ap (λ l. slice_get l 0) e)
-
-same_tail : {A : Type 0} (x y : A) (xs ys : List A) → x ∷ xs ≡ y ∷ ys → xs ≡ ys
-same_tail x y xs ys e = ap (λ l. drop 1 l) e
+-- the same lists have the same first, and the same behind it
+pub same_both : {A : Type 0} (x y : A) (xs ys : List A) → x ∷ xs ≡ y ∷ ys → (x ≡ y) × (xs ≡ ys)
+same_both x y xs ys e = (same_Some x y (ap (λ l. slice_get l 0) e), ap (λ l. drop 1 l) e)
 
 zero_multiple : (a : ℕ) → IsAlign a → 0 % a ≡ 0
 zero_multiple a al = by_align (λ v. 0 % v ≡ 0) refl refl refl refl a al
-
--- a lesser lower end
-all_lower : (s : Shape) → IsElement s
-    → (at : ℕ → ℕ) (b : List ℕ) (hi : ℕ) (is : List ℕ) (lo lo' l : ℕ) → lo' ≤ lo → lo ≤ hi
-    → AllHold s at b hi is lo l
-    → (l' : ℕ) × AllHold s at b hi is lo' l' × (l' ≤ l)
-all_lower s laws at b hi [] lo lo' l o o' h = (lo', refl, omega (arith, h))
-all_lower s laws at b hi (i ∷ is) lo lo' l o o' h =
-    let k = laws.between b (at i) lo hi h.0 o' h.1 in
-    let d = laws.lower b (at i) lo lo' hi h.0 o o' h.1 in
-    let e = all_lower s laws at b hi is h.0 d.0 l d.2 k.1 h.2 in
-    (e.0, (d.0, d.1, e.1), e.2)
 
 module _ {X R : Type 0} (s : Shape) (laws : IsElement s) (stands : List ℕ → ℕ → X
     → Type 0) (f : Format X R) (fl : IsFormat s stands f) (c : List ℕ) (cap begin : ℕ)
@@ -95,9 +82,7 @@ module _ {X R : Type 0} (s : Shape) (laws : IsElement s) (stands : List ℕ → 
       let here : z - s.size ≡ at b = sym e' ∙ ap (λ k. begin + k * s.size) (sym left) in
       let a : List ℕ = m.0 in
       let q : List ℕ = m.2 in
-      let same : m.1 ∷ m.3 ≡ i.0 ∷ i.1 = sym m.7 ∙ i.4 in
-      let r1 : m.1 ≡ i.0 = same_head m.1 i.0 m.3 i.1 same in
-      let r2 : m.3 ≡ i.1 = same_tail m.1 i.0 m.3 i.1 same in
+      let same = same_both m.1 i.0 m.3 i.1 (sym m.7 ∙ i.4) in
       let spq : Sits c p (a ++ q) = subst (Sits c p) m.6 sp in
       let sio : Sits c begin (i.2 ++ i.3) = subst (Sits c begin) i.7 so in
       let k : length i.2 ≡ length ss * s.size =
@@ -110,12 +95,12 @@ module _ {X R : Type 0} (s : Shape) (laws : IsElement s) (stands : List ℕ → 
       let al : at b % s.align ≡ 0 = sum_multiple begin ((cap - (b + 1)) * s.size) s.align
       laws.align_is aligned (many (cap - (b + 1))) in
       let im : f.image x i.0 (at b) i.3 = subst (λ y. f.image x i.0 y i.3) here i.5 in
-      let d = fl.sound x i.0 c p (at b) a i.3 (subst (λ r. f.parts x p a r) r1 m.4) im
+      let d = fl.sound x i.0 c p (at b) a i.3 (subst (λ r. f.parts x p a r) same.0 m.4) im
       (sits_front c p a q spq) sone (omega arith) al in
       let w = laws.between c (at b) p (p + length a) d.0 (omega arith) d.1 in
       let h1 = laws.higher c (at b) p (p + length a) begin d.0 (omega arith) d.1 in
       let rec = slots_sound ss (b + 1) (p + length a) (z - s.size) q i.2 i.1 n'
-      (subst (λ y. SlotParts f ss (p + length a) q y) r2 m.5) i.6 (sits_back c p a q spq)
+      (subst (λ y. SlotParts f ss (p + length a) q y) same.1 m.5) i.6 (sits_back c p a q spq)
       (sits_front c begin i.2 i.3 sio) e' (omega arith) in
       let low = all_lower s laws at c begin (filled_from (b + 1) ss) (p + length a) d.0 rec.0 w.1
       (omega arith) rec.1 in

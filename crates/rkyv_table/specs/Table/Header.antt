@@ -1,8 +1,9 @@
 -- The header of a table: a distance, the length and the capacity, each of one word.
 use Rattle.std.specs.Prelude.{◌≡◌, ℕ, ◌+◌, ◌*◌, ◌<◌, ◌⊎◌, ℤ, pos, ◌+ℤ◌, ◌-ℤ◌, FitsSigned, List}
-use Rattle.std.specs.Prelude.{◌++◌}
+use Rattle.std.specs.Prelude.{◌++◌, MatchResult, Result}
 use Rattle.std.specs.Int.{Width, byte_len, to_le_bytes, cast_unsigned}
 use Rattle.rkyv_base.specs.Bytes.{number_at, signed_at}
+use Rattle.rkyv_table.specs.Controls.Numbers.{capacity}
 
 -- how many items the header at p tells
 abbrev pub len_at : Width → List ℕ → ℕ → ℕ
@@ -32,3 +33,11 @@ pub record IsHeader (w : Width) (len cap z p : ℕ) (out : List ℕ) : Type 0 wh
 -- the distance from a header at p to the first control of a table with items doesn't fit
 abbrev pub HeaderFar : Width → ℕ → ℕ → ℕ → Type 0
 HeaderFar w len z p = (0 < len) × (FitsSigned w (pos z -ℤ pos p) → ⊥)
+
+-- the bytes became the header that stands at p, of a table of this length and load factor whose
+-- first control stands at z; or the distance doesn't fit, and they are kept
+abbrev pub WritesHeader : {T E : Type 0} → Width → ℕ → ℕ × ℕ → ℕ → ℕ → List ℕ → List ℕ
+    → Result T E → Type 0
+WritesHeader w len load_factor z p before after result = MatchResult result
+    (λ _. IsHeader w len (capacity len load_factor) z p after)
+    (λ _. HeaderFar w len z p × (after ≡ before))

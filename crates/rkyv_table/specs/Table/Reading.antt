@@ -1,7 +1,7 @@
 -- What an accepted table shows: where its controls and items stand, and what a lookup in it
 -- answers.
 use Rattle.std.specs.Prelude.{◌≡◌, ℕ, ◌+◌, ◌-◌, ◌*◌, ◌/◌, ◌<◌, ◌^◌, ◌⊎◌, List, [], Bool, true}
-use Rattle.std.specs.Prelude.{Option, pos, ◌+ℤ◌, unsigned_abs, slice_range, length, map}
+use Rattle.std.specs.Prelude.{Option, IfSome, pos, ◌+ℤ◌, unsigned_abs, slice_range, length, map}
 use Rattle.std.specs.Int.{Width}
 use Rattle.std.specs.List.{find}
 use Rattle.std.specs.Option.{option_map}
@@ -19,7 +19,6 @@ use Rattle.rkyv_table.specs.Controls.Placing.{Written, walk}
 use Rattle.rkyv_table.specs.Table.Layout.{table_shape}
 use Rattle.rkyv_table.specs.declared.table.ArchivedHashTable.{ArchivedHashTable}
 use Rattle.rkyv_table.specs.declared.table.items.Items.{Items}
-use Rattle.rkyv_table.specs.declared.table.items.FoundItem.{FoundItem}
 
 -- where the first control stands
 abbrev pub controls_pos : Width → List ℕ → ℕ → ℕ
@@ -162,13 +161,25 @@ pub record AreItems {T W : Type 0} (w : Width) (s : Shape) (items : Items T W) :
   pub controls : 0 < items.cap → items.controls.now
       ≡ table_controls w (table_bytes items.table) (table_pos items.table)
 
--- the bucket of an item that may have been found
-abbrev pub bucket_of_found : {T : Type 0} → Option (FoundItem T) → Option ℕ
-bucket_of_found found = option_map (λ (f : FoundItem _). f.bucket) found
+-- What a lookup by a comparison answers: an item of the table of which it answered true, on any
+-- accepted table the one to which the controls lead, and on a written one the first.
+pub record FindsItem {T W : Type 0} (post : View T → Bool → Type 0) (kind : Kind) (w : Width)
+    (s : Shape) (t : ArchivedHashTable T W) (hash : ℕ) (result : Option (View T)) : Type 0 where
+  pub walked : IfSome result (IsItem w s t)
+  pub accepted : IfSome result (λ v. post v true)
+  pub answer : FindsFound post kind w s t hash (pos_of_found result)
+  pub first : FindsFirst post w s t hash (pos_of_found result)
 
--- the bucket that a lookup answers, on any accepted table
-abbrev pub FindsBucket : {T W : Type 0} → (View T → Bool → Type 0) → Kind → Width → Shape
-    → ArchivedHashTable T W → ℕ → Option ℕ → Type 0
-FindsBucket post kind w s t hash result =
-    (accept : ℕ → Bool) → Answers post w s t accept
-    → result ≡ bucket_found kind w s.size (table_bytes t) (table_pos t) hash accept
+-- the same of the position of the item
+pub record FindsItemPos {T W : Type 0} (post : View T → Bool → Type 0) (kind : Kind) (w : Width)
+    (s : Shape) (t : ArchivedHashTable T W) (hash : ℕ) (result : Option ℕ) : Type 0 where
+  pub walked : IfSome result (IsItemPos w s t)
+  pub accepted : IfSome result (IsAcceptedAt post w s t)
+  pub answer : FindsFound post kind w s t hash result
+  pub first : FindsFirst post w s t hash result
+
+-- how many strides such a lookup reads
+pub record CountsStrides {T W : Type 0} (post : View T → Bool → Type 0) (kind : Kind) (w : Width)
+    (s : Shape) (t : ArchivedHashTable T W) (hash before after : ℕ) : Type 0 where
+  pub bounded : CountsWithin w t before after
+  pub counted : CountsEnd post kind w s t hash before after

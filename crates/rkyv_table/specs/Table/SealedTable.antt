@@ -4,7 +4,7 @@ use Rattle.std.specs.Int.{Width, byte_len}
 use Rattle.rkyv_base.specs.Bytes.{Same}
 use Rattle.rkyv_base.specs.Entry.{entry_shape}
 use Rattle.rkyv_base.specs.Sealing.{Keeps, Sealed, value_pos}
-use Rattle.rkyv_base.specs.Shape.{Shape}
+use Rattle.rkyv_base.specs.Shape.{Shape, Standing}
 use Rattle.rkyv_scan.specs.Groups.{Kind}
 use Rattle.rkyv_table.specs.Table.Reading.{IsWalked, WrittenAt, bucket_found, item_at}
 use Rattle.rkyv_table.specs.Table.Reading.{table_controls}
@@ -14,6 +14,16 @@ use Rattle.rkyv_table.specs.Table.Layout.{table_shape}
 pub record SameValue (s : Shape) (b c : List ℕ) (q : ℕ) : Type 0 where
   pub fixed : Same b c q (q + s.size)
   pub parts : (l : ℕ) → s.holds b q 0 q l → Same b c 0 l
+
+-- whether a key fits rests on the bytes on which it rests that the key holds
+abbrev pub RestsOnKey : Shape → (List ℕ → ℕ → Bool) → Type 0
+RestsOnKey k fits = (b c : List ℕ) (q : ℕ) → Standing k b q → SameValue k b c q
+    → fits c q ≡ fits b q
+
+-- the value behind the key at q is written in place: only its own bytes change, and it holds again
+pub record WritesValue (k v : Shape) (b c : List ℕ) (q : ℕ) : Type 0 where
+  pub sealed : Sealed b (value_pos k v q) v.size c
+  pub keeps : Keeps v b c (value_pos k v q)
 
 -- the table at p in b is one in c, with the same header, the same controls, and the same item in
 -- each bucket but i

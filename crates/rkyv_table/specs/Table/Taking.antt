@@ -28,3 +28,8 @@ pub record Placed {X : Type 0} (cap : ℕ) (pairs : List (ℕ × X)) (slots : Li
   pub hashes : AreHashes (hashes_of pairs)
   pub written : Written cap (hashes_of pairs) homes controls
   pub slotted : Slotted cap homes (items_of pairs) slots
+
+-- some pairs are placed, and one more has room
+abbrev pub HasPlace : {X : Type 0} → ℕ → List (Option X) → List ℕ → Type 0
+HasPlace {X} cap slots controls =
+    (pairs : List (ℕ × X)) × (length pairs < cap) × Placed cap pairs slots controls

@@ -1,10 +1,9 @@
 //! Finding an item by the controls.
 ghost use Rattle.std.specs.Prelude.{Bool, IfSome, List, drop, length, map, slice_index, take, true};
-ghost use Rattle.std.specs.Prelude.{ℕ, ◌%◌, ◌*◌, ◌+◌, ◌/◌, ◌<◌, ◌^◌, ◌≡◌, ◌≤◌};
+ghost use Rattle.std.specs.Prelude.{ℕ, ◌%◌, ◌*◌, ◌+◌, ◌<◌, ◌^◌, ◌≡◌, ◌≤◌};
 ghost use Rattle.std.specs.List.{find};
 ghost use Rattle.rkyv_table.specs.Controls.Shown.{IsFullBucket};
-ghost use Rattle.rkyv_table.specs.Controls.Finding.{AnswersAs, ReadsWithin, end, found};
-ghost use Rattle.rkyv_table.specs.Controls.Numbers.{probe_capacity};
+ghost use Rattle.rkyv_table.specs.Controls.Finding.{AnswersAs, FindsBucket};
 ghost use Rattle.rkyv_table.specs.Controls.Placing.{Accepted};
 ghost use Rattle.rkyv_table.specs.Controls.Seen.{IsAcceptedBy, IsMarked, IsSeen, IsShown};
 ghost use Rattle.rkyv_table.specs.Controls.Seen.{IsShownIfAccepted};
@@ -92,77 +91,7 @@ enum Seen {
     Full,
 }
 
-// Reads one stride as one group.
-#[inline]
-fn scan_whole<G: GroupKind, F: Fn(usize) -> bool>(
-    stride: &[u8],
-    pos: usize,
-    cap: usize,
-    tag: u8,
-    cmp: &F,
-) -> Seen
-    requires one { G.kind.width ≡ 16 }
-    requires whole { length stride.now ≡ 16 }
-    requires small { cap < 2 ^ 63 }
-    requires fits { pos + 16 < 2 ^ 64 }
-    requires tag { tag < 128 }
-    requires below { (q : ℕ) → q < 16 → slice_index stride.now q < 128 → pos + q < 2 * cap }
-    requires callable { (b : ℕ) → IsShown stride.now pos cap b → F.pre cmp.now b }
-    ensures full { IsShownIfAccepted stride.now pos cap result }
-    ensures accepted { IsAcceptedBy (F.post cmp.now) result }
-    ensures seen { (controls : List ℕ) → stride.now ≡ take 16 (drop pos controls)
-        → (accept : ℕ → Bool) → AnswersAs (F.post cmp.now) (IsShown stride.now pos cap) accept
-        → IsSeen G.kind controls cap tag pos accept result }
-{
-    let group = G::read(stride, 0);
-    match first_accepted(group.match_byte(tag), pos, cap, cmp) {
-        Some(bucket) => Seen::Accepted(bucket),
-        None => {
-            if group.match_empty().any_bit_set() {
-                Seen::Empty
-            } else {
-                Seen::Full
-            }
-        }
-    }
-}
-
-// Reads one stride in groups, one after the other.
-#[inline]
-fn scan_groups<G: GroupKind, F: Fn(usize) -> bool>(
-    stride: &[u8],
-    pos: usize,
-    cap: usize,
-    tag: u8,
-    cmp: &F,
-) -> Seen
-    requires whole { length stride.now ≡ 16 }
-    requires small { cap < 2 ^ 63 }
-    requires fits { pos + 16 < 2 ^ 64 }
-    requires tag { tag < 128 }
-    requires below { (q : ℕ) → q < 16 → slice_index stride.now q < 128 → pos + q < 2 * cap }
-    requires callable { (b : ℕ) → IsShown stride.now pos cap b → F.pre cmp.now b }
-    ensures full { IsShownIfAccepted stride.now pos cap result }
-    ensures accepted { IsAcceptedBy (F.post cmp.now) result }
-    ensures seen { (controls : List ℕ) → stride.now ≡ take 16 (drop pos controls)
-        → (accept : ℕ → Bool) → AnswersAs (F.post cmp.now) (IsShown stride.now pos cap) accept
-        → IsSeen G.kind controls cap tag pos accept result }
-{
-    let mut empty = false;
-    for i in 0..16 / G::WIDTH {
-        let at = i * G::WIDTH;
-        let group = G::read(stride, at);
-        if let Some(bucket) = first_accepted(group.match_byte(tag), pos + at, cap, cmp) {
-            return Seen::Accepted(bucket);
-        }
-        if group.match_empty().any_bit_set() {
-            empty = true;
-        }
-    }
-    if empty { Seen::Empty } else { Seen::Full }
-}
-
-// Reads one stride.
+// Reads one stride: as one group where groups are as wide, else in groups one after the other.
 #[inline]
 fn scan<G: GroupKind, F: Fn(usize) -> bool>(
     stride: &[u8],
@@ -184,10 +113,30 @@ fn scan<G: GroupKind, F: Fn(usize) -> bool>(
         → IsSeen G.kind controls cap tag pos accept result }
 {
     if G::WIDTH == 16 {
-        scan_whole::<G, F>(stride, pos, cap, tag, cmp)
-    } else {
-        scan_groups::<G, F>(stride, pos, cap, tag, cmp)
+        let whole = G::read(stride, 0);
+        return match first_accepted(whole.match_byte(tag), pos, cap, cmp) {
+            Some(bucket) => Seen::Accepted(bucket),
+            None => {
+                if whole.match_empty().any_bit_set() {
+                    Seen::Empty
+                } else {
+                    Seen::Full
+                }
+            }
+        };
     }
+    let mut empty = false;
+    for i in 0..16 / G::WIDTH {
+        let at = i * G::WIDTH;
+        let group = G::read(stride, at);
+        if let Some(bucket) = first_accepted(group.match_byte(tag), pos + at, cap, cmp) {
+            return Seen::Accepted(bucket);
+        }
+        if group.match_empty().any_bit_set() {
+            empty = true;
+        }
+    }
+    if empty { Seen::Empty } else { Seen::Full }
 }
 
 /// As `find`, where the bucket at which the probe sequence of the hash begins is known.
@@ -207,15 +156,8 @@ pub fn find_from<G: GroupKind, F: Fn(usize) -> bool>(
     requires start { 0 < cap → start ≡ hash % cap }
     requires room { strides.old ≤ 2 ^ 63 }
     requires callable { (b : ℕ) → IsFullBucket cap controls.now b → F.pre cmp b }
-    ensures walked { IfSome result (IsFullBucket cap controls.now) }
-    ensures accepted { IfSome result (λ b. F.post cmp b true) }
-    ensures bounded { ReadsWithin len (probe_capacity cap / 16) strides.old strides.new }
-    ensures answer { (accept : ℕ → Bool)
-        → AnswersAs (F.post cmp) (IsFullBucket cap controls.now) accept
-        → result ≡ found G.kind controls.now cap len hash accept }
-    ensures counted { (accept : ℕ → Bool)
-        → AnswersAs (F.post cmp) (IsFullBucket cap controls.now) accept
-        → strides.new ≡ strides.old + end G.kind controls.now cap len hash accept }
+    ensures { FindsBucket G.kind (F.post cmp) controls.now cap len hash strides.old strides.new
+        result }
 {
     if len == 0 {
         return None;
@@ -247,15 +189,8 @@ pub fn find<G: GroupKind, F: Fn(usize) -> bool>(
     requires accepted { 0 < len → Accepted cap len controls.now }
     requires room { strides.old ≤ 2 ^ 63 }
     requires callable { (b : ℕ) → IsFullBucket cap controls.now b → F.pre cmp b }
-    ensures walked { IfSome result (IsFullBucket cap controls.now) }
-    ensures accepted { IfSome result (λ b. F.post cmp b true) }
-    ensures bounded { ReadsWithin len (probe_capacity cap / 16) strides.old strides.new }
-    ensures answer { (accept : ℕ → Bool)
-        → AnswersAs (F.post cmp) (IsFullBucket cap controls.now) accept
-        → result ≡ found G.kind controls.now cap len hash accept }
-    ensures counted { (accept : ℕ → Bool)
-        → AnswersAs (F.post cmp) (IsFullBucket cap controls.now) accept
-        → strides.new ≡ strides.old + end G.kind controls.now cap len hash accept }
+    ensures { FindsBucket G.kind (F.post cmp) controls.now cap len hash strides.old strides.new
+        result }
 {
     find_from::<G, F>(controls, cap, len, hash, start(hash, cap), cmp, strides)
 }

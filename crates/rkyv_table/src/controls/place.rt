@@ -1,5 +1,5 @@
 //! Placing items.
-ghost use Rattle.std.specs.Prelude.{IfErr, IfOk, IsOk, Some, [], length, ◌+◌, ◌<◌, ◌≡◌, ◌≤◌};
+ghost use Rattle.std.specs.Prelude.{IfErr, IfOk, IsOk, Some, [], length, ◌%◌, ◌+◌, ◌<◌, ◌≡◌, ◌≤◌};
 ghost use Rattle.std.specs.List.{find};
 ghost use Rattle.rkyv_table.specs.Controls.Shown.{HasRoom, empty_place, fresh_controls};
 ghost use Rattle.rkyv_table.specs.Controls.Shown.{is_empty_at, with_control};
@@ -35,7 +35,19 @@ pub fn place_one<G: GroupKind>(controls: &mut [u8], cap: usize, hash: u64) -> us
     ensures first { find (is_empty_at controls.old) (shown hash cap) ≡ Some result }
     ensures after { controls.new ≡ with_control controls.old cap result (tag hash) }
 {
-    for pos in Probe::new(hash, cap) {
+    place_from::<G>(controls, cap, (hash % cap as u64) as usize, hash)
+}
+
+/// As `place_one`, of a hash that is `start` modulo `cap`.
+#[inline]
+pub fn place_from<G: GroupKind>(controls: &mut [u8], cap: usize, start: usize, hash: u64) -> usize
+    requires repeats { Repeats cap controls.old }
+    requires room { HasRoom cap controls.old }
+    requires begun { start ≡ hash % cap }
+    ensures first { find (is_empty_at controls.old) (shown hash cap) ≡ Some result }
+    ensures after { controls.new ≡ with_control controls.old cap result (tag hash) }
+{
+    for pos in Probe::starting_at(start, cap) {
         if let Some(place) = first_empty::<G>(controls, pos) {
             let bucket = bucket_of(place, cap);
             let tag = tag(hash);

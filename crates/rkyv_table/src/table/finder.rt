@@ -1,18 +1,19 @@
 //! Many lookups in one table.
-ghost use Rattle.std.specs.Prelude.{IfSome, true, ◌<◌, ◌^◌, ◌≡◌, ◌≤◌};
+ghost use Rattle.std.specs.Prelude.{◌<◌, ◌^◌, ◌≡◌, ◌≤◌};
 ghost use Rattle.rkyv_scan.specs.Groups.{generic_kind};
 ghost use Rattle.rkyv_table.specs.Table.Finder.{IsFinder, table_of};
-ghost use Rattle.rkyv_table.specs.Table.Reading.{CountsEnd, CountsWithin, FindsFirst, FindsFound};
-ghost use Rattle.rkyv_table.specs.Table.Reading.{IsAcceptedAt, IsItem, IsItemPos, IsTable, MayAsk};
-ghost use Rattle.rkyv_table.specs.Table.Reading.{pos_of_found};
+ghost use Rattle.rkyv_table.specs.Table.Reading.{CountsStrides, FindsItem, FindsItemPos, IsTable};
+ghost use Rattle.rkyv_table.specs.Table.Reading.{MayAsk};
 
 use crate::controls::find::Strides;
 use crate::controls::reciprocal::Reciprocal;
 use crate::table::ArchivedHashTable;
 use crate::table::items::Items;
+use crate::table::lookup::found_pos;
 use rkyv_base::element::Element;
 use rkyv_base::view::View;
 use rkyv_base::width::{Narrow, Width};
+use rkyv_scan::simd::halves::Group;
 
 /// A table for many lookups: its header was read, and none of them divides.
 ///
@@ -55,12 +56,8 @@ impl<'a, T: Element, W: Width> TableFinder<'a, T, W> {
     pub fn get_with<F: Fn(View<'a, T>) -> bool>(self, hash: u64, cmp: F) -> Option<View<'a, T>>
         requires finder { IsFinder W.word T.shape self }
         requires callable { MayAsk (F.pre cmp) W.word T.shape (table_of self) }
-        ensures walked { IfSome result (IsItem W.word T.shape (table_of self.entry)) }
-        ensures accepted { IfSome result (λ v. F.post cmp v true) }
-        ensures answer { FindsFound (F.post cmp) generic_kind W.word T.shape (table_of self.entry)
-            hash (pos_of_found result) }
-        ensures first { FindsFirst (F.post cmp) W.word T.shape (table_of self.entry) hash
-            (pos_of_found result) }
+        ensures { FindsItem (F.post cmp) generic_kind W.word T.shape (table_of self.entry) hash
+            result }
     {
         self.get_counted(hash, cmp, &mut Strides::new())
     }
@@ -70,43 +67,28 @@ impl<'a, T: Element, W: Width> TableFinder<'a, T, W> {
     pub fn get_pos_with<F: Fn(View<'a, T>) -> bool>(self, hash: u64, cmp: F) -> Option<u64>
         requires finder { IsFinder W.word T.shape self }
         requires callable { MayAsk (F.pre cmp) W.word T.shape (table_of self) }
-        ensures walked { IfSome result (IsItemPos W.word T.shape (table_of self.entry)) }
-        ensures accepted { IfSome result (IsAcceptedAt (F.post cmp) W.word T.shape
-            (table_of self.entry)) }
-        ensures answer { FindsFound (F.post cmp) generic_kind W.word T.shape (table_of self.entry)
-            hash result }
-        ensures first { FindsFirst (F.post cmp) W.word T.shape (table_of self.entry) hash result }
+        ensures { FindsItemPos (F.post cmp) generic_kind W.word T.shape (table_of self.entry) hash
+            result }
     {
-        match self.get_with(hash, cmp) {
-            Some(item) => Some(item.pos()),
-            None => None,
-        }
+        found_pos(self.get_with(hash, cmp))
     }
 
     /// As the table's `get_counted`: counts the strides of sixteen controls that are read.
     ///
     /// The count may be at most 9,223,372,036,854,775,808.
     #[inline]
-    pub fn get_counted<F: Fn(View<'a, T>) -> bool>(
-        self,
-        hash: u64,
-        cmp: F,
-        strides: &mut Strides,
-    ) -> Option<View<'a, T>>
+    pub fn get_counted<F>(self, hash: u64, cmp: F, strides: &mut Strides) -> Option<View<'a, T>>
+    where
+        F: Fn(View<'a, T>) -> bool,
         requires finder { IsFinder W.word T.shape self }
         requires room { strides.old ≤ 2 ^ 63 }
         requires callable { MayAsk (F.pre cmp) W.word T.shape (table_of self) }
-        ensures walked { IfSome result (IsItem W.word T.shape (table_of self.entry)) }
-        ensures accepted { IfSome result (λ v. F.post cmp v true) }
-        ensures answer { FindsFound (F.post cmp) generic_kind W.word T.shape (table_of self.entry)
-            hash (pos_of_found result) }
-        ensures first { FindsFirst (F.post cmp) W.word T.shape (table_of self.entry) hash
-            (pos_of_found result) }
-        ensures bounded { CountsWithin W.word (table_of self.entry) strides.old strides.new }
-        ensures counted { CountsEnd (F.post cmp) generic_kind W.word T.shape (table_of self.entry)
-            hash strides.old strides.new }
+        ensures found { FindsItem (F.post cmp) generic_kind W.word T.shape (table_of self.entry)
+            hash result }
+        ensures counts { CountsStrides (F.post cmp) generic_kind W.word T.shape
+            (table_of self.entry) hash strides.old strides.new }
     {
         let start = self.reciprocal.rest(hash) as usize;
-        self.items.get_counted(start, hash, cmp, strides)
+        self.items.find::<Group, F>(start, hash, cmp, strides)
     }
 }

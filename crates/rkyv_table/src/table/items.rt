@@ -1,12 +1,10 @@
 //! The items of a table whose header was read, and finding one of them.
-ghost use Rattle.std.specs.Prelude.{IfSome, true, ◌%◌, ◌<◌, ◌^◌, ◌≡◌, ◌≤◌};
-ghost use Rattle.rkyv_scan.specs.Groups.{generic_kind};
+ghost use Rattle.std.specs.Prelude.{◌%◌, ◌<◌, ◌^◌, ◌≡◌, ◌≤◌};
 ghost use Rattle.rkyv_table.specs.Table.Header.{cap_at};
 ghost use Rattle.rkyv_table.specs.Controls.Placing.{walk};
-ghost use Rattle.rkyv_table.specs.Table.Reading.{AreItems, CountsEnd, CountsWithin, FindsBucket};
-ghost use Rattle.rkyv_table.specs.Table.Reading.{FindsFirst, FindsFound, IsItem, IsItemIn, IsTable};
-ghost use Rattle.rkyv_table.specs.Table.Reading.{IsWalked, MayAsk, bucket_of_found, pos_of_found};
-ghost use Rattle.rkyv_table.specs.Table.Reading.{table_bytes, table_controls, table_pos};
+ghost use Rattle.rkyv_table.specs.Table.Reading.{AreItems, CountsStrides, FindsItem, IsItemIn};
+ghost use Rattle.rkyv_table.specs.Table.Reading.{IsTable, IsWalked, MayAsk, table_bytes};
+ghost use Rattle.rkyv_table.specs.Table.Reading.{table_controls, table_pos};
 ghost use Rattle.rkyv_base.specs.declared.view.View.{View};
 
 use crate::controls::find::{Strides, find_from};
@@ -17,7 +15,6 @@ use rkyv_base::element::Element;
 use rkyv_base::view::View;
 use rkyv_base::width::Width;
 use rkyv_scan::simd::GroupKind;
-use rkyv_scan::simd::halves::Group;
 
 /// A table and what its header tells.
 #[derive_where(Clone, Copy)]
@@ -29,13 +26,6 @@ pub(crate) struct Items<'a, T, W> {
     pub(crate) controls: &'a [u8],
     pub(crate) len: usize,
     pub(crate) cap: usize,
-}
-
-/// An item that was found, and its bucket.
-#[derive_where(Clone, Copy)]
-pub(crate) struct FoundItem<'a, T> {
-    pub(crate) bucket: usize,
-    pub(crate) item: View<'a, T>,
 }
 
 impl<'a, T: Element, W: Width> Items<'a, T, W> {
@@ -89,18 +79,13 @@ impl<'a, T: Element, W: Width> Items<'a, T, W> {
         hash: u64,
         cmp: F,
         strides: &mut Strides,
-    ) -> Option<FoundItem<'a, T>>
+    ) -> Option<View<'a, T>>
         requires items { AreItems W.word T.shape self }
         requires start { 0 < self.cap → start ≡ hash % self.cap }
         requires room { strides.old ≤ 2 ^ 63 }
         requires callable { MayAsk (F.pre cmp) W.word T.shape self.table }
-        ensures walked { IfSome result (λ found.
-            IsItemIn W.word T.shape self.entry.table found.bucket found.item) }
-        ensures accepted { IfSome result (λ found. F.post cmp found.item true) }
-        ensures answer { FindsBucket (F.post cmp) G.kind W.word T.shape self.entry.table hash
-            (bucket_of_found result) }
-        ensures bounded { CountsWithin W.word self.entry.table strides.old strides.new }
-        ensures counted { CountsEnd (F.post cmp) G.kind W.word T.shape self.entry.table hash
+        ensures found { FindsItem (F.post cmp) G.kind W.word T.shape self.entry.table hash result }
+        ensures counts { CountsStrides (F.post cmp) G.kind W.word T.shape self.entry.table hash
             strides.old strides.new }
     {
         let bucket = find_from::<G, _>(
@@ -120,39 +105,7 @@ impl<'a, T: Element, W: Width> Items<'a, T, W> {
             strides,
         );
         match bucket {
-            Some(bucket) => Some(FoundItem {
-                bucket,
-                item: self.item(bucket),
-            }),
-            None => None,
-        }
-    }
-
-    /// As `find`, by the groups that lookups read.
-    #[inline]
-    pub(crate) fn get_counted<F: Fn(View<'a, T>) -> bool>(
-        self,
-        start: usize,
-        hash: u64,
-        cmp: F,
-        strides: &mut Strides,
-    ) -> Option<View<'a, T>>
-        requires items { AreItems W.word T.shape self }
-        requires start { 0 < self.cap → start ≡ hash % self.cap }
-        requires room { strides.old ≤ 2 ^ 63 }
-        requires callable { MayAsk (F.pre cmp) W.word T.shape self.table }
-        ensures walked { IfSome result (IsItem W.word T.shape self.entry.table) }
-        ensures accepted { IfSome result (λ v. F.post cmp v true) }
-        ensures answer { FindsFound (F.post cmp) generic_kind W.word T.shape self.entry.table hash
-            (pos_of_found result) }
-        ensures first { FindsFirst (F.post cmp) W.word T.shape self.entry.table hash
-            (pos_of_found result) }
-        ensures bounded { CountsWithin W.word self.entry.table strides.old strides.new }
-        ensures counted { CountsEnd (F.post cmp) generic_kind W.word T.shape self.entry.table hash
-            strides.old strides.new }
-    {
-        match self.find::<Group, F>(start, hash, cmp, strides) {
-            Some(found) => Some(found.item),
+            Some(bucket) => Some(self.item(bucket)),
             None => None,
         }
     }

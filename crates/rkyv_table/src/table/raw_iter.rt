@@ -1,11 +1,11 @@
 //! Walking over the items of a table.
-ghost use Rattle.std.specs.Prelude.{[], IfSome, MatchOption, Some, length, slice_index, take, ◌<◌};
+ghost use Rattle.std.specs.Prelude.{[], IfSome, MatchOption, length, slice_index, take, ◌<◌};
 ghost use Rattle.std.specs.Prelude.{◌≤◌, ◌∷◌, ◌≡◌};
 ghost use Rattle.rkyv_scan.specs.Groups.{is_full, mask_places, places_where};
-ghost use Rattle.std.specs.Iterator.{UpTo, at_most};
-ghost use Rattle.std.specs.Iterator.SizeHint.{IsWithinCount};
+ghost use Rattle.std.specs.Iterator.{at_most};
 ghost use Rattle.rkyv_base.specs.View.{IsAt, IsView, archive_of, pos_of};
 ghost use Rattle.rkyv_table.specs.Table.Header.{len_at};
+ghost use Rattle.rkyv_table.specs.Table.Hints.{HintsExactly};
 ghost use Rattle.rkyv_table.specs.Table.RawItems.{AllStand, TakesPos};
 ghost use Rattle.rkyv_table.specs.Table.Reading.{IsTable, item_positions, table_bytes, table_pos};
 
@@ -130,10 +130,7 @@ impl<'a, T> Iterator for RawIter<'a, T> {
 
     #[inline]
     fn size_hint(&self) -> (usize, Option<usize>)
-        ensures lower { IsWithinCount result.0 (at_most (length self.now.places)) }
-        ensures upper { IfSome result.1 (UpTo (at_most (length self.now.places))) }
-        ensures exact { (result.0 ≡ length self.now.places)
-            × (result.1 ≡ Some (length self.now.places)) }
+        ensures { HintsExactly result (length self.now.places) }
     {
         (self.count, Some(self.count))
     }

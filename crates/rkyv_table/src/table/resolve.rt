@@ -1,13 +1,14 @@
 //! What resolves a written table, and its header.
 
-ghost use Rattle.std.specs.Prelude.{◌≡◌, ◌+◌, ◌<◌, ◌≤◌, ◌^◌, FitsSigned, MatchResult, length};
+ghost use Rattle.std.specs.Prelude.{◌≡◌, ◌+◌, ◌<◌, ◌≤◌, ◌^◌, FitsSigned, length};
 ghost use mir.Val.{bits};
-ghost use Rattle.rkyv_table.specs.Table.Header.{HeaderFar, IsHeader, header_bytes};
+ghost use Rattle.rkyv_table.specs.Table.Header.{WritesHeader, header_bytes};
 ghost use Rattle.rkyv_table.specs.Controls.Numbers.{IsLoadFactor, capacity};
 ghost use Rattle.rkyv_table.specs.Table.TableFormat.{TableResolver, resolved_capacity};
 
 use crate::controls::numbers::capacity;
 use crate::table::ArchivedHashTable;
+use rkyv_base::archive::ResolveResult;
 use rkyv_base::errors::DistanceTooLarge;
 use rkyv_base::width::{Narrow, Width};
 use std::marker::{Model, PhantomData};
@@ -54,6 +55,21 @@ impl<W: Width> HashTableResolver<W> {
     {
         self.load_factor
     }
+
+    /// Writes the header of what was written, which is to stand at `pos`, over the whole of `out`,
+    /// as `resolve_from_len` does of its length and its load factor.
+    ///
+    /// # Errors
+    /// Where it isn't empty, and the distance doesn't fit the width; `out` is unchanged.
+    pub fn resolve(self, pos: u64, out: &mut [u8]) -> ResolveResult
+        requires room { length out.old ≡ W.TABLE_SIZE }
+        requires fits { pos + W.TABLE_SIZE < 2 ^ 64 }
+        ensures { WritesHeader W.word self.len self.load_factor self.pos pos out.old out.new
+            result }
+    {
+        let (len, load_factor) = (self.len, self.load_factor);
+        ArchivedHashTable::<'_, (), W>::resolve_from_len(len, load_factor, self, pos, out)
+    }
 }
 
 // Writes the three words of a header.
@@ -96,13 +112,11 @@ impl<'a, T, W: Width> ArchivedHashTable<'a, T, W> {
         resolver: HashTableResolver<W>,
         pos: u64,
         out: &mut [u8],
-    ) -> Result<(), DistanceTooLarge>
+    ) -> ResolveResult
         requires same { (len ≡ resolver.len) × (load_factor ≡ resolver.load_factor) }
         requires room { length out.old ≡ W.TABLE_SIZE }
         requires fits { pos + W.TABLE_SIZE < 2 ^ 64 }
-        ensures { MatchResult result
-            (λ _. IsHeader W.word len (capacity len load_factor) resolver.pos pos out.new)
-            (λ _. HeaderFar W.word len resolver.pos pos × (out.new ≡ out.old)) }
+        ensures { WritesHeader W.word len load_factor resolver.pos pos out.old out.new result }
     {
         if len == 0 {
             write_header::<W>(out, 1, 0, 0);

@@ -1,13 +1,15 @@
 //! Taking items from one iterator of pairs, each into the bucket that is its home.
 
-ghost use Rattle.std.specs.Prelude.{◌≡◌, ℕ, ◌+◌, ◌<◌, ◌≤◌, ◌^◌, List, [], MatchResult, None, Some};
-ghost use Rattle.std.specs.Prelude.{replicate, IfSome, length, slice_set};
+ghost use Rattle.std.specs.Prelude.{◌≡◌, ℕ, ◌%◌, ◌+◌, ◌<◌, ◌≤◌, ◌^◌, ◌∷◌, ◌++◌, List, []};
+ghost use Rattle.std.specs.Prelude.{MatchResult, None, Some, replicate, IfSome, length, slice_set};
 ghost use Rattle.std.specs.Iterator.{Drains};
 ghost use Rattle.rkyv_table.specs.Controls.Shown.{fresh_controls};
 ghost use Rattle.rkyv_table.specs.Table.Counting.{GaveOther};
 ghost use Rattle.rkyv_table.specs.Table.Input.{TakesItems, from_iter};
+ghost use Rattle.rkyv_table.specs.Table.Taking.{HasPlace, Placed};
 
-use crate::controls::place::place_one;
+use crate::controls::place::place_from;
+use crate::controls::reciprocal::Reciprocal;
 use rkyv_scan::simd::GroupKind;
 
 /// Asks the iterator, which need not end.
@@ -22,11 +24,30 @@ pub fn next_item<I: Iterator>(rest: &mut I) -> Option<I::Item>
 
 // Puts an item into a slot.
 #[inline]
-pub(crate) fn put<X: Drop>(slots: &mut [Option<X>], bucket: usize, item: X)
+fn put<X: Drop>(slots: &mut [Option<X>], bucket: usize, item: X)
     requires { bucket < length slots.old }
     ensures { slots.new ≡ slice_set slots.old bucket (Some item) }
 {
     slots[bucket] = Some(item);
+}
+
+// Puts an item into the first empty bucket that its hash, which is `start` modulo `cap`, shows.
+#[inline]
+pub(crate) fn place_item<G: GroupKind, X: Drop>(
+    controls: &mut [u8],
+    slots: &mut [Option<X>],
+    cap: usize,
+    start: usize,
+    hash: u64,
+    item: X,
+)
+    requires room { HasPlace cap slots.old controls.old }
+    requires begun { start ≡ hash % cap }
+    ensures { (pairs : List (ℕ × X)) → Placed cap pairs slots.old controls.old
+        → Placed cap (pairs ++ (hash, item) ∷ []) slots.new controls.new }
+{
+    let bucket = place_from::<G>(controls, cap, start, hash);
+    put(slots, bucket, item);
 }
 
 // Takes `len` pairs, and each item into the first empty bucket that its hash shows. An `Err` has
@@ -45,11 +66,12 @@ pub(crate) fn take_pairs<G: GroupKind, X: Drop, I: Iterator<Item = (u64, X)>>(
     ensures { TakesItems (from_iter I.next_gives pairs) len cap slots.new controls.new result }
 {
     let mut rest = pairs;
+    let modulus = Reciprocal::new(cap as u64);
     for count in 0..len {
         match next_item(&mut rest) {
             Some((hash, item)) => {
-                let bucket = place_one::<G>(controls, cap, hash);
-                put(slots, bucket, item);
+                let start = modulus.rest(hash) as usize;
+                place_item::<G, X>(controls, slots, cap, start, hash, item);
             }
             None => return Err(count),
         }

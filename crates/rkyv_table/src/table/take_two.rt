@@ -6,8 +6,8 @@ ghost use Rattle.rkyv_table.specs.Controls.Shown.{fresh_controls};
 ghost use Rattle.rkyv_table.specs.Table.Counting.{CountedOn};
 ghost use Rattle.rkyv_table.specs.Table.Input.{TakesItems, from_both};
 
-use crate::controls::place::place_one;
-use crate::table::take::{next_item, put};
+use crate::controls::reciprocal::Reciprocal;
+use crate::table::take::{next_item, place_item};
 use rkyv_scan::simd::GroupKind;
 
 // Counts on from `seen`, up to `len + 1`.
@@ -48,12 +48,13 @@ pub(crate) fn take_two<G: GroupKind, X: Drop, I: Iterator<Item = X>, J: Iterator
 {
     let mut rest = items;
     let mut marks = hashes;
+    let modulus = Reciprocal::new(cap as u64);
     for count in 0..len {
         match next_item(&mut rest) {
             Some(item) => match next_item(&mut marks) {
                 Some(hash) => {
-                    let bucket = place_one::<G>(controls, cap, hash);
-                    put(slots, bucket, item);
+                    let start = modulus.rest(hash) as usize;
+                    place_item::<G, X>(controls, slots, cap, start, hash, item);
                 }
                 None => {
                     let came = count_rest(rest, count + 1, len);

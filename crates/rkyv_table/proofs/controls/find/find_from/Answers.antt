@@ -92,33 +92,46 @@ pub scan-requires-clause-callable : goal.scan-requires-clause-callable
 scan-requires-clause-callable g c = λ b shown.
     c.requires.callable b (full g (goal.at.scan-requires-clause-callable g c).After-cmp-1 b shown)
 
-pub returns-in-Accepted-clause-walked : goal.returns-in-Accepted-clause-walked
-returns-in-Accepted-clause-walked g c = full g (goal.at.returns-in-Accepted-clause-walked g c).After-cmp-1 c.in-Accepted.bucket c.in-Accepted.ensures.full
+-- one stride more was read, and no more than there are
+module _ (g : _) (c : After-cmp-1 g) where
+  within : ReadsWithin c.args.len (probe_capacity c.args.cap / 16) c.args.strides.now c.stride.new.self
+  within =
+      let room = (accepted g c).room in
+      let k = count_strides c.args.hash c.args.cap (omega arith) in
+      let l = ap length c.in-Some.ensures.steps in
+      let r = c.loop-pos.invariant.room in
+      let u = c.loop-pos.invariant.up in
+      let d = c.stride.ensures.counted in
+      record { none = λ z. absurd (c.if-len-eq0.false z); some = λ _. omega arith; most = omega arith }
 
 -- the search ends at the stride, by an item or by an empty control
-pub returns-in-Accepted-clause-answer : goal.returns-in-Accepted-clause-answer
-returns-in-Accepted-clause-answer g c = λ accept answers.
-    let at = (goal.at.returns-in-Accepted-clause-answer g c).After-cmp-1 in
-    let s = rw c.tag-tag.ensures at (c.in-Accepted.ensures.seen c.args.controls.now c.stride.ensures.value accept (asked g at accept answers)) in
-    answered g at accept answers _ (ends_by_item g.G.GroupKind.kind c.args.controls.now c.args.cap (tag c.args.hash) accept c.in-Some.pos c.in-Accepted.bucket c.next.new.self c.loop-pos.pos-iterator c.in-Some.ensures.steps s).0
+pub returns-in-Accepted : goal.returns-in-Accepted
+returns-in-Accepted g c =
+    let at = (goal.at.returns-in-Accepted g c).After-cmp-1 in
+    let ends = λ (accept : ℕ → Bool) (answers : AnswersAs (goal.F-post g c.args.cmp) (IsFullBucket c.args.cap c.args.controls.now) accept).
+    (let s = rw c.tag-tag.ensures at (c.in-Accepted.ensures.seen c.args.controls.now c.stride.ensures.value accept (asked g at accept answers)) in
+    ends_by_item g.G.GroupKind.kind c.args.controls.now c.args.cap (tag c.args.hash) accept c.in-Some.pos c.in-Accepted.bucket c.next.new.self c.loop-pos.pos-iterator c.in-Some.ensures.steps s) in
+    record {
+      walked = full g at c.in-Accepted.bucket c.in-Accepted.ensures.full;
+      accepted = c.in-Accepted.ensures.accepted;
+      bounded = within g at;
+      answer = λ accept answers. answered g at accept answers _ (ends accept answers).0;
+      counted = λ accept answers. counted g at accept answers (ends accept answers).1;
+    }
 
-pub returns-in-Accepted-clause-counted : goal.returns-in-Accepted-clause-counted
-returns-in-Accepted-clause-counted g c = λ accept answers.
-    let at = (goal.at.returns-in-Accepted-clause-counted g c).After-cmp-1 in
-    let s = rw c.tag-tag.ensures at (c.in-Accepted.ensures.seen c.args.controls.now c.stride.ensures.value accept (asked g at accept answers)) in
-    counted g at accept answers (ends_by_item g.G.GroupKind.kind c.args.controls.now c.args.cap (tag c.args.hash) accept c.in-Some.pos c.in-Accepted.bucket c.next.new.self c.loop-pos.pos-iterator c.in-Some.ensures.steps s).1
-
-pub returns-in-Empty-clause-answer : goal.returns-in-Empty-clause-answer
-returns-in-Empty-clause-answer g c = λ accept answers.
-    let at = (goal.at.returns-in-Empty-clause-answer g c).After-cmp-1 in
-    let s = rw c.tag-tag.ensures at (c.in-Empty.ensures.seen c.args.controls.now c.stride.ensures.value accept (asked g at accept answers)) in
-    answered g at accept answers _ (ends_by_empty g.G.GroupKind.kind c.args.controls.now c.args.cap (tag c.args.hash) accept c.in-Some.pos c.next.new.self c.loop-pos.pos-iterator c.in-Some.ensures.steps s.0 s.1).0
-
-pub returns-in-Empty-clause-counted : goal.returns-in-Empty-clause-counted
-returns-in-Empty-clause-counted g c = λ accept answers.
-    let at = (goal.at.returns-in-Empty-clause-counted g c).After-cmp-1 in
-    let s = rw c.tag-tag.ensures at (c.in-Empty.ensures.seen c.args.controls.now c.stride.ensures.value accept (asked g at accept answers)) in
-    counted g at accept answers (ends_by_empty g.G.GroupKind.kind c.args.controls.now c.args.cap (tag c.args.hash) accept c.in-Some.pos c.next.new.self c.loop-pos.pos-iterator c.in-Some.ensures.steps s.0 s.1).1
+pub returns-in-Empty : goal.returns-in-Empty
+returns-in-Empty g c =
+    let at = (goal.at.returns-in-Empty g c).After-cmp-1 in
+    let ends = λ (accept : ℕ → Bool) (answers : AnswersAs (goal.F-post g c.args.cmp) (IsFullBucket c.args.cap c.args.controls.now) accept).
+    (let s = rw c.tag-tag.ensures at (c.in-Empty.ensures.seen c.args.controls.now c.stride.ensures.value accept (asked g at accept answers)) in
+    ends_by_empty g.G.GroupKind.kind c.args.controls.now c.args.cap (tag c.args.hash) accept c.in-Some.pos c.next.new.self c.loop-pos.pos-iterator c.in-Some.ensures.steps s.0 s.1) in
+    record {
+      walked = tt;
+      accepted = tt;
+      bounded = within g at;
+      answer = λ accept answers. answered g at accept answers _ (ends accept answers).0;
+      counted = λ accept answers. counted g at accept answers (ends accept answers).1;
+    }
 
 pub loop-pos-preserved : goal.loop-pos-preserved
 loop-pos-preserved g c =
@@ -136,41 +149,24 @@ loop-pos-preserved g c =
       counted = λ accept answers. (let k = c.loop-pos.invariant.counted accept answers in let o = (on accept answers).1 in omega arith);
     }
 
-pub returns-clause-counted : goal.returns-clause-counted
-returns-clause-counted g c = λ accept answers.
-    let a : Accepted c.args.cap c.args.len c.args.controls.now = c.requires.accepted (omega (arith, c.if-len-eq0.false)) in
-    let s = ends_somewhere g.G.GroupKind.kind c.args.controls.now c.args.cap c.args.len c.args.hash (tag c.args.hash) accept a in
-    let k = c.loop-pos.invariant.counted accept answers in
-    let r = c.loop-pos.invariant.room in
-    let done : c.loop-pos.pos-iterator ≡ [] = c.in-None.ensures.steps.0 in
-    let l = ap length done in
-    let p = ap (place g.G.GroupKind.kind c.args.controls.now c.args.cap (tag c.args.hash) accept) done in
-    absurd (omega arith)
-
--- one stride more was read, and no more than there are
-module _ (g : _) (c : After-cmp-1 g) where
-  within : ReadsWithin c.args.len (probe_capacity c.args.cap / 16) c.args.strides.now c.stride.new.self
-  within =
-      let room = (accepted g c).room in
-      let k = count_strides c.args.hash c.args.cap (omega arith) in
-      let l = ap length c.in-Some.ensures.steps in
-      let r = c.loop-pos.invariant.room in
-      let u = c.loop-pos.invariant.up in
-      let d = c.stride.ensures.counted in
-      record { none = λ z. absurd (c.if-len-eq0.false z); some = λ _. omega arith; most = omega arith }
-
-pub returns-in-Accepted-clause-bounded : goal.returns-in-Accepted-clause-bounded
-returns-in-Accepted-clause-bounded g c = within g (goal.at.returns-in-Accepted-clause-bounded g c).After-cmp-1
-
-pub returns-in-Empty-clause-bounded : goal.returns-in-Empty-clause-bounded
-returns-in-Empty-clause-bounded g c = within g (goal.at.returns-in-Empty-clause-bounded g c).After-cmp-1
-
-pub returns-clause-bounded : goal.returns-clause-bounded
-returns-clause-bounded g c =
+-- the probe sequence doesn't end before the search does
+pub returns : goal.returns
+returns g c =
     let a : Accepted c.args.cap c.args.len c.args.controls.now = c.requires.accepted (omega (arith, c.if-len-eq0.false)) in
     let room = a.room in
-    let k = count_strides c.args.hash c.args.cap (omega arith) in
     let done : c.loop-pos.pos-iterator ≡ [] = c.in-None.ensures.steps.0 in
     let l = ap length done in
     let r = c.loop-pos.invariant.room in
-    record { none = λ z. absurd (c.if-len-eq0.false z); some = λ _. omega arith; most = omega arith }
+    record {
+      walked = tt;
+      accepted = tt;
+      bounded = (let k = count_strides c.args.hash c.args.cap (omega arith) in record { none = λ z. absurd (c.if-len-eq0.false z); some = λ _. omega arith; most = omega arith });
+      answer = λ accept answers.
+          sym (found_is g.G.GroupKind.kind c.args.controls.now c.args.cap c.args.len c.args.hash accept c.if-len-eq0.false ∙ c.loop-pos.invariant.same accept answers
+          ∙ ap (answer g.G.GroupKind.kind c.args.controls.now c.args.cap (tag c.args.hash) accept) done);
+      counted = λ accept answers.
+          let s = ends_somewhere g.G.GroupKind.kind c.args.controls.now c.args.cap c.args.len c.args.hash (tag c.args.hash) accept a in
+          let k = c.loop-pos.invariant.counted accept answers in
+          let p = ap (place g.G.GroupKind.kind c.args.controls.now c.args.cap (tag c.args.hash) accept) done in
+          absurd (omega arith);
+    }

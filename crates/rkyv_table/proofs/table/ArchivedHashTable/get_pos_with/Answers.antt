@@ -1,5 +1,6 @@
-use Rattle.std.proofs.Common.{sym}
+use Rattle.rkyv_scan.specs.Groups.{generic_kind}
+use Rattle.rkyv_table.proofs.FoundItems.{pos_of_item}
 use Rattle.rkyv_table.proofs.table.ArchivedHashTable.get_pos_with.Goals as goal
 
-pub returns-in-Some-clause-accepted : goal.returns-in-Some-clause-accepted
-returns-in-Some-clause-accepted g c = (c.in-Some.item, c.in-Some.ensures.walked, sym c.pos.ensures, c.in-Some.ensures.accepted)
+pub returns : goal.returns
+returns g c = rw c.found_pos.ensures (pos_of_item (goal.F-post g c.args.cmp) g.W.Width.word g.T.Element.shape c.args.self c.args.hash generic_kind c.get_with.result c.get_with.ensures)

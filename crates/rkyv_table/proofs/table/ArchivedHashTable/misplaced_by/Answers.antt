@@ -1,4 +1,4 @@
-use Rattle.std.proofs.Common.{◌≡◌, ◌∙◌, arith, refl, sym, ap, subst, zero-add, length, filter}
+use Rattle.std.proofs.Common.{◌≡◌, ◌∙◌, ◌∷◌, arith, refl, sym, ap, subst, zero-add, length, filter}
 use Rattle.std.specs.List.{All}
 use Rattle.std.proofs.lemmas.List.Elements.{All-head, All-rest}
 use Rattle.rkyv_scan.specs.Groups.{generic_kind}
@@ -6,10 +6,11 @@ use Rattle.rkyv_table.specs.Table.Header.{cap_at}
 use Rattle.rkyv_table.specs.Table.MisplacedIn.{bucket_misplaced}
 use Rattle.rkyv_table.specs.Controls.Placing.{walk}
 use Rattle.rkyv_table.specs.Table.Reading.{IsItem, IsWalked, table_bytes, table_controls, table_pos}
-use Rattle.rkyv_table.proofs.MisplacedIn.{bucket_told, count_passed, count_taken}
+use Rattle.rkyv_table.proofs.MisplacedIn.{TellsMisplaced, bucket_told, counted_none, counted_one}
 use Rattle.rkyv_table.proofs.RawWalks.{walked_all}
 use Rattle.rkyv_table.proofs.Walks.{walk_small}
 use Rattle.rkyv_table.proofs.table.ArchivedHashTable.misplaced_by.Goals as goal
+use Rattle.rkyv_table.proofs.table.ArchivedHashTable.misplaced_by.Goals.{After-is_elsewhere, In-Some}
 
 pub loop-bucket-init : goal.loop-bucket-init
 loop-bucket-init g c =
@@ -29,70 +30,63 @@ loop-bucket-init g c =
           zero-add _ ∙ ap (λ xs. length (filter (bucket_misplaced generic_kind w s c.args.self hash_of same) xs)) e;
     }
 
+-- the bucket that is looked up, and those that are left, are walked
+module _ (g : _) (c : In-Some g) where
+  walked : All (IsWalked g.W.Width.word (table_bytes c.args.self) (table_pos c.args.self)) (c.in-Some.bucket ∷ c.next.new.self)
+  walked = subst (All (IsWalked g.W.Width.word (table_bytes c.args.self) (table_pos c.args.self))) c.in-Some.ensures.steps c.loop-bucket.invariant.walked
+
+  here : IsWalked g.W.Width.word (table_bytes c.of-items.result.table) (table_pos c.of-items.result.table) c.in-Some.bucket
+  here = subst (λ t. IsWalked g.W.Width.word (table_bytes t) (table_pos t) c.in-Some.bucket) (sym c.of-items.ensures.table)
+      (All-head (IsWalked g.W.Width.word (table_bytes c.args.self) (table_pos c.args.self)) c.in-Some.bucket c.next.new.self walked)
+
+  rest : All (IsWalked g.W.Width.word (table_bytes c.args.self) (table_pos c.args.self)) c.next.new.self
+  rest = All-rest (IsWalked g.W.Width.word (table_bytes c.args.self) (table_pos c.args.self)) c.in-Some.bucket c.next.new.self c.loop-bucket.bucket-iterator c.in-Some.ensures.steps c.loop-bucket.invariant.walked
+
+-- its lookup tells whether its item is misplaced
+module _ (g : _) (c : After-is_elsewhere g) where
+  tells : TellsMisplaced generic_kind g.W.Width.word g.T.Element.shape c.args.self (goal.H-post g c.args.hash_of) (goal.S-post g c.args.same) c.in-Some.bucket c.is_elsewhere.result
+  tells = λ hash_of same hash_as same_as.
+      c.is_elsewhere.ensures ∙ bucket_told generic_kind g.W.Width.word g.T.Element.shape c.of-items.result.table c.args.self c.of-items.ensures.table _ _ c.in-Some.bucket c.hash_of-hash.result c.item.result c.item.ensures c.hash_of-hash.ensures
+      c.own_lookup.result c.own_lookup.ensures hash_of same hash_as same_as
+
 pub item-requires-clause-walked : goal.item-requires-clause-walked
-item-requires-clause-walked g c =
-    let w = g.W.Width.word in
-    let P = IsWalked w (table_bytes c.args.self) (table_pos c.args.self) in
-    let one = All-head P c.in-Some.bucket c.next.new.self (subst (All P) c.in-Some.ensures.steps c.loop-bucket.invariant.walked) in
-    subst (λ t. IsWalked w (table_bytes t) (table_pos t) c.in-Some.bucket) (sym c.of-items.ensures.table) one
+item-requires-clause-walked g c = here g (goal.at.item-requires-clause-walked g c).In-Some
 
 pub own_lookup-requires : goal.own_lookup-requires
 own_lookup-requires g c κs =
-    let w = g.W.Width.word in
-    let s = g.T.Element.shape in
-    let same = c.of-items.ensures.table in
-    let P = IsWalked w (table_bytes c.args.self) (table_pos c.args.self) in
-    let one = All-head P c.in-Some.bucket c.next.new.self (subst (All P) c.in-Some.ensures.steps c.loop-bucket.invariant.walked) in (
+    let same = c.of-items.ensures.table in (
       (refl, tt),
       (
         c.of-items.ensures.items,
         (
-          subst (λ t. IsWalked w (table_bytes t) (table_pos t) c.in-Some.bucket) (sym same) one,
-          λ x y hx hy. c.requires.comparable x y (subst (λ t. IsItem w s t x) same hx) (subst (λ t. IsItem w s t y) same hy),
+          here g (goal.at.own_lookup-requires g c).In-Some,
+          λ x y hx hy. c.requires.comparable x y (subst (λ t. IsItem g.W.Width.word g.T.Element.shape t x) same hx) (subst (λ t. IsItem g.W.Width.word g.T.Element.shape t y) same hy),
         ),
       ),
     )
 
 pub loop-bucket-preserved-then-is_elsewhere : goal.loop-bucket-preserved-then-is_elsewhere
 loop-bucket-preserved-then-is_elsewhere g c =
-    let w = g.W.Width.word in
-    let s = g.T.Element.shape in
-    let P = IsWalked w (table_bytes c.args.self) (table_pos c.args.self) in
-    let steps = c.in-Some.ensures.steps in
-    let l = ap length steps in
-    let inv = c.loop-bucket.invariant in
-    let counted = inv.counted in
+    let l = ap length c.in-Some.ensures.steps in
+    let counted = c.loop-bucket.invariant.counted in
+    let at = goal.at.loop-bucket-preserved-then-is_elsewhere g c in
     record {
-      walked = All-rest P c.in-Some.bucket c.next.new.self c.loop-bucket.bucket-iterator steps inv.walked;
+      walked = rest g at.In-Some;
       counted = omega arith;
-      told = λ hash_of same hash_as same_as.
-          let Q = bucket_misplaced generic_kind w s c.args.self hash_of same in
-          let t = bucket_told generic_kind w s c.of-items.result.table c.args.self c.of-items.ensures.table _ _ c.in-Some.bucket c.hash_of-hash.result c.item.result c.item.ensures c.hash_of-hash.ensures
-          c.own_lookup.result c.own_lookup.ensures hash_of same hash_as same_as in
-          let n = count_taken Q c.in-Some.bucket c.loop-bucket.bucket-iterator c.next.new.self steps (sym t ∙ sym c.is_elsewhere.ensures ∙ c.if-is_elsewhere.true) in
-          let told = inv.told hash_of same hash_as same_as in
-          omega (arith, n, told);
+      told = counted_one generic_kind g.W.Width.word g.T.Element.shape c.args.self _ _ c.loop-bucket.count c.in-Some.bucket c.loop-bucket.bucket-iterator c.next.new.self c.in-Some.ensures.steps c.is_elsewhere.result
+          (tells g at.After-is_elsewhere) c.loop-bucket.invariant.told c.if-is_elsewhere.true;
     }
 
 pub loop-bucket-preserved : goal.loop-bucket-preserved
 loop-bucket-preserved g c =
-    let w = g.W.Width.word in
-    let s = g.T.Element.shape in
-    let P = IsWalked w (table_bytes c.args.self) (table_pos c.args.self) in
-    let steps = c.in-Some.ensures.steps in
-    let l = ap length steps in
-    let inv = c.loop-bucket.invariant in
-    let counted = inv.counted in
+    let l = ap length c.in-Some.ensures.steps in
+    let counted = c.loop-bucket.invariant.counted in
+    let at = goal.at.loop-bucket-preserved g c in
     record {
-      walked = All-rest P c.in-Some.bucket c.next.new.self c.loop-bucket.bucket-iterator steps inv.walked;
+      walked = rest g at.In-Some;
       counted = omega arith;
-      told = λ hash_of same hash_as same_as.
-          let Q = bucket_misplaced generic_kind w s c.args.self hash_of same in
-          let t = bucket_told generic_kind w s c.of-items.result.table c.args.self c.of-items.ensures.table _ _ c.in-Some.bucket c.hash_of-hash.result c.item.result c.item.ensures c.hash_of-hash.ensures
-          c.own_lookup.result c.own_lookup.ensures hash_of same hash_as same_as in
-          let n = count_passed Q c.in-Some.bucket c.loop-bucket.bucket-iterator c.next.new.self steps (sym t ∙ sym c.is_elsewhere.ensures ∙ c.if-is_elsewhere.false) in
-          let told = inv.told hash_of same hash_as same_as in
-          omega (arith, n, told);
+      told = counted_none generic_kind g.W.Width.word g.T.Element.shape c.args.self _ _ c.loop-bucket.count c.in-Some.bucket c.loop-bucket.bucket-iterator c.next.new.self c.in-Some.ensures.steps c.is_elsewhere.result
+          (tells g at.After-is_elsewhere) c.loop-bucket.invariant.told c.if-is_elsewhere.false;
     }
 
 pub returns : goal.returns

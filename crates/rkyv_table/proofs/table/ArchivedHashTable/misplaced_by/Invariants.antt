@@ -1,17 +1,14 @@
-use Rattle.std.proofs.Common.{◌≡◌, ℕ, ◌+◌, ◌≤◌, Bool, length, filter}
+use Rattle.std.proofs.Common.{◌+◌, ◌≤◌, length}
 use Rattle.std.specs.List.{All}
 use Rattle.rkyv_scan.specs.Groups.{generic_kind}
 use Rattle.rkyv_table.specs.Table.Header.{cap_at}
-use Rattle.rkyv_table.specs.Table.MisplacedIn.{ComparesAs, HashesAs, bucket_misplaced, table_misplaced}
 use Rattle.rkyv_table.specs.Table.Reading.{IsWalked, table_bytes, table_pos}
+use Rattle.rkyv_table.proofs.MisplacedIn.{Counting}
 use Rattle.rkyv_table.proofs.table.ArchivedHashTable.misplaced_by.Given as goal
 
 abbrev pub invariant-loop-bucket : goal.invariant-loop-bucket
 invariant-loop-bucket g l = record {
   walked : All (IsWalked g.W.Width.word (table_bytes l.fn.self) (table_pos l.fn.self)) l.bucket-iterator;
   counted : l.count + length l.bucket-iterator ≤ cap_at g.W.Width.word (table_bytes l.fn.self) (table_pos l.fn.self);
-  told : (hash_of : ℕ → ℕ) (same : ℕ → ℕ → Bool) → HashesAs (goal.H-post g l.fn.hash_of) g.W.Width.word g.T.Element.shape l.fn.self hash_of
-      → ComparesAs (goal.S-post g l.fn.same) g.W.Width.word g.T.Element.shape l.fn.self same
-      → l.count + length (filter (bucket_misplaced generic_kind g.W.Width.word g.T.Element.shape l.fn.self hash_of same) l.bucket-iterator)
-      ≡ table_misplaced generic_kind g.W.Width.word g.T.Element.shape l.fn.self hash_of same;
+  told : Counting generic_kind g.W.Width.word g.T.Element.shape l.fn.self (goal.H-post g l.fn.hash_of) (goal.S-post g l.fn.same) l.count l.bucket-iterator;
 }

@@ -1,9 +1,9 @@
-use Rattle.std.proofs.Common.{arith, ◌≡◌, ◌<◌, ◌^◌, ◌+◌, ◌++◌, ◌∷◌, [], ℕ, List, length, refl, ap, ◌∙◌, inl, inr, rules, length-append, Option, Some}
+use Rattle.std.proofs.Common.{arith, ◌≡◌, ◌+◌, ◌++◌, ◌∷◌, [], ℕ, List, length, refl, ap, ◌∙◌, inl, inr, length-append, Option, Some}
 use Rattle.std.specs.Iterator.{Yields}
 use Rattle.std.proofs.lemmas.List.{length_push, length-map, map-append}
 use Rattle.rkyv_table.specs.Table.Counting.{Counted, CountedOn}
 use Rattle.rkyv_table.specs.Table.Taking.{items_of, hashes_of}
-use Rattle.rkyv_table.proofs.Taking.{bucket_inside, yields_more, yields_join, placed_more, placed_none, placed_room}
+use Rattle.rkyv_table.proofs.Taking.{yields_more, yields_join, placed_none}
 use Rattle.rkyv_table.proofs.table.take_two.take_two.Goals as goal
 
 pub loop-count-init : goal.loop-count-init
@@ -12,27 +12,16 @@ loop-count-init g c = record {
   taken = ([], refl, refl, refl, rw (c.requires.fresh, c.requires.empty) (placed_none c.args.cap (let r = c.requires.room in omega arith)));
 }
 
-pub place_one-bucket-requires-clause-repeats : goal.place_one-bucket-requires-clause-repeats
-place_one-bucket-requires-clause-repeats g c = c.loop-count.invariant.taken.4.written.repeats
-
-pub place_one-bucket-requires-clause-room : goal.place_one-bucket-requires-clause-room
-place_one-bucket-requires-clause-room g c =
+pub place_item-requires-clause-room : goal.place_item-requires-clause-room
+place_item-requires-clause-room g c =
     let i = c.loop-count.invariant.taken in
     let r = c.requires.room in
     let t = c.loop-count-test.true in
-    placed_room c.args.cap i.0 c.loop-count.slots c.loop-count.controls i.4 (omega (arith, i.3))
-
-pub put-requires : goal.put-requires
-put-requires g c =
-    let i = c.loop-count.invariant.taken in
-    bucket_inside c.args.cap i.0 c.loop-count.slots c.loop-count.controls (omega (arith, c.requires.room)) i.4 c.in-Some-next_item.hash c.place_one-bucket.result c.place_one-bucket.ensures.first
+    (i.0, omega (arith, i.3), i.4)
 
 pub loop-count-preserved : goal.loop-count-preserved
 loop-count-preserved g c =
     let i = c.loop-count.invariant.taken in
-    let r = c.requires.room in
-    let hash_fits : c.in-Some-next_item.hash < 2 ^ 64 = search rules in
-    let m = placed_more c.args.cap i.0 c.loop-count.slots c.loop-count.controls c.in-Some-next_item.hash c.place_one-bucket.result c.in-Some.item (omega arith) i.4 hash_fits c.place_one-bucket.ensures.first in
     let mi = map-append (λ (y : ℕ × g.row.X.Denot). y.1) i.0 ((c.in-Some-next_item.hash, c.in-Some.item) ∷ []) in
     let mh = map-append (λ (y : ℕ × g.row.X.Denot). y.0) i.0 ((c.in-Some-next_item.hash, c.in-Some.item) ∷ []) in
     record {
@@ -42,7 +31,7 @@ loop-count-preserved g c =
         rw mi (yields_more g.I.Iterator.next_gives _ _ _ (items_of i.0) _ i.1 c.in-Some.ensures.steps),
         rw mh (yields_more g.J.Iterator.next_gives _ _ _ (hashes_of i.0) _ i.2 c.in-Some-next_item.ensures.steps),
         length_push i.0 _ ∙ ap (λ n. n + 1) i.3,
-        rw (c.put.ensures, c.place_one-bucket.ensures.after) m,
+        c.place_item.ensures i.0 i.4,
       );
     }
 

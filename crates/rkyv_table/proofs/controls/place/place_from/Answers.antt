@@ -6,8 +6,8 @@ use Rattle.rkyv_table.specs.Controls.Numbers.{tag}
 use Rattle.rkyv_table.specs.Controls.Probe.{shown}
 use Rattle.rkyv_table.proofs.Coverage.{stride_below}
 use Rattle.rkyv_table.proofs.FirstFree.{some_shown, none_shown, begun, passes_on, first_at, later_started, member_front, member_rest, runs_out, empty_place_is, one_write}
-use Rattle.rkyv_table.proofs.controls.place.place_one.Goals as goal
-use Rattle.rkyv_table.proofs.controls.place.place_one.Goals.{In-Some-first_empty}
+use Rattle.rkyv_table.proofs.controls.place.place_from.Goals as goal
+use Rattle.rkyv_table.proofs.controls.place.place_from.Goals.{In-Some-first_empty}
 
 -- the first empty place is that of the first bucket shown whose control is empty
 found_here : (g : _) (c : In-Some-first_empty g)

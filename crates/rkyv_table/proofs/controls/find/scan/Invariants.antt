@@ -3,7 +3,7 @@ use Rattle.std.specs.List.{find}
 use Rattle.rkyv_table.specs.Controls.Seen.{IsShown}
 use Rattle.rkyv_table.specs.Controls.Finding.{AnswersAs}
 use Rattle.rkyv_table.proofs.Groups.{candidates_in, empty_in}
-use Rattle.rkyv_table.proofs.controls.find.scan_groups.Given as goal
+use Rattle.rkyv_table.proofs.controls.find.scan.Given as goal
 
 abbrev pub invariant-loop-i : goal.invariant-loop-i
 invariant-loop-i g l = record {

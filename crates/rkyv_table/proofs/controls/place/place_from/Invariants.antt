@@ -3,7 +3,7 @@ use Rattle.std.specs.List.{find, flat_map, list_any}
 use Rattle.rkyv_table.specs.Controls.Shown.{is_empty_at}
 use Rattle.rkyv_table.specs.Controls.Numbers.{start}
 use Rattle.rkyv_table.specs.Controls.Probe.{strides, shown, buckets_at}
-use Rattle.rkyv_table.proofs.controls.place.place_one.Given as goal
+use Rattle.rkyv_table.proofs.controls.place.place_from.Given as goal
 
 abbrev pub invariant-loop-pos : goal.invariant-loop-pos
 invariant-loop-pos g l = record {

@@ -1,0 +1,85 @@
+-- What a lookup says of the item that it answers, from what it says of the bucket.
+use Rattle.std.proofs.Common.{◌≡◌, ℕ, ◌+◌, ◌<◌, ◌^◌, ◌∙◌, Bool, List, None, Option, Some, ap, refl, subst, sym, true}
+use Rattle.std.specs.Int.{Width}
+use Rattle.std.specs.Option.{option_map}
+use Rattle.rkyv_scan.specs.Groups.{IsKind, Kind, generic_kind}
+use Rattle.rkyv_scan.specs.Halves.{halves_kind}
+use Rattle.rkyv_base.specs.Shape.{IsElement, Shape}
+use Rattle.rkyv_base.specs.declared.view.View.{View}
+use Rattle.rkyv_table.specs.Controls.Finding.{FindsBucket}
+use Rattle.rkyv_table.specs.Table.Header.{cap_at, len_at}
+use Rattle.rkyv_table.specs.Table.Reading.{Answers, AreItems, CountsStrides, FindsFirst, FindsFound, FindsItem, FindsItemPos, IsItemIn, bucket_found, item_at, pos_of_found, table_bytes, table_controls, table_pos}
+use Rattle.rkyv_table.specs.declared.table.ArchivedHashTable.{ArchivedHashTable}
+use Rattle.rkyv_table.specs.declared.table.items.Items.{Items}
+use Rattle.rkyv_table.proofs.FirstFound.{first_found}
+use Rattle.rkyv_table.proofs.HalvesFound.{end_halves, found_halves}
+use Rattle.rkyv_table.proofs.Items.{read_end, read_found, view_is}
+
+module _ {T W : Type 0} (post : View T → Bool → Type 0) (w : Width) (s : Shape) (t : ArchivedHashTable T W) (hash : ℕ) where
+  -- what the controls lead to is the first accepted item of a written table
+  pub finds_first : (kind : Kind) → IsKind kind → hash < 2 ^ 64 → (found : Option ℕ) → FindsFound post kind w s t hash found → FindsFirst post w s t hash found
+  finds_first kind law fits found finds = λ hashes homes accept written alone under.
+      finds accept alone ∙ first_found kind law w s.size (table_bytes t) (table_pos t) hash fits hashes homes accept written under
+
+  -- a lookup by sixteen wide groups with the eight wide group's marks in each half is one by the eight wide group
+  pub found_by_halves : (result : Option (View T)) → FindsItem post halves_kind w s t hash result → FindsItem post generic_kind w s t hash result
+  found_by_halves result h =
+      let b = table_bytes t in
+      let p = table_pos t in
+      let at : ℕ → ℕ = item_at w s.size b p in
+      record {
+        walked = h.walked;
+        accepted = h.accepted;
+        answer = λ accept alone. h.answer accept alone ∙ ap (option_map at) (found_halves (table_controls w b p) (cap_at w b p) (len_at w b p) hash (λ i. accept (at i)));
+        first = h.first;
+      }
+
+  pub counted_by_halves : (before after : ℕ) → CountsStrides post halves_kind w s t hash before after → CountsStrides post generic_kind w s t hash before after
+  counted_by_halves before after h =
+      let b = table_bytes t in
+      let p = table_pos t in
+      record {
+        bounded = h.bounded;
+        counted = λ accept alone. h.counted accept alone ∙ ap (λ n. before + n) (end_halves (table_controls w b p) (cap_at w b p) (len_at w b p) hash (λ i. accept (item_at w s.size b p i)));
+      }
+
+  -- what is said of the item is said of its position
+  pub pos_of_item : (kind : Kind) (result : Option (View T)) → FindsItem post kind w s t hash result → FindsItemPos post kind w s t hash (pos_of_found result)
+  pos_of_item kind (Some v) h = record { walked = (h.walked.0, h.walked.1.walked, h.walked.1.place); accepted = (v, h.walked, refl, h.accepted); answer = h.answer; first = h.first }
+  pos_of_item kind None h = record { walked = tt; accepted = tt; answer = h.answer; first = h.first }
+
+-- a lookup in the controls that were read, of which each answer is one of the comparison for the bucket's item
+module _ {T W : Type 0} (post : View T → Bool → Type 0) (kind : Kind) (law : IsKind kind) (w : Width) (s : Shape) (element : IsElement s) (items : Items T W) (are : AreItems w s items)
+    (hash : ℕ) (fits : hash < 2 ^ 64) (before after : ℕ)
+    (asked : ℕ → Bool → Type 0) (meets : (i : ℕ) (r : Bool) → asked i r → (v : View T) × IsItemIn w s items.table i v × post v r) (found : Option ℕ)
+    (finds : FindsBucket kind asked items.controls.now items.cap items.len hash before after found) where
+  abbrev place : ℕ → ℕ
+  place = item_at w s.size (table_bytes items.table) (table_pos items.table)
+
+  asks : (accept : ℕ → Bool) → Answers post w s items.table accept → (i : ℕ) (r : Bool) → asked i r → r ≡ accept (place i)
+  asks accept alone i r told = let e = meets i r told in alone e.0 r (i, e.1) e.2 ∙ ap accept e.1.place
+
+  bucket_told : (accept : ℕ → Bool) → Answers post w s items.table accept → found ≡ bucket_found kind w s.size (table_bytes items.table) (table_pos items.table) hash accept
+  bucket_told accept alone = finds.answer (λ i. accept (place i)) (λ i r full. asks accept alone i r) ∙ read_found w s element items are kind hash (λ i. accept (place i))
+
+  pub strides_counted : CountsStrides post kind w s items.table hash before after
+  strides_counted = record {
+    bounded = rw (are.len, are.cap) at finds.bounded;
+    counted = λ accept alone. finds.counted (λ i. accept (place i)) (λ i r full. asks accept alone i r) ∙ ap (λ n. before + n) (read_end w s element items are kind hash (λ i. accept (place i)));
+  }
+
+  pub item_found : (i : ℕ) → found ≡ Some i → (v : View T) → IsItemIn w s items.table i v → FindsItem post kind w s items.table hash (Some v)
+  item_found i is v here =
+      let answer : FindsFound post kind w s items.table hash (Some v.pos) = λ accept alone. ap Some here.place ∙ ap (option_map place) (sym is ∙ bucket_told accept alone) in
+      let e = meets i true (rw is at finds.accepted) in
+      record {
+        walked = (i, here);
+        accepted = subst (λ u. post u true) (view_is e.0 v (e.1.archive ∙ sym here.archive) (e.1.place ∙ sym here.place)) e.2;
+        answer = answer;
+        first = finds_first post w s items.table hash kind law fits (Some v.pos) answer;
+      }
+
+  pub none_found : found ≡ None → FindsItem post kind w s items.table hash None
+  none_found is =
+      let answer : FindsFound post kind w s items.table hash None = λ accept alone. ap (option_map place) (sym is ∙ bucket_told accept alone) in
+      record { walked = tt; accepted = tt; answer = answer; first = finds_first post w s items.table hash kind law fits None answer }

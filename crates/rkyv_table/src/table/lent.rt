@@ -1,0 +1,97 @@
+//! Iterators that hand in the items of a list, its pairs by halves, and keys each with the unit
+//! value, to a call that writes them.
+
+ghost use Rattle.std.specs.Iterator.{YieldsFirstBy, at_most};
+ghost use Rattle.std.specs.Prelude.{length, ◌≡◌};
+ghost use Rattle.std.specs.Slice.Iter.{iter_rest};
+ghost use Rattle.rkyv_table.specs.Table.Lent.{UnitStep};
+
+/// The pairs of a list, by halves.
+#[derive(Drop)]
+pub struct Halves<'a, A, B> {
+    pairs: std::slice::Iter<'a, (A, B)>,
+}
+
+impl<'a, A, B> Halves<'a, A, B> {
+    /// Those of a list, in order.
+    #[inline]
+    pub fn of(pairs: &'a [(A, B)]) -> Halves<'a, A, B>
+        ensures { iter_rest result.pairs ≡ pairs.now }
+    {
+        Halves {
+            pairs: pairs.iter(),
+        }
+    }
+}
+
+impl<'a, A, B> Iterator for Halves<'a, A, B> {
+    type Item = (&'a A, &'a B);
+
+    ghost next_gives = { YieldsFirstBy (λ halves. (halves.0.now, halves.1.now))
+        (λ s. iter_rest s.pairs) };
+
+    ghost remaining = { λ s. at_most (length (iter_rest s.pairs)) };
+
+    #[inline]
+    fn next(&mut self) -> Option<(&'a A, &'a B)> {
+        match self.pairs.next() {
+            Some(pair) => Some((&pair.0, &pair.1)),
+            None => None,
+        }
+    }
+}
+
+/// The items of a list, by reference.
+#[derive(Drop)]
+pub struct Refs<'a, A> {
+    items: std::slice::Iter<'a, A>,
+}
+
+impl<'a, A> Refs<'a, A> {
+    /// Those of a list, in order.
+    #[inline]
+    pub fn of(items: &'a [A]) -> Refs<'a, A>
+        ensures { iter_rest result.items ≡ items.now }
+    {
+        Refs {
+            items: items.iter(),
+        }
+    }
+}
+
+impl<'a, A> Iterator for Refs<'a, A> {
+    type Item = &'a A;
+
+    ghost next_gives = { YieldsFirstBy (λ item. item.now) (λ s. iter_rest s.items) };
+
+    ghost remaining = { λ s. at_most (length (iter_rest s.items)) };
+
+    #[inline]
+    fn next(&mut self) -> Option<&'a A> {
+        self.items.next()
+    }
+}
+
+/// The keys of an iterator, each with the unit value.
+#[derive(Drop)]
+pub struct WithUnits<I> {
+    pub keys: I,
+}
+
+impl<BK, I: Iterator<Item = BK>> Iterator for WithUnits<I> {
+    type Item = (BK, ());
+
+    ghost can_next = { λ s. I.can_next s.keys };
+
+    ghost next_gives = { λ s r t. UnitStep I.next_gives s.keys r t.keys };
+
+    ghost remaining = { λ s. I.remaining s.keys };
+
+    #[inline]
+    fn next(&mut self) -> Option<(BK, ())> {
+        match self.keys.next() {
+            Some(key) => Some((key, ())),
+            None => None,
+        }
+    }
+}
