@@ -1,10 +1,11 @@
 -- A map whose keys feed no `usize` and no `isize`, under hashers that differ in these alone.
-use Rattle.std.proofs.Common.{◌≡◌, ℕ, ◌^◌, ◌<◌, ◌∙◌, arith, sym, ap, subst, Bool, List, [], ◌∷◌, fold, length, map, slice_index}
+use Rattle.std.proofs.Common.{◌≡◌, ℕ, ◌<◌, ◌∙◌, arith, sym, ap, subst, Bool, List, length, map, slice_index}
 use Rattle.std.specs.Int.{Width}
 use Rattle.std.specs.List.{find}
 use Rattle.std.proofs.lemmas.List.{ext_get_or, get_or-map, length-map}
 use Rattle.rkyv_scan.specs.Groups.{generic_kind}
-use Rattle.rkyv_scan.specs.Hash.{HasherCall, SizeWords, call_words, fx_feed, fx_hash, hash_word, hash_words}
+use Rattle.rkyv_scan.specs.Hash.{HasherCall, SizeWords, fx_hash}
+use Rattle.rkyv_scan.specs.Lemmas.Numbers.{fx_fits}
 use Rattle.rkyv_scan.proofs.HashLaws.{fixed_alike}
 use Rattle.rkyv_base.specs.Entry.{entry_shape}
 use Rattle.rkyv_base.specs.Shape.{IsElement, Shape, Standing, Viewed}
@@ -17,22 +18,6 @@ use Rattle.rkyv_collections.specs.BothHashers.{QueriedAlike, fx_hash_at}
 use Rattle.rkyv_collections.specs.Equality.{pair_at}
 use Rattle.rkyv_collections.specs.Map.{MapWrittenAt, map_shape}
 use Rattle.rkyv_collections.proofs.WrittenPairs.{first_accepted, pair_stands, place_of_pair}
-
--- the number of a hasher fits 64 bits
-word_small : (held word : ℕ) → hash_word held word < 2 ^ 64
-unfolding hash_word
-word_small held word = omega arith
-
-words_small : (held : ℕ) (words : List ℕ) → held < 2 ^ 64 → hash_words held words < 2 ^ 64
-words_small held [] h = h
-words_small held (x ∷ xs) h = words_small (hash_word held x) xs (word_small held x)
-
-calls_small : (sizes : SizeWords) (held : ℕ) (calls : List HasherCall) → held < 2 ^ 64 → fold (fx_feed sizes) held calls < 2 ^ 64
-calls_small sizes held [] h = h
-calls_small sizes held (x ∷ xs) h = calls_small sizes (fx_feed sizes held x) xs (words_small held (call_words sizes x) h)
-
-fx_small : (sizes : SizeWords) (calls : List HasherCall) → fx_hash sizes calls < 2 ^ 64
-fx_small sizes calls = calls_small sizes 0 calls (omega arith)
 
 module _ (w : Width) (k v : Shape) (kl : IsElement k) (vl : IsElement v) (key_calls : List ℕ → ℕ → List HasherCall) (fixed : MakesFixedCalls k key_calls)
     (one other : SizeWords) (b : List ℕ) (p : ℕ) (homes : List ℕ) (view : Viewed (map_shape w k v) b p)
@@ -73,7 +58,7 @@ queried_alike w k v kl vl same key_calls can_read calls fits is fixed one other 
         → pos_found generic_kind w (entry_shape k v).size b p (fx_hash sizes (calls query)) (fits query b) ≡ find (fits query b) (home_positions w (entry_shape k v).size b p homes)
     first sizes there =
         let h = fx_hash_at sizes key_calls in
-        first_accepted w k v kl vl h b p homes view there (fx_hash sizes (calls query)) (fits query b) (fx_small sizes (calls query))
+        first_accepted w k v kl vl h b p homes view there (fx_hash sizes (calls query)) (fits query b) (fx_fits sizes (calls query))
         (λ i below accepted.
         let q = pair_at w k v b p homes i in
         let stands = standing_key kl vl b q (pair_stands w k v kl vl h b p homes view there i below) in

@@ -19,7 +19,7 @@ use Rattle.rkyv_collections.specs.Lemmas.MapLaws.{HashNear}
 use Rattle.rkyv_collections.specs.ListedLookups.{AsksFor, first_pair}
 use Rattle.rkyv_collections.specs.Map.{map_shape}
 use Rattle.rkyv_collections.specs.MapFormat.{MapStands}
-use Rattle.rkyv_collections.specs.ValueWrites.{WritesValue}
+use Rattle.rkyv_table.specs.Table.SealedTable.{WritesValue}
 use Rattle.rkyv_collections.proofs.ValueWrites.{written_value_stands}
 use Rattle.rkyv_collections.proofs.WrittenPairs.{pair_stands, place_of_pair}
 
@@ -108,14 +108,14 @@ module _ (w : Width) (k v : Shape) (kl : IsElement k) (vl : IsElement v) {A B : 
 
   -- a map whose first asked value was written stands for the list with that value
   pub first_written : (kn : StandsNear k key) (vn : StandsNear v value) → HashNear k key_hash → (c : List ℕ) (q : ℕ) → Some q ≡ find accept places
-      → WritesValue w k v b c q → value c (value_pos k v q) new
+      → WritesValue k v b c q → value c (value_pos k v q) new
       → (true ≡ is_some (first_pair asks pairs)) × MapStands w k v key value key_hash factor c p (with_first asks new pairs)
   first_written kn vn near c q found writes stands = elim (nth_found asks new accept places pairs count each_alike) [
     | inl none ↦ absurd (let e = found ∙ none.0 in cc)
     | inr r ↦
         let at : q ≡ slice_index places r.n = same_Some q (slice_index places r.n) (found ∙ r.place) in
         let there = written_value_stands k v kl vl w key_hash near key value kn vn b c p r.n factor pairs r.pair new view st r.at
-        (subst (WritesValue w k v b c) at writes) (subst (λ z. value c (value_pos k v z) new) at stands) in
+        (subst (WritesValue k v b c) at writes) (subst (λ z. value c (value_pos k v z) new) at stands) in
         (ap is_some (sym r.first), subst (λ (l : List (A × B)). MapStands w k v key value key_hash factor c p l) (sym r.written) there)
   ]
 

@@ -6,6 +6,7 @@ pub mod WrittenPairs
 pub mod EqualMaps
 pub mod SealedMap
 pub mod SealedPairs
+pub mod NewValues
 pub mod ValueWrites
 pub mod MisplacedKeys
 pub mod StdWriting
@@ -14,8 +15,10 @@ pub mod StdComparing
 pub mod StdFinding
 pub mod Headline
 pub mod FoundPairs
+pub mod FoundValues
 pub mod WalkedPairs
 pub mod FoundEntries
+pub mod FoundThrough
 pub mod Alike
 pub mod FirstWrites
 pub mod ListArchives

@@ -1,10 +1,10 @@
 -- From what a table finds to what a map does.
 use Rattle.std.proofs.Common.{◌≡◌, ℕ, ◌+◌, ◌<◌, ◌∙◌, None, Some, ap, sym, arith, Bool, length, map, subst, List, Option, slice_index}
 use Rattle.std.specs.Int.{Width}
-use Rattle.std.specs.Option.{is_some, option_map}
+use Rattle.std.specs.Option.{is_some}
 use Rattle.std.proofs.lemmas.List.{get_or-map, length-map}
 use Rattle.rkyv_scan.specs.Hash.{Hasher, HasherCall, hash_of_calls}
-use Rattle.rkyv_base.specs.Entry.{entry_element, entry_shape, value_offset}
+use Rattle.rkyv_base.specs.Entry.{entry_element, entry_shape}
 use Rattle.rkyv_base.specs.Shape.{Shape, IsElement, Standing}
 use Rattle.rkyv_base.specs.View.{IsAt, IsView, archive_of, pos_of}
 use Rattle.rkyv_base.specs.declared.view.View.{View}
@@ -16,7 +16,7 @@ use Rattle.rkyv_table.specs.Controls.Laws.{IsUnderHash}
 use Rattle.rkyv_table.specs.Table.Reading.{IsItem, IsWalked, home_positions, item_at}
 use Rattle.rkyv_table.specs.declared.table.ArchivedHashTable.{ArchivedHashTable}
 use Rattle.rkyv_table.proofs.Items.{item_viewed}
-use Rattle.rkyv_collections.specs.Map.{AreUnderHash, IsEntryAt, IsEntryIn, map_archive, IsFoundAt, IsKeyIn, IsMap, IsPairAt, IsValueAt, MapWrittenAt, hash_at, map_bytes, map_pos}
+use Rattle.rkyv_collections.specs.Map.{AreUnderHash, IsEntryAt, IsEntryIn, map_archive, IsFoundAt, IsKeyIn, IsMap, MapWrittenAt, hash_at, map_bytes, map_pos}
 use Rattle.rkyv_collections.specs.declared.map.ArchivedHashMap.{ArchivedHashMap}
 use Rattle.rkyv_table.proofs.WrittenTables.{home_count, home_pos, home_walked}
 
@@ -65,17 +65,6 @@ module _ {K V H W : Type 0} (w : Width) (k v : Shape) (m : ArchivedHashMap K V H
       let item = item_viewed w (entry_shape k v) (entry_element k v kl vl) b (map_pos m) is key.0 key.1 in
       let stands : Standing k b place = standing_key kl vl b place (subst (Standing (entry_shape k v) b) (sym key.2) item.stands) in
       ap (hash_of_calls hasher) (sym (query.alike q b place can stands accepted))
-
--- the value of an entry that was found stands behind its key, and there is none where none was found
-pub some_value : {E V : Type 0} (k v : Shape) (entry : View E) (value : View V) (place : Option ℕ) → pos_of value ≡ pos_of entry + value_offset k v → IsEntryAt (Some entry) place → IsValueAt k v (Some value) place
-some_value k v entry value place at found = ap Some at ∙ ap (option_map (λ (q : ℕ). q + value_offset k v)) found
-
-pub no_value : (k v : Shape) (place : Option ℕ) → None ≡ place → None ≡ option_map (λ q. q + value_offset k v) place
-no_value k v place found = ap (option_map (λ (q : ℕ). q + value_offset k v)) found
-
--- and a pair that was found has its key where the entry is
-pub some_pair : {E K V : Type 0} (entry : View E) (pair : View K × View V) (place : Option ℕ) → pos_of pair.0 ≡ pos_of entry → IsEntryAt (Some entry) place → IsPairAt (Some pair) place
-some_pair entry pair place at found = ap Some at ∙ found
 
 -- whether an entry was found is whether it was found somewhere
 pub some_at : {E : Type 0} (found : Option (View E)) (place : Option ℕ) (answer : Bool) → answer ≡ is_some found → IsEntryAt found place → IsFoundAt answer place

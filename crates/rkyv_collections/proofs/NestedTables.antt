@@ -11,7 +11,7 @@ use Rattle.rkyv_base.proofs.Sealing.{same_outside, sealed_wider}
 use Rattle.rkyv_scan.specs.Groups.{is_full}
 use Rattle.rkyv_table.specs.Controls.Numbers.{control_count}
 use Rattle.rkyv_table.specs.Controls.Placing.{Accepted, walk}
-use Rattle.rkyv_table.specs.Lemmas.ItemPositions.{HeldPart, HoldsWithin, bucket_holds_within, each_holds, told_controls, told_item, told_pos}
+use Rattle.rkyv_table.specs.Lemmas.ItemPositions.{HeldPart, HoldsWithin, bucket_holds_within, each_holds, told_controls, told_item, told_pos, within_lower}
 use Rattle.rkyv_table.specs.Lemmas.PlaceLaws.{all_between}
 use Rattle.rkyv_table.specs.Lemmas.SameHeader.{begin_same, cap_same, len_same, pos_same}
 use Rattle.rkyv_table.specs.Lemmas.TableLaws.{of_numbers}
@@ -20,7 +20,7 @@ use Rattle.rkyv_table.specs.Table.Layout.{IsPart, ItemsHold, TableAt, bucket_at,
 use Rattle.rkyv_table.specs.Table.Places.{AllHold}
 use Rattle.rkyv_table.specs.Table.Reading.{IsWalked, controls_pos, item_at, table_controls}
 use Rattle.rkyv_table.proofs.Items.{part_of}
-use Rattle.rkyv_collections.specs.NestedWrites.{StaysAt, WritesParts}
+use Rattle.rkyv_collections.specs.NestedWrites.{HoldsBefore, StaysAt, WritesParts}
 
 -- what lies before the lower end, and from the upper end on, is the same
 module _ (b c : List ℕ) (lo l : ℕ) (o : lo ≤ l) (sealed : Sealed b lo (l - lo) c) where
@@ -29,15 +29,6 @@ module _ (b c : List ℕ) (lo l : ℕ) (o : lo ≤ l) (sealed : Sealed b lo (l -
 
   pub same_above : (i j : ℕ) → i ≤ j → l ≤ i → Same b c i j
   same_above i j ij h = same_outside b lo (l - lo) c sealed i j ij (inr (omega arith))
-
--- the value at q holds somewhere before it
-pub record HoldsBefore (s : Shape) (b : List ℕ) (q : ℕ) : Type 0 where
-  pub lower : ℕ
-  pub upper : ℕ
-  pub rest : ℕ
-  pub order : lower ≤ upper
-  pub before : upper ≤ q
-  pub holds : s.holds b q lower upper rest
 
 -- two of the values that hold one after the other: the parts of the first lie before those of the second
 pub record InTurn (s : Shape) (b : List ℕ) (q r lo hi l : ℕ) : Type 0 where
@@ -59,14 +50,14 @@ module _ (s : Shape) (law : IsElement s) (at : ℕ → ℕ) where
               let r = each_holds s law at P b hi (a + 1) n h'.0 l j k.1 h'.2 (omega arith) (omega arith) t' in
               subst (λ z. InTurn s b (at z) (at j) lo hi l) e (record {
                 first = record { lower = lo; rest = h'.0; above = omega arith; below = o; ends = after.0; holds = h'.1 };
-                second = record { lower = r.lower; rest = r.rest; above = omega (arith, k.0, r.above); below = r.below; ends = r.ends; holds = r.holds };
+                second = within_lower s b (at j) h'.0 lo hi l k.0 r;
                 turn = r.above;
               })
           | inr ne ↦
               let r = each_in_turn P b hi (a + 1) n h'.0 l i j k.1 h'.2 (omega arith) less (omega arith) t t' in
               record {
-                first = record { lower = r.first.lower; rest = r.first.rest; above = omega (arith, k.0, r.first.above); below = r.first.below; ends = r.first.ends; holds = r.first.holds };
-                second = record { lower = r.second.lower; rest = r.second.rest; above = omega (arith, k.0, r.second.above); below = r.second.below; ends = r.second.ends; holds = r.second.holds };
+                first = within_lower s b (at i) h'.0 lo hi l k.0 r.first;
+                second = within_lower s b (at j) h'.0 lo hi l k.0 r.second;
                 turn = r.turn;
               }
         ]
@@ -219,8 +210,11 @@ module _ (w : Width) (s : Shape) (law : IsElement s) (b : List ℕ) (p i : ℕ) 
   sealed_where : (h : HoldsWithin s b (place i) 0 begin whole.is.last) → Sealed b h.lower (h.rest - h.lower) c
   sealed_where h = writes_at.sealed h.lower begin h.rest h.below (up i) h.holds
 
+  abbrev held_before : (j : ℕ) (h : HoldsWithin s b (place j) 0 begin whole.is.last) → HoldsBefore s b (place j)
+  held_before j h = record { lower = h.lower; upper = begin; rest = h.rest; order = h.below; before = up j; holds = h.holds }
+
   stays : (j : ℕ) (h : HoldsWithin s b (place j) 0 begin whole.is.last) → Same b c h.lower h.rest → StaysAt s b c (place j)
-  stays j h parts = record { lower = h.lower; upper = begin; rest = h.rest; order = h.below; before = up j; holds = h.holds; fixed = fixed j; parts = parts }
+  stays j h parts = record { held = held_before j h; fixed = fixed j; parts = parts }
 
   other_stays : (j : ℕ) → IsWalked w b p j → j ≢ i → StaysAt s b c (place j)
   other_stays j there ne = elim (cases_lt j i) [
@@ -254,6 +248,6 @@ module _ (w : Width) (s : Shape) (law : IsElement s) (b : List ℕ) (p i : ℕ) 
             ∙ ap (λ z. slice_range c z (z + control_count cap)) (told_pos w s.size b p begin whole.part.begins)
             ∙ sym controls_same
             ∙ sym (told_controls w s.size b p begin whole.part.begins);
-        own = subst (HoldsBefore s b) (sym (at_is i walked.0)) (record { lower = one.lower; upper = begin; rest = one.rest; order = one.below; before = up i; holds = one.holds });
+        own = subst (HoldsBefore s b) (sym (at_is i walked.0)) (held_before i one);
         others = λ j there ne. subst (StaysAt s b c) (sym (at_is j there.0)) (other_stays j there ne);
       }

@@ -1,38 +1,33 @@
 -- A write among the parts of one value keeps the map, and the list that it stands for but for that value.
-use Rattle.std.proofs.Common.{◌≡◌, ◌≢◌, ℕ, ◌+◌, ◌-◌, ◌<◌, ◌≤◌, ◌∙◌, inl, inr, refl, sym, ap, subst, arith, Bool, List, length, map, Some, slice_index, get_or}
+use Rattle.std.proofs.Common.{◌≡◌, ℕ, ◌+◌, ◌-◌, ◌≤◌, ◌∙◌, inl, inr, refl, sym, ap, subst, arith, Bool, List, length, map, Some, slice_index}
 use Rattle.std.specs.Prelude.{slice_get, slice_set}
 use Rattle.std.specs.Int.{Width}
 use Rattle.std.specs.List.{find}
 use Rattle.std.specs.Option.{option_map}
-use Rattle.std.proofs.lemmas.Bool.{cases_eq, cases_lt}
-use Rattle.std.proofs.lemmas.List.{ext_get_or, get_or-map, get_or-set_other, get_or-set_same, length-map, length-set}
-use Rattle.std.proofs.lemmas.Option.{get_or_from_slice_get, same_Some, slice_get-get_or, slice_get_within}
+use Rattle.std.proofs.lemmas.Bool.{cases_eq}
+use Rattle.std.proofs.lemmas.Option.{same_Some}
 use Rattle.rkyv_base.specs.Bytes.{same_part}
 use Rattle.rkyv_base.specs.Entry.{entry_element, entry_shape, parts_inside, same_key, same_value, size_of_small, whole_size}
 use Rattle.rkyv_base.specs.Format.{StandsNear}
-use Rattle.rkyv_base.specs.Pairs.{PairStands}
 use Rattle.rkyv_base.specs.Sealing.{Keeps, Sealed, value_pos}
 use Rattle.rkyv_base.specs.Shape.{IsElement, Shape, Viewed}
 use Rattle.rkyv_base.proofs.Sealing.{sealed_wider, viewed_kept}
-use Rattle.rkyv_table.specs.Table.Header.{cap_at}
-use Rattle.rkyv_table.specs.Controls.Numbers.{capacity}
-use Rattle.rkyv_table.specs.Table.Reading.{IsWalked, WrittenAt, home_positions, item_at}
+use Rattle.rkyv_table.specs.Table.Reading.{IsWalked, home_positions, item_at}
 use Rattle.rkyv_table.specs.Lemmas.ItemPositions.{holds_at, item_holds}
-use Rattle.rkyv_table.specs.Lemmas.SameHeader.{cap_same, item_same, len_same}
+use Rattle.rkyv_table.specs.Lemmas.SameHeader.{item_same}
 use Rattle.rkyv_table.proofs.Items.{item_viewed}
 use Rattle.rkyv_table.proofs.SameTable.{written_there}
 use Rattle.rkyv_table.proofs.SealedTable.{value_kept}
-use Rattle.rkyv_table.proofs.WrittenAccepted.{homes_apart}
-use Rattle.rkyv_table.proofs.WrittenTables.{home_count, home_pos, home_walked}
 use Rattle.rkyv_collections.specs.InPlace.{with_first}
 use Rattle.rkyv_collections.specs.Lemmas.MapLaws.{HashNear}
 use Rattle.rkyv_collections.specs.ListedLookups.{AsksFor}
-use Rattle.rkyv_collections.specs.Map.{IsKeyPosAt, MapWrittenAt, map_shape}
+use Rattle.rkyv_collections.specs.Map.{IsKeyPosAt, map_shape}
 use Rattle.rkyv_collections.specs.MapFormat.{MapStands}
-use Rattle.rkyv_collections.specs.NestedWrites.{KeepsOuterMap, StaysAt, WritesParts}
-use Rattle.rkyv_collections.specs.ValueWrites.{WritesValue}
+use Rattle.rkyv_collections.specs.NestedWrites.{HoldsBefore, KeepsOuterMap, StaysAt, WritesParts}
+use Rattle.rkyv_table.specs.Table.SealedTable.{WritesValue}
 use Rattle.rkyv_collections.proofs.FirstWrites.{count, each_alike, nth_found, some_place}
-use Rattle.rkyv_collections.proofs.NestedTables.{HoldsBefore, KeepsOuter, outer_kept, same_above, same_below}
+use Rattle.rkyv_collections.proofs.NewValues.{home, new_value_stands, own_place, own_walked, written_again}
+use Rattle.rkyv_collections.proofs.NestedTables.{KeepsOuter, outer_kept, same_above, same_below}
 
 module _ (k v : Shape) (kl : IsElement k) (vl : IsElement v) (b c : List ℕ) (q : ℕ) where
   abbrev S : Shape
@@ -50,63 +45,53 @@ module _ (k v : Shape) (kl : IsElement k) (vl : IsElement v) (b c : List ℕ) (q
       ((h.0, m, key, writes.holds m hi l x.1 (omega arith) h.3), sealed_wider b c m (l - m) lo (l - lo) x.0 (omega (arith, x.0, y.0)) sealed) in
       record { holds = λ lo hi l o o' h. (wrote lo hi l o o' h).0; sealed = λ lo hi l o o' h. (wrote lo hi l o o' h).1 }
 
+  -- the key of an entry that holds somewhere before it does
+  abbrev key_before : HoldsBefore S b q → HoldsBefore k b q
+  key_before h = record { lower = h.lower; upper = h.upper; rest = h.holds.1; order = h.order; before = h.before; holds = h.holds.2 }
+
   -- its key stays
   key_of_own : WritesParts v b c (value_pos k v q) → HoldsBefore S b q → StaysAt k b c q
   key_of_own writes h =
       let m = h.holds.1 in
-      let o = h.order in
+      let x = kl.between b q h.lower h.upper m h.order h.holds.2 in
       let up = h.before in
-      let x = kl.between b q h.lower h.upper m o h.holds.2 in
       let y = vl.between b (value_pos k v q) m h.upper h.rest x.1 h.holds.3 in
       let sealed = writes.sealed m h.upper h.rest x.1 (omega arith) h.holds.3 in
       record {
-        lower = h.lower;
-        upper = h.upper;
-        rest = m;
-        order = o;
-        before = up;
-        holds = h.holds.2;
+        held = key_before h;
         fixed = same_above b c m h.rest y.0 sealed q (q + k.size) (omega arith) (omega (arith, y.1));
         parts = same_below b c m h.rest y.0 sealed h.lower m x.0 (omega arith);
       }
 
   -- of an entry that stays, the key and the value stay
   key_of_other : StaysAt S b c q → StaysAt k b c q
-  key_of_other h =
+  key_of_other s =
+      let h = s.held in
       let m = h.holds.1 in
       let x = kl.between b q h.lower h.upper m h.order h.holds.2 in
       let y = vl.between b (value_pos k v q) m h.upper h.rest x.1 h.holds.3 in
       record {
-        lower = h.lower;
-        upper = h.upper;
-        rest = m;
-        order = h.order;
-        before = h.before;
-        holds = h.holds.2;
-        fixed = same_key k v kl vl b c q h.holds.0 h.fixed;
-        parts = same_part b c h.lower h.rest h.lower m (omega arith) y.0 x.0 h.parts;
+        held = key_before h;
+        fixed = same_key k v kl vl b c q h.holds.0 s.fixed;
+        parts = same_part b c h.lower h.rest h.lower m (omega arith) y.0 x.0 s.parts;
       }
 
   value_of_other : StaysAt S b c q → StaysAt v b c (value_pos k v q)
-  value_of_other h =
+  value_of_other s =
+      let h = s.held in
       let m = h.holds.1 in
       let up = h.before in
       let x = kl.between b q h.lower h.upper m h.order h.holds.2 in
       let y = vl.between b (value_pos k v q) m h.upper h.rest x.1 h.holds.3 in
       record {
-        lower = m;
-        upper = h.upper;
-        rest = h.rest;
-        order = x.1;
-        before = omega (arith, up);
-        holds = h.holds.3;
-        fixed = same_value k v kl vl b c q h.holds.0 h.fixed;
-        parts = same_part b c h.lower h.rest m h.rest x.0 (omega arith) y.0 h.parts;
+        held = record { lower = m; upper = h.upper; rest = h.rest; order = x.1; before = omega (arith, up); holds = h.holds.3 };
+        fixed = same_value k v kl vl b c q h.holds.0 s.fixed;
+        parts = same_part b c h.lower h.rest m h.rest x.0 (omega arith) y.0 s.parts;
       }
 
 -- what stood where bytes stay stands there
 stands_on : {V : Type 0} (s : Shape) (stands : List ℕ → ℕ → V → Type 0) → StandsNear s stands → (x : V) (b c : List ℕ) (q : ℕ) → StaysAt s b c q → stands b q x → stands c q x
-stands_on s stands near x b c q h st = near x b c q h.lower h.upper h.rest h.order h.holds h.fixed h.parts st
+stands_on s stands near x b c q h st = near x b c q h.held.lower h.held.upper h.held.rest h.held.order h.held.holds h.fixed h.parts st
 
 module _ (w : Width) (k v : Shape) (kl : IsElement k) (vl : IsElement v) (key_hash : List ℕ → ℕ → ℕ) (near : HashNear k key_hash) (b c : List ℕ) (p i : ℕ)
     (view : Viewed (map_shape w k v) b p) (walked : IsWalked w b p i) (writes : WritesParts v b c (value_pos k v (item_at w (entry_shape k v).size b p i))) where
@@ -126,26 +111,10 @@ module _ (w : Width) (k v : Shape) (kl : IsElement k) (vl : IsElement v) (key_ha
   ]
 
   hash_stays : (j : ℕ) → IsWalked w b p j → key_hash c (at j) ≡ key_hash b (at j)
-  hash_stays j there = let h = key_stays j there in sym (near b c (at j) h.lower h.upper h.rest h.order h.holds h.fixed h.parts)
+  hash_stays j there = let h = key_stays j there in sym (near b c (at j) h.held.lower h.held.upper h.held.rest h.held.order h.held.holds h.fixed h.parts)
 
   place_stays : (j : ℕ) → item_at w E.size c p j ≡ at j
   place_stays j = sym (item_same w b c p kept.header E.size j)
-
-  hashes_stay : (homes : List ℕ) → MapWrittenAt w E key_hash b p homes → map (key_hash b) (home_positions w E.size b p homes) ≡ map (key_hash c) (home_positions w E.size c p homes)
-  hashes_stay homes written =
-      let hb = home_positions w E.size b p homes in
-      let hc = home_positions w E.size c p homes in
-      let hashes = map (key_hash b) hb in
-      let nb : length hb ≡ length homes = length-map homes (item_at w E.size b p) in
-      let nc : length hc ≡ length homes = length-map homes (item_at w E.size c p) in
-      let n : length hashes ≡ length hb = length-map hb (key_hash b) in
-      ext_get_or 0 hashes (map (key_hash c) hc) (n ∙ nb ∙ sym nc ∙ sym (length-map hc (key_hash c)))
-      (λ j below.
-      let there = home_walked w b p hashes homes written j (omega (arith, below, n, nb)) in
-      let atb : slice_index hb j ≡ at (slice_index homes j) = get_or-map (item_at w E.size b p) homes j 0 0 (omega arith) in
-      let atc : slice_index hc j ≡ item_at w E.size c p (slice_index homes j) = get_or-map (item_at w E.size c p) homes j 0 0 (omega arith) in
-      get_or-map (key_hash b) hb j 0 0 (omega arith) ∙ ap (key_hash b) atb ∙ sym (hash_stays (slice_index homes j) there)
-      ∙ ap (key_hash c) (sym (place_stays (slice_index homes j)) ∙ sym atc) ∙ sym (get_or-map (key_hash c) hc j 0 0 (omega arith)))
 
   length_same : length c ≡ length b
   length_same = (kept.nested.sealed 0 p view.stands.0 (omega arith) (omega arith) view.stands.1).same_length
@@ -161,96 +130,26 @@ module _ (w : Width) (k v : Shape) (kl : IsElement k) (vl : IsElement v) (key_ha
     values = λ j there ne. value_of_other k v kl vl b c (at j) (kept.others j there ne);
     hashes = hash_stays;
     written = λ homes written.
-        subst (λ hashes. WrittenAt w c p hashes homes) (hashes_stay homes written)
+        written_again w E key_hash b c p place_stays hash_stays homes written
         (written_there w b c p kept.header (λ some. sym kept.controls) (map (key_hash b) (home_positions w E.size b p homes)) homes written);
   }
 
 module _ (w : Width) (k v : Shape) (kl : IsElement k) (vl : IsElement v) (key_hash : List ℕ → ℕ → ℕ) (near : HashNear k key_hash) {A B : Type 0} (key : List ℕ → ℕ → A → Type 0) (value : List ℕ → ℕ → B → Type 0)
     (kn : StandsNear k key) (vn : StandsNear v value) (b c : List ℕ) (p n : ℕ) (factor : ℕ × ℕ) (pairs : List (A × B)) (pair : A × B) (new : B) (view : Viewed (map_shape w k v) b p)
     (st : MapStands w k v key value key_hash factor b p pairs) (at_n : slice_get pairs n ≡ Some pair) where
-  abbrev size : ℕ
-  size = (entry_shape k v).size
+  abbrev place : ℕ
+  place = slice_index (home_positions w (entry_shape k v).size b p st.homes) n
 
-  abbrev places : List ℕ → List ℕ
-  places d = home_positions w size d p st.homes
-
-  abbrev hashes : List ℕ
-  hashes = map (key_hash b) (places b)
-
-  counted : length st.homes ≡ length pairs
-  counted = home_count w b p hashes st.homes st.written ∙ sym st.written.count ∙ st.len
-
-  has_home : (j : ℕ) → j < length pairs → j < length st.homes
-  has_home j h = omega (arith, counted)
-
-  home : ℕ → ℕ
-  home j = slice_index st.homes j
-
-  walked_home : (j : ℕ) → j < length pairs → IsWalked w b p (home j)
-  unfolding home
-  walked_home j h = home_walked w b p hashes st.homes st.written j (has_home j h)
-
-  place_home : (j : ℕ) → j < length pairs → slice_index (places b) j ≡ item_at w size b p (home j)
-  unfolding home
-  place_home j h = home_pos w size b p st.homes j (has_home j h)
-
-  inside : n < length pairs
-  inside = slice_get_within pairs n pair at_n
-
-  homes_differ : (j : ℕ) → j < length pairs → j ≢ n → home j ≢ home n
-  unfolding home
-  homes_differ j h ne e = elim st.written.placed [
-    | inl none ↦ let z : length st.homes ≡ 0 = ap length none.1 in omega (arith, z, counted, inside)
-    | inr some ↦ elim (cases_lt j n) [
-      | inl less ↦ homes_apart (cap_at w b p) hashes st.homes some.1.placed j n less (omega (arith, counted, inside)) e
-      | inr more ↦ homes_apart (cap_at w b p) hashes st.homes some.1.placed n j (omega (arith, ne)) (omega (arith, counted)) (sym e)
-    ]
-  ]
-
-  module _ (writes : WritesParts v b c (value_pos k v (slice_index (places b) n))) (stands : value c (value_pos k v (slice_index (places b) n)) new) where
-    there_kept : KeepsOuterMap w k v key_hash b c p (home n)
-    there_kept = nested_kept w k v kl vl key_hash near b c p (home n) view (walked_home n inside) (subst (λ z. WritesParts v b c (value_pos k v z)) (place_home n inside) writes)
-
-    home_stays : (j : ℕ) → j < length pairs → slice_index (places c) j ≡ slice_index (places b) j
-    unfolding home
-    home_stays j h = get_or-map (item_at w size c p) st.homes j 0 0 (omega (arith, counted)) ∙ there_kept.places (home j) ∙ sym (place_home j h)
-
-    own_stands : PairStands k v key value c (slice_index (places b) n) (pair.0, new)
-    own_stands =
-        let before = subst (λ z. key b z pair.0) (place_home n inside) (st.at n pair at_n).0 in
-        let after = stands_on k key kn pair.0 b c (item_at w size b p (home n)) (there_kept.keys (home n) (walked_home n inside)) before in
-        (subst (λ z. key c z pair.0) (sym (place_home n inside)) after, stands)
-
-    other_stands : (j : ℕ) (x : A × B) → slice_get pairs j ≡ Some x → j ≢ n → PairStands k v key value c (slice_index (places b) j) x
-    other_stands j x at_j ne =
-        let h = slice_get_within pairs j x at_j in
-        let q = item_at w size b p (home j) in
-        let before = subst (λ z. PairStands k v key value b z x) (place_home j h) (st.at j x at_j) in
-        let key_after = stands_on k key kn x.0 b c q (there_kept.keys (home j) (walked_home j h)) before.0 in
-        let value_after = stands_on v value vn x.1 b c (value_pos k v q) (there_kept.values (home j) (walked_home j h) (homes_differ j h ne)) before.1 in
-        subst (λ z. PairStands k v key value c z x) (sym (place_home j h)) (key_after, value_after)
-
-    pub nested_stands : MapStands w k v key value key_hash factor c p (slice_set pairs n (pair.0, new))
-    nested_stands =
-        let y : A × B = (pair.0, new) in
-        let same_count = length-set pairs n y in
-        record {
-          homes = st.homes;
-          written = there_kept.written st.homes st.written;
-          len = sym (len_same w b c p there_kept.header) ∙ st.len ∙ sym same_count;
-          cap = sym (cap_same w b c p there_kept.header) ∙ st.cap ∙ ap (λ m. capacity m factor) (sym same_count);
-          at = λ j x e.
-              let h : j < length pairs = omega (arith, slice_get_within (slice_set pairs n y) j x e, same_count) in
-              let is : get_or (slice_set pairs n y) j x ≡ x = get_or_from_slice_get (slice_set pairs n y) j x x e in
-              subst (λ z. PairStands k v key value c z x) (sym (home_stays j h)) (elim (cases_eq j n) [
-                | inl same ↦
-                    let one : y ≡ x = sym (get_or-set_same pairs n y x inside) ∙ ap (λ m. get_or (slice_set pairs n y) m x) (sym same) ∙ is in
-                    subst (λ m. PairStands k v key value c (slice_index (places b) m) x) (sym same) (subst (PairStands k v key value c (slice_index (places b) n)) one own_stands)
-                | inr ne ↦
-                    let one : get_or pairs j x ≡ x = sym (get_or-set_other pairs n j y x ne) ∙ is in
-                    other_stands j x (slice_get-get_or pairs j x h ∙ ap Some one) ne
-              ]);
-        }
+  pub nested_stands : WritesParts v b c (value_pos k v place) → value c (value_pos k v place) new → MapStands w k v key value key_hash factor c p (slice_set pairs n (pair.0, new))
+  nested_stands writes stands =
+      let i = home w k v key value key_hash b c p n factor pairs pair new st at_n n in
+      let there = own_walked w k v key value key_hash b c p n factor pairs pair new st at_n in
+      let is = own_place w k v key value key_hash b c p n factor pairs pair new st at_n in
+      let item = item_at w (entry_shape k v).size b p in
+      let kept = nested_kept w k v kl vl key_hash near b c p i view there (subst (λ z. WritesParts v b c (value_pos k v z)) is writes) in
+      new_value_stands w k v key value key_hash b c p n factor pairs pair new st at_n kept.header kept.places kept.written
+      (λ before. (stands_on k key kn pair.0 b c (item i) (kept.keys i there) before, subst (λ z. value c (value_pos k v z) new) is stands))
+      (λ j full ne x before. (stands_on k key kn x.0 b c (item j) (kept.keys j full) before.0, stands_on v value vn x.1 b c (value_pos k v (item j)) (kept.values j full ne) before.1))
 
 module _ (w : Width) (k v : Shape) (kl : IsElement k) (vl : IsElement v) {A B : Type 0} (key : List ℕ → ℕ → A → Type 0) (value : List ℕ → ℕ → B → Type 0)
     (key_hash : List ℕ → ℕ → ℕ) (factor : ℕ × ℕ) (b : List ℕ) (p : ℕ) (pairs : List (A × B)) (new : B) (accept : ℕ → Bool) (asks : A → Bool)
@@ -275,7 +174,7 @@ module _ (w : Width) (k v : Shape) (kl : IsElement k) (vl : IsElement v) {A B : 
 
 -- a write of one value in place is one among the parts of the map
 pub value_nested : (w : Width) (k v : Shape) (kl : IsElement k) (vl : IsElement v) (b c : List ℕ) (p i : ℕ) → Viewed (map_shape w k v) b p → IsWalked w b p i
-    → WritesValue w k v b c (item_at w (entry_shape k v).size b p i) → WritesParts (map_shape w k v) b c p
+    → WritesValue k v b c (item_at w (entry_shape k v).size b p i) → WritesParts (map_shape w k v) b c p
 value_nested w k v kl vl b c p i view walked writes =
     let s = entry_shape k v in
     let law = entry_element k v kl vl in

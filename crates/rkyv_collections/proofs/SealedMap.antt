@@ -1,20 +1,19 @@
 -- What a lookup tells of the map that is read tells of the seal.
-use Rattle.std.proofs.Common.{◌≡◌, ℕ, ◌+◌, ◌≤◌, ◌∙◌, sym, ap, subst, Bool, List, None, Option, Some, drop, length, take}
+use Rattle.std.proofs.Common.{◌≡◌, ℕ, ◌+◌, ◌≤◌, ◌∙◌, sym, ap, subst, Bool, List, None, Option, Some, length}
 use Rattle.std.specs.Borrow.{Bor}
 use Rattle.std.specs.Int.{Width}
 use Rattle.std.specs.Prelude.{IfSome}
 use Rattle.rkyv_base.specs.Entry.{entry_element, entry_shape, viewed_key, viewed_value}
-use Rattle.rkyv_base.specs.Seal.{bytes_in, seal_pos}
 use Rattle.rkyv_base.specs.Sealing.{value_pos}
 use Rattle.rkyv_base.specs.Shape.{IsElement, Shape, Viewed}
-use Rattle.rkyv_base.specs.View.{IsView, bytes_of, pos_of}
-use Rattle.rkyv_base.specs.declared.seal.Seal.{Seal}
+use Rattle.rkyv_base.specs.View.{pos_of}
 use Rattle.rkyv_base.specs.declared.view.View.{View}
 use Rattle.rkyv_table.proofs.Items.{item_viewed}
+use Rattle.rkyv_table.proofs.Moved.{moved}
 use Rattle.rkyv_table.proofs.SealedTable.{value_kept}
 use Rattle.rkyv_base.specs.declared.entry.Entry.{Entry}
 use Rattle.rkyv_collections.specs.Map.{AnswersKeys, AreUnderHashAt, FindsBy, FindsFirstBy, FindsFirstKey, FindsFirstKeyAt, FindsKey, FindsKeyAt, IsEntryAt, IsEntryIn, IsKeyPosAt, IsValueIn, map_bytes, map_pos, map_shape}
-use Rattle.rkyv_collections.specs.SealedMap.{AnswersKeysAt, FindsByAt, FindsFirstByAt, IsPairPos, LendsPair}
+use Rattle.rkyv_collections.specs.SealedMap.{AnswersKeysAt, FindsByAt, FindsFirstByAt, IsPairPos}
 use Rattle.rkyv_collections.specs.declared.map.ArchivedHashMap.{ArchivedHashMap}
 
 module _ (w : Width) (k v : Shape) (kl : IsElement k) (vl : IsElement v) (b : List ℕ) (p : ℕ) (view : Viewed (map_shape w k v) b p) where
@@ -48,17 +47,6 @@ module _ (w : Width) (k v : Shape) (kl : IsElement k) (vl : IsElement v) (b : Li
   value_inside None h = tt
   value_inside (Some q) h = subst (λ n. n + v.size ≤ length b) (sym h.2) (pair_place h.0 h.1).value.inside
 
--- a pair that is lent, by where its key stands
-pub pair_lent : {K V : Type 0} (w : Width) (k v : Shape) (b : List ℕ) (p i q : ℕ) (pair : View K × Seal V) → IsPairPos w k v b p i q → pos_of pair.0 ≡ q → IsView k pair.0
-    → bytes_of pair.0 ≡ take (value_pos k v q) b → bytes_in pair.1 ≡ drop (value_pos k v q) b → seal_pos pair.1 ≡ 0 → LendsPair w k v b p i pair
-pair_lent w k v b p i q pair at place key front back begin = record {
-  at = subst (IsPairPos w k v b p i) (sym place) at;
-  key = key;
-  front = front ∙ ap (λ n. take (value_pos k v n) b) (sym place);
-  back = back ∙ ap (λ n. drop (value_pos k v n) b) (sym place);
-  begin = begin;
-}
-
 -- what was found, told by where it stands
 found_told : {E : Type 0} (P : View E → Type 0) (Q : ℕ → Type 0) → ((x : View E) → P x → Q (pos_of x)) → (result : Option (View E)) (pos : Option ℕ) → IsEntryAt result pos → IfSome result P → IfSome pos Q
 found_told P Q says None pos at h = subst (λ (o : Option ℕ). IfSome o Q) at tt
@@ -67,10 +55,7 @@ found_told P Q says (Some x) pos at h = subst (λ (o : Option ℕ). IfSome o Q) 
 -- the map that is read has these bytes and this place
 module _ {K V H W : Type 0} (m : ArchivedHashMap K V H W) (b : List ℕ) (p : ℕ) (bytes : map_bytes m ≡ b) (place : map_pos m ≡ p) where
   pub as_read : (F : List ℕ → ℕ → Type 0) → F (map_bytes m) (map_pos m) → F b p
-  as_read F x = subst (F b) place (subst (λ c. F c (map_pos m)) bytes x)
-
-  pub to_read : (F : List ℕ → ℕ → Type 0) → F b p → F (map_bytes m) (map_pos m)
-  to_read F x = subst (λ c. F c (map_pos m)) (sym bytes) (subst (F b) (sym place) x)
+  as_read F x = moved F (map_bytes m) b (map_pos m) p bytes place x
 
   module _ (w : Width) (k v : Shape) where
     answers_read : (post : View K → Bool → Type 0) (accept : ℕ → Bool) → AnswersKeysAt w k v b p post accept → AnswersKeys w k v m post accept
@@ -105,4 +90,4 @@ module _ {K V H W : Type 0} (m : ArchivedHashMap K V H W) (b : List ℕ) (p : �
 
       pub first_by_read : (post : View K → Bool → Type 0) (hash : ℕ) (key_hash : List ℕ → ℕ → ℕ) → FindsFirstBy w k v m post hash key_hash Told → FindsFirstByAt w k v b p post hash key_hash Said
       first_by_read post hash key_hash found = λ accept answers under.
-          first_key_read key_hash (λ c. accept) (found accept (answers_read post accept answers) (to_read (λ c q. AreUnderHashAt w k v c q hash key_hash accept) under))
+          first_key_read key_hash (λ c. accept) (found accept (answers_read post accept answers) (moved (λ c q. AreUnderHashAt w k v c q hash key_hash accept) b (map_bytes m) p (map_pos m) (sym bytes) (sym place) under))

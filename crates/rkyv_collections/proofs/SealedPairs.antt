@@ -20,9 +20,11 @@ use Rattle.rkyv_table.specs.declared.table.raw_iter_seal.RawIterSeal.{RawIterSea
 use Rattle.rkyv_table.proofs.Items.{item_viewed}
 use Rattle.rkyv_table.proofs.SealedItems.{cursor_kept, full_end, full_skipped}
 use Rattle.rkyv_table.proofs.SealedTable.{table_kept}
-use Rattle.rkyv_collections.specs.SealedMap.{LendsPair}
+use Rattle.rkyv_collections.specs.SealedMap.{IsPairPos}
 use Rattle.rkyv_collections.specs.SealedPairs.{IsPairIter, KeepsPairs, TakesKeyPos, TakesPairAt}
-use Rattle.rkyv_collections.proofs.SealedMap.{pair_lent, pair_place}
+use Rattle.rkyv_table.specs.Table.PairSeals.{LendsPair}
+use Rattle.rkyv_table.proofs.PairSeals.{pair_lent}
+use Rattle.rkyv_collections.proofs.SealedMap.{pair_place}
 
 -- where no control is full, no bucket is left
 none_full : (controls : List ℕ) (cap : ℕ) → ((i : ℕ) → i < cap → slice_index controls i < 128 → ⊥) → (n from : ℕ) → cap ≤ from + n → full_from controls cap from ≡ []
@@ -66,13 +68,13 @@ module _ {K V : Type 0} (k v : Shape) (kl : IsElement k) (vl : IsElement v) wher
       → IfSome result (λ (pair : View K × Seal V). (seal_pos pair.1 ≡ 0) × (bytes_in pair.1 ≡ drop (value_pos k v q) archive))
       → (Viewed k archive q → IsSome result)
       → MatchOption result (buckets_left w p before ≡ [])
-      (λ (pair : View K × Seal V). (i : ℕ) × (rest : List ℕ) × (buckets_left w p before ≡ i ∷ rest) × LendsPair w k v (cursor_bytes before) p i pair)
+      (λ (pair : View K × Seal V). (i : ℕ) × (rest : List ℕ) × (buckets_left w p before ≡ i ∷ rest) × LendsPair k v (cursor_bytes before) (IsPairPos w k v (cursor_bytes before) p i) pair)
   lends_first w p q before after archive same t None view key value found = absurd (true≢false (sym (found (subst (λ b. Viewed k b q) (sym same) t.pair.key))))
   lends_first w p q before after archive same t (Some pair) view key value found = (
     t.bucket,
     buckets_left w p after,
     t.first,
-    pair_lent w k v before.archive.now p t.bucket q pair t.pair key.0 view (key.1 ∙ ap (take (value_pos k v q)) same) (value.1 ∙ ap (drop (value_pos k v q)) same) value.0,
+    pair_lent k v before.archive.now (IsPairPos w k v before.archive.now p t.bucket) q pair t.pair key.0 view (key.1 ∙ ap (take (value_pos k v q)) same) (value.1 ∙ ap (drop (value_pos k v q)) same) value.0,
   )
 
   -- a write of one value keeps the map and the cursor

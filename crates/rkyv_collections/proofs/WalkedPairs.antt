@@ -18,20 +18,11 @@ use Rattle.rkyv_table.specs.Table.Header.{cap_at}
 use Rattle.rkyv_table.specs.Table.Lent.{with_units}
 use Rattle.rkyv_table.specs.Table.Reading.{WrittenAt, home_positions, item_at, table_controls}
 use Rattle.rkyv_table.specs.Table.WalkLaws.{VisitsHomes}
-use Rattle.rkyv_table.proofs.WalkedHomes.{walked_homes}
+use Rattle.rkyv_table.proofs.WalkedHomes.{none_visits, walked_homes}
 use Rattle.rkyv_table.proofs.Walks.{walk_none}
 use Rattle.rkyv_table.proofs.WrittenTables.{home_count, home_pos}
 use Rattle.rkyv_collections.specs.ListedWalks.{GivesEach, SetWalksGiveListed, WalksGiveListed, WalksVisitPairs, key_positions_at}
 use Rattle.rkyv_collections.specs.MapFormat.{MapStands}
-
-none_visits : (controls : List ℕ) → VisitsHomes 0 [] controls
-unfolding IsDistinct
-none_visits controls = record {
-  members = λ bucket. subst (λ (xs : List ℕ). Contains xs bucket ↔ Contains [] bucket) (sym (walk_none controls)) (λ h. h, λ h. h);
-  ascending = subst (AllPairs (λ a b. a < b)) (sym (walk_none controls)) (λ i j d less below. absurd (omega arith));
-  once = tt;
-  count = ap length (walk_none controls);
-}
 
 -- ---- distinct numbers, and a list as long in which each of them stands
 

@@ -11,8 +11,13 @@ use Rattle.rkyv_base.specs.Text.{text_shape}
 use Rattle.rkyv_keys.specs.OfTexts.{IsTextOf}
 use Rattle.rkyv_collections.specs.InPlace.{FindsValueAt}
 use Rattle.rkyv_collections.specs.ListedLookups.{first_pair}
+use Rattle.rkyv_collections.specs.Map.{map_shape}
 use Rattle.rkyv_collections.specs.MapFormat.{MapStands}
 use Rattle.rkyv_collections.specs.ValueWrites.{KeepsMap}
+
+-- the header of a map to texts
+abbrev pub text_map_shape : Width → Shape → Shape
+text_map_shape w k = map_shape w k (text_shape w)
 
 -- the text with each letter from a to z in upper case
 abbrev pub text_raised : Bor (List ℕ) → Bor (List ℕ)

@@ -1,5 +1,4 @@
 -- Lemmas that laws of traits and their impls need: a law may import from specs/ alone.
-pub mod SameControls
 pub mod MapLaws
 pub mod MapSound
 pub mod SetSound

@@ -1,6 +1,7 @@
 pub mod Map
 pub mod Equality
 pub mod Misplaced
+pub mod Lookups
 pub mod MapFinder
 pub mod MapFormat
 pub mod Handing

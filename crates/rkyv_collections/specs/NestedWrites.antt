@@ -10,7 +10,8 @@ use Rattle.rkyv_table.specs.Table.Reading.{IsWalked, table_controls}
 use Rattle.rkyv_collections.specs.InPlace.{with_first}
 use Rattle.rkyv_collections.specs.Map.{FindsFirstKeyAt, IsKeyPosAt, MapWrittenAt, map_shape}
 use Rattle.rkyv_collections.specs.MapFormat.{MapStands}
-use Rattle.rkyv_collections.specs.ValueWrites.{WritesValue, entry_at}
+use Rattle.rkyv_table.specs.Table.SealedTable.{WritesValue}
+use Rattle.rkyv_collections.specs.ValueWrites.{entry_at}
 
 -- The value at q in b is written in c, and no bytes change but some of its parts: where it holds,
 -- it holds again with the same lower end, and what lies outside its parts is as before.
@@ -18,16 +19,20 @@ pub record WritesParts (s : Shape) (b c : List ℕ) (q : ℕ) : Type 0 where
   pub holds : (lo hi l : ℕ) → lo ≤ hi → hi ≤ q → s.holds b q lo hi l → s.holds c q lo hi l
   pub sealed : (lo hi l : ℕ) → lo ≤ hi → hi ≤ q → s.holds b q lo hi l → Sealed b lo (l - lo) c
 
--- the value at q is the same in both: its own bytes, and all among which its parts lie
-pub record StaysAt (s : Shape) (b c : List ℕ) (q : ℕ) : Type 0 where
+-- the value at q holds somewhere before it
+pub record HoldsBefore (s : Shape) (b : List ℕ) (q : ℕ) : Type 0 where
   pub lower : ℕ
   pub upper : ℕ
   pub rest : ℕ
   pub order : lower ≤ upper
   pub before : upper ≤ q
   pub holds : s.holds b q lower upper rest
+
+-- the value at q is the same in both: its own bytes, and all among which its parts lie
+pub record StaysAt (s : Shape) (b c : List ℕ) (q : ℕ) : Type 0 where
+  pub held : HoldsBefore s b q
   pub fixed : Same b c q (q + s.size)
-  pub parts : Same b c lower rest
+  pub parts : Same b c held.lower held.rest
 
 module _ (w : Width) (k v : Shape) where
   -- The map at p in b is one in c, of which the value in bucket i was written among its parts: its
@@ -51,7 +56,7 @@ module _ (w : Width) (k v : Shape) where
   abbrev pub ValueWritesAreNested : Type 0
   ValueWritesAreNested =
       (b c : List ℕ) (p i : ℕ) → Viewed (map_shape w k v) b p → IsWalked w b p i
-      → WritesValue w k v b c (entry_at w k v b p i) → WritesParts (map_shape w k v) b c p
+      → WritesValue k v b c (entry_at w k v b p i) → WritesParts (map_shape w k v) b c p
 
   -- a write among the parts of the value of a key keeps the map
   abbrev pub NestedWritesKeepMaps : (List ℕ → ℕ → ℕ) → Type 0

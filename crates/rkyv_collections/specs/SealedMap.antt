@@ -1,15 +1,16 @@
 -- What a lookup in a map answers that lends the value to be written.
-use Rattle.std.specs.Prelude.{◌≡◌, ℕ, List, Bool, Option, take, drop}
+use Rattle.std.specs.Prelude.{◌≡◌, ℕ, List, Bool, Option}
 use Rattle.std.specs.Int.{Width}
 use Rattle.std.specs.Option.{option_map}
 use Rattle.rkyv_base.specs.Entry.{entry_shape}
-use Rattle.rkyv_base.specs.Seal.{archive_in, bytes_in, seal_pos, pos_in}
+use Rattle.rkyv_base.specs.Seal.{archive_in, pos_in}
 use Rattle.rkyv_base.specs.Sealing.{value_pos}
 use Rattle.rkyv_base.specs.Shape.{Shape, Viewed}
 use Rattle.rkyv_base.specs.View.{IsView, bytes_of, pos_of}
 use Rattle.rkyv_base.specs.declared.seal.ArchiveSeal.{ArchiveSeal}
 use Rattle.rkyv_base.specs.declared.seal.Seal.{Seal}
 use Rattle.rkyv_base.specs.declared.view.View.{View}
+use Rattle.rkyv_table.specs.Table.PairSeals.{LendsPair, LendsValue}
 use Rattle.rkyv_table.specs.Table.Reading.{IsWalked, item_at}
 use Rattle.rkyv_table.specs.Table.SealedLookup.{pos_of_seal}
 use Rattle.rkyv_table.specs.Table.SealedTable.{KeptByValueWrites}
@@ -91,32 +92,16 @@ pub record IsPairPos (w : Width) (k v : Shape) (b : List ℕ) (p i q : ℕ) : Ty
   pub value : Viewed v b (value_pos k v q)
   pub kept : KeptByValueWrites w k v b p i
 
--- the bytes are cut at the begin of the pair's value: the key is viewed in the front, and the seal
--- is at the begin of the back
-pub record LendsPair {K V : Type 0} (w : Width) (k v : Shape) (b : List ℕ) (p i : ℕ)
-    (pair : View K × Seal V) : Type 0 where
-  pub at : IsPairPos w k v b p i (pos_of pair.0)
-  pub key : IsView k pair.0
-  pub front : bytes_of pair.0 ≡ take (value_pos k v (pos_of pair.0)) b
-  pub back : bytes_in pair.1 ≡ drop (value_pos k v (pos_of pair.0)) b
-  pub begin : seal_pos pair.1 ≡ 0
-
--- the seal is at the pair's value, in the same bytes
-pub record LendsValue {V : Type 0} (w : Width) (k v : Shape) (b : List ℕ) (p i : ℕ)
-    (value : Seal V) : Type 0 where
-  pub key : ℕ
-  pub at : IsPairPos w k v b p i key
-  pub bytes : bytes_in value ≡ b
-  pub place : seal_pos value ≡ value_pos k v key
-
 module _ {K V H W : Type 0} (w : Width) (k v : Shape) (a : ArchiveSeal (HashMapOf K V H W)) where
   -- what is lent is a pair of the map
   abbrev pub IsPairSeal : View K × Seal V → Type 0
-  IsPairSeal pair = (i : ℕ) × LendsPair w k v (archive_in a) (pos_in a) i pair
+  IsPairSeal pair = (i : ℕ)
+      × LendsPair k v (archive_in a) (IsPairPos w k v (archive_in a) (pos_in a) i) pair
 
   -- what is lent is a value of the map
   abbrev pub IsValueSeal : Seal V → Type 0
-  IsValueSeal value = (i : ℕ) × LendsValue w k v (archive_in a) (pos_in a) i value
+  IsValueSeal value = (i : ℕ)
+      × LendsValue k v (archive_in a) (IsPairPos w k v (archive_in a) (pos_in a) i) value
 
 -- the key that was found stands at the position, or none was found
 abbrev pub IsPairSealAt : {K V : Type 0} → Option (View K × Seal V) → Option ℕ → Type 0

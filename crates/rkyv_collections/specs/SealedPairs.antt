@@ -9,13 +9,14 @@ use Rattle.rkyv_base.specs.declared.entry.Entry.{Entry}
 use Rattle.rkyv_base.specs.declared.seal.Seal.{Seal}
 use Rattle.rkyv_base.specs.declared.view.View.{View}
 use Rattle.rkyv_table.specs.Controls.Placing.{walk}
+use Rattle.rkyv_table.specs.Table.PairSeals.{LendsPair, LendsValue}
 use Rattle.rkyv_table.specs.Table.Header.{cap_at, len_at}
 use Rattle.rkyv_table.specs.Table.Reading.{table_controls}
 use Rattle.rkyv_table.specs.Table.SealedItems.{CountsDown, IsSealIter, SameArchive, StaysThere}
 use Rattle.rkyv_table.specs.Table.SealedItems.{buckets_left, cursor_bytes, items_left}
 use Rattle.rkyv_table.specs.Table.SealedTable.{KeepsTable, SameValue}
 use Rattle.rkyv_table.specs.declared.table.raw_iter_seal.RawIterSeal.{RawIterSeal}
-use Rattle.rkyv_collections.specs.SealedMap.{IsPairPos, LendsPair, LendsValue}
+use Rattle.rkyv_collections.specs.SealedMap.{IsPairPos}
 use Rattle.rkyv_collections.specs.declared.map.iter_seal.IterMut.{IterMut}
 use Rattle.rkyv_collections.specs.declared.map.iter_seal.ValuesMut.{ValuesMut}
 
@@ -73,7 +74,7 @@ module _ {K V : Type 0} (k v : Shape) where
       (w : Width) (p : ℕ) → IsPairIter w p before
       → MatchOption result (buckets_left w p before ≡ [])
       (λ pair. (i : ℕ) × (rest : List ℕ) × (buckets_left w p before ≡ i ∷ rest)
-      × LendsPair w k v (cursor_bytes before) p i pair)
+      × LendsPair k v (cursor_bytes before) (IsPairPos w k v (cursor_bytes before) p i) pair)
 
   -- the value of the first pair
   abbrev pub LendsFirstValue : RawIterSeal (Entry K V) → Option (Seal V) → Type 0
@@ -81,7 +82,7 @@ module _ {K V : Type 0} (k v : Shape) where
       (w : Width) (p : ℕ) → IsPairIter w p before
       → MatchOption result (buckets_left w p before ≡ [])
       (λ value. (i : ℕ) × (rest : List ℕ) × (buckets_left w p before ≡ i ∷ rest)
-      × LendsValue w k v (cursor_bytes before) p i value)
+      × LendsValue k v (cursor_bytes before) (IsPairPos w k v (cursor_bytes before) p i) value)
 
   -- a cursor over a map of which the value behind the key at q was written is one over the map,
   -- which is kept, with the same pairs left

@@ -3,6 +3,7 @@
 use Rattle.std.specs.Prelude.{ℕ, List, Bool, Option}
 use Rattle.std.specs.Borrow.{Bor}
 use Rattle.std.specs.Int.{Width}
+use Rattle.rkyv_scan.specs.Hash.{Hasher, HasherCall}
 use Rattle.rkyv_base.specs.Empty.{unit_shape}
 use Rattle.rkyv_base.specs.Shape.{Shape}
 use Rattle.rkyv_base.specs.View.{IsAt}
@@ -10,10 +11,11 @@ use Rattle.rkyv_base.specs.declared.view.View.{View}
 use Rattle.rkyv_keys.specs.Equality.{Comparison}
 use Rattle.rkyv_keys.specs.OfUnits.{unit_same}
 use Rattle.rkyv_collections.specs.Equality.{map_equal}
-use Rattle.rkyv_collections.specs.Map.{FindsFirstKey, FindsKey, IsKeyIn, IsMap, key_positions}
+use Rattle.rkyv_collections.specs.Lookups.{GetsKey, TellsKey}
+use Rattle.rkyv_collections.specs.Map.{IsEntryAt, IsKeyIn, IsMap, key_positions}
 use Rattle.rkyv_collections.specs.Map.{map_archive, map_bytes, map_len, map_pos, map_shape}
 use Rattle.rkyv_collections.specs.Map.{map_view}
-use Rattle.rkyv_collections.specs.Misplaced.{FindsOneKey, map_misplaced}
+use Rattle.rkyv_collections.specs.Misplaced.{map_misplaced}
 use Rattle.rkyv_collections.specs.declared.map.HashMapOf.{HashMapOf}
 use Rattle.rkyv_collections.specs.declared.set.ArchivedHashSet.{ArchivedHashSet}
 
@@ -58,24 +60,19 @@ module _ {K H W : Type 0} where
   abbrev pub IsMemberIn : Width → Shape → ArchivedHashSet K H W → View K → Type 0
   IsMemberIn w k s key = IsKeyIn w k unit_shape s.map key
 
-  -- what is told is told of the position of the key that a lookup under the hash finds, on any
-  -- accepted set
-  abbrev pub FindsMember : Width → Shape → ArchivedHashSet K H W → ℕ → (ℕ → Bool)
-      → (Option ℕ → Type 0) → Type 0
-  FindsMember w k s hash accept Told = FindsKey w k unit_shape s.map hash accept Told
+-- what is told of what a lookup of a query finds, as in the map of its keys
+abbrev pub TellsMember : {K H W State : Type 0} → Width → Shape → ArchivedHashSet K H W
+    → Hasher State → List HasherCall → (List ℕ → ℕ → List HasherCall) → Comparison
+    → (List ℕ → ℕ → Bool) → (Option ℕ → Type 0) → Type 0
+TellsMember w k s hasher calls key_calls same fits Told =
+    TellsKey w k unit_shape s.map hasher calls key_calls same fits Told
 
-  -- and on a written one: of the position of the first accepted key in the order handed in
-  abbrev pub FindsFirstMember : Width → Shape → ArchivedHashSet K H W → (List ℕ → ℕ → ℕ)
-      → (ℕ → Bool) → (Option ℕ → Type 0) → Type 0
-  FindsFirstMember w k s key_hash accept Told =
-      FindsFirstKey w k unit_shape s.map key_hash accept Told
-
-  -- and where no key is misplaced: of the position of the one key that fits, or of none where none
-  -- does
-  abbrev pub FindsOneMember : Width → Shape → ArchivedHashSet K H W → (List ℕ → ℕ → ℕ) → Comparison
-      → (ℕ → Bool) → (Option ℕ → Type 0) → Type 0
-  FindsOneMember w k s key_hash same fits Told =
-      FindsOneKey w k unit_shape s.map key_hash same fits Told
+-- what such a lookup says of the key that it answers
+abbrev pub GetsMember : {K H W State : Type 0} → Width → Shape → ArchivedHashSet K H W
+    → Hasher State → List HasherCall → (List ℕ → ℕ → List HasherCall) → Comparison
+    → (List ℕ → ℕ → Bool) → Option (View K) → Type 0
+GetsMember w k s hasher calls key_calls same fits result =
+    GetsKey IsKeyIn IsEntryAt w k unit_shape s.map hasher calls key_calls same fits result
 
 -- equally many keys, and each of the first is found in the other
 abbrev pub set_equal : Width → Shape → (List ℕ → ℕ → ℕ) → Comparison → Comparison

@@ -3,27 +3,17 @@ use Rattle.std.specs.Prelude.{◌≡◌, ℕ, ◌<◌, ◌^◌, List, Bool, Some
 use Rattle.std.specs.Int.{Width}
 use Rattle.rkyv_scan.specs.Groups.{generic_kind}
 use Rattle.rkyv_base.specs.Entry.{entry_shape}
-use Rattle.rkyv_base.specs.Sealing.{Keeps, Sealed, value_pos}
-use Rattle.rkyv_base.specs.Shape.{Shape, Standing, Viewed}
+use Rattle.rkyv_base.specs.Sealing.{value_pos}
+use Rattle.rkyv_base.specs.Shape.{Shape, Viewed}
 use Rattle.rkyv_table.specs.Table.Reading.{IsWalked, home_positions, item_at, pos_found}
-use Rattle.rkyv_table.specs.Table.SealedTable.{KeepsTable, SameValue}
+use Rattle.rkyv_table.specs.Table.SealedTable.{KeepsTable, RestsOnKey, SameValue, WritesValue}
 use Rattle.rkyv_collections.specs.Map.{MapWrittenAt, map_shape}
 use Rattle.rkyv_collections.specs.MapFormat.{MapStands}
-
--- whether a key fits rests on the bytes on which it rests that the key holds
-abbrev pub RestsOnKey : Shape → (List ℕ → ℕ → Bool) → Type 0
-RestsOnKey k fits = (b c : List ℕ) (q : ℕ) → Standing k b q → SameValue k b c q
-    → fits c q ≡ fits b q
 
 module _ (w : Width) (k v : Shape) where
   -- where the entry in bucket i stands, and where its value begins
   abbrev pub entry_at : List ℕ → ℕ → ℕ → ℕ
   entry_at b p i = item_at w (entry_shape k v).size b p i
-
-  -- a value is written in place: only its own bytes change, and it holds again
-  pub record WritesValue (b c : List ℕ) (q : ℕ) : Type 0 where
-    pub sealed : Sealed b (value_pos k v q) v.size c
-    pub keeps : Keeps v b c (value_pos k v q)
 
   -- The map at p in b is one in c, of which the value in bucket i was written: its header, its
   -- controls, all keys and all
@@ -46,7 +36,7 @@ module _ (w : Width) (k v : Shape) where
   abbrev pub ValueWritesKeepMaps : (List ℕ → ℕ → ℕ) → Type 0
   ValueWritesKeepMaps key_hash =
       (b c : List ℕ) (p i : ℕ) → Viewed (map_shape w k v) b p → IsWalked w b p i
-      → WritesValue b c (entry_at b p i) → KeepsMap key_hash b c p i
+      → WritesValue k v b c (entry_at b p i) → KeepsMap key_hash b c p i
 
   -- a write of one value in place keeps the answer of each query, whose hash is a function of the
   -- query
@@ -54,7 +44,7 @@ module _ (w : Width) (k v : Shape) where
       → (Q → List ℕ → ℕ → Bool) → Type 0
   ValueWritesKeepAnswers {Q} can_read hash fits =
       (b c : List ℕ) (p i : ℕ) → Viewed (map_shape w k v) b p → IsWalked w b p i
-      → WritesValue b c (entry_at b p i)
+      → WritesValue k v b c (entry_at b p i)
       → (q : Q) → can_read q
       → pos_found generic_kind w (entry_shape k v).size c p (hash q) (fits q c)
       ≡ pos_found generic_kind w (entry_shape k v).size b p (hash q) (fits q b)
@@ -67,7 +57,8 @@ module _ (w : Width) (k v : Shape) where
       → Viewed (map_shape w k v) b p
       → (stands : MapStands w k v key value key_hash factor b p pairs)
       → slice_get pairs n ≡ Some pair
-      → WritesValue b c (slice_index (home_positions w (entry_shape k v).size b p stands.homes) n)
+      → WritesValue k v b c (slice_index
+      (home_positions w (entry_shape k v).size b p stands.homes) n)
       → value c (value_pos k v (slice_index
       (home_positions w (entry_shape k v).size b p stands.homes) n)) new
       → MapStands w k v key value key_hash factor c p (slice_set pairs n (pair.0, new))

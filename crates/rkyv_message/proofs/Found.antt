@@ -1,26 +1,15 @@
 -- What was found in a message is what stands in its list.
-use Rattle.std.proofs.Common.{◌≡◌, ℕ, Bool, List, Option, None, Some, Result, Ok, Err, MatchResult, IfOk, ap, false, refl, subst, sym, ◌∙◌}
+use Rattle.std.proofs.Common.{◌≡◌, ℕ, Bool, List, Option, None, Some, false, refl, ◌∙◌}
 use Rattle.std.specs.Borrow.{Bor}
 use Rattle.std.specs.Int.{w32}
 use Rattle.std.specs.Option.{is_some, option_map}
 use Rattle.rkyv_base.specs.Numbers.{unsigned}
 use Rattle.rkyv_base.specs.declared.view.View.{View}
+use Rattle.rkyv_table.proofs.Moved.{moved}
 use Rattle.rkyv_collections.specs.InPlace.{SetsFound, with_first}
 use Rattle.rkyv_collections.specs.ListedLookups.{IsFoundValue, first_pair}
 use Rattle.rkyv_collections.specs.declared.lists.pairs.MapPairs.{MapPairs}
 use Rattle.rkyv_message.specs.Message.{FieldList, FieldsStand, PartStands, Parts, PartsStand, StandsIfFound, is_named, name_hash, name_shape, number_in, number_of_part, with_field, with_part}
-
--- what holds at a place of some bytes holds at the same place of the same bytes
-pub moved : (P : List ℕ → ℕ → Type 0) (b c : List ℕ) (p q : ℕ) → b ≡ c → p ≡ q → P b p → P c q
-moved P b c p q e f h = subst (λ x. P x q) e (subst (λ y. P b y) f h)
-
-pub number_listed : {V : Type 0} (num : List ℕ → ℕ → ℕ) (view : View V) (n : ℕ) (o : Option ℕ) → num view.archive.now view.pos ≡ n → IsFoundValue (λ b p v. num b p ≡ v) (Some view) o → Some n ≡ o
-number_listed num view n None e h = absurd h
-number_listed num view n (Some v) e h = ap Some (sym e ∙ h)
-
-pub none_listed : {B : Type 0} (stands : List ℕ → ℕ → B → Type 0) (o : Option B) → IsFoundValue {V = ℕ} stands None o → None ≡ o
-none_listed stands None h = refl
-none_listed stands (Some v) h = absurd h
 
 pub part_found : {V : Type 0} (b : List ℕ) (p : ℕ) (view : View V) (o : Option (MapPairs (Bor (List ℕ)) ℕ ℕ)) → view.archive.now ≡ b → view.pos ≡ p → IsFoundValue PartStands (Some view) o → StandsIfFound b o (Some p)
 part_found b p view None e f h = absurd h
@@ -63,8 +52,3 @@ none_set b part field number parts p (Some fields) s stands = absurd s
 pub unfound_kept : (b c : List ℕ) (p n : ℕ) (found : Bool) (place : Option ℕ) → SetsFound w32 name_shape (unsigned w32) name_hash b p n found c place → found ≡ false → c ≡ b
 unfound_kept b c p n found None h e = h.1
 unfound_kept b c p n found (Some q) h e = absurd cc
-
--- what is known of an Ok
-pub on_ok : {T E : Type 0} (P R : T → Type 0) (Q : E → Type 0) (r : Result T E) → ((x : T) → P x → R x) → MatchResult r P Q → IfOk r R
-on_ok P R Q (Ok x) f h = f x h
-on_ok P R Q (Err e) f h = tt

@@ -6,15 +6,8 @@ ghost use Rattle.rkyv_base.specs.Entry.{entry_shape};
 ghost use Rattle.rkyv_base.specs.Pairs.{PairStands};
 ghost use Rattle.rkyv_base.specs.View.{IsView, StandsAt};
 ghost use Rattle.rkyv_keys.specs.Places.{at_view};
-ghost use Rattle.rkyv_keys.specs.OfEntries.{
-  BothRead,
-  entry_equals,
-  entry_fits,
-  entry_fits_its_equal,
-  entry_query,
-  entry_refuses,
-  pair_calls,
-};
+ghost use Rattle.rkyv_keys.specs.OfEntries.{BothRead, entry_equals, entry_fits, entry_query};
+ghost use Rattle.rkyv_keys.specs.OfEntries.{entry_fits_its_equal, entry_refuses, pair_calls};
 ghost use Rattle.rkyv_own.specs.Seeing.{query_seen};
 
 use crate::pair::{AsPair, FromPair, Seen};

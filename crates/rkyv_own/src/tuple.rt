@@ -1,15 +1,8 @@
 //! Types that are archived as a tuple of copies of their parts.
 
 ghost use Rattle.std.specs.Prelude.{◌≡◌};
-ghost use Rattle.rkyv_base.specs.Entry.{entry_shape};
-ghost use Rattle.rkyv_base.specs.Pairs.{
-  PairStands,
-  pair_format,
-  pair_is_format,
-  pair_near,
-  written_as,
-  written_as-format,
-};
+ghost use Rattle.rkyv_base.specs.Pairs.{PairStands, pair_format, pair_near, written_as};
+ghost use Rattle.rkyv_own.specs.Seeing.{pair_seen};
 
 use rkyv_base::archive::{Archive, Serialize};
 use rkyv_base::element::StandsFor;
@@ -69,7 +62,7 @@ impl<
     #[inline]
     fn resolve(
         &self,
-        resolver: EntryResolver<A::Resolver, B::Resolver>,
+        resolver: Self::Resolver,
         pos: u64,
         out: &mut [u8],
     ) -> Result<(), DistanceTooLarge> {
@@ -77,12 +70,7 @@ impl<
         <(A, B) as Archive<W>>::resolve(&tuple, resolver, pos, out)
     }
 
-    ghost laws = { written_as-format (λ x. T.tuple x.0)
-        (entry_shape A.Archived.shape B.Archived.shape)
-        (PairStands A.Archived.shape B.Archived.shape A.Archived.stands B.Archived.stands)
-        (pair_format A.Archived.shape B.Archived.shape A.format B.format)
-        (pair_is_format A.Archived.shape B.Archived.shape A.Archived.laws B.Archived.laws
-        A.Archived.stands B.Archived.stands A.format B.format A.laws B.laws) };
+    ghost laws = { pair_seen (λ x. T.tuple x.0) A.Archived.laws B.Archived.laws A.laws B.laws };
 }
 
 impl<
@@ -97,7 +85,7 @@ impl<
         &self,
         alloc: Global,
         serializer: &mut S,
-    ) -> Result<EntryResolver<A::Resolver, B::Resolver>, WriteError<S::Fault>> {
+    ) -> Result<Self::Resolver, WriteError<S::Fault>> {
         let tuple = self.0.tuple();
         <(A, B) as Serialize<S, W>>::serialize(&tuple, alloc, serializer)
     }

@@ -26,7 +26,7 @@ use Rattle.rkyv_table.specs.Table.WrittenTables.{IsWrittenOf}
 use Rattle.rkyv_table.proofs.WrittenTables.{home_count, home_pos, home_walked, table_written}
 use Rattle.rkyv_collections.specs.Map.{map_shape}
 use Rattle.rkyv_collections.specs.MapFormat.{MapStands, keyed, map_format}
-use Rattle.rkyv_collections.specs.Lemmas.SameControls.{same_controls}
+use Rattle.rkyv_table.specs.Lemmas.SameControls.{same_controls}
 
 -- the hash of a key rests on the bytes on which it rests that the key holds
 abbrev pub HashNear : Shape → (List ℕ → ℕ → ℕ) → Type 0

@@ -32,7 +32,7 @@ use Rattle.rkyv_table.proofs.WrittenTables.{home_count, home_pos}
 use Rattle.rkyv_collections.specs.Map.{map_shape}
 use Rattle.rkyv_collections.specs.MapFormat.{MapStands}
 use Rattle.rkyv_collections.specs.Lemmas.EntriesTold.{entries_told}
-use Rattle.rkyv_collections.specs.Lemmas.SameControls.{same_controls}
+use Rattle.rkyv_table.specs.Lemmas.SameControls.{same_controls}
 use Rattle.rkyv_collections.specs.StdMap.{ArePairsAt, EntriesStand, of_entries}
 
 module _ (k v : Shape) (kl : IsElement k) (vl : IsElement v) (w : Width) where

@@ -1,8 +1,6 @@
 //! Lists of items that are archived as sets.
 
-ghost use Rattle.std.specs.Iterator.{YieldsFirstBy, at_most};
-ghost use Rattle.std.specs.Prelude.{length, ◌≡◌};
-ghost use Rattle.std.specs.Slice.Iter.{iter_rest};
+ghost use Rattle.std.specs.Prelude.{◌≡◌};
 ghost use Rattle.rkyv_table.specs.Table.Listed.{listed, written_under, written_under-format};
 ghost use Rattle.rkyv_collections.specs.Map.{hash_at};
 ghost use Rattle.rkyv_collections.specs.MapFormat.{hash_of};
@@ -12,13 +10,13 @@ ghost use Rattle.rkyv_collections.specs.Lemmas.SetSound.{listed_set_sound, set_n
 
 use crate::set::writing::HashSetResolver;
 use crate::set::{ArchivedHashSet, HashSetOf};
-use rkyv_base::archive::{Archive, Serialize};
+use rkyv_base::archive::{Archive, ResolveResult, Serialize, WriteResult};
 use rkyv_base::element::StandsFor;
-use rkyv_base::errors::{DistanceTooLarge, WriteError};
 use rkyv_base::width::Width;
 use rkyv_base::writer::Writer;
 use rkyv_keys::keys::{KeyElement, NativeKey};
 use rkyv_scan::hash::{FxHasher64, KeyHasher};
+use rkyv_table::table::lent::Refs;
 use std::alloc::Global;
 use std::marker::PhantomData;
 
@@ -56,28 +54,6 @@ impl<'a, A, H> SetItems<'a, A, H> {
     }
 }
 
-/// The items of a list.
-#[derive(Drop)]
-struct Rest<'a, A> {
-    items: std::slice::Iter<'a, A>,
-}
-
-impl<'a, A> Iterator for Rest<'a, A> {
-    type Item = &'a A;
-
-    ghost next_gives = { YieldsFirstBy (λ item. item.now) (λ s. iter_rest s.items) };
-
-    ghost remaining = { λ s. at_most (length (iter_rest s.items)) };
-
-    #[inline]
-    fn next(&mut self) -> Option<&'a A> {
-        match self.items.next() {
-            Some(item) => Some(item),
-            None => None,
-        }
-    }
-}
-
 impl<'a, W: Width, H: KeyHasher, A, K: KeyElement + StandsFor<A>> StandsFor<SetItems<'a, A, H>>
     for HashSetOf<K, H, W> {
     ghost stands = { λ b p x. SetStands W.word K.shape K.stands (hash_at H.hasher K.key_calls)
@@ -98,15 +74,8 @@ where
     ghost format = { written_under (λ x. x.items.now) (λ x. listed W.MAX_CAPACITY x.load_factor
         (set_format W.word A.Archived.shape A.format (hash_of H.hasher A.calls) x.load_factor)) };
 
-    fn resolve(
-        &self,
-        resolver: HashSetResolver<W>,
-        pos: u64,
-        out: &mut [u8],
-    ) -> Result<(), DistanceTooLarge> {
-        let len = resolver.len();
-        let load_factor = resolver.load_factor();
-        ArchivedHashSet::<A::Archived, H, W>::resolve_from_len(len, load_factor, resolver, pos, out)
+    fn resolve(&self, resolver: HashSetResolver<W>, pos: u64, out: &mut [u8]) -> ResolveResult {
+        resolver.resolve(pos, out)
     }
 
     ghost laws = { let hash = hash_at H.hasher A.Archived.key_calls in
@@ -126,17 +95,11 @@ where
     A::Archived: KeyElement,
     A: NativeKey<A::Archived>,
 {
-    fn serialize(
-        &self,
-        alloc: Global,
-        serializer: &mut S,
-    ) -> Result<HashSetResolver<W>, WriteError<S::Fault>> {
-        let rest = Rest {
-            items: self.items.iter(),
-        };
-        ArchivedHashSet::<A::Archived, H, W>::serialize_from_iter::<S, A, &A, Rest<'_, A>>(
+    fn serialize(&self, alloc: Global, serializer: &mut S) -> WriteResult<HashSetResolver<W>, S> {
+        let items = Refs::of(self.items);
+        ArchivedHashSet::<A::Archived, H, W>::serialize_from_iter::<S, A, &A, Refs<'_, A>>(
             alloc,
-            rest,
+            items,
             self.items.len(),
             self.load_factor,
             serializer,

@@ -1,8 +1,6 @@
 //! Lists of pairs that are archived as maps.
 
-ghost use Rattle.std.specs.Iterator.{YieldsFirstBy, at_most};
-ghost use Rattle.std.specs.Prelude.{length, ◌≡◌};
-ghost use Rattle.std.specs.Slice.Iter.{iter_rest};
+ghost use Rattle.std.specs.Prelude.{◌≡◌};
 ghost use Rattle.rkyv_table.specs.Table.Listed.{listed, written_under, written_under-format};
 ghost use Rattle.rkyv_collections.specs.Map.{hash_at, map_shape};
 ghost use Rattle.rkyv_collections.specs.MapFormat.{MapStands, hash_of, map_format};
@@ -10,13 +8,13 @@ ghost use Rattle.rkyv_collections.specs.Lemmas.MapSound.{listed_map_sound, map_n
 
 use crate::map::writing::HashMapResolver;
 use crate::map::{ArchivedHashMap, HashMapOf};
-use rkyv_base::archive::{Archive, Serialize};
+use rkyv_base::archive::{Archive, ResolveResult, Serialize, WriteResult};
 use rkyv_base::element::StandsFor;
-use rkyv_base::errors::{DistanceTooLarge, WriteError};
 use rkyv_base::width::Width;
 use rkyv_base::writer::Writer;
 use rkyv_keys::keys::{KeyElement, NativeKey};
 use rkyv_scan::hash::{FxHasher64, KeyHasher};
+use rkyv_table::table::lent::Halves;
 use std::alloc::Global;
 use std::marker::PhantomData;
 
@@ -57,29 +55,6 @@ impl<'a, A, B, H> MapPairs<'a, A, B, H> {
     }
 }
 
-/// The pairs of a list, by halves.
-#[derive(Drop)]
-struct Halves<'a, A, B> {
-    pairs: std::slice::Iter<'a, (A, B)>,
-}
-
-impl<'a, A, B> Iterator for Halves<'a, A, B> {
-    type Item = (&'a A, &'a B);
-
-    ghost next_gives = { YieldsFirstBy (λ halves. (halves.0.now, halves.1.now))
-        (λ s. iter_rest s.pairs) };
-
-    ghost remaining = { λ s. at_most (length (iter_rest s.pairs)) };
-
-    #[inline]
-    fn next(&mut self) -> Option<(&'a A, &'a B)> {
-        match self.pairs.next() {
-            Some(pair) => Some((&pair.0, &pair.1)),
-            None => None,
-        }
-    }
-}
-
 impl<'a, W: Width, H: KeyHasher, A, B, K: KeyElement + StandsFor<A>, V: StandsFor<B>> StandsFor<
     MapPairs<'a, A, B, H>,
 > for HashMapOf<K, V, H, W> {
@@ -103,21 +78,8 @@ where
         (map_format W.word A.Archived.shape B.Archived.shape A.format B.format
         (hash_of H.hasher A.calls) x.load_factor)) };
 
-    fn resolve(
-        &self,
-        resolver: HashMapResolver<W>,
-        pos: u64,
-        out: &mut [u8],
-    ) -> Result<(), DistanceTooLarge> {
-        let len = resolver.len();
-        let load_factor = resolver.load_factor();
-        ArchivedHashMap::<A::Archived, B::Archived, H, W>::resolve_from_len(
-            len,
-            load_factor,
-            resolver,
-            pos,
-            out,
-        )
+    fn resolve(&self, resolver: HashMapResolver<W>, pos: u64, out: &mut [u8]) -> ResolveResult {
+        resolver.resolve(pos, out)
     }
 
     ghost laws = { let hash = hash_at H.hasher A.Archived.key_calls in
@@ -139,14 +101,8 @@ where
     A::Archived: KeyElement,
     A: NativeKey<A::Archived>,
 {
-    fn serialize(
-        &self,
-        alloc: Global,
-        serializer: &mut S,
-    ) -> Result<HashMapResolver<W>, WriteError<S::Fault>> {
-        let halves = Halves {
-            pairs: self.pairs.iter(),
-        };
+    fn serialize(&self, alloc: Global, serializer: &mut S) -> WriteResult<HashMapResolver<W>, S> {
+        let halves = Halves::of(self.pairs);
         ArchivedHashMap::<A::Archived, B::Archived, H, W>::serialize_from_iter::<
             S,
             A,

@@ -1,23 +1,20 @@
 //! Many lookups in one map.
-ghost use Rattle.std.specs.Prelude.{IfSome, ◌<◌, ◌^◌, ◌≡◌};
+ghost use Rattle.std.specs.Prelude.{◌≡◌};
 ghost use Rattle.rkyv_base.specs.Entry.{entry_shape};
 ghost use Rattle.rkyv_base.specs.View.{IsAt, IsView, archive_of, pos_of};
 ghost use Rattle.rkyv_base.specs.declared.view.View.{View};
-ghost use Rattle.rkyv_collections.specs.Map.{FindsBy, FindsFirstBy, FindsFirstKey, FindsKey};
+ghost use Rattle.rkyv_collections.specs.Lookups.{GetsKey, TellsKey};
 ghost use Rattle.rkyv_collections.specs.Map.{IsEntryAt, IsEntryIn, IsFoundAt, IsMap, IsPairAt};
-ghost use Rattle.rkyv_collections.specs.Map.{IsPairIn, IsValueAt, IsValueIn, MayAskKeys, hash_at};
-ghost use Rattle.rkyv_collections.specs.Map.{map_bytes};
+ghost use Rattle.rkyv_collections.specs.Map.{IsPairIn, IsValueAt, IsValueIn};
 ghost use Rattle.rkyv_collections.specs.MapFinder.{IsMapFinder, map_of};
-ghost use Rattle.rkyv_collections.specs.MapFormat.{hash_of};
-ghost use Rattle.rkyv_collections.specs.Misplaced.{FindsOneKey};
 
 use crate::map::ArchivedHashMap;
-use crate::map::lookup::is_found;
+use crate::map::lookup::{found_pair, found_value, is_found};
 use rkyv_base::element::Element;
 use rkyv_base::entry::Entry;
 use rkyv_base::view::View;
 use rkyv_base::width::{Narrow, Width};
-use rkyv_keys::hash::{KeyHash, hash_value};
+use rkyv_keys::hash::hash_value;
 use rkyv_keys::keys::{KeyElement, Query};
 use rkyv_scan::hash::{FxHasher64, KeyHasher};
 use rkyv_table::table::finder::TableFinder;
@@ -46,64 +43,25 @@ impl<'a, K: Element, V: Element, H, W: Width> ArchivedHashMap<'a, K, V, H, W> {
     }
 }
 
+// Every lookup is one call of `find_key`.
 impl<'a, K: KeyElement, V: Element, H: KeyHasher, W: Width> MapFinder<'a, K, V, H, W> {
-    // Finds the entry of a key under the hash of `key` that the comparison accepts.
-    #[inline]
-    fn find<Q: KeyHash, F: Fn(&Q, View<'a, K>) -> bool>(
-        self,
-        key: &Q,
-        cmp: F,
-    ) -> Option<View<'a, Entry<K, V>>>
-        requires finder { IsMapFinder W.word K.shape V.shape self }
-        requires query { Q.can_read key.now }
-        requires callable { MayAskKeys W.word K.shape V.shape (map_of self) (F.pre cmp key) }
-        ensures walked { IfSome result (IsEntryIn W.word K.shape V.shape (map_of self.entry)) }
-        ensures answer { FindsBy W.word K.shape V.shape (map_of self.entry) (F.post cmp key.entry)
-            (hash_of H.hasher Q.calls key.now)
-            (IsEntryAt result) }
-        ensures first { FindsFirstBy W.word K.shape V.shape (map_of self.entry)
-            (F.post cmp key.entry)
-            (hash_of H.hasher Q.calls key.now)
-            (hash_at H.hasher K.key_calls)
-            (IsEntryAt result) }
-        ensures hash { hash_of H.hasher Q.calls key.now < 2 ^ 64 }
-    {
-        let hash = hash_value::<Q, H>(key);
-        self.finder.get_with(
-            hash,
-            |entry|
-                requires entry { IsView (entry_shape K.shape V.shape) entry }
-                requires callable { (k : View K) → IsAt k (archive_of entry) (pos_of entry)
-                    → IsView K.shape k → F.pre cmp key k }
-                ensures { (k : View K) × IsAt k (archive_of entry.entry) (pos_of entry.entry)
-                    × IsView K.shape k × F.post cmp key.entry k result }
-            { cmp(key, entry.key()) },
-        )
-    }
-
     // Finds the entry of the key that is asked for.
     #[inline]
     fn find_key<Q: Query<K>>(self, key: &Q) -> Option<View<'a, Entry<K, V>>>
         requires finder { IsMapFinder W.word K.shape V.shape self }
         requires query { Q.can_read key.now }
-        ensures walked { IfSome result (IsEntryIn W.word K.shape V.shape (map_of self.entry)) }
-        ensures answer { FindsKey W.word K.shape V.shape (map_of self.entry)
-            (hash_of H.hasher Q.calls key.now)
-            (Q.fits key.now (map_bytes (map_of self.entry))) (IsEntryAt result) }
-        ensures first { FindsFirstKey W.word K.shape V.shape (map_of self.entry)
-            (hash_at H.hasher K.key_calls)
-            (Q.fits key.now (map_bytes (map_of self.entry))) (IsEntryAt result) }
-        ensures complete { FindsOneKey W.word K.shape V.shape (map_of self.entry)
-            (hash_at H.hasher K.key_calls) K.same
-            (Q.fits key.now (map_bytes (map_of self.entry))) (IsEntryAt result) }
+        ensures { GetsKey IsEntryIn IsEntryAt W.word K.shape V.shape (map_of self.entry)
+            H.hasher (Q.calls key.now) K.key_calls K.same (Q.fits key.now) result }
     {
-        self.find(
-            key,
-            |key, stored|
+        let hash = hash_value::<Q, H>(key);
+        self.finder.get_with(
+            hash,
+            |entry|
                 requires query { Q.can_read key.now }
-                requires key { IsView K.shape stored }
-                ensures { result ≡ Q.fits key.entry.now stored.entry.archive.now stored.entry.pos }
-            { key.same(stored) },
+                requires entry { IsView (entry_shape K.shape V.shape) entry }
+                ensures { (k : View K) × IsAt k (archive_of entry.entry) (pos_of entry.entry)
+                    × IsView K.shape k × (result ≡ Q.fits key.entry.now k.archive.now k.pos) }
+            { key.same(entry.key()) },
         )
     }
 
@@ -112,21 +70,10 @@ impl<'a, K: KeyElement, V: Element, H: KeyHasher, W: Width> MapFinder<'a, K, V, 
     pub fn get_key_value<Q: Query<K>>(self, key: &Q) -> Option<(View<'a, K>, View<'a, V>)>
         requires finder { IsMapFinder W.word K.shape V.shape self }
         requires query { Q.can_read key.now }
-        ensures walked { IfSome result (IsPairIn W.word K.shape V.shape (map_of self.entry)) }
-        ensures answer { FindsKey W.word K.shape V.shape (map_of self.entry)
-            (hash_of H.hasher Q.calls key.now)
-            (Q.fits key.now (map_bytes (map_of self.entry))) (IsPairAt result) }
-        ensures first { FindsFirstKey W.word K.shape V.shape (map_of self.entry)
-            (hash_at H.hasher K.key_calls)
-            (Q.fits key.now (map_bytes (map_of self.entry))) (IsPairAt result) }
-        ensures complete { FindsOneKey W.word K.shape V.shape (map_of self.entry)
-            (hash_at H.hasher K.key_calls) K.same
-            (Q.fits key.now (map_bytes (map_of self.entry))) (IsPairAt result) }
+        ensures { GetsKey IsPairIn IsPairAt W.word K.shape V.shape (map_of self.entry)
+            H.hasher (Q.calls key.now) K.key_calls K.same (Q.fits key.now) result }
     {
-        match self.find_key(key) {
-            Some(found) => Some((found.key(), found.value())),
-            None => None,
-        }
+        found_pair(self.find_key(key))
     }
 
     /// As the map's `get`.
@@ -134,21 +81,11 @@ impl<'a, K: KeyElement, V: Element, H: KeyHasher, W: Width> MapFinder<'a, K, V, 
     pub fn get<Q: Query<K>>(self, key: &Q) -> Option<View<'a, V>>
         requires finder { IsMapFinder W.word K.shape V.shape self }
         requires query { Q.can_read key.now }
-        ensures walked { IfSome result (IsValueIn W.word K.shape V.shape (map_of self.entry)) }
-        ensures answer { FindsKey W.word K.shape V.shape (map_of self.entry)
-            (hash_of H.hasher Q.calls key.now)
-            (Q.fits key.now (map_bytes (map_of self.entry))) (IsValueAt K.shape V.shape result) }
-        ensures first { FindsFirstKey W.word K.shape V.shape (map_of self.entry)
-            (hash_at H.hasher K.key_calls)
-            (Q.fits key.now (map_bytes (map_of self.entry))) (IsValueAt K.shape V.shape result) }
-        ensures complete { FindsOneKey W.word K.shape V.shape (map_of self.entry)
-            (hash_at H.hasher K.key_calls) K.same
-            (Q.fits key.now (map_bytes (map_of self.entry))) (IsValueAt K.shape V.shape result) }
+        ensures { GetsKey IsValueIn (IsValueAt K.shape V.shape) W.word K.shape V.shape
+            (map_of self.entry) H.hasher (Q.calls key.now) K.key_calls K.same (Q.fits key.now)
+            result }
     {
-        match self.find_key(key) {
-            Some(found) => Some(found.value()),
-            None => None,
-        }
+        found_value(self.find_key(key))
     }
 
     /// As the map's `contains_key`.
@@ -156,15 +93,8 @@ impl<'a, K: KeyElement, V: Element, H: KeyHasher, W: Width> MapFinder<'a, K, V, 
     pub fn contains_key<Q: Query<K>>(self, key: &Q) -> bool
         requires finder { IsMapFinder W.word K.shape V.shape self }
         requires query { Q.can_read key.now }
-        ensures answer { FindsKey W.word K.shape V.shape (map_of self.entry)
-            (hash_of H.hasher Q.calls key.now)
-            (Q.fits key.now (map_bytes (map_of self.entry))) (IsFoundAt result) }
-        ensures first { FindsFirstKey W.word K.shape V.shape (map_of self.entry)
-            (hash_at H.hasher K.key_calls)
-            (Q.fits key.now (map_bytes (map_of self.entry))) (IsFoundAt result) }
-        ensures complete { FindsOneKey W.word K.shape V.shape (map_of self.entry)
-            (hash_at H.hasher K.key_calls) K.same
-            (Q.fits key.now (map_bytes (map_of self.entry))) (IsFoundAt result) }
+        ensures { TellsKey W.word K.shape V.shape (map_of self.entry) H.hasher (Q.calls key.now)
+            K.key_calls K.same (Q.fits key.now) (IsFoundAt result) }
     {
         is_found(self.find_key(key))
     }

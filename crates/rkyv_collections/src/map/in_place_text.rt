@@ -2,9 +2,9 @@
 ghost use Rattle.std.specs.Prelude.{length, ◌+◌, ◌≤◌};
 ghost use Rattle.rkyv_base.specs.SealedText.{Raised};
 ghost use Rattle.rkyv_base.specs.Shape.{Viewed};
-ghost use Rattle.rkyv_base.specs.Text.{text_shape, text_size};
-ghost use Rattle.rkyv_collections.specs.InPlaceText.{RaisesFirst, RaisesTextAt};
-ghost use Rattle.rkyv_collections.specs.Map.{hash_at, map_shape};
+ghost use Rattle.rkyv_base.specs.Text.{text_size};
+ghost use Rattle.rkyv_collections.specs.InPlaceText.{RaisesFirst, RaisesTextAt, text_map_shape};
+ghost use Rattle.rkyv_collections.specs.Map.{hash_at};
 ghost use Rattle.rkyv_collections.specs.MapFormat.{hash_of};
 ghost use Rattle.rkyv_collections.specs.NestedWrites.{WritesParts};
 
@@ -41,14 +41,13 @@ pub fn make_ascii_uppercase_of<
     H: KeyHasher,
     W: Width,
 >(archive: &mut [u8], root: u64, key: &A) -> Option<bool>
-    requires map { Viewed (map_shape W.word K.shape (text_shape W.word)) archive.old root }
+    requires map { Viewed (text_map_shape W.word K.shape) archive.old root }
     requires query { A.can_read key.now }
     ensures answer { RaisesTextAt W.word K.shape (hash_at H.hasher K.key_calls) archive.old root
         (hash_of H.hasher A.calls key.now) (A.fits key.now archive.old) result archive.new }
     ensures listed { RaisesFirst W.word K.shape K.stands (hash_at H.hasher K.key_calls)
         (A.eq key.now) archive.old root result archive.new }
-    ensures parts { WritesParts (map_shape W.word K.shape (text_shape W.word))
-        archive.old archive.new root }
+    ensures parts { WritesParts (text_map_shape W.word K.shape) archive.old archive.new root }
 {
     match ArchivedHashMap::<K, Text<W>, H, W>::value_pos_in(&*archive, root, key) {
         Some(pos) => Some(uppercase_at::<W>(archive, pos as usize)),

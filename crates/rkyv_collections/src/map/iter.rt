@@ -1,8 +1,8 @@
 //! Walking over the pairs of a map.
-ghost use Rattle.std.specs.Prelude.{IfSome, Some, length, ◌≡◌};
-ghost use Rattle.std.specs.Iterator.{UpTo, at_most};
-ghost use Rattle.std.specs.Iterator.SizeHint.{IsWithinCount};
+ghost use Rattle.std.specs.Prelude.{length, ◌≡◌};
+ghost use Rattle.std.specs.Iterator.{at_most};
 ghost use Rattle.rkyv_base.specs.Entry.{entry_shape};
+ghost use Rattle.rkyv_table.specs.Table.Hints.{HintsExactly};
 ghost use Rattle.rkyv_table.specs.Table.RawItems.{AllStand};
 ghost use Rattle.rkyv_collections.specs.Map.{IsMap, key_positions, map_archive, map_len};
 ghost use Rattle.rkyv_table.specs.Table.PairWalks.{TakesKey, TakesPair, TakesValue};
@@ -51,10 +51,7 @@ impl<'a, K: Element, V: Element, H, W> Iterator for Iter<'a, K, V, H, W> {
 
     #[inline]
     fn size_hint(&self) -> (usize, Option<usize>)
-        ensures lower { IsWithinCount result.0 (at_most (length self.now.places)) }
-        ensures upper { IfSome result.1 (UpTo (at_most (length self.now.places))) }
-        ensures exact { (result.0 ≡ length self.now.places)
-            × (result.1 ≡ Some (length self.now.places)) }
+        ensures { HintsExactly result (length self.now.places) }
     {
         self.entries.size_hint()
     }
@@ -100,10 +97,7 @@ impl<'a, K: Element, V: Element, H, W> Iterator for Keys<'a, K, V, H, W> {
 
     #[inline]
     fn size_hint(&self) -> (usize, Option<usize>)
-        ensures lower { IsWithinCount result.0 (at_most (length self.now.places)) }
-        ensures upper { IfSome result.1 (UpTo (at_most (length self.now.places))) }
-        ensures exact { (result.0 ≡ length self.now.places)
-            × (result.1 ≡ Some (length self.now.places)) }
+        ensures { HintsExactly result (length self.now.places) }
     {
         self.pairs.size_hint()
     }
@@ -149,10 +143,7 @@ impl<'a, K: Element, V: Element, H, W> Iterator for Values<'a, K, V, H, W> {
 
     #[inline]
     fn size_hint(&self) -> (usize, Option<usize>)
-        ensures lower { IsWithinCount result.0 (at_most (length self.now.places)) }
-        ensures upper { IfSome result.1 (UpTo (at_most (length self.now.places))) }
-        ensures exact { (result.0 ≡ length self.now.places)
-            × (result.1 ≡ Some (length self.now.places)) }
+        ensures { HintsExactly result (length self.now.places) }
     {
         self.rest.size_hint()
     }

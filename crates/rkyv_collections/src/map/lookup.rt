@@ -1,14 +1,15 @@
 //! Finding a pair by its key.
 ghost use Rattle.std.specs.Prelude.{IfSome, IsSome, Option, Some, ◌<◌, ◌^◌, ◌≡◌, ℕ};
+ghost use Rattle.rkyv_scan.specs.Hash.{hash_of_calls};
 ghost use Rattle.rkyv_base.specs.Entry.{entry_shape};
 ghost use Rattle.rkyv_base.specs.View.{IsAt, IsView, archive_of, pos_of};
 ghost use Rattle.rkyv_base.specs.declared.view.View.{View};
-ghost use Rattle.rkyv_collections.specs.Map.{FindsBy, FindsFirstBy, FindsFirstKey, FindsKey};
-ghost use Rattle.rkyv_collections.specs.Map.{IsEntryAt, IsEntryIn, IsFoundAt, IsMap, IsPairAt};
-ghost use Rattle.rkyv_collections.specs.Map.{IsPairIn, IsValueAt, IsValueIn, MayAskKeys, hash_at};
+ghost use Rattle.rkyv_collections.specs.Lookups.{GetsBy, GetsKey, IsPairOfEntry, IsValueOfEntry};
+ghost use Rattle.rkyv_collections.specs.Lookups.{TellsKey};
+ghost use Rattle.rkyv_collections.specs.Map.{FindsKey, IsEntryAt, IsEntryIn, IsFoundAt, IsMap};
+ghost use Rattle.rkyv_collections.specs.Map.{IsPairAt, IsPairIn, IsValueAt, IsValueIn, MayAskKeys};
 ghost use Rattle.rkyv_collections.specs.Map.{map_bytes};
 ghost use Rattle.rkyv_collections.specs.MapFormat.{hash_of};
-ghost use Rattle.rkyv_collections.specs.Misplaced.{FindsOneKey};
 
 use crate::map::ArchivedHashMap;
 use rkyv_base::element::Element;
@@ -38,27 +39,47 @@ pub(crate) fn is_found<T: Element>(found: Option<View<'_, T>>) -> bool
     found.is_some()
 }
 
+/// The key and the value of an entry that may have been found.
+#[inline]
+pub(crate) fn found_pair<'a, K: Element, V: Element>(
+    found: Option<View<'a, Entry<K, V>>>,
+) -> Option<(View<'a, K>, View<'a, V>)>
+    requires { IfSome found (IsView (entry_shape K.shape V.shape)) }
+    ensures { IsPairOfEntry K.shape V.shape result found.entry }
+{
+    match found {
+        Some(entry) => Some((entry.key(), entry.value())),
+        None => None,
+    }
+}
+
+/// The value of an entry that may have been found.
+#[inline]
+pub(crate) fn found_value<'a, K: Element, V: Element>(
+    found: Option<View<'a, Entry<K, V>>>,
+) -> Option<View<'a, V>>
+    requires { IfSome found (IsView (entry_shape K.shape V.shape)) }
+    ensures { IsValueOfEntry K.shape V.shape result found.entry }
+{
+    match found {
+        Some(entry) => Some(entry.value()),
+        None => None,
+    }
+}
+
 // Every lookup is one call of `find`.
 impl<'a, K: KeyElement, V: Element, H: KeyHasher, W: Width> ArchivedHashMap<'a, K, V, H, W> {
     /// Finds the entry of a key under the hash of `key` that the comparison accepts.
     #[inline]
-    pub(crate) fn find<Q: KeyHash, F: Fn(&Q, View<'a, K>) -> bool>(
-        self,
-        key: &Q,
-        cmp: F,
-    ) -> Option<View<'a, Entry<K, V>>>
+    pub(crate) fn find<Q: KeyHash, F>(self, key: &Q, cmp: F) -> Option<View<'a, Entry<K, V>>>
+    where
+        F: Fn(&Q, View<'a, K>) -> bool,
         requires map { IsMap W.word K.shape V.shape self }
         requires query { Q.can_read key.now }
         requires callable { MayAskKeys W.word K.shape V.shape self (F.pre cmp key) }
-        ensures walked { IfSome result (IsEntryIn W.word K.shape V.shape self.entry) }
-        ensures answer { FindsBy W.word K.shape V.shape self.entry (F.post cmp key.entry)
-            (hash_of H.hasher Q.calls key.now)
-            (IsEntryAt result) }
-        ensures first { FindsFirstBy W.word K.shape V.shape self.entry (F.post cmp key.entry)
-            (hash_of H.hasher Q.calls key.now)
-            (hash_at H.hasher K.key_calls)
-            (IsEntryAt result) }
-        ensures hash { hash_of H.hasher Q.calls key.now < 2 ^ 64 }
+        ensures found { GetsBy IsEntryIn IsEntryAt W.word K.shape V.shape self.entry H.hasher
+            (Q.calls key.now) K.key_calls (F.post cmp key.entry) result }
+        ensures hash { hash_of_calls H.hasher (Q.calls key.now) < 2 ^ 64 }
     {
         let hash = hash_value::<Q, H>(key);
         self.table().get_with(
@@ -81,52 +102,34 @@ impl<'a, K: KeyElement, V: Element, H: KeyHasher, W: Width> ArchivedHashMap<'a, 
     /// answers; which one, the table decides. The comparison is asked for keys of the map alone,
     /// and may be asked twice of one.
     #[inline]
-    pub fn get_key_value_with<Q: KeyHash, F: Fn(&Q, View<'a, K>) -> bool>(
+    pub fn get_key_value_with<Q: KeyHash, F>(
         self,
         key: &Q,
         cmp: F,
     ) -> Option<(View<'a, K>, View<'a, V>)>
+    where
+        F: Fn(&Q, View<'a, K>) -> bool,
         requires map { IsMap W.word K.shape V.shape self }
         requires query { Q.can_read key.now }
         requires callable { MayAskKeys W.word K.shape V.shape self (F.pre cmp key) }
-        ensures walked { IfSome result (IsPairIn W.word K.shape V.shape self.entry) }
-        ensures answer { FindsBy W.word K.shape V.shape self.entry (F.post cmp key.entry)
-            (hash_of H.hasher Q.calls key.now)
-            (IsPairAt result) }
-        ensures first { FindsFirstBy W.word K.shape V.shape self.entry (F.post cmp key.entry)
-            (hash_of H.hasher Q.calls key.now)
-            (hash_at H.hasher K.key_calls)
-            (IsPairAt result) }
+        ensures { GetsBy IsPairIn IsPairAt W.word K.shape V.shape self.entry H.hasher
+            (Q.calls key.now) K.key_calls (F.post cmp key.entry) result }
     {
-        match self.find(key, cmp) {
-            Some(entry) => Some((entry.key(), entry.value())),
-            None => None,
-        }
+        found_pair(self.find(key, cmp))
     }
 
     /// The value of the pair that `get_key_value_with` answers.
     #[inline]
-    pub fn get_with<Q: KeyHash, F: Fn(&Q, View<'a, K>) -> bool>(
-        self,
-        key: &Q,
-        cmp: F,
-    ) -> Option<View<'a, V>>
+    pub fn get_with<Q: KeyHash, F>(self, key: &Q, cmp: F) -> Option<View<'a, V>>
+    where
+        F: Fn(&Q, View<'a, K>) -> bool,
         requires map { IsMap W.word K.shape V.shape self }
         requires query { Q.can_read key.now }
         requires callable { MayAskKeys W.word K.shape V.shape self (F.pre cmp key) }
-        ensures walked { IfSome result (IsValueIn W.word K.shape V.shape self.entry) }
-        ensures answer { FindsBy W.word K.shape V.shape self.entry (F.post cmp key.entry)
-            (hash_of H.hasher Q.calls key.now)
-            (IsValueAt K.shape V.shape result) }
-        ensures first { FindsFirstBy W.word K.shape V.shape self.entry (F.post cmp key.entry)
-            (hash_of H.hasher Q.calls key.now)
-            (hash_at H.hasher K.key_calls)
-            (IsValueAt K.shape V.shape result) }
+        ensures { GetsBy IsValueIn (IsValueAt K.shape V.shape) W.word K.shape V.shape self.entry
+            H.hasher (Q.calls key.now) K.key_calls (F.post cmp key.entry) result }
     {
-        match self.find(key, cmp) {
-            Some(entry) => Some(entry.value()),
-            None => None,
-        }
+        found_value(self.find(key, cmp))
     }
 
     /// Finds the entry of the key that is asked for.
@@ -134,16 +137,8 @@ impl<'a, K: KeyElement, V: Element, H: KeyHasher, W: Width> ArchivedHashMap<'a, 
     pub(crate) fn find_key<Q: Query<K>>(self, key: &Q) -> Option<View<'a, Entry<K, V>>>
         requires map { IsMap W.word K.shape V.shape self }
         requires query { Q.can_read key.now }
-        ensures walked { IfSome result (IsEntryIn W.word K.shape V.shape self.entry) }
-        ensures answer { FindsKey W.word K.shape V.shape self.entry
-            (hash_of H.hasher Q.calls key.now)
-            (Q.fits key.now (map_bytes self.entry)) (IsEntryAt result) }
-        ensures first { FindsFirstKey W.word K.shape V.shape self.entry
-            (hash_at H.hasher K.key_calls)
-            (Q.fits key.now (map_bytes self.entry)) (IsEntryAt result) }
-        ensures complete { FindsOneKey W.word K.shape V.shape self.entry
-            (hash_at H.hasher K.key_calls) K.same
-            (Q.fits key.now (map_bytes self.entry)) (IsEntryAt result) }
+        ensures { GetsKey IsEntryIn IsEntryAt W.word K.shape V.shape self.entry H.hasher
+            (Q.calls key.now) K.key_calls K.same (Q.fits key.now) result }
     {
         self.find(
             key,
@@ -165,21 +160,10 @@ impl<'a, K: KeyElement, V: Element, H: KeyHasher, W: Width> ArchivedHashMap<'a, 
     pub fn get_key_value<Q: Query<K>>(self, key: &Q) -> Option<(View<'a, K>, View<'a, V>)>
         requires map { IsMap W.word K.shape V.shape self }
         requires query { Q.can_read key.now }
-        ensures walked { IfSome result (IsPairIn W.word K.shape V.shape self.entry) }
-        ensures answer { FindsKey W.word K.shape V.shape self.entry
-            (hash_of H.hasher Q.calls key.now)
-            (Q.fits key.now (map_bytes self.entry)) (IsPairAt result) }
-        ensures first { FindsFirstKey W.word K.shape V.shape self.entry
-            (hash_at H.hasher K.key_calls)
-            (Q.fits key.now (map_bytes self.entry)) (IsPairAt result) }
-        ensures complete { FindsOneKey W.word K.shape V.shape self.entry
-            (hash_at H.hasher K.key_calls) K.same
-            (Q.fits key.now (map_bytes self.entry)) (IsPairAt result) }
+        ensures { GetsKey IsPairIn IsPairAt W.word K.shape V.shape self.entry H.hasher
+            (Q.calls key.now) K.key_calls K.same (Q.fits key.now) result }
     {
-        match self.find_key(key) {
-            Some(found) => Some((found.key(), found.value())),
-            None => None,
-        }
+        found_pair(self.find_key(key))
     }
 
     /// The value of the key that is asked for, by `get_key_value`.
@@ -187,21 +171,10 @@ impl<'a, K: KeyElement, V: Element, H: KeyHasher, W: Width> ArchivedHashMap<'a, 
     pub fn get<Q: Query<K>>(self, key: &Q) -> Option<View<'a, V>>
         requires map { IsMap W.word K.shape V.shape self }
         requires query { Q.can_read key.now }
-        ensures walked { IfSome result (IsValueIn W.word K.shape V.shape self.entry) }
-        ensures answer { FindsKey W.word K.shape V.shape self.entry
-            (hash_of H.hasher Q.calls key.now)
-            (Q.fits key.now (map_bytes self.entry)) (IsValueAt K.shape V.shape result) }
-        ensures first { FindsFirstKey W.word K.shape V.shape self.entry
-            (hash_at H.hasher K.key_calls)
-            (Q.fits key.now (map_bytes self.entry)) (IsValueAt K.shape V.shape result) }
-        ensures complete { FindsOneKey W.word K.shape V.shape self.entry
-            (hash_at H.hasher K.key_calls) K.same
-            (Q.fits key.now (map_bytes self.entry)) (IsValueAt K.shape V.shape result) }
+        ensures { GetsKey IsValueIn (IsValueAt K.shape V.shape) W.word K.shape V.shape self.entry
+            H.hasher (Q.calls key.now) K.key_calls K.same (Q.fits key.now) result }
     {
-        match self.find_key(key) {
-            Some(found) => Some(found.value()),
-            None => None,
-        }
+        found_value(self.find_key(key))
     }
 
     /// Whether the key that is asked for is found.
@@ -209,15 +182,8 @@ impl<'a, K: KeyElement, V: Element, H: KeyHasher, W: Width> ArchivedHashMap<'a, 
     pub fn contains_key<Q: Query<K>>(self, key: &Q) -> bool
         requires map { IsMap W.word K.shape V.shape self }
         requires query { Q.can_read key.now }
-        ensures answer { FindsKey W.word K.shape V.shape self.entry
-            (hash_of H.hasher Q.calls key.now)
-            (Q.fits key.now (map_bytes self.entry)) (IsFoundAt result) }
-        ensures first { FindsFirstKey W.word K.shape V.shape self.entry
-            (hash_at H.hasher K.key_calls)
-            (Q.fits key.now (map_bytes self.entry)) (IsFoundAt result) }
-        ensures complete { FindsOneKey W.word K.shape V.shape self.entry
-            (hash_at H.hasher K.key_calls) K.same
-            (Q.fits key.now (map_bytes self.entry)) (IsFoundAt result) }
+        ensures { TellsKey W.word K.shape V.shape self.entry H.hasher (Q.calls key.now)
+            K.key_calls K.same (Q.fits key.now) (IsFoundAt result) }
     {
         is_found(self.find_key(key))
     }
@@ -230,16 +196,8 @@ impl<'a, K: KeyElement, V: Element, H: KeyHasher, W: Width> ArchivedHashMap<'a, 
         requires found { FindsKey W.word K.shape V.shape self
             (hash_of H.hasher Q.calls key.now)
             (Q.fits key.now (map_bytes self)) IsSome }
-        ensures walked { IsValueIn W.word K.shape V.shape self.entry result }
-        ensures answer { FindsKey W.word K.shape V.shape self.entry
-            (hash_of H.hasher Q.calls key.now)
-            (Q.fits key.now (map_bytes self.entry)) (IsValueAt K.shape V.shape (Some result)) }
-        ensures first { FindsFirstKey W.word K.shape V.shape self.entry
-            (hash_at H.hasher K.key_calls)
-            (Q.fits key.now (map_bytes self.entry)) (IsValueAt K.shape V.shape (Some result)) }
-        ensures complete { FindsOneKey W.word K.shape V.shape self.entry
-            (hash_at H.hasher K.key_calls) K.same
-            (Q.fits key.now (map_bytes self.entry)) (IsValueAt K.shape V.shape (Some result)) }
+        ensures { GetsKey IsValueIn (IsValueAt K.shape V.shape) W.word K.shape V.shape self.entry
+            H.hasher (Q.calls key.now) K.key_calls K.same (Q.fits key.now) (Some result) }
     {
         self.find_key(key).unwrap().value()
     }

@@ -1,18 +1,16 @@
 //! Writing hash maps from iterators of pairs.
 
-ghost use Rattle.std.specs.Prelude.{◌≡◌, ◌+◌, ◌<◌, ◌^◌, MatchResult, length};
-ghost use Rattle.rkyv_table.specs.Table.Header.{HeaderFar, IsHeader};
-ghost use Rattle.rkyv_table.specs.Controls.Numbers.{capacity};
+ghost use Rattle.std.specs.Prelude.{◌≡◌, ◌+◌, ◌<◌, ◌^◌, length};
+ghost use Rattle.rkyv_table.specs.Table.Header.{WritesHeader};
 ghost use Rattle.rkyv_collections.specs.MapFormat.{hash_of};
 ghost use Rattle.rkyv_collections.specs.Writing.{WritesMap};
 
 use crate::map::ArchivedHashMap;
 use crate::map::hashing::HashedEntries;
 use rkyv_base::adapter::EntryAdapter;
-use rkyv_base::archive::Serialize;
+use rkyv_base::archive::{ResolveResult, Serialize, WriteResult};
 use rkyv_base::element::StandsFor;
 use rkyv_base::entry::Entry;
-use rkyv_base::errors::{DistanceTooLarge, WriteError};
 use rkyv_base::lend::Lend;
 use rkyv_base::width::{Narrow, Width};
 use rkyv_base::writer::Writer;
@@ -54,7 +52,7 @@ impl<'a, K: KeyElement, V, H: KeyHasher, W: Width> ArchivedHashMap<'a, K, V, H, 
         len: usize,
         load_factor: (usize, usize),
         serializer: &mut S,
-    ) -> Result<HashMapResolver<W>, WriteError<S::Fault>>
+    ) -> WriteResult<HashMapResolver<W>, S>
     where
         K: StandsFor<A>,
         V: StandsFor<B>,
@@ -85,13 +83,11 @@ impl<'a, K: KeyElement, V, H: KeyHasher, W: Width> ArchivedHashMap<'a, K, V, H, 
         resolver: HashMapResolver<W>,
         pos: u64,
         out: &mut [u8],
-    ) -> Result<(), DistanceTooLarge>
+    ) -> ResolveResult
         requires same { (len ≡ resolver.len) × (load_factor ≡ resolver.load_factor) }
         requires room { length out.old ≡ W.TABLE_SIZE }
         requires fits { pos + W.TABLE_SIZE < 2 ^ 64 }
-        ensures { MatchResult result
-            (λ _. IsHeader W.word len (capacity len load_factor) resolver.pos pos out.new)
-            (λ _. HeaderFar W.word len resolver.pos pos × (out.new ≡ out.old)) }
+        ensures { WritesHeader W.word len load_factor resolver.pos pos out.old out.new result }
     {
         ArchivedHashTable::<Entry<K, V>, W>::resolve_from_len(len, load_factor, resolver, pos, out)
     }

@@ -1,9 +1,7 @@
 //! Many lookups in one set.
-ghost use Rattle.std.specs.Prelude.{IfSome, ◌≡◌};
-ghost use Rattle.rkyv_collections.specs.Map.{IsEntryAt, IsFoundAt, hash_at};
-ghost use Rattle.rkyv_collections.specs.MapFormat.{hash_of};
-ghost use Rattle.rkyv_collections.specs.Set.{FindsFirstMember, FindsMember, FindsOneMember};
-ghost use Rattle.rkyv_collections.specs.Set.{IsMemberIn, IsSet, set_bytes};
+ghost use Rattle.std.specs.Prelude.{◌≡◌};
+ghost use Rattle.rkyv_collections.specs.Map.{IsFoundAt};
+ghost use Rattle.rkyv_collections.specs.Set.{GetsMember, IsSet, TellsMember};
 ghost use Rattle.rkyv_collections.specs.SetFinder.{IsSetFinder, set_of};
 
 use crate::map::finder::MapFinder;
@@ -42,16 +40,8 @@ impl<'a, K: KeyElement, H: KeyHasher, W: Width> SetFinder<'a, K, H, W> {
     pub fn get<Q: Query<K>>(self, key: &Q) -> Option<View<'a, K>>
         requires finder { IsSetFinder W.word K.shape self }
         requires query { Q.can_read key.now }
-        ensures walked { IfSome result (IsMemberIn W.word K.shape (set_of self.entry)) }
-        ensures answer { FindsMember W.word K.shape (set_of self.entry)
-            (hash_of H.hasher Q.calls key.now)
-            (Q.fits key.now (set_bytes (set_of self.entry))) (IsEntryAt result) }
-        ensures first { FindsFirstMember W.word K.shape (set_of self.entry)
-            (hash_at H.hasher K.key_calls)
-            (Q.fits key.now (set_bytes (set_of self.entry))) (IsEntryAt result) }
-        ensures complete { FindsOneMember W.word K.shape (set_of self.entry)
-            (hash_at H.hasher K.key_calls) K.same
-            (Q.fits key.now (set_bytes (set_of self.entry))) (IsEntryAt result) }
+        ensures { GetsMember W.word K.shape (set_of self.entry) H.hasher (Q.calls key.now)
+            K.key_calls K.same (Q.fits key.now) result }
     {
         match self.map.get_key_value(key) {
             Some((stored, _)) => Some(stored),
@@ -64,15 +54,8 @@ impl<'a, K: KeyElement, H: KeyHasher, W: Width> SetFinder<'a, K, H, W> {
     pub fn contains<Q: Query<K>>(self, key: &Q) -> bool
         requires finder { IsSetFinder W.word K.shape self }
         requires query { Q.can_read key.now }
-        ensures answer { FindsMember W.word K.shape (set_of self.entry)
-            (hash_of H.hasher Q.calls key.now)
-            (Q.fits key.now (set_bytes (set_of self.entry))) (IsFoundAt result) }
-        ensures first { FindsFirstMember W.word K.shape (set_of self.entry)
-            (hash_at H.hasher K.key_calls)
-            (Q.fits key.now (set_bytes (set_of self.entry))) (IsFoundAt result) }
-        ensures complete { FindsOneMember W.word K.shape (set_of self.entry)
-            (hash_at H.hasher K.key_calls) K.same
-            (Q.fits key.now (set_bytes (set_of self.entry))) (IsFoundAt result) }
+        ensures { TellsMember W.word K.shape (set_of self.entry) H.hasher (Q.calls key.now)
+            K.key_calls K.same (Q.fits key.now) (IsFoundAt result) }
     {
         self.map.contains_key(key)
     }

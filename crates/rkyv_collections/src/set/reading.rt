@@ -1,16 +1,14 @@
 //! A set, how many keys it has, and finding one of them.
 
-ghost use Rattle.std.specs.Prelude.{IfSome, IsTrue, length, ◌↔◌, ◌≡◌};
+ghost use Rattle.std.specs.Prelude.{IsTrue, length, ◌↔◌, ◌≡◌};
 ghost use Rattle.rkyv_base.specs.Empty.{unit_element, unit_shape};
 ghost use Rattle.rkyv_base.specs.Entry.{entry_element, entry_shape};
 ghost use Rattle.rkyv_base.specs.View.{IsView, archive_of, pos_of};
 ghost use Rattle.rkyv_table.specs.Table.RawItems.{AllStand};
 ghost use Rattle.rkyv_table.specs.Lemmas.TableLaws.{table_element};
-ghost use Rattle.rkyv_collections.specs.Map.{IsEntryAt, IsFoundAt, hash_at};
-ghost use Rattle.rkyv_collections.specs.MapFormat.{hash_of};
-ghost use Rattle.rkyv_collections.specs.Set.{FindsFirstMember, FindsMember, FindsOneMember};
-ghost use Rattle.rkyv_collections.specs.Set.{IsMemberIn, IsSet, IsSetAt, member_positions};
-ghost use Rattle.rkyv_collections.specs.Set.{set_archive, set_bytes, set_len, set_shape};
+ghost use Rattle.rkyv_collections.specs.Map.{IsFoundAt};
+ghost use Rattle.rkyv_collections.specs.Set.{GetsMember, IsSet, IsSetAt, TellsMember};
+ghost use Rattle.rkyv_collections.specs.Set.{member_positions, set_archive, set_len, set_shape};
 
 use crate::map::iter::Keys;
 use crate::map::{ArchivedHashMap, HashMapOf};
@@ -99,16 +97,8 @@ impl<'a, K: KeyElement, H: KeyHasher, W: Width> ArchivedHashSet<'a, K, H, W> {
     pub fn get<Q: Query<K>>(self, key: &Q) -> Option<View<'a, K>>
         requires set { IsSet W.word K.shape self }
         requires query { Q.can_read key.now }
-        ensures walked { IfSome result (IsMemberIn W.word K.shape self.entry) }
-        ensures answer { FindsMember W.word K.shape self.entry
-            (hash_of H.hasher Q.calls key.now)
-            (Q.fits key.now (set_bytes self.entry)) (IsEntryAt result) }
-        ensures first { FindsFirstMember W.word K.shape self.entry
-            (hash_at H.hasher K.key_calls)
-            (Q.fits key.now (set_bytes self.entry)) (IsEntryAt result) }
-        ensures complete { FindsOneMember W.word K.shape self.entry
-            (hash_at H.hasher K.key_calls) K.same
-            (Q.fits key.now (set_bytes self.entry)) (IsEntryAt result) }
+        ensures { GetsMember W.word K.shape self.entry H.hasher (Q.calls key.now) K.key_calls K.same
+            (Q.fits key.now) result }
     {
         match self.map.get_key_value(key) {
             Some((stored, _)) => Some(stored),
@@ -121,15 +111,8 @@ impl<'a, K: KeyElement, H: KeyHasher, W: Width> ArchivedHashSet<'a, K, H, W> {
     pub fn contains<Q: Query<K>>(self, key: &Q) -> bool
         requires set { IsSet W.word K.shape self }
         requires query { Q.can_read key.now }
-        ensures answer { FindsMember W.word K.shape self.entry
-            (hash_of H.hasher Q.calls key.now)
-            (Q.fits key.now (set_bytes self.entry)) (IsFoundAt result) }
-        ensures first { FindsFirstMember W.word K.shape self.entry
-            (hash_at H.hasher K.key_calls)
-            (Q.fits key.now (set_bytes self.entry)) (IsFoundAt result) }
-        ensures complete { FindsOneMember W.word K.shape self.entry
-            (hash_at H.hasher K.key_calls) K.same
-            (Q.fits key.now (set_bytes self.entry)) (IsFoundAt result) }
+        ensures { TellsMember W.word K.shape self.entry H.hasher (Q.calls key.now) K.key_calls
+            K.same (Q.fits key.now) (IsFoundAt result) }
     {
         self.map.contains_key(key)
     }

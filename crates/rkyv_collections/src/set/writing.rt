@@ -1,51 +1,25 @@
 //! Writing hash sets from iterators of keys.
 
-ghost use Rattle.std.specs.Prelude.{◌≡◌, ◌+◌, ◌<◌, ◌^◌, MatchResult, length};
-ghost use Rattle.rkyv_table.specs.Table.Header.{HeaderFar, IsHeader};
-ghost use Rattle.rkyv_table.specs.Controls.Numbers.{capacity};
-ghost use Rattle.rkyv_table.specs.Table.Lent.{UnitStep};
+ghost use Rattle.std.specs.Prelude.{◌≡◌, ◌+◌, ◌<◌, ◌^◌, length};
+ghost use Rattle.rkyv_table.specs.Table.Header.{WritesHeader};
 ghost use Rattle.rkyv_collections.specs.MapFormat.{hash_of};
 ghost use Rattle.rkyv_collections.specs.Writing.{WritesSet};
 
 use crate::map::ArchivedHashMap;
 use crate::map::writing::HashMapResolver;
 use crate::set::ArchivedHashSet;
-use rkyv_base::archive::Serialize;
+use rkyv_base::archive::{ResolveResult, Serialize, WriteResult};
 use rkyv_base::element::StandsFor;
-use rkyv_base::errors::{DistanceTooLarge, WriteError};
 use rkyv_base::lend::Lend;
 use rkyv_base::width::{Narrow, Width};
 use rkyv_base::writer::Writer;
 use rkyv_keys::keys::{KeyElement, NativeKey};
 use rkyv_scan::hash::KeyHasher;
+use rkyv_table::table::lent::WithUnits;
 use std::alloc::Global;
 
 /// What resolves a written set: what resolves the map of its keys.
 pub type HashSetResolver<W = Narrow> = HashMapResolver<W>;
-
-/// The keys of an iterator, each with the unit value.
-#[derive(Drop)]
-struct WithUnits<I> {
-    keys: I,
-}
-
-impl<BK, I: Iterator<Item = BK>> Iterator for WithUnits<I> {
-    type Item = (BK, ());
-
-    ghost can_next = { λ s. I.can_next s.keys };
-
-    ghost next_gives = { λ s r t. UnitStep I.next_gives s.keys r t.keys };
-
-    ghost remaining = { λ s. I.remaining s.keys };
-
-    #[inline]
-    fn next(&mut self) -> Option<(BK, ())> {
-        match self.keys.next() {
-            Some(key) => Some((key, ())),
-            None => None,
-        }
-    }
-}
 
 impl<'a, K: KeyElement, H: KeyHasher, W: Width> ArchivedHashSet<'a, K, H, W> {
     /// Writes a set of `len` keys, as themselves or by reference, and answers what resolves it.
@@ -66,7 +40,7 @@ impl<'a, K: KeyElement, H: KeyHasher, W: Width> ArchivedHashSet<'a, K, H, W> {
         len: usize,
         load_factor: (usize, usize),
         serializer: &mut S,
-    ) -> Result<HashSetResolver<W>, WriteError<S::Fault>>
+    ) -> WriteResult<HashSetResolver<W>, S>
     where
         K: StandsFor<A>,
         requires can { I.can_next iter }
@@ -95,13 +69,11 @@ impl<'a, K: KeyElement, H: KeyHasher, W: Width> ArchivedHashSet<'a, K, H, W> {
         resolver: HashSetResolver<W>,
         pos: u64,
         out: &mut [u8],
-    ) -> Result<(), DistanceTooLarge>
+    ) -> ResolveResult
         requires same { (len ≡ resolver.len) × (load_factor ≡ resolver.load_factor) }
         requires room { length out.old ≡ W.TABLE_SIZE }
         requires fits { pos + W.TABLE_SIZE < 2 ^ 64 }
-        ensures { MatchResult result
-            (λ _. IsHeader W.word len (capacity len load_factor) resolver.pos pos out.new)
-            (λ _. HeaderFar W.word len resolver.pos pos × (out.new ≡ out.old)) }
+        ensures { WritesHeader W.word len load_factor resolver.pos pos out.old out.new result }
     {
         ArchivedHashMap::<K, (), H, W>::resolve_from_len(len, load_factor, resolver, pos, out)
     }

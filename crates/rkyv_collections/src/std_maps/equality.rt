@@ -16,7 +16,7 @@ ghost use Rattle.rkyv_collections.specs.StdMap.{of_entries};
 use crate::map::{ArchivedHashMap, HashMapOf};
 use crate::std_maps::hashed::Hashed;
 use rkyv_base::archive::Archive;
-use rkyv_base::element::StandsFor;
+use rkyv_base::element::{Element, StandsFor};
 use rkyv_base::view::View;
 use rkyv_base::width::Width;
 use rkyv_keys::equality::{EqualsWritten, MatchesNative, StandsAlone};
@@ -112,26 +112,19 @@ impl<
     }
 }
 
-impl<
-    K: KeyElement + StandsFor<A>,
-    V: MatchesNative<B>,
-    H: KeyHasher,
-    W: Width,
-    A: NativeKey<K> + Hash,
-    B,
-    T: BuildHasher,
-> MatchesNative<Hashed<HashMap<A, B, T>, H>> for HashMapOf<K, V, H, W> {
-    ghost equals = { λ b p x. StdMapEquals W.word K.shape V.shape (hash_of H.hasher A.calls) A.fits
-        V.equals b p x.map };
+impl<K, V, H, W, M> MatchesNative<Hashed<M, H>> for HashMapOf<K, V, H, W>
+where
+    HashMapOf<K, V, H, W>: MatchesNative<M> + StandsFor<Hashed<M, H>>,
+{
+    ghost equals = { λ b p x. ⟦<HashMapOf<K, V, H, W> as MatchesNative<M>>⟧.equals b p x.map };
 
     #[inline]
-    fn eq_native(view: View<'_, HashMapOf<K, V, H, W>>, value: &Hashed<HashMap<A, B, T>, H>) -> bool
-        requires { IsView (map_shape W.word K.shape V.shape) view }
-        ensures { let hash = hash_of H.hasher A.calls in
-            IsTrue result ↔ StandsAt (StdMapEquals W.word K.shape V.shape hash A.fits V.equals)
-            view.entry value.now.map }
+    fn eq_native(view: View<'_, Self>, value: &Hashed<M, H>) -> bool
+        requires { IsView ⟦<HashMapOf<K, V, H, W> as Element>⟧.shape view }
+        ensures { let equals = ⟦<HashMapOf<K, V, H, W> as MatchesNative<M>>⟧.equals in
+            IsTrue result ↔ StandsAt equals view.entry value.now.map }
     {
-        ArchivedHashMap::of(view).eq_std(&value.map)
+        <HashMapOf<K, V, H, W> as MatchesNative<M>>::eq_native(view, &value.map)
     }
 }
 

@@ -11,9 +11,8 @@ ghost use Rattle.rkyv_collections.specs.Lemmas.StdMapLaws.{entries_near, entries
 use crate::map::writing::HashMapResolver;
 use crate::map::{ArchivedHashMap, HashMapOf};
 use crate::std_maps::hashed::Hashed;
-use rkyv_base::archive::{Archive, Serialize};
+use rkyv_base::archive::{Archive, ResolveResult, Serialize, WriteResult};
 use rkyv_base::element::StandsFor;
-use rkyv_base::errors::{DistanceTooLarge, WriteError};
 use rkyv_base::width::Width;
 use rkyv_base::writer::Writer;
 use rkyv_keys::keys::{KeyElement, NativeKey};
@@ -56,21 +55,8 @@ where
         (map_format W.word A.Archived.shape B.Archived.shape A.format B.format
         (hash_of H.hasher A.calls) (7, 8)))) };
 
-    fn resolve(
-        &self,
-        resolver: HashMapResolver<W>,
-        pos: u64,
-        out: &mut [u8],
-    ) -> Result<(), DistanceTooLarge> {
-        let len = resolver.len();
-        let load_factor = resolver.load_factor();
-        ArchivedHashMap::<A::Archived, B::Archived, H, W>::resolve_from_len(
-            len,
-            load_factor,
-            resolver,
-            pos,
-            out,
-        )
+    fn resolve(&self, resolver: HashMapResolver<W>, pos: u64, out: &mut [u8]) -> ResolveResult {
+        resolver.resolve(pos, out)
     }
 
     ghost laws = { let hash = hash_at H.hasher A.Archived.key_calls in
@@ -100,11 +86,7 @@ where
     A::Archived: KeyElement,
     A: NativeKey<A::Archived>,
 {
-    fn serialize(
-        &self,
-        alloc: Global,
-        serializer: &mut S,
-    ) -> Result<HashMapResolver<W>, WriteError<S::Fault>> {
+    fn serialize(&self, alloc: Global, serializer: &mut S) -> WriteResult<HashMapResolver<W>, S> {
         ArchivedHashMap::<A::Archived, B::Archived, H, W>::serialize_from_iter::<
             S,
             A,

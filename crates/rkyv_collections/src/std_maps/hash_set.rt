@@ -24,9 +24,9 @@ use crate::set::writing::HashSetResolver;
 use crate::set::{ArchivedHashSet, HashSetOf};
 use crate::std_maps::equality::EqArchived;
 use crate::std_maps::hashed::Hashed;
-use rkyv_base::archive::{Archive, Serialize};
+use rkyv_base::archive::{Archive, ResolveResult, Serialize, WriteResult};
 use rkyv_base::element::{Element, StandsFor};
-use rkyv_base::errors::{DistanceTooLarge, ReadError, WriteError};
+use rkyv_base::errors::ReadError;
 use rkyv_base::view::View;
 use rkyv_base::width::Width;
 use rkyv_base::writer::Writer;
@@ -70,15 +70,8 @@ where
         (map_format W.word A.Archived.shape unit_shape A.format unit_format
         (hash_of H.hasher A.calls) (7, 8)))) };
 
-    fn resolve(
-        &self,
-        resolver: HashSetResolver<W>,
-        pos: u64,
-        out: &mut [u8],
-    ) -> Result<(), DistanceTooLarge> {
-        let len = resolver.len();
-        let load_factor = resolver.load_factor();
-        ArchivedHashSet::<A::Archived, H, W>::resolve_from_len(len, load_factor, resolver, pos, out)
+    fn resolve(&self, resolver: HashSetResolver<W>, pos: u64, out: &mut [u8]) -> ResolveResult {
+        resolver.resolve(pos, out)
     }
 
     ghost laws = { let hash = hash_at H.hasher A.Archived.key_calls in
@@ -102,11 +95,7 @@ where
     A::Archived: KeyElement,
     A: NativeKey<A::Archived>,
 {
-    fn serialize(
-        &self,
-        alloc: Global,
-        serializer: &mut S,
-    ) -> Result<HashSetResolver<W>, WriteError<S::Fault>> {
+    fn serialize(&self, alloc: Global, serializer: &mut S) -> WriteResult<HashSetResolver<W>, S> {
         ArchivedHashSet::<A::Archived, H, W>::serialize_from_iter::<S, A, &A, Iter<'_, A>>(
             alloc,
             self.map.iter(),
@@ -206,24 +195,19 @@ impl<
     }
 }
 
-impl<
-    K: KeyElement + StandsFor<A>,
-    H: KeyHasher,
-    W: Width,
-    A: NativeKey<K> + Hash,
-    T: BuildHasher,
-> MatchesNative<Hashed<HashSet<A, T>, H>> for HashSetOf<K, H, W> {
-    ghost equals = { λ b p x. StdSetEquals W.word K.shape (hash_of H.hasher A.calls) A.fits b p
-        x.map };
+impl<K, H, W, M> MatchesNative<Hashed<M, H>> for HashSetOf<K, H, W>
+where
+    HashSetOf<K, H, W>: MatchesNative<M> + StandsFor<Hashed<M, H>>,
+{
+    ghost equals = { λ b p x. ⟦<HashSetOf<K, H, W> as MatchesNative<M>>⟧.equals b p x.map };
 
     #[inline]
-    fn eq_native(view: View<'_, HashSetOf<K, H, W>>, value: &Hashed<HashSet<A, T>, H>) -> bool
-        requires { IsView (set_shape W.word K.shape) view }
-        ensures { let hash = hash_of H.hasher A.calls in
-            IsTrue result ↔ StandsAt (StdSetEquals W.word K.shape hash A.fits) view.entry
-            value.now.map }
+    fn eq_native(view: View<'_, Self>, value: &Hashed<M, H>) -> bool
+        requires { IsView ⟦<HashSetOf<K, H, W> as Element>⟧.shape view }
+        ensures { let equals = ⟦<HashSetOf<K, H, W> as MatchesNative<M>>⟧.equals in
+            IsTrue result ↔ StandsAt equals view.entry value.now.map }
     {
-        ArchivedHashSet::of(view).eq_std(&value.map)
+        <HashSetOf<K, H, W> as MatchesNative<M>>::eq_native(view, &value.map)
     }
 }
 
@@ -274,10 +258,7 @@ impl<K: Deserialize<A>, H, W: Width, A: Eq + Hash + Drop> Deserialize<HashSet<A>
     ghost refuses = { std_set_refuses W.word K.shape K.refuses };
 
     #[inline]
-    fn deserialize(
-        alloc: Global,
-        view: View<'_, HashSetOf<K, H, W>>,
-    ) -> Result<HashSet<A>, ReadError>
+    fn deserialize(alloc: Global, view: View<'_, Self>) -> Result<HashSet<A>, ReadError>
         requires { IsView (set_shape W.word K.shape) view }
         ensures { MatchResult result
             (StandsAt (StdSetStands K.shape K.stands W.word A.eq) view.entry)
@@ -292,10 +273,7 @@ impl<K: Deserialize<A>, H, W: Width, A: Eq + Hash + Drop> Deserialize<Hashed<Has
     ghost refuses = { std_set_refuses W.word K.shape K.refuses };
 
     #[inline]
-    fn deserialize(
-        alloc: Global,
-        view: View<'_, HashSetOf<K, H, W>>,
-    ) -> Result<Hashed<HashSet<A>, H>, ReadError>
+    fn deserialize(alloc: Global, view: View<'_, Self>) -> Result<Hashed<HashSet<A>, H>, ReadError>
         requires { IsView (set_shape W.word K.shape) view }
         ensures { MatchResult result
             (λ x. StandsAt (StdSetStands K.shape K.stands W.word A.eq) view.entry x.map)

@@ -79,10 +79,7 @@ impl<K: Deserialize<A>, V: Deserialize<B>, H, W: Width, A: Eq + Hash + Drop, B: 
     ghost refuses = { std_map_refuses W.word K.shape V.shape K.refuses V.refuses };
 
     #[inline]
-    fn deserialize(
-        alloc: Global,
-        view: View<'_, HashMapOf<K, V, H, W>>,
-    ) -> Result<HashMap<A, B>, ReadError>
+    fn deserialize(alloc: Global, view: View<'_, Self>) -> Result<HashMap<A, B>, ReadError>
         requires { IsView (map_shape W.word K.shape V.shape) view }
         ensures { MatchResult result
             (StandsAt (StdMapStands K.shape V.shape K.stands V.stands W.word A.eq) view.entry)
@@ -100,7 +97,7 @@ impl<K: Deserialize<A>, V: Deserialize<B>, H, W: Width, A: Eq + Hash + Drop, B: 
     #[inline]
     fn deserialize(
         alloc: Global,
-        view: View<'_, HashMapOf<K, V, H, W>>,
+        view: View<'_, Self>,
     ) -> Result<Hashed<HashMap<A, B>, H>, ReadError>
         requires { IsView (map_shape W.word K.shape V.shape) view }
         ensures { MatchResult result

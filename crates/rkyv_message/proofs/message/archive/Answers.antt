@@ -1,7 +1,7 @@
 use Rattle.std.proofs.Common.{ℕ, MatchResult, subst}
 use Rattle.rkyv_base.specs.Root.{ArchiveOf, ArchiveRefused}
 use Rattle.rkyv_message.specs.Message.{IsMessage, IsMessageOf, NoMessageOf, Parts, PartsStand, StandsFor, header_shape, parts_format}
-use Rattle.rkyv_message.proofs.Found.{on_ok}
+use Rattle.rkyv_collections.proofs.FoundValues.{on_ok}
 use Rattle.rkyv_message.proofs.message.archive.Goals as goal
 
 pub returns-clause-whole : goal.returns-clause-whole

@@ -5,7 +5,7 @@ use Rattle.rkyv_base.specs.Numbers.{unsigned}
 use Rattle.rkyv_base.specs.Scalar.{ScalarStands}
 use Rattle.rkyv_keys.specs.OfTexts.{same_bytes}
 use Rattle.rkyv_message.specs.Message.{is_named}
-use Rattle.rkyv_message.proofs.Found.{none_listed, number_listed}
+use Rattle.rkyv_collections.proofs.FoundValues.{none_listed, number_listed}
 use Rattle.rkyv_message.proofs.message.field_number.Goals as goal
 
 pub returns-in-Some : goal.returns-in-Some

@@ -5,7 +5,9 @@ use Rattle.rkyv_base.specs.Sealing.{value_pos}
 use Rattle.rkyv_keys.specs.OfTexts.{same_bytes}
 use Rattle.rkyv_collections.specs.Map.{FindsFirstKeyAt, IsKeyPosAt}
 use Rattle.rkyv_message.specs.Message.{IsFields, IsMessage, IsRefused, PartsStand, StandsFor, fields_shape, is_named, is_named_at, name_hash, name_shape}
-use Rattle.rkyv_message.proofs.Found.{moved, no_part_found, part_found}
+use Rattle.rkyv_table.proofs.Moved.{moved}
+use Rattle.rkyv_collections.proofs.FoundValues.{read_at}
+use Rattle.rkyv_message.proofs.Found.{no_part_found, part_found}
 use Rattle.rkyv_message.proofs.message.pos_of_part.Goals as goal
 
 pub returns-in-Err-clause-checked : goal.returns-in-Err-clause-checked
@@ -22,27 +24,21 @@ returns-in-None-clause-checked c = c.in-Ok.ensures.root.0
 
 pub returns-in-Some-clause-viewed : goal.returns-in-Some-clause-viewed
 returns-in-Some-clause-viewed c =
-    let bytes = ap (λ v. v.archive.now) c.of-map.ensures.view ∙ ap (λ a. a.now) c.in-Ok.ensures.root.1.0 in
-    moved IsFields _ _ _ _ (ap (λ a. a.now) c.in-Some.ensures.walked.at.0 ∙ bytes) (sym c.pos.ensures) c.in-Some.ensures.walked.viewed
+    let at = read_at c.of-map.result _ _ _ c.of-map.ensures.view c.in-Ok.ensures.root.1 in
+    moved IsFields _ _ _ _ (ap (λ a. a.now) c.in-Some.ensures.walked.at.0 ∙ at.0) (sym c.pos.ensures) c.in-Some.ensures.walked.viewed
 
 pub returns-in-Some-clause-listed : goal.returns-in-Some-clause-listed
 unfolding StandsFor
 returns-in-Some-clause-listed c = λ parts stands.
-    let at = c.in-Ok.ensures.root.1 in
-    let bytes = ap (λ v. v.archive.now) c.of-map.ensures.view ∙ ap (λ a. a.now) at.0 in
-    let pos = ap (λ v. v.pos) c.of-map.ensures.view ∙ at.1 in
-    let here = moved (λ b p. PartsStand (7, 8) b p parts) _ _ _ _ (sym bytes) (sym pos) stands in
-    let listed = c.lookups_find_listed.ensures c.of-map.result _ (is_named c.args.part.now) (7, 8) parts c.of-map.ensures.map (λ held q s there. ap (same_bytes c.args.part.now) there) here in
-    part_found _ _ c.in-Some.fields _ (ap (λ a. a.now) c.in-Some.ensures.walked.at.0 ∙ bytes) (sym c.pos.ensures) (listed.gives_value (Some c.in-Some.fields) c.in-Some.ensures.walked c.in-Some.ensures.first)
+    let at = read_at c.of-map.result _ _ _ c.of-map.ensures.view c.in-Ok.ensures.root.1 in
+    let listed = c.lookups_find_listed.ensures c.of-map.result _ (is_named c.args.part.now) (7, 8) parts c.of-map.ensures.map (λ held q s there. ap (same_bytes c.args.part.now) there) (moved (λ b p. PartsStand (7, 8) b p parts) _ _ _ _ (sym at.0) (sym at.1) stands) in
+    part_found _ _ c.in-Some.fields _ (ap (λ a. a.now) c.in-Some.ensures.walked.at.0 ∙ at.0) (sym c.pos.ensures) (listed.gives_value (Some c.in-Some.fields) c.in-Some.ensures.walked c.in-Some.ensures.first)
 
 pub returns-in-None-clause-listed : goal.returns-in-None-clause-listed
 unfolding StandsFor
 returns-in-None-clause-listed c = λ parts stands.
-    let at = c.in-Ok.ensures.root.1 in
-    let bytes = ap (λ v. v.archive.now) c.of-map.ensures.view ∙ ap (λ a. a.now) at.0 in
-    let pos = ap (λ v. v.pos) c.of-map.ensures.view ∙ at.1 in
-    let here = moved (λ b p. PartsStand (7, 8) b p parts) _ _ _ _ (sym bytes) (sym pos) stands in
-    let listed = c.lookups_find_listed.ensures c.of-map.result _ (is_named c.args.part.now) (7, 8) parts c.of-map.ensures.map (λ held q s there. ap (same_bytes c.args.part.now) there) here in
+    let at = read_at c.of-map.result _ _ _ c.of-map.ensures.view c.in-Ok.ensures.root.1 in
+    let listed = c.lookups_find_listed.ensures c.of-map.result _ (is_named c.args.part.now) (7, 8) parts c.of-map.ensures.map (λ held q s there. ap (same_bytes c.args.part.now) there) (moved (λ b p. PartsStand (7, 8) b p parts) _ _ _ _ (sym at.0) (sym at.1) stands) in
     no_part_found _ _ (listed.gives_value None c.in-None.ensures.walked c.in-None.ensures.first)
 
 pub returns-in-Err-clause-accepts : goal.returns-in-Err-clause-accepts
@@ -51,27 +47,21 @@ returns-in-Err-clause-accepts c = c.in-Err.ensures.accepts
 
 pub returns-in-Some-clause-at : goal.returns-in-Some-clause-at
 returns-in-Some-clause-at c =
-    let at = c.in-Ok.ensures.root.1 in
-    let bytes = ap (λ v. v.archive.now) c.of-map.ensures.view ∙ ap (λ a. a.now) at.0 in
-    let pos = ap (λ v. v.pos) c.of-map.ensures.view ∙ at.1 in
+    let at = read_at c.of-map.result _ _ _ c.of-map.ensures.view c.in-Ok.ensures.root.1 in
     let is = c.in-Some.ensures.walked in
-    (is.key, moved (λ b p. IsKeyPosAt w32 name_shape fields_shape b p is.key) _ _ _ _ bytes pos is.walked, c.pos.ensures ∙ is.at.1)
+    (is.key, moved (λ b p. IsKeyPosAt w32 name_shape fields_shape b p is.key) _ _ _ _ at.0 at.1 is.walked, c.pos.ensures ∙ is.at.1)
 
 pub returns-in-Some-clause-first : goal.returns-in-Some-clause-first
 returns-in-Some-clause-first c = λ homes written.
-    let at = c.in-Ok.ensures.root.1 in
-    let bytes = ap (λ v. v.archive.now) c.of-map.ensures.view ∙ ap (λ a. a.now) at.0 in
-    let pos = ap (λ v. v.pos) c.of-map.ensures.view ∙ at.1 in
+    let at = read_at c.of-map.result _ _ _ c.of-map.ensures.view c.in-Ok.ensures.root.1 in
     let found : ℕ = c.in-Some.fields.pos in
     ap Some c.pos.ensures
     ∙ moved (λ b p. FindsFirstKeyAt w32 name_shape fields_shape b p name_hash (is_named_at c.args.part.now b) (λ place. Some found ≡ option_map (value_pos name_shape fields_shape) place)) _ _ _ _
-    bytes pos c.in-Some.ensures.first homes written
+    at.0 at.1 c.in-Some.ensures.first homes written
 
 pub returns-in-None-clause-first : goal.returns-in-None-clause-first
 returns-in-None-clause-first c =
-    let at = c.in-Ok.ensures.root.1 in
-    let bytes = ap (λ v. v.archive.now) c.of-map.ensures.view ∙ ap (λ a. a.now) at.0 in
-    let pos = ap (λ v. v.pos) c.of-map.ensures.view ∙ at.1 in
+    let at = read_at c.of-map.result _ _ _ c.of-map.ensures.view c.in-Ok.ensures.root.1 in
     let none : Option ℕ = None in
     moved (λ b p. FindsFirstKeyAt w32 name_shape fields_shape b p name_hash (is_named_at c.args.part.now b) (λ place. none ≡ option_map (value_pos name_shape fields_shape) place)) _ _ _ _
-    bytes pos c.in-None.ensures.first
+    at.0 at.1 c.in-None.ensures.first

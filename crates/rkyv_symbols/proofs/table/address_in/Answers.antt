@@ -12,9 +12,11 @@ use Rattle.rkyv_base.specs.Text.{text_at}
 use Rattle.rkyv_keys.specs.Calls.{text_calls}
 use Rattle.rkyv_keys.specs.OfTexts.{same_bytes}
 use Rattle.rkyv_table.specs.Table.Reading.{pos_found}
+use Rattle.rkyv_table.proofs.Moved.{moved}
 use Rattle.rkyv_collections.specs.MapFormat.{hash_of}
+use Rattle.rkyv_collections.proofs.FoundValues.{none_listed, number_listed, read_at}
 use Rattle.rkyv_symbols.specs.Table.{IsTable, StandsFor, SymbolsStand, address_found, address_shape, header_shape, name_shape}
-use Rattle.rkyv_symbols.proofs.Found.{moved, none_listed, none_read, number_listed, number_read}
+use Rattle.rkyv_symbols.proofs.Found.{none_read, number_read}
 use Rattle.rkyv_symbols.proofs.table.address_in.Goals as goal
 
 -- the value behind the key that a lookup of the name finds in some bytes
@@ -29,37 +31,27 @@ access_unchecked-requires c = root_viewed 4_294_967_295 header_shape c.args.tabl
 pub returns-in-Some-clause-found : goal.returns-in-Some-clause-found
 unfolding address_found
 returns-in-Some-clause-found c =
-    let at = c.access_unchecked.ensures.at in
-    let bytes = ap (λ v. v.archive.now) c.of-map.ensures.view ∙ ap (λ a. a.now) at.0 in
-    let pos = ap (λ v. v.pos) c.of-map.ensures.view ∙ at.1 in
+    let at = read_at c.of-map.result _ _ _ c.of-map.ensures.view c.access_unchecked.ensures.at in
     let b = c.args.table.now in
-    let read : number_at w64 b c.in-Some.address.pos ≡ c.to_native.result = ap (λ x. number_at w64 x c.in-Some.address.pos) (sym (ap (λ a. a.now) c.in-Some.ensures.walked.at.0 ∙ bytes)) ∙ c.to_native.ensures in
-    number_read (number_at w64 b) _ _ _ _ read (moved (λ x p. Some c.in-Some.address.pos ≡ place c.args.name.now x p) _ _ _ _ bytes pos c.in-Some.ensures.answer)
+    let read : number_at w64 b c.in-Some.address.pos ≡ c.to_native.result = ap (λ x. number_at w64 x c.in-Some.address.pos) (sym (ap (λ a. a.now) c.in-Some.ensures.walked.at.0 ∙ at.0)) ∙ c.to_native.ensures in
+    number_read (number_at w64 b) _ _ _ _ read (moved (λ x p. Some c.in-Some.address.pos ≡ place c.args.name.now x p) _ _ _ _ at.0 at.1 c.in-Some.ensures.answer)
 
 pub returns-in-None-clause-found : goal.returns-in-None-clause-found
 unfolding address_found
 returns-in-None-clause-found c =
-    let at = c.access_unchecked.ensures.at in
-    let bytes = ap (λ v. v.archive.now) c.of-map.ensures.view ∙ ap (λ a. a.now) at.0 in
-    let pos = ap (λ v. v.pos) c.of-map.ensures.view ∙ at.1 in
-    none_read (number_at w64 c.args.table.now) _ _ (moved (λ x p. None ≡ place c.args.name.now x p) _ _ _ _ bytes pos c.in-None.ensures.answer)
+    let at = read_at c.of-map.result _ _ _ c.of-map.ensures.view c.access_unchecked.ensures.at in
+    none_read (number_at w64 c.args.table.now) _ _ (moved (λ x p. None ≡ place c.args.name.now x p) _ _ _ _ at.0 at.1 c.in-None.ensures.answer)
 
 pub returns-in-Some-clause-listed : goal.returns-in-Some-clause-listed
 unfolding StandsFor
 returns-in-Some-clause-listed c = λ symbols stands.
-    let at = c.access_unchecked.ensures.at in
-    let bytes = ap (λ v. v.archive.now) c.of-map.ensures.view ∙ ap (λ a. a.now) at.0 in
-    let pos = ap (λ v. v.pos) c.of-map.ensures.view ∙ at.1 in
-    let here = moved (λ b p. SymbolsStand (7, 8) b p symbols) _ _ _ _ (sym bytes) (sym pos) stands in
-    let listed = c.lookups_find_listed.ensures c.of-map.result _ (λ held. same_bytes c.args.name.now held.now) (7, 8) symbols c.of-map.ensures.map (λ held q s there. ap (same_bytes c.args.name.now) there) here in
+    let at = read_at c.of-map.result _ _ _ c.of-map.ensures.view c.access_unchecked.ensures.at in
+    let listed = c.lookups_find_listed.ensures c.of-map.result _ (λ held. same_bytes c.args.name.now held.now) (7, 8) symbols c.of-map.ensures.map (λ held q s there. ap (same_bytes c.args.name.now) there) (moved (λ b p. SymbolsStand (7, 8) b p symbols) _ _ _ _ (sym at.0) (sym at.1) stands) in
     number_listed (number_at w64) c.in-Some.address _ _ c.to_native.ensures (listed.gives_value (Some c.in-Some.address) c.in-Some.ensures.walked c.in-Some.ensures.first)
 
 pub returns-in-None-clause-listed : goal.returns-in-None-clause-listed
 unfolding StandsFor
 returns-in-None-clause-listed c = λ symbols stands.
-    let at = c.access_unchecked.ensures.at in
-    let bytes = ap (λ v. v.archive.now) c.of-map.ensures.view ∙ ap (λ a. a.now) at.0 in
-    let pos = ap (λ v. v.pos) c.of-map.ensures.view ∙ at.1 in
-    let here = moved (λ b p. SymbolsStand (7, 8) b p symbols) _ _ _ _ (sym bytes) (sym pos) stands in
-    let listed = c.lookups_find_listed.ensures c.of-map.result _ (λ held. same_bytes c.args.name.now held.now) (7, 8) symbols c.of-map.ensures.map (λ held q s there. ap (same_bytes c.args.name.now) there) here in
+    let at = read_at c.of-map.result _ _ _ c.of-map.ensures.view c.access_unchecked.ensures.at in
+    let listed = c.lookups_find_listed.ensures c.of-map.result _ (λ held. same_bytes c.args.name.now held.now) (7, 8) symbols c.of-map.ensures.map (λ held q s there. ap (same_bytes c.args.name.now) there) (moved (λ b p. SymbolsStand (7, 8) b p symbols) _ _ _ _ (sym at.0) (sym at.1) stands) in
     none_listed (ScalarStands (unsigned w64)) _ (listed.gives_value None c.in-None.ensures.walked c.in-None.ensures.first)

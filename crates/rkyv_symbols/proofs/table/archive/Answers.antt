@@ -1,7 +1,7 @@
 use Rattle.std.proofs.Common.{ℕ, MatchResult, subst}
 use Rattle.rkyv_base.specs.Root.{ArchiveOf, ArchiveRefused}
 use Rattle.rkyv_symbols.specs.Table.{IsTable, IsTableOf, NoTableOf, StandsFor, Symbols, SymbolsStand, header_shape, symbols_format}
-use Rattle.rkyv_symbols.proofs.Found.{on_ok}
+use Rattle.rkyv_collections.proofs.FoundValues.{on_ok}
 use Rattle.rkyv_symbols.proofs.table.archive.Goals as goal
 
 pub returns-clause-whole : goal.returns-clause-whole

@@ -1,14 +1,19 @@
 use Rattle.rkyv_collections.specs.Map.{hash_at}
-use Rattle.rkyv_collections.proofs.FoundEntries.{first_by_key, found_by_key}
+use Rattle.rkyv_collections.proofs.FoundEntries.{entry_found, first_by_key, found_by_key}
 use Rattle.rkyv_collections.proofs.map.ArchivedHashMap.find.Goals as goal
 
-pub returns-clause-answer : goal.returns-clause-answer
-returns-clause-answer g c =
-    found_by_key g.W.Width.word g.K.Element.shape g.V.Element.shape c.args.self c.table.result c.table.ensures.at
-    _ (goal.F-post g c.args.cmp c.args.key) _ _ c.hash_value-hash.ensures c.get_with.result c.get_with.ensures.answer (λ entry r e. e.1)
-
-pub returns-clause-first : goal.returns-clause-first
-returns-clause-first g c =
-    first_by_key g.W.Width.word g.K.Element.shape g.V.Element.shape c.args.self c.table.result c.table.ensures.at
-    _ (goal.F-post g c.args.cmp c.args.key) _ _ c.hash_value-hash.ensures c.get_with.result c.get_with.ensures.first (λ entry r e. e.1)
-    (hash_at g.H.KeyHasher.hasher g.K.KeyElement.key_calls)
+pub returns-clause-found : goal.returns-clause-found
+returns-clause-found g c =
+    let post = goal.F-post g c.args.cmp c.args.key in
+    let w = g.W.Width.word in
+    let k = g.K.Element.shape in
+    let v = g.V.Element.shape in
+    let t = c.table.result in
+    let at = c.table.ensures.at in
+    let result = c.get_with.result in
+    let got = c.get_with.ensures in
+    record {
+      walked = entry_found w k v c.args.self t at result got.walked;
+      answer = found_by_key w k v c.args.self t at _ post _ _ c.hash_value-hash.ensures result got.answer (λ entry r e. e.1);
+      first = first_by_key w k v c.args.self t at _ post _ _ c.hash_value-hash.ensures result got.first (λ entry r e. e.1) (hash_at g.H.KeyHasher.hasher g.K.KeyElement.key_calls);
+    }

@@ -1,11 +1,8 @@
-use Rattle.rkyv_collections.proofs.Lookups.{some_pair}
+use Rattle.rkyv_collections.proofs.FoundThrough.{entry_viewed, pair_of_key}
 use Rattle.rkyv_collections.proofs.map.ArchivedHashMap.get_key_value.Goals as goal
 
-pub returns-in-Some-clause-answer : goal.returns-in-Some-clause-answer
-returns-in-Some-clause-answer g c = some_pair c.in-Some.found (c.key.result, c.value.result) _ c.key.ensures.at.1 c.in-Some.ensures.answer
+pub found_pair-requires : goal.found_pair-requires
+found_pair-requires g c = entry_viewed g.W.Width.word g.K.Element.shape g.V.Element.shape c.args.self c.find_key.result c.find_key.ensures.walked
 
-pub returns-in-Some-clause-first : goal.returns-in-Some-clause-first
-returns-in-Some-clause-first g c = λ homes written. some_pair c.in-Some.found (c.key.result, c.value.result) _ c.key.ensures.at.1 (c.in-Some.ensures.first homes written)
-
-pub returns-in-Some-clause-complete : goal.returns-in-Some-clause-complete
-returns-in-Some-clause-complete g c = λ none. let one = c.in-Some.ensures.complete none in (one.0, one.1, some_pair c.in-Some.found (c.key.result, c.value.result) one.0 c.key.ensures.at.1 one.2)
+pub returns : goal.returns
+returns g c = pair_of_key c.find_key.ensures c.found_pair.ensures

@@ -1,8 +1,8 @@
-use Rattle.rkyv_collections.proofs.Lookups.{some_pair}
+use Rattle.rkyv_collections.proofs.FoundThrough.{entry_viewed, pair_by}
 use Rattle.rkyv_collections.proofs.map.ArchivedHashMap.get_key_value_with.Goals as goal
 
-pub returns-in-Some-clause-answer : goal.returns-in-Some-clause-answer
-returns-in-Some-clause-answer g c = λ accept answers. some_pair c.in-Some.entry (c.key.result, c.value.result) _ c.key.ensures.at.1 (c.in-Some.ensures.answer accept answers)
+pub found_pair-requires : goal.found_pair-requires
+found_pair-requires g c = entry_viewed g.W.Width.word g.K.Element.shape g.V.Element.shape c.args.self c.find.result c.find.ensures.found.walked
 
-pub returns-in-Some-clause-first : goal.returns-in-Some-clause-first
-returns-in-Some-clause-first g c = λ accept answers under homes written. some_pair c.in-Some.entry (c.key.result, c.value.result) _ c.key.ensures.at.1 (c.in-Some.ensures.first accept answers under homes written)
+pub returns : goal.returns
+returns g c = pair_by c.find.ensures.found c.found_pair.ensures

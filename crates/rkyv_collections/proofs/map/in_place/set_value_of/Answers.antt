@@ -14,15 +14,12 @@ set_at-requires g c = c.in-Some.ensures.inside
 pub returns-in-Some-clause-answer : goal.returns-in-Some-clause-answer
 returns-in-Some-clause-answer g c =
     let e = g.N.Scalar.encoding in
-    let h = g.H.KeyHasher in
-    let k = g.K.Element.shape in
-    let key_hash = hash_at h.hasher g.K.KeyElement.key_calls in
-    let b = c.args.archive.now in
+    let key_hash = hash_at g.H.KeyHasher.hasher g.K.KeyElement.key_calls in
     let t = c.in-Some.ensures.walked in
-    let kept = map_kept_at k (scalar_shape e) g.met.K.Element.laws (scalar_element e g.met.N.Scalar.word) g.W.Width.word key_hash
-    (λ x y q lo hi l o holds fixed part. ap (hash_of_calls h.hasher) (g.met.K.KeyElement.key.near x y q lo hi l o holds fixed part))
-    b c.set_at.new.bytes c.args.root t.0 c.in-Some.pos c.requires.map t.1 t.2 c.set_at.ensures.sealed c.set_at.ensures.holds in
-    subst (SetsFound g.W.Width.word k e key_hash b c.args.root c.args.value true c.set_at.new.bytes) c.in-Some.ensures.answer (refl, c.set_at.ensures.written, (t.1.0, kept))
+    let kept = map_kept_at g.K.Element.shape (scalar_shape e) g.met.K.Element.laws (scalar_element e g.met.N.Scalar.word) g.W.Width.word key_hash
+    (λ x y q lo hi l o holds fixed part. ap (hash_of_calls g.H.KeyHasher.hasher) (g.met.K.KeyElement.key.near x y q lo hi l o holds fixed part))
+    c.args.archive.now c.set_at.new.bytes c.args.root t.0 c.in-Some.pos c.requires.map t.1 t.2 c.set_at.ensures.sealed c.set_at.ensures.holds in
+    subst (SetsFound g.W.Width.word g.K.Element.shape e key_hash c.args.archive.now c.args.root c.args.value true c.set_at.new.bytes) c.in-Some.ensures.answer (refl, c.set_at.ensures.written, (t.1.0, kept))
 
 pub returns-in-Some-clause-listed : goal.returns-in-Some-clause-listed
 returns-in-Some-clause-listed g c = λ factor pairs st.

@@ -12,26 +12,22 @@ use Rattle.rkyv_collections.proofs.map.in_place_text.make_ascii_uppercase_of.Goa
 pub returns-in-Some-clause-answer : goal.returns-in-Some-clause-answer
 returns-in-Some-clause-answer g c =
     let w = g.W.Width.word in
-    let h = g.H.KeyHasher in
-    let k = g.K.Element.shape in
-    let key_hash = hash_at h.hasher g.K.KeyElement.key_calls in
-    let b = c.args.archive.now in
+    let key_hash = hash_at g.H.KeyHasher.hasher g.K.KeyElement.key_calls in
     let t = c.in-Some.ensures.walked in
-    let inside = c.in-Some.ensures.inside in
     let raised = c.uppercase_at.ensures in
-    let kept = map_kept_at k (text_shape w) g.met.K.Element.laws (text_element w g.met.W.Width.layout.kind) w key_hash
-    (λ x y q lo hi l o holds fixed part. ap (hash_of_calls h.hasher) (g.met.K.KeyElement.key.near x y q lo hi l o holds fixed part))
-    b c.uppercase_at.new.bytes c.args.root t.0 c.in-Some.pos c.requires.map t.1 t.2 (raised_sealed w b c.in-Some.pos inside _ _ raised) (raised_holds w b c.in-Some.pos inside _ _ raised) in
-    subst (RaisesFound w k key_hash b c.args.root (Some c.uppercase_at.result) c.uppercase_at.new.bytes) c.in-Some.ensures.answer (c.uppercase_at.result, refl, raised, (t.1.0, kept))
+    let sealed = raised_sealed w c.args.archive.now c.in-Some.pos c.in-Some.ensures.inside _ _ raised in
+    let holds = raised_holds w c.args.archive.now c.in-Some.pos c.in-Some.ensures.inside _ _ raised in
+    let kept = map_kept_at g.K.Element.shape (text_shape w) g.met.K.Element.laws (text_element w g.met.W.Width.layout.kind) w key_hash
+    (λ x y q lo hi l o holds fixed part. ap (hash_of_calls g.H.KeyHasher.hasher) (g.met.K.KeyElement.key.near x y q lo hi l o holds fixed part))
+    c.args.archive.now c.uppercase_at.new.bytes c.args.root t.0 c.in-Some.pos c.requires.map t.1 t.2 sealed holds in
+    subst (RaisesFound w g.K.Element.shape key_hash c.args.archive.now c.args.root (Some c.uppercase_at.result) c.uppercase_at.new.bytes) c.in-Some.ensures.answer (c.uppercase_at.result, refl, raised, (t.1.0, kept))
 
 pub returns-in-Some-clause-listed : goal.returns-in-Some-clause-listed
 returns-in-Some-clause-listed g c = λ factor pairs st.
-    let w = g.W.Width.word in
-    let h = g.H.KeyHasher in
     let b = c.args.archive.now in
-    first_raised w g.K.Element.shape g.met.K.Element.laws (text_element w g.met.W.Width.layout.kind) g.K.StandsFor.stands (hash_at h.hasher g.K.KeyElement.key_calls) factor b c.args.root pairs
+    first_raised g.W.Width.word g.K.Element.shape g.met.K.Element.laws (text_element g.W.Width.word g.met.W.Width.layout.kind) g.K.StandsFor.stands (hash_at g.H.KeyHasher.hasher g.K.KeyElement.key_calls) factor b c.args.root pairs
     (g.A.Query.fits c.args.key.now b) (g.A.PartialEq.eq c.args.key.now) c.requires.map (λ a q s there. g.met.A.NativeKey.native c.args.key.now a b q s there) st g.met.K.StandsFor.near
-    (λ x y q lo hi l o holds fixed part. ap (hash_of_calls h.hasher) (g.met.K.KeyElement.key.near x y q lo hi l o holds fixed part))
+    (λ x y q lo hi l o holds fixed part. ap (hash_of_calls g.H.KeyHasher.hasher) (g.met.K.KeyElement.key.near x y q lo hi l o holds fixed part))
     c.uppercase_at.new.bytes c.in-Some.pos c.uppercase_at.result c.in-Some.ensures.inside (c.in-Some.ensures.first st.homes st.written) c.uppercase_at.ensures
 
 pub returns-in-Some-clause-parts : goal.returns-in-Some-clause-parts
@@ -46,8 +42,6 @@ returns-in-Some-clause-parts g c =
 
 pub returns-in-None-clause-listed : goal.returns-in-None-clause-listed
 returns-in-None-clause-listed g c = λ factor pairs st.
-    let w = g.W.Width.word in
-    let h = g.H.KeyHasher in
     let b = c.args.archive.now in
-    none_raised w g.K.Element.shape g.met.K.Element.laws (text_element w g.met.W.Width.layout.kind) g.K.StandsFor.stands (hash_at h.hasher g.K.KeyElement.key_calls) factor b c.args.root pairs
+    none_raised g.W.Width.word g.K.Element.shape g.met.K.Element.laws (text_element g.W.Width.word g.met.W.Width.layout.kind) g.K.StandsFor.stands (hash_at g.H.KeyHasher.hasher g.K.KeyElement.key_calls) factor b c.args.root pairs
     (g.A.Query.fits c.args.key.now b) (g.A.PartialEq.eq c.args.key.now) c.requires.map (λ a q s there. g.met.A.NativeKey.native c.args.key.now a b q s there) st (c.in-None.ensures.first st.homes st.written)

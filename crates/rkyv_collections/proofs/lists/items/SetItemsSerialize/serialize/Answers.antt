@@ -6,21 +6,21 @@ use Rattle.rkyv_table.specs.Table.Counting.{GaveOther}
 use Rattle.rkyv_collections.specs.MapFormat.{hash_of}
 use Rattle.rkyv_collections.specs.SetFormat.{set_format}
 use Rattle.rkyv_table.specs.Table.Lent.{lent_keys}
-use Rattle.rkyv_collections.specs.declared.lists.items.Rest.{Rest}
+use Rattle.rkyv_table.specs.declared.table.lent.Refs.{Refs}
 use Rattle.rkyv_table.proofs.Listing.{all_came, answers_listed, no_other_came}
 use Rattle.rkyv_collections.proofs.lists.items.SetItemsSerialize.serialize.Goals as goal
 
 pub returns : goal.returns
 returns g c =
     let values = c.args.self.now.items.now in
-    let left : Rest g.row.A.Denot = record { items = c.iter.result } in
+    let left : Refs g.row.A.Denot = c.of-items.result in
     let view : Bor g.row.A.Denot → g.row.A.Denot = λ item. item.now in
-    let rest : Rest g.row.A.Denot → List g.row.A.Denot = λ s. iter_rest s.items in
+    let rest : Refs g.row.A.Denot → List g.row.A.Denot = λ s. iter_rest s.items in
     let steps = YieldsFirstBy view rest in
     let factor = c.args.self.now.load_factor in
     let hash = hash_of g.H.KeyHasher.hasher g.A.KeyHash.calls in
     let f = set_format g.W.Width.word g.A.Archived.Element.shape g.A.Archive.format hash factor in
-    let all : iter_rest c.iter.result ≡ values = search rules in
+    let all : iter_rest left.items ≡ values = search rules in
     let count : length values ≡ length values = refl in
     answers_listed (Drains steps left) (GaveOther steps (length values) left) (lent_keys (λ k. k.now)) values
     (λ given d. all_came view rest given left d ∙ all) (λ n h. no_other_came view rest (length values) left (ap length all ∙ sym count) n h)

@@ -1,18 +1,8 @@
-use Rattle.std.proofs.Common.{Some, ℕ, ap, ◌+◌, ◌∙◌}
-use Rattle.std.specs.Option.{option_map}
-use Rattle.rkyv_base.specs.Entry.{value_offset}
+use Rattle.rkyv_collections.proofs.FoundThrough.{entry_viewed, value_of_key}
 use Rattle.rkyv_collections.proofs.map.finder.MapFinder.get.Goals as goal
 
-pub returns-in-Some-clause-first : goal.returns-in-Some-clause-first
-returns-in-Some-clause-first g c = λ homes written.
-    ap Some c.value.ensures.at.1 ∙ ap (option_map (λ (q : ℕ). q + value_offset g.K.Element.shape g.V.Element.shape)) (c.in-Some.ensures.first homes written)
+pub found_value-requires : goal.found_value-requires
+found_value-requires g c = entry_viewed g.W.Width.word g.K.Element.shape g.V.Element.shape c.args.self.map c.find_key.result c.find_key.ensures.walked
 
-pub returns-in-Some-clause-complete : goal.returns-in-Some-clause-complete
-returns-in-Some-clause-complete g c = λ none.
-    let one = c.in-Some.ensures.complete none in
-    (one.0, one.1, ap Some c.value.ensures.at.1 ∙ ap (option_map (λ (q : ℕ). q + value_offset g.K.Element.shape g.V.Element.shape)) one.2)
-
-pub returns-in-None-clause-complete : goal.returns-in-None-clause-complete
-returns-in-None-clause-complete g c = λ none.
-    let one = c.in-None.ensures.complete none in
-    (one.0, one.1, ap (option_map (λ (q : ℕ). q + value_offset g.K.Element.shape g.V.Element.shape)) one.2)
+pub returns : goal.returns
+returns g c = value_of_key c.find_key.ensures c.found_value.ensures

@@ -1,5 +1,8 @@
-use Rattle.std.proofs.Common.{Some, ap, ◌∙◌}
+use Rattle.rkyv_collections.proofs.FoundThrough.{entry_viewed, pair_of_key}
 use Rattle.rkyv_collections.proofs.map.finder.MapFinder.get_key_value.Goals as goal
 
-pub returns-in-Some-clause-first : goal.returns-in-Some-clause-first
-returns-in-Some-clause-first g c = λ homes written. ap Some c.key.ensures.at.1 ∙ c.in-Some.ensures.first homes written
+pub found_pair-requires : goal.found_pair-requires
+found_pair-requires g c = entry_viewed g.W.Width.word g.K.Element.shape g.V.Element.shape c.args.self.map c.find_key.result c.find_key.ensures.walked
+
+pub returns : goal.returns
+returns g c = pair_of_key c.find_key.ensures c.found_pair.ensures

@@ -1,0 +1,119 @@
+-- A map of which one value was written stands for the list with the new value.
+use Rattle.std.proofs.Common.{◌≡◌, ◌≢◌, ℕ, ◌+◌, ◌*◌, ◌<◌, ◌∙◌, inl, inr, sym, ap, subst, arith, List, length, map, Some, slice_index}
+use Rattle.std.specs.Prelude.{slice_get, slice_set}
+use Rattle.std.specs.Int.{Width, byte_len}
+use Rattle.std.proofs.lemmas.Bool.{cases_lt}
+use Rattle.std.proofs.lemmas.List.{ext_get_or, get_or-map, length-map, length-set}
+use Rattle.std.proofs.lemmas.Option.{slice_get_within}
+use Rattle.rkyv_base.specs.Bytes.{Same}
+use Rattle.rkyv_base.specs.Entry.{entry_shape}
+use Rattle.rkyv_base.specs.Pairs.{PairStands}
+use Rattle.rkyv_base.specs.Shape.{Shape}
+use Rattle.rkyv_table.specs.Table.Header.{cap_at}
+use Rattle.rkyv_table.specs.Controls.Numbers.{capacity}
+use Rattle.rkyv_table.specs.Table.Reading.{IsWalked, WrittenAt, home_positions, item_at}
+use Rattle.rkyv_table.specs.Lemmas.SameHeader.{cap_same, len_same}
+use Rattle.rkyv_table.proofs.Lists.{set_each}
+use Rattle.rkyv_table.proofs.WrittenAccepted.{homes_apart}
+use Rattle.rkyv_table.proofs.WrittenTables.{home_count, home_pos, home_walked}
+use Rattle.rkyv_collections.specs.Map.{MapWrittenAt}
+use Rattle.rkyv_collections.specs.MapFormat.{MapStands}
+
+-- where all entries stand where they stood, with keys of the same hashes, a written map stays one
+pub written_again : (w : Width) (s : Shape) (key_hash : List ℕ → ℕ → ℕ) (b c : List ℕ) (p : ℕ) → ((j : ℕ) → item_at w s.size c p j ≡ item_at w s.size b p j)
+    → ((j : ℕ) → IsWalked w b p j → key_hash c (item_at w s.size b p j) ≡ key_hash b (item_at w s.size b p j)) → (homes : List ℕ) → MapWrittenAt w s key_hash b p homes
+    → WrittenAt w c p (map (key_hash b) (home_positions w s.size b p homes)) homes → MapWrittenAt w s key_hash c p homes
+written_again w s key_hash b c p places same homes written =
+    let hb = home_positions w s.size b p homes in
+    let hc = home_positions w s.size c p homes in
+    let hashes = map (key_hash b) hb in
+    let nb : length hb ≡ length homes = length-map homes (item_at w s.size b p) in
+    let nc : length hc ≡ length homes = length-map homes (item_at w s.size c p) in
+    let n : length hashes ≡ length hb = length-map hb (key_hash b) in
+    subst (λ xs. WrittenAt w c p xs homes) (ext_get_or 0 hashes (map (key_hash c) hc) (n ∙ nb ∙ sym nc ∙ sym (length-map hc (key_hash c)))
+    (λ j below.
+    let there = home_walked w b p hashes homes written j (omega (arith, below, n, nb)) in
+    let atb : slice_index hb j ≡ item_at w s.size b p (slice_index homes j) = get_or-map (item_at w s.size b p) homes j 0 0 (omega arith) in
+    let atc : slice_index hc j ≡ item_at w s.size c p (slice_index homes j) = get_or-map (item_at w s.size c p) homes j 0 0 (omega arith) in
+    get_or-map (key_hash b) hb j 0 0 (omega arith) ∙ ap (key_hash b) atb ∙ sym (same (slice_index homes j) there)
+    ∙ ap (key_hash c) (sym (places (slice_index homes j)) ∙ sym atc) ∙ sym (get_or-map (key_hash c) hc j 0 0 (omega arith))))
+
+module _ (w : Width) (k v : Shape) {A B : Type 0} (key : List ℕ → ℕ → A → Type 0) (value : List ℕ → ℕ → B → Type 0) (key_hash : List ℕ → ℕ → ℕ) (b c : List ℕ) (p n : ℕ) (factor : ℕ × ℕ)
+    (pairs : List (A × B)) (pair : A × B) (new : B) (st : MapStands w k v key value key_hash factor b p pairs) (at_n : slice_get pairs n ≡ Some pair) where
+  abbrev at : ℕ → ℕ
+  at = item_at w (entry_shape k v).size b p
+
+  abbrev places : List ℕ → List ℕ
+  places d = home_positions w (entry_shape k v).size d p st.homes
+
+  abbrev hashes : List ℕ
+  hashes = map (key_hash b) (places b)
+
+  counted : length st.homes ≡ length pairs
+  counted = home_count w b p hashes st.homes st.written ∙ sym st.written.count ∙ st.len
+
+  has_home : (j : ℕ) → j < length pairs → j < length st.homes
+  has_home j h = omega (arith, counted)
+
+  -- the bucket of each pair
+  pub home : ℕ → ℕ
+  home j = slice_index st.homes j
+
+  walked_home : (j : ℕ) → j < length pairs → IsWalked w b p (home j)
+  unfolding home
+  walked_home j h = home_walked w b p hashes st.homes st.written j (has_home j h)
+
+  place_home : (j : ℕ) → j < length pairs → slice_index (places b) j ≡ at (home j)
+  unfolding home
+  place_home j h = home_pos w (entry_shape k v).size b p st.homes j (has_home j h)
+
+  inside : n < length pairs
+  inside = slice_get_within pairs n pair at_n
+
+  -- the bucket of the pair is walked, and the pair stands in it
+  pub own_walked : IsWalked w b p (home n)
+  own_walked = walked_home n inside
+
+  pub own_place : slice_index (places b) n ≡ at (home n)
+  own_place = place_home n inside
+
+  -- no two pairs have one home
+  homes_differ : (j : ℕ) → j < length pairs → j ≢ n → home j ≢ home n
+  unfolding home
+  homes_differ j h ne e = elim st.written.placed [
+    | inl none ↦ let z : length st.homes ≡ 0 = ap length none.1 in omega (arith, z, counted, inside)
+    | inr some ↦ elim (cases_lt j n) [
+      | inl less ↦ homes_apart (cap_at w b p) hashes st.homes some.1.placed j n less (omega (arith, counted, inside)) e
+      | inr more ↦ homes_apart (cap_at w b p) hashes st.homes some.1.placed n j (omega (arith, ne)) (omega (arith, counted)) (sym e)
+    ]
+  ]
+
+  module _ (header : Same b c p (p + 3 * byte_len w)) (stay : (j : ℕ) → item_at w (entry_shape k v).size c p j ≡ at j)
+      (again : (homes : List ℕ) → MapWrittenAt w (entry_shape k v) key_hash b p homes → MapWrittenAt w (entry_shape k v) key_hash c p homes)
+      (own : key b (at (home n)) pair.0 → PairStands k v key value c (at (home n)) (pair.0, new))
+      (others : (j : ℕ) → IsWalked w b p j → j ≢ home n → (x : A × B) → PairStands k v key value b (at j) x → PairStands k v key value c (at j) x) where
+    place_stays : (j : ℕ) → j < length pairs → slice_index (places c) j ≡ at (home j)
+    unfolding home
+    place_stays j h = get_or-map (item_at w (entry_shape k v).size c p) st.homes j 0 0 (omega (arith, counted)) ∙ stay (home j)
+
+    own_stands : PairStands k v key value c (slice_index (places c) n) (pair.0, new)
+    own_stands = subst (λ z. PairStands k v key value c z (pair.0, new)) (sym (place_stays n inside)) (own (subst (λ z. key b z pair.0) own_place (st.at n pair at_n).0))
+
+    other_stands : (j : ℕ) (x : A × B) → slice_get pairs j ≡ Some x → j ≢ n → PairStands k v key value c (slice_index (places c) j) x
+    other_stands j x at_j ne =
+        let h = slice_get_within pairs j x at_j in
+        let before = subst (λ z. PairStands k v key value b z x) (place_home j h) (st.at j x at_j) in
+        subst (λ z. PairStands k v key value c z x) (sym (place_stays j h)) (others (home j) (walked_home j h) (homes_differ j h ne) x before)
+
+    -- where the pair stands with the new value, and all others as before
+    pub new_value_stands : MapStands w k v key value key_hash factor c p (slice_set pairs n (pair.0, new))
+    new_value_stands =
+        let y : A × B = (pair.0, new) in
+        let same_count = length-set pairs n y in
+        record {
+          homes = st.homes;
+          written = again st.homes st.written;
+          len = sym (len_same w b c p header) ∙ st.len ∙ sym same_count;
+          cap = sym (cap_same w b c p header) ∙ st.cap ∙ ap (λ m. capacity m factor) (sym same_count);
+          at = set_each (λ j x. PairStands k v key value c (slice_index (places c) j) x) pairs n y inside own_stands other_stands;
+        }
