@@ -11,6 +11,7 @@ use Rattle.rkyv_base.proofs.GivingUp.{appends_after, end-appends, grows, told_af
 use Rattle.rkyv_table.specs.Table.Counting.{GaveOther}
 use Rattle.rkyv_table.specs.Table.Serializing.{NoItems, WroteItems}
 use Rattle.rkyv_table.specs.Table.TableFormat.{PairsNext, TableResolver, table_format}
+use Rattle.rkyv_table.proofs.TableSteps.{told_piece, zeros_behind}
 use Rattle.rkyv_index.specs.Handing.{NoOther, OwnOrGaveUp, WritesPlaces}
 use Rattle.rkyv_index.specs.IndexFormat.{BeforeRow, BeforeZeros, IndexNext, places_from, row_format}
 use Rattle.rkyv_index.specs.Row.{RowNext, RowParts, RowPartsNext, WroteRow}
@@ -115,15 +116,11 @@ module _ (F : Type 0) {P X : Type 0} (w : Width) (e : Encoding P) (hash : X → 
         pad = zeros (padding s.align (end_of o2))
 
         same_zeros : pad ≡ zeros (padding s.align (end_of o + length head))
-        same_zeros = ap (λ (n : ℕ). zeros (padding s.align n)) (end-appends o o2 head whole2)
+        same_zeros = zeros_behind s.align o o2 head whole2
 
         pub stopped_zeros : (o3 : Output) (err : WriteError F) → Told limit (Only (piece pad)) o2 o3 err → Stopped o3 err
         stopped_zeros o3 err h =
-            told_after limit Next (Only (piece pad)) o o2 o3 head err whole2 within2
-            (λ g step n.
-            let k : head ++ g ≡ head = ap (λ (y : List ℕ). head ++ y) n.0 ∙ append-nil head in
-            rw k (inr (inr (inl (t, rs, before, n.1 ∙ ap piece same_zeros)))))
-            h
+            told_piece limit Next o o2 o3 head pad err whole2 within2 (λ step is. inr (inr (inl (t, rs, before, is ∙ ap piece same_zeros)))) h
 
         module _ (o3 : Output) (z : Appends o2 o3 pad) (low : end_of o3 ≤ limit) where
           abbrev front : List ℕ

@@ -7,6 +7,7 @@ pub mod Rows
 pub mod Told
 pub mod SameEntries
 pub mod Completeness
+pub mod QueryPlaces
 pub mod RowSteps
 pub mod IndexSteps
 pub mod SeenRow

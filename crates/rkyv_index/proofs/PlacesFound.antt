@@ -1,8 +1,11 @@
 -- The item of a table of places that was found, and the place of an index map that it holds.
-use Rattle.std.proofs.Common.{◌≡◌, ℕ, ◌+◌, ◌<◌, ◌≤◌, ◌∙◌, ap, refl, Bool, List, None, Option, Some, length}
+use Rattle.std.proofs.Common.{◌≡◌, ℕ, ◌+◌, ◌/◌, ◌≤◌, ◌∙◌, ap, refl, subst, sym, Bool, List, None, Option, Some, length}
+use Rattle.std.specs.Borrow.{Bor}
 use Rattle.std.specs.Int.{Width, byte_len}
 use Rattle.std.specs.Option.{option_map}
 use Rattle.std.specs.Prelude.{IfSome}
+use Rattle.rkyv_scan.specs.Groups.{generic_kind}
+use Rattle.rkyv_scan.specs.Hash.{Hasher, HasherCall, hash_of_calls}
 use Rattle.rkyv_base.specs.Bytes.{number_at}
 use Rattle.rkyv_base.specs.Layout.{IsPlace}
 use Rattle.rkyv_base.specs.Scalar.{Encoding, scalar_shape}
@@ -10,22 +13,20 @@ use Rattle.rkyv_base.specs.Shape.{IsElement, Shape}
 use Rattle.rkyv_base.specs.Text.{IsArchiveWord}
 use Rattle.rkyv_base.specs.View.{IsAt, bytes_of, pos_of}
 use Rattle.rkyv_base.specs.declared.view.View.{View}
-use Rattle.rkyv_table.specs.Table.Reading.{Answers, IsItem, pos_of_found}
+use Rattle.rkyv_table.specs.Controls.Finding.{ReadsWithin}
+use Rattle.rkyv_table.specs.Controls.Numbers.{probe_capacity}
+use Rattle.rkyv_table.specs.Table.Header.{cap_at, len_at}
+use Rattle.rkyv_table.specs.Table.Reading.{CountsWithin, FindsItem, IsItem, pos_of_found, table_pos}
 use Rattle.rkyv_table.specs.declared.table.ArchivedHashTable.{ArchivedHashTable}
-use Rattle.rkyv_index.specs.Index.{IsHeld, IsIndexMap, index_archive, index_bytes, index_len, index_pos}
+use Rattle.rkyv_index.specs.Index.{IsHeldPlace, IsIndexMap, IsKeyOf, ReadsFew, hash_at, index_archive, index_bytes, index_found, index_of, index_pos}
+use Rattle.rkyv_index.specs.Lookups.{GetsPlaceBy}
 use Rattle.rkyv_index.specs.declared.map.ArchivedIndexMap.{ArchivedIndexMap}
-use Rattle.rkyv_index.proofs.Lookups.{item_held, item_place, read_there}
+use Rattle.rkyv_index.proofs.Lookups.{finds_first_place, finds_place, item_held, item_place, read_there}
 
 module _ {K V H W P N : Type 0} (w : Width) (kind : IsArchiveWord w) (k v : Shape) (kl : IsElement k) (vl : IsElement v) (m : ArchivedIndexMap K V H W) (is : IsIndexMap w k v m)
     (e : Encoding N) (place : IsPlace w e) (t : ArchivedHashTable P W) (at : IsAt t.view (index_archive m) (index_pos m)) where
-  abbrev place_of : View P → ℕ
+  abbrev pub place_of : View P → ℕ
   place_of item = number_at w (bytes_of item) (pos_of item)
-
-  -- what is told of an item by its place is told by the number at its position
-  pub told_by_place : (post : View P → Bool → Type 0) (accept : ℕ → Bool) → ((item : View P) (r : Bool) → post item r → r ≡ accept (place_of item))
-      → Answers post w (scalar_shape e) t (λ q. accept (number_at w (index_bytes m) q))
-  told_by_place post accept told item r is_item said =
-      told item r said ∙ ap (λ (x : List ℕ). accept (number_at w x item.pos)) (read_there w kind k v kl vl m is e place t at item is_item)
 
   -- the place that was found is the number at the position that was
   pub place_found : (held : Option (View P)) → IfSome held (IsItem w (scalar_shape e) t)
@@ -38,12 +39,25 @@ module _ {K V H W P N : Type 0} (w : Width) (kind : IsArchiveWord w) (k v : Shap
   place_inside None item = item
   place_inside (Some h) item = (item_place w kind k v kl vl m is e place t at h item).0
 
-  -- a bucket holds it
-  pub place_held : (held : Option (View P)) → IfSome held (IsItem w (scalar_shape e) t) → IfSome (option_map place_of held) (IsHeld w m)
-  place_held None item = item
-  place_held (Some h) item = item_held w kind k v kl vl m is e place t at h item
+  -- a bucket holds it, and it is below the length
+  pub place_kept : (held : Option (View P)) → IfSome held (IsItem w (scalar_shape e) t) → IfSome (option_map place_of held) (IsHeldPlace w m)
+  place_kept None item = item
+  place_kept (Some h) item = (item_held w kind k v kl vl m is e place t at h item, (item_place w kind k v kl vl m is e place t at h item).1)
 
-  -- and it is below the length
-  pub place_below : (held : Option (View P)) → IfSome held (IsItem w (scalar_shape e) t) → IfSome (option_map place_of held) (λ i. i < index_len w m)
-  place_below None item = item
-  place_below (Some h) item = (item_place w kind k v kl vl m is e place t at h item).1
+  -- the strides that are read of the table are those of the map
+  pub reads_few : (before after : ℕ) → CountsWithin w t before after → ReadsFew w m before after
+  reads_few before after counts =
+      subst (λ q. ReadsWithin (len_at w (index_bytes m) q) (probe_capacity (cap_at w (index_bytes m) q) / 16) before after) at.1
+      (subst (λ (x : List ℕ). ReadsWithin (len_at w x (table_pos t)) (probe_capacity (cap_at w x (table_pos t)) / 16) before after) (ap (λ (x : Bor (List ℕ)). x.now) at.0) counts)
+
+  -- what a lookup in the table of places says is said of the place that is read of its answer
+  module _ {State : Type 0} (hasher : Hasher State) (calls : List HasherCall) (key_calls : List ℕ → ℕ → List HasherCall) (Post : View P → Bool → Type 0) (post : View K → Bool → Type 0)
+      (asks : (h : View P) (r : Bool) → Post h r → (key : View K) × IsKeyOf w k v m (number_at w (bytes_of h) h.pos) key × post key r) (hash : ℕ) (under : hash ≡ hash_of_calls hasher calls)
+      (held : Option (View P)) (got : FindsItem Post generic_kind w (scalar_shape e) t hash held) (result : Option ℕ) (read : result ≡ option_map (number_at w (index_bytes m)) (pos_of_found held)) where
+    pub gets_place : GetsPlaceBy (index_of w k v m) hasher calls key_calls post (IsHeldPlace w m) result result
+    gets_place = record {
+      walked = subst (λ r. IfSome r (IsHeldPlace w m)) (sym (read ∙ sym (place_found held got.walked))) (place_kept held got.walked);
+      answer = λ accept answers. read ∙ finds_place w kind k v kl vl m is e place t at Post post asks held accept answers hash got.answer ∙ ap (λ n. index_found w (index_bytes m) (index_pos m) n accept) under;
+      first = λ accept answers alone homes written.
+          read ∙ finds_first_place w kind k v kl vl m is e place t at Post post asks held accept answers hash (hash_at hasher key_calls) (λ i below accepted. alone i below accepted ∙ sym under) got.first homes written;
+    }

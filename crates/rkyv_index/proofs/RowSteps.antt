@@ -8,6 +8,7 @@ use Rattle.rkyv_base.specs.declared.errors.WriteError.TheVariants.{DistanceTooLa
 use Rattle.rkyv_base.specs.Format.{Format}
 use Rattle.rkyv_base.specs.Writing.{Appends, Only, Output, Told, Within, end_of, piece}
 use Rattle.rkyv_base.proofs.GivingUp.{appends_after, end-appends, grows, none_appended, told_after}
+use Rattle.rkyv_table.proofs.PartSteps.{part_last, part_longer}
 use Rattle.rkyv_index.specs.Row.{Before, RowImages, RowNext, RowParts, RowPartsNext, WroteRow}
 
 plus_zero : (p : ℕ) → p + 0 ≡ p
@@ -30,20 +31,9 @@ others_resolver xs i x rest e = sym (ap (λ l. drop 1 l) e) ∙ drop-drop 1 i xs
 module _ {X R : Type 0} (f : Format X R) where
   pub parts_more : (xs : List X) (p : ℕ) (part : List ℕ) (rs : List R) (x : X) (a : List ℕ) (r : R)
       → RowParts f xs p part rs → f.parts x (p + length part) a r → RowParts f (xs ++ x ∷ []) p (part ++ a) (rs ++ r ∷ [])
-  parts_more [] p part rs x a r h g =
-      let z : p + length part ≡ p = ap (λ (l : List ℕ). p + length l) h.0 ∙ plus_zero p in
-      (a, r, [], [], subst (λ n. f.parts x n a r) z g, (refl, refl), ap (λ l. l ++ a) h.0 ∙ sym (append-nil a), ap (λ l. l ++ r ∷ []) h.1)
+  parts_more [] p part rs x a r h g = part_last f (RowParts f []) p part rs x a r h (λ q. (refl, refl)) g
   parts_more (y ∷ ys) p part rs x a r h g =
-      let n : p + length part ≡ p + length h.0 + length h.2 = ap (λ (l : List ℕ). p + length l) h.6 ∙ omega (arith, length-append h.0 h.2) in (
-        h.0,
-        h.1,
-        h.2 ++ a,
-        h.3 ++ r ∷ [],
-        h.4,
-        parts_more ys (p + length h.0) h.2 h.3 x a r h.5 (subst (λ k. f.parts x k a r) n g),
-        ap (λ l. l ++ a) h.6 ∙ append_assoc h.0 h.2 a,
-        ap (λ l. l ++ r ∷ []) h.7,
-      )
+      part_longer f (RowParts f ys) (RowParts f (ys ++ x ∷ [])) y p part rs x a r h (λ q b qs k. parts_more ys q b qs x a r k) g
 
   -- as many resolvers as values
   pub parts_count : (xs : List X) (p : ℕ) (part : List ℕ) (rs : List R) → RowParts f xs p part rs → length rs ≡ length xs

@@ -1,38 +1,22 @@
 -- What a lookup tells of the index map that is read tells of the seal.
-use Rattle.std.proofs.Common.{◌≡◌, ℕ, ◌<◌, ◌∙◌, sym, ap, subst, Bool, List, Option, take, drop}
+use Rattle.std.proofs.Common.{◌≡◌, ℕ, ◌<◌, ◌∙◌, sym, ap, subst, Bool, List, Option}
 use Rattle.std.specs.Borrow.{Bor}
 use Rattle.std.specs.Int.{Width}
 use Rattle.rkyv_scan.specs.Hash.{Hasher, HasherCall}
-use Rattle.rkyv_base.specs.Seal.{bytes_in, seal_pos}
-use Rattle.rkyv_base.specs.Sealing.{value_pos}
 use Rattle.rkyv_base.specs.Shape.{Shape}
-use Rattle.rkyv_base.specs.View.{IsView, bytes_of, pos_of}
-use Rattle.rkyv_base.specs.declared.seal.Seal.{Seal}
+use Rattle.rkyv_base.specs.View.{pos_of}
 use Rattle.rkyv_base.specs.declared.view.View.{View}
 use Rattle.rkyv_table.specs.Table.Header.{len_at}
+use Rattle.rkyv_table.proofs.Moved.{moved}
 use Rattle.rkyv_index.specs.Index.{AnswersKeys, AreUnderHash, FindsFirstKey, FindsFirstPlace, FindsKey, FindsPlace, IsKeyOf, index_bytes, index_of, index_pos}
-use Rattle.rkyv_index.specs.SealedIndex.{IsKeyAt, IsPairPos, LendsPair, index_at}
+use Rattle.rkyv_index.specs.SealedIndex.{IsKeyAt, index_at}
 use Rattle.rkyv_index.specs.ValueWrites.{pair_at}
 use Rattle.rkyv_index.specs.declared.map.ArchivedIndexMap.{ArchivedIndexMap}
-
--- a pair that is lent, by where its key stands
-pub pair_lent : {K V : Type 0} (w : Width) (k v : Shape) (b : List ℕ) (p i q : ℕ) (pair : View K × Seal V) → IsPairPos w k v b p i q → pos_of pair.0 ≡ q → IsView k pair.0
-    → bytes_of pair.0 ≡ take (value_pos k v q) b → bytes_in pair.1 ≡ drop (value_pos k v q) b → seal_pos pair.1 ≡ 0 → LendsPair w k v b p i pair
-pair_lent w k v b p i q pair at place key front back begin = record {
-  at = subst (IsPairPos w k v b p i) (sym place) at;
-  key = key;
-  front = front ∙ ap (λ n. take (value_pos k v n) b) (sym place);
-  back = back ∙ ap (λ n. drop (value_pos k v n) b) (sym place);
-  begin = begin;
-}
 
 -- the index map that is read has these bytes and this place
 module _ {K V H W : Type 0} (m : ArchivedIndexMap K V H W) (b : List ℕ) (p : ℕ) (bytes : index_bytes m ≡ b) (place : index_pos m ≡ p) where
   pub as_read : (F : List ℕ → ℕ → Type 0) → F (index_bytes m) (index_pos m) → F b p
-  as_read F x = subst (F b) place (subst (λ c. F c (index_pos m)) bytes x)
-
-  pub to_read : (F : List ℕ → ℕ → Type 0) → F b p → F (index_bytes m) (index_pos m)
-  to_read F x = subst (λ c. F c (index_pos m)) (sym bytes) (subst (F b) (sym place) x)
+  as_read F x = moved F (index_bytes m) b (index_pos m) p bytes place x
 
   module _ (w : Width) (k v : Shape) where
     -- a key that is read is one of the index map where the seal is
@@ -48,7 +32,7 @@ module _ {K V H W : Type 0} (m : ArchivedIndexMap K V H W) (b : List ℕ) (p : �
     answers_read post accept answers i key r is told = answers i key r (key_read i key is) told
 
     pub under_read : (hash : ℕ) (key_hash : List ℕ → ℕ → ℕ) (accept : ℕ → Bool) → AreUnderHash (index_at {K = K} w k v b p) hash key_hash accept → AreUnderHash (index_of w k v m) hash key_hash accept
-    under_read hash key_hash accept under = to_read (λ c q. AreUnderHash (index_at {K = K} w k v c q) hash key_hash accept) under
+    under_read hash key_hash accept under = moved (λ c q. AreUnderHash (index_at {K = K} w k v c q) hash key_hash accept) b (index_bytes m) p (index_pos m) (sym bytes) (sym place) under
 
     -- what is told of what is found in it is told where the seal is
     pub finds_read : (hash : ℕ) (accept : ℕ → Bool) (Told : Option ℕ → Type 0) → FindsPlace (index_of w k v m) hash accept Told → FindsPlace (index_at {K = K} w k v b p) hash accept Told

@@ -1,12 +1,12 @@
 -- A write of one value in place keeps the index map, and the list that it stands for but for that value.
-use Rattle.std.proofs.Common.{◌≡◌, ◌≢◌, ℕ, suc, ◌+◌, ◌*◌, ◌<◌, ◌≤◌, ◌^◌, ◌∙◌, inl, inr, refl, sym, ap, subst, arith, Bool, List, [], ◌∷◌, length, Option, Some, None, get_or}
+use Rattle.std.proofs.Common.{◌≡◌, ◌≢◌, ℕ, suc, ◌+◌, ◌*◌, ◌<◌, ◌≤◌, ◌^◌, ◌∙◌, inl, inr, refl, sym, ap, subst, arith, Bool, List, [], ◌∷◌, length, Option, Some, None}
 use Rattle.std.specs.Prelude.{slice_get, slice_set, unsigned_abs}
 use Rattle.std.specs.Int.{Width, byte_len}
 use Rattle.std.specs.Option.{option_map}
 use Rattle.std.proofs.Math.Nat.{mul-le-mul_right}
 use Rattle.std.proofs.lemmas.Bool.{cases_eq, cases_lt}
-use Rattle.std.proofs.lemmas.List.{get_or-set_other, get_or-set_same, length-set}
-use Rattle.std.proofs.lemmas.Option.{get_or_from_slice_get, slice_get-get_or, slice_get_within}
+use Rattle.std.proofs.lemmas.List.{length-set}
+use Rattle.std.proofs.lemmas.Option.{slice_get_within}
 use Rattle.rkyv_scan.specs.Groups.{generic_kind}
 use Rattle.rkyv_scan.specs.Lemmas.KindLaws.{word_lawful}
 use Rattle.rkyv_base.specs.Bytes.{Same, number_at}
@@ -27,20 +27,22 @@ use Rattle.rkyv_table.specs.Lemmas.SameHeader.{cap_same, len_same}
 use Rattle.rkyv_table.specs.Lemmas.TableLaws.{table_element}
 use Rattle.rkyv_table.specs.Table.Places.{AllHold}
 use Rattle.rkyv_table.specs.Table.Reading.{IsWalked, item_at, table_controls}
-use Rattle.rkyv_table.specs.Table.SealedTable.{SameValue}
+use Rattle.rkyv_table.specs.Table.SealedTable.{RestsOnKey, SameValue, WritesValue}
+use Rattle.rkyv_table.proofs.Lists.{set_each}
 use Rattle.rkyv_table.proofs.Items.{controls_accepted, some_cap}
 use Rattle.rkyv_table.proofs.Misplaced.{found_agree, found_walked}
 use Rattle.rkyv_table.proofs.Walks.{walked_full}
 use Rattle.rkyv_index.specs.Index.{fits_in, hash_at, index_found}
 use Rattle.rkyv_index.specs.IndexFormat.{IndexStands, IndexWrittenAt}
 use Rattle.rkyv_index.specs.IndexLayout.{EntriesIn, IndexHolds, entries_pos, entries_told, entry_at, index_shape, pair_pos, place_shape, places_of}
-use Rattle.rkyv_index.specs.Lemmas.IndexLaws.{each_holds, entry_inside, head_same, index_again, place_element, place_same_at, places_below, same_controls, told_same}
+use Rattle.rkyv_index.specs.Lemmas.IndexLaws.{each_holds, entry_inside, head_same, index_again, place_element, place_same_at, places_below, told_same}
+use Rattle.rkyv_table.specs.Lemmas.SameControls.{same_controls}
 use Rattle.rkyv_scan.specs.Hash.{Hasher, HasherCall, hash_of_calls}
 use Rattle.rkyv_keys.specs.Equality.{Comparison}
 use Rattle.rkyv_keys.specs.Keys.{IsKey}
 use Rattle.rkyv_index.specs.Lemmas.IndexNear.{HashNear, written_again}
 use Rattle.rkyv_index.specs.SealedIndex.{IsPairPos}
-use Rattle.rkyv_index.specs.ValueWrites.{KeepsEntries, KeepsIndexMap, RestsOnKey, WritesValue}
+use Rattle.rkyv_index.specs.ValueWrites.{KeepsEntries, KeepsIndexMap, pair_at}
 use Rattle.rkyv_index.proofs.Held.{begin_is, entries_inside, entry_viewed, place_below, table_there}
 
 -- the hash of a key rests on the bytes on which it rests that the key holds
@@ -48,7 +50,7 @@ pub hash_near : {State : Type 0} (hasher : Hasher State) {k : Shape} {same : Com
 hash_near hasher key b c q lo hi l o holds fixed part = ap (hash_of_calls hasher) (key.near b c q lo hi l o holds fixed part)
 
 -- a value that was written at the place of a pair's value
-pub value_written : (w : Width) (k v : Shape) (b c : List ℕ) (at q : ℕ) → at ≡ value_pos k v q → Sealed b at v.size c → Keeps v b c at → WritesValue w k v b c q
+pub value_written : (w : Width) (k v : Shape) (b c : List ℕ) (at q : ℕ) → at ≡ value_pos k v q → Sealed b at v.size c → Keeps v b c at → WritesValue k v b c q
 value_written w k v b c at q is sealed keeps = record { sealed = subst (λ n. Sealed b n v.size c) is sealed; keeps = subst (Keeps v b c) is keeps }
 
 -- two entries share no byte
@@ -121,7 +123,7 @@ module _ (w : Width) (kind : IsArchiveWord w) (k v : Shape) (kl : IsElement k) (
       subst (λ n. HoldsWithin S b (entry_at S.size n i) held.middle n held.entries.last) (sym begins) r
 
   -- the value of place i is written
-  module _ (c : List ℕ) (i : ℕ) (below : i < len_at w b p) (writes : WritesValue w k v b c (at i)) where
+  module _ (c : List ℕ) (i : ℕ) (below : i < len_at w b p) (writes : WritesValue k v b c (at i)) where
     wider : Sealed b (at i) S.size c
     wider =
         let small = size_of_small (whole_size k v) (entry_there i below).stands.1.0 in
@@ -208,7 +210,7 @@ module _ (w : Width) (kind : IsArchiveWord w) (k v : Shape) (kl : IsElement k) (
     table_below = let above = held.entries.part.above in omega (arith, above, begins)
 
     controls_same : 0 < cap_at w b p → table_controls w b p ≡ table_controls w c p
-    controls_same = same_controls w kind b c p 0 p held.middle (omega arith) head (front_same 0 held.middle (omega arith) table_below) held.table
+    controls_same = same_controls w (place_shape w) (place_element w kind) b c p 0 p held.middle (omega arith) held.table head (front_same 0 held.middle (omega arith) table_below)
 
     read_same : (j : ℕ) → IsWalked w b p j → number_at w b (item_at w (byte_len w) b p j) ≡ number_at w c (item_at w (byte_len w) c p j)
     read_same = place_same_at w kind b c p 0 p held.middle (omega arith) head (front_same 0 held.middle (omega arith) table_below) held.table
@@ -229,7 +231,7 @@ module _ (w : Width) (kind : IsArchiveWord w) (k v : Shape) (kl : IsElement k) (
           let inside = place_below w kind S law b p view j there in
           let key = viewed_key k v kl vl b (at n) (entry_there n inside) in
           ap (λ m. fits c (pair_pos w S.size c p m)) (sym (read_same j there)) ∙ ap (fits c) (places_same n)
-          ∙ rests b c (at n) key.stands.0 key.stands.1 (key_same n inside)
+          ∙ rests b c (at n) key.stands (key_same n inside)
 
       bucket_same : found generic_kind (table_controls w c p) (cap_at w c p) (len_at w c p) hash (tells c) ≡ bucket
       bucket_same =
@@ -299,18 +301,11 @@ module _ (w : Width) (kind : IsArchiveWord w) (k v : Shape) (kl : IsElement k) (
               written = written_same st.homes st.written;
               len = sym (len_same w b c p head) ∙ st.len ∙ sym same_count;
               cap = sym (cap_same w b c p head) ∙ st.cap ∙ ap (λ m. capacity m factor) (sym same_count);
-              at = λ j x e.
-                  let h : j < length pairs = omega (arith, slice_get_within (slice_set pairs i y) j x e, same_count) in
-                  let there : j < len_at w b p = omega (arith, h, count) in
-                  let is : get_or (slice_set pairs i y) j x ≡ x = get_or_from_slice_get (slice_set pairs i y) j x x e in
-                  subst (λ z. PairStands k v key value c z x) (sym (places_same j)) (elim (cases_eq j i) [
-                    | inl same ↦
-                        let one : y ≡ x = sym (get_or-set_same pairs i y x inside) ∙ ap (λ m. get_or (slice_set pairs i y) m x) (sym same) ∙ is in
-                        subst (λ m. PairStands k v key value c (at m) x) (sym same) (subst (PairStands k v key value c (at i)) one written_stands)
-                    | inr ne ↦
-                        let one : get_or pairs j x ≡ x = sym (get_or-set_other pairs i j y x ne) ∙ is in
-                        other_stands j x there (slice_get-get_or pairs j x h ∙ ap Some one) ne
-                  ]);
+              at = set_each (λ j x. PairStands k v key value c (pair_at w k v c p j) x) pairs i y inside
+                  (subst (λ z. PairStands k v key value c z y) (sym (places_same i)) written_stands)
+                  (λ j x at_j ne.
+                  let there : j < len_at w b p = omega (arith, slice_get_within pairs j x at_j, count) in
+                  subst (λ z. PairStands k v key value c z x) (sym (places_same j)) (other_stands j x there at_j ne));
             }
 
   -- the pair of a place, whose value may be written
@@ -327,4 +322,4 @@ module _ (w : Width) (kind : IsArchiveWord w) (k v : Shape) (kl : IsElement k) (
 
 -- a test that rests on the keys rests on each
 pub rests_on_each : {Q : Type 0} (k : Shape) (can_read : Q → Type 0) (fits : Q → List ℕ → ℕ → Bool) → RestsOnKeys k can_read fits → (q : Q) → can_read q → RestsOnKey k (fits q)
-rests_on_each k can_read fits rests q can b c p l holds same = rests q b c p l can holds same.fixed (same.parts l holds)
+rests_on_each k can_read fits rests q can b c p stands same = rests q b c p stands.0 can stands.1 same.fixed (same.parts stands.0 stands.1)

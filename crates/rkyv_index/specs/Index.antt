@@ -110,18 +110,14 @@ module _ {K V H W : Type 0} where
   abbrev pub IsHeld : Width → ArchivedIndexMap K V H W → ℕ → Type 0
   IsHeld w m i = IsHeldAt w (index_bytes m) (index_pos m) i
 
+  -- and the place is one of the map's
+  abbrev pub IsHeldPlace : Width → ArchivedIndexMap K V H W → ℕ → Type 0
+  IsHeldPlace w m i = IsHeld w m i × (i < index_len w m)
+
   -- the pair of a place that a bucket holds
   abbrev pub IsFullIn : Width → Shape → Shape → ArchivedIndexMap K V H W → ℕ × View K × View V
       → Type 0
   IsFullIn w k v m full = IsHeld w m full.0 × IsPairOf w k v m full.0 (full.1, full.2)
-
-  -- the views are those of a pair at a place that a full bucket holds
-  abbrev pub IsPairIn : Width → Shape → Shape → ArchivedIndexMap K V H W → View K × View V → Type 0
-  IsPairIn w k v m pair = (i : ℕ) × IsHeld w m i × IsPairOf w k v m i pair
-
-  -- the view is that of a value at a place that a full bucket holds
-  abbrev pub IsValueIn : Width → Shape → Shape → ArchivedIndexMap K V H W → View V → Type 0
-  IsValueIn w k v m value = (i : ℕ) × IsHeld w m i × IsValueOf w k v m i value
 
   -- a lookup reads no stride of an empty table, else one at least and at most one for each sixteen
   -- buckets, rounded up
@@ -248,10 +244,6 @@ IsPlace result place = result ≡ place
 -- the place of a pair that was found
 abbrev pub full_place : {K V : Type 0} → Option (ℕ × View K × View V) → Option ℕ
 full_place {K} {V} result = option_map (λ (full : ℕ × View K × View V). full.0) result
-
--- what was found is at the place, or none was found
-abbrev pub IsFullAt : {K V : Type 0} → Option (ℕ × View K × View V) → Option ℕ → Type 0
-IsFullAt result place = full_place result ≡ place
 
 -- the answer is true exactly where a key was found
 abbrev pub IsFoundAt : Bool → Option ℕ → Type 0

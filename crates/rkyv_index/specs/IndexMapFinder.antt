@@ -4,7 +4,7 @@ use Rattle.rkyv_base.specs.Scalar.{Encoding, scalar_shape}
 use Rattle.rkyv_base.specs.Shape.{Shape}
 use Rattle.rkyv_base.specs.View.{IsAt}
 use Rattle.rkyv_table.specs.Table.Finder.{IsFinder, table_of}
-use Rattle.rkyv_index.specs.Index.{AreEntries, index_archive, index_pos}
+use Rattle.rkyv_index.specs.Index.{AreEntries, Index, index_archive, index_of, index_pos}
 use Rattle.rkyv_index.specs.declared.map.ArchivedIndexMap.{ArchivedIndexMap}
 use Rattle.rkyv_index.specs.declared.map.finder.IndexMapFinder.{IndexMapFinder}
 
@@ -12,6 +12,10 @@ module _ {K V H W P : Type 0} where
   -- the map in which it looks up
   abbrev pub map_of : IndexMapFinder K V H W P → ArchivedIndexMap K V H W
   map_of finder = finder.entries.map
+
+  -- that map, as lookups see it
+  abbrev pub index_in : Width → Shape → Shape → IndexMapFinder K V H W P → Index K
+  index_in w k v finder = index_of w k v (map_of finder)
 
   -- the entries are those of a map that stands, and its table of places is the one for many lookups
   pub record IsIndexMapFinder {N : Type 0} (w : Width) (e : Encoding N) (k v : Shape)

@@ -44,24 +44,19 @@ module _ {K H W : Type 0} where
   abbrev pub index_of_set : Width → Shape → ArchivedIndexSet K H W → Index K
   index_of_set w k s = index_of w k unit_shape (keys_of s)
 
-  -- the key of a place that a bucket holds
-  abbrev pub IsMemberIn : Width → Shape → ArchivedIndexSet K H W → View K → Type 0
-  IsMemberIn w k s key = (i : ℕ) × IsHeld w (keys_of s) i × IsKeyOf w k unit_shape (keys_of s) i key
+  -- the view is that of the key of place i
+  abbrev pub IsMemberOf : Width → Shape → ArchivedIndexSet K H W → ℕ → View K → Type 0
+  IsMemberOf w k s i key = IsKeyOf w k unit_shape (keys_of s) i key
 
   -- the view is that of the key of a place that a full bucket holds
   abbrev pub IsFullMemberIn : Width → Shape → ArchivedIndexSet K H W → ℕ × View K → Type 0
-  IsFullMemberIn w k s full = IsHeld w (keys_of s) full.0 × IsKeyOf w k unit_shape (keys_of s)
-      full.0 full.1
+  IsFullMemberIn w k s full = IsHeld w (keys_of s) full.0 × IsMemberOf w k s full.0 full.1
 
   -- the key that was found is that of the place, or none was found
   abbrev pub IsMemberAt : Width → Shape → ArchivedIndexSet K H W → Option (View K) → Option ℕ
       → Type 0
-  IsMemberAt w k s result place = IsThere (IsKeyOf w k unit_shape (keys_of s)) result place
+  IsMemberAt w k s result place = IsThere (IsMemberOf w k s) result place
 
 -- the place of a key that was found
 abbrev pub full_member_place : {K : Type 0} → Option (ℕ × View K) → Option ℕ
 full_member_place {K} result = option_map (λ (full : ℕ × View K). full.0) result
-
--- what was found is at the place, or none was found
-abbrev pub IsFullMemberAt : {K : Type 0} → Option (ℕ × View K) → Option ℕ → Type 0
-IsFullMemberAt result place = full_member_place result ≡ place

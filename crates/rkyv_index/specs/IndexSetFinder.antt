@@ -3,7 +3,9 @@ use Rattle.std.specs.Int.{Width}
 use Rattle.rkyv_base.specs.Empty.{unit_shape}
 use Rattle.rkyv_base.specs.Scalar.{Encoding}
 use Rattle.rkyv_base.specs.Shape.{Shape}
+use Rattle.rkyv_index.specs.Index.{Index}
 use Rattle.rkyv_index.specs.IndexMapFinder.{IsIndexMapFinder, map_of}
+use Rattle.rkyv_index.specs.IndexSet.{index_of_set}
 use Rattle.rkyv_index.specs.declared.set.ArchivedIndexSet.{ArchivedIndexSet}
 use Rattle.rkyv_index.specs.declared.set.finder.IndexSetFinder.{IndexSetFinder}
 
@@ -11,6 +13,10 @@ module _ {K H W P : Type 0} where
   -- the set in which it looks up
   abbrev pub set_of : IndexSetFinder K H W P → ArchivedIndexSet K H W
   set_of finder = record { map = map_of finder.map }
+
+  -- that set, as lookups see it
+  abbrev pub index_in_set : Width → Shape → IndexSetFinder K H W P → Index K
+  index_in_set w k finder = index_of_set w k (set_of finder)
 
   -- the map of its keys is one for many lookups
   abbrev pub IsIndexSetFinder : {N : Type 0} → Width → Encoding N → Shape → IndexSetFinder K H W P

@@ -10,6 +10,7 @@ pub mod Equality
 pub mod IndexSet
 pub mod SetFormat
 pub mod Complete
+pub mod Lookups
 pub mod IndexMapFinder
 pub mod IndexSetFinder
 pub mod Reading

@@ -1,9 +1,9 @@
 -- What a lookup in an index map answers that lends the value to be written.
-use Rattle.std.specs.Prelude.{◌≡◌, ℕ, ◌<◌, List, Option, take, drop}
+use Rattle.std.specs.Prelude.{◌≡◌, ℕ, ◌<◌, List, Option}
 use Rattle.std.specs.Int.{Width}
 use Rattle.std.specs.Option.{option_map}
 use Rattle.rkyv_base.specs.Entry.{entry_shape}
-use Rattle.rkyv_base.specs.Seal.{archive_in, bytes_in, seal_pos, pos_in}
+use Rattle.rkyv_base.specs.Seal.{archive_in, pos_in}
 use Rattle.rkyv_base.specs.Sealing.{value_pos}
 use Rattle.rkyv_base.specs.Shape.{Shape, Viewed}
 use Rattle.rkyv_base.specs.View.{IsView, bytes_of, pos_of}
@@ -11,6 +11,7 @@ use Rattle.rkyv_base.specs.declared.seal.ArchiveSeal.{ArchiveSeal}
 use Rattle.rkyv_base.specs.declared.seal.Seal.{Seal}
 use Rattle.rkyv_base.specs.declared.view.View.{View}
 use Rattle.rkyv_table.specs.Table.Header.{len_at}
+use Rattle.rkyv_table.specs.Table.PairSeals.{LendsPair, LendsValue}
 use Rattle.rkyv_index.specs.Index.{Index, IsHeldAt, IsThere}
 use Rattle.rkyv_index.specs.IndexLayout.{index_shape}
 use Rattle.rkyv_index.specs.ValueWrites.{KeptByWrites, pair_at}
@@ -54,47 +55,35 @@ pub record IsPairPos (w : Width) (k v : Shape) (b : List ℕ) (p i q : ℕ) : Ty
   pub value : Viewed v b (value_pos k v q)
   pub kept : KeptByWrites w k v b p i
 
--- the bytes are cut at the begin of the value of place i: the key is viewed in the front, and the
--- seal is at the begin of the back
-pub record LendsPair {K V : Type 0} (w : Width) (k v : Shape) (b : List ℕ) (p i : ℕ)
-    (pair : View K × Seal V) : Type 0 where
-  pub at : IsPairPos w k v b p i (pos_of pair.0)
-  pub key : IsView k pair.0
-  pub front : bytes_of pair.0 ≡ take (value_pos k v (pos_of pair.0)) b
-  pub back : bytes_in pair.1 ≡ drop (value_pos k v (pos_of pair.0)) b
-  pub begin : seal_pos pair.1 ≡ 0
-
--- the seal is at the value of place i, in the same bytes
-pub record LendsValue {V : Type 0} (w : Width) (k v : Shape) (b : List ℕ) (p i : ℕ)
-    (value : Seal V) : Type 0 where
-  pub key : ℕ
-  pub at : IsPairPos w k v b p i key
-  pub bytes : bytes_in value ≡ b
-  pub place : seal_pos value ≡ value_pos k v key
-
 module _ {K V H W : Type 0} (w : Width) (k v : Shape) (a : ArchiveSeal (IndexMapOf K V H W)) where
+  -- the key of place i stands at the position, in the index map where the seal is
+  abbrev pub IsPairPlace : ℕ → ℕ → Type 0
+  IsPairPlace i q = IsPairPos w k v (archive_in a) (pos_in a) i q
+
   -- what is lent is the pair of a place that a full bucket holds, and the place comes with it
   abbrev pub IsFullSeal : ℕ × View K × Seal V → Type 0
   IsFullSeal full = IsHeldAt w (archive_in a) (pos_in a) full.0
-      × LendsPair w k v (archive_in a) (pos_in a) full.0 (full.1, full.2)
+      × LendsPair k v (archive_in a) (IsPairPlace full.0) (full.1, full.2)
 
   -- what is lent is the pair of a place that a full bucket holds
   abbrev pub IsPairSeal : View K × Seal V → Type 0
   IsPairSeal pair = (i : ℕ) × IsHeldAt w (archive_in a) (pos_in a) i
-      × LendsPair w k v (archive_in a) (pos_in a) i pair
+      × LendsPair k v (archive_in a) (IsPairPlace i) pair
 
   -- what is lent is the value of a place that a full bucket holds
   abbrev pub IsValueSeal : Seal V → Type 0
   IsValueSeal value = (i : ℕ) × IsHeldAt w (archive_in a) (pos_in a) i
-      × LendsValue w k v (archive_in a) (pos_in a) i value
+      × LendsValue k v (archive_in a) (IsPairPlace i) value
 
   -- what was lent is the pair of the place, or none was found
   abbrev pub IsPairSealAt : Option (View K × Seal V) → Option ℕ → Type 0
-  IsPairSealAt result place = IsThere (LendsPair w k v (archive_in a) (pos_in a)) result place
+  IsPairSealAt result place =
+      IsThere (λ i. LendsPair k v (archive_in a) (IsPairPlace i)) result place
 
   -- what was lent is the value of the place, or none was found
   abbrev pub IsValueSealAt : Option (Seal V) → Option ℕ → Type 0
-  IsValueSealAt result place = IsThere (LendsValue w k v (archive_in a) (pos_in a)) result place
+  IsValueSealAt result place =
+      IsThere (λ i. LendsValue k v (archive_in a) (IsPairPlace i)) result place
 
 -- the place of a pair that was lent
 abbrev pub full_seal_place : {K V : Type 0} → Option (ℕ × View K × Seal V) → Option ℕ

@@ -5,28 +5,18 @@ use Rattle.std.specs.Int.{Width, byte_len}
 use Rattle.rkyv_base.specs.Bytes.{Same}
 use Rattle.rkyv_base.specs.Entry.{entry_shape}
 use Rattle.rkyv_base.specs.Scalar.{Encoding, ScalarStands, scalar_shape}
-use Rattle.rkyv_base.specs.Sealing.{Keeps, Sealed, value_pos}
+use Rattle.rkyv_base.specs.Sealing.{Keeps, value_pos}
 use Rattle.rkyv_base.specs.Shape.{Shape, Viewed}
 use Rattle.rkyv_table.specs.Table.Header.{len_at}
-use Rattle.rkyv_table.specs.Table.SealedTable.{SameValue}
+use Rattle.rkyv_table.specs.Table.SealedTable.{RestsOnKey, SameValue, WritesValue}
 use Rattle.rkyv_index.specs.Index.{fits_in, index_found}
 use Rattle.rkyv_index.specs.IndexFormat.{IndexStands, IndexWrittenAt}
 use Rattle.rkyv_index.specs.IndexLayout.{entries_pos, index_shape, pair_pos}
-
--- whether a key fits rests on the bytes on which it rests that the key holds
-abbrev pub RestsOnKey : Shape → (List ℕ → ℕ → Bool) → Type 0
-RestsOnKey k fits = (b c : List ℕ) (q l : ℕ) → k.holds b q 0 q l → SameValue k b c q
-    → fits c q ≡ fits b q
 
 module _ (w : Width) (k v : Shape) where
   -- where the pair of place i stands
   abbrev pub pair_at : List ℕ → ℕ → ℕ → ℕ
   pair_at b p i = pair_pos w (entry_shape k v).size b p i
-
-  -- a value is written in place: only its own bytes change, and it holds again
-  pub record WritesValue (b c : List ℕ) (q : ℕ) : Type 0 where
-    pub sealed : Sealed b (value_pos k v q) v.size c
-    pub keeps : Keeps v b c (value_pos k v q)
 
   -- The index map at p in b is one in c, of which the value of place i was written: its header, all
   -- before its entries, among it the table of places, all keys, and all other entries are the same.
@@ -40,7 +30,7 @@ module _ (w : Width) (k v : Shape) where
 
   -- every write of the value of place i alone that keeps the value keeps the index map
   abbrev pub KeptByWrites : List ℕ → ℕ → ℕ → Type 0
-  KeptByWrites b p i = (c : List ℕ) → WritesValue b c (pair_at b p i) → KeepsEntries b c p i
+  KeptByWrites b p i = (c : List ℕ) → WritesValue k v b c (pair_at b p i) → KeepsEntries b c p i
 
   -- And it stands in c: with the same length, the pairs at the same positions, under the same
   -- hashes; each lookup finds the same place, and an index map that was written stays one.
@@ -61,7 +51,7 @@ module _ (w : Width) (k v : Shape) where
   abbrev pub ValueWritesKeepIndexMaps : (List ℕ → ℕ → ℕ) → Type 0
   ValueWritesKeepIndexMaps key_hash = (b c : List ℕ) (p i : ℕ)
       → Viewed (index_shape w (entry_shape k v)) b p → i < len_at w b p
-      → WritesValue b c (pair_at b p i) → KeepsIndexMap key_hash b c p i
+      → WritesValue k v b c (pair_at b p i) → KeepsIndexMap key_hash b c p i
 
   -- a write of one value in place keeps the answer of each query, whose hash is a function of the
   -- query
@@ -69,7 +59,7 @@ module _ (w : Width) (k v : Shape) where
       → (Q → List ℕ → ℕ → Bool) → Type 0
   ValueWritesKeepAnswers {Q} can_read hash fits = (b c : List ℕ) (p i : ℕ)
       → Viewed (index_shape w (entry_shape k v)) b p → i < len_at w b p
-      → WritesValue b c (pair_at b p i) → (q : Q) → can_read q
+      → WritesValue k v b c (pair_at b p i) → (q : Q) → can_read q
       → index_found w c p (hash q) (fits_in w k v c p (fits q))
       ≡ index_found w b p (hash q) (fits_in w k v b p (fits q))
 
@@ -80,7 +70,7 @@ module _ (w : Width) (k v : Shape) where
       (pairs : List (A × B)) (pair : A × B) (new : B)
       → Viewed (index_shape w (entry_shape k v)) b p
       → IndexStands w k v key value key_hash factor b p pairs → slice_get pairs n ≡ Some pair
-      → WritesValue b c (pair_at b p n) → value c (value_pos k v (pair_at b p n)) new
+      → WritesValue k v b c (pair_at b p n) → value c (value_pos k v (pair_at b p n)) new
       → IndexStands w k v key value key_hash factor c p (slice_set pairs n (pair.0, new))
 
 module _ {A N : Type 0} (w : Width) (k : Shape) (e : Encoding N) where

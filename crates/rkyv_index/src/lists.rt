@@ -1,8 +1,5 @@
 //! Lists that are archived as index maps.
 
-ghost use Rattle.std.specs.Prelude.{length};
-ghost use Rattle.std.specs.Iterator.{YieldsFirstBy, at_most};
-ghost use Rattle.std.specs.Slice.Iter.{iter_rest};
 ghost use Rattle.rkyv_base.specs.Entry.{entry_shape};
 ghost use Rattle.rkyv_base.specs.Pairs.{written_as, written_as-format};
 ghost use Rattle.rkyv_scan.specs.Hash.{fx_hasher, low_halves};
@@ -22,41 +19,18 @@ use crate::map::{ArchivedIndexMap, IndexMapOf};
 use crate::set::writing::IndexSetResolver;
 use crate::set::{ArchivedIndexSet, IndexSetOf};
 use crate::width::PlaceWidth;
-use rkyv_base::archive::{Archive, Serialize};
+use rkyv_base::archive::{Archive, ResolveResult, Serialize, WriteResult};
 use rkyv_base::element::StandsFor;
-use rkyv_base::errors::{DistanceTooLarge, WriteError};
 use rkyv_base::width::Width;
 use rkyv_base::writer::Writer;
 use rkyv_keys::keys::{KeyElement, NativeKey};
 use rkyv_scan::hash::FxHasher64;
+use rkyv_table::table::lent::{Halves, Refs};
 use std::alloc::Global;
 
 /// A list of pairs that is archived as an index map, in its order, under the load factor 7 / 8.
 #[derive(Drop)]
 pub struct OrderedPairs<K, V>(pub Vec<(K, V)>);
-
-/// The pairs of a list, by halves.
-#[derive(Drop)]
-struct Halves<'a, A, B> {
-    pairs: std::slice::Iter<'a, (A, B)>,
-}
-
-impl<'a, A, B> Iterator for Halves<'a, A, B> {
-    type Item = (&'a A, &'a B);
-
-    ghost next_gives = { YieldsFirstBy (λ halves. (halves.0.now, halves.1.now))
-        (λ s. iter_rest s.pairs) };
-
-    ghost remaining = { λ s. at_most (length (iter_rest s.pairs)) };
-
-    #[inline]
-    fn next(&mut self) -> Option<(&'a A, &'a B)> {
-        match self.pairs.next() {
-            Some(pair) => Some((&pair.0, &pair.1)),
-            None => None,
-        }
-    }
-}
 
 impl<W: Width, A, B, K: KeyElement + StandsFor<A>, V: StandsFor<B>> StandsFor<OrderedPairs<A, B>>
     for IndexMapOf<K, V, FxHasher64, W> {
@@ -83,21 +57,8 @@ where
         (index_format W.word W.Place.encoding A.Archived.shape B.Archived.shape A.format B.format
         (hash_of (fx_hasher low_halves) A.calls) (7, 8))) };
 
-    fn resolve(
-        &self,
-        resolver: IndexMapResolver<W>,
-        pos: u64,
-        out: &mut [u8],
-    ) -> Result<(), DistanceTooLarge> {
-        let len = resolver.len();
-        let load_factor = resolver.load_factor();
-        ArchivedIndexMap::<A::Archived, B::Archived, FxHasher64, W>::resolve_from_len(
-            len,
-            load_factor,
-            resolver,
-            pos,
-            out,
-        )
+    fn resolve(&self, resolver: IndexMapResolver<W>, pos: u64, out: &mut [u8]) -> ResolveResult {
+        resolver.resolve(pos, out)
     }
 
     ghost laws = { let stands = IndexStands W.word A.Archived.shape B.Archived.shape
@@ -121,14 +82,8 @@ where
     A::Archived: KeyElement,
     A: NativeKey<A::Archived>,
 {
-    fn serialize(
-        &self,
-        alloc: Global,
-        serializer: &mut S,
-    ) -> Result<IndexMapResolver<W>, WriteError<S::Fault>> {
-        let halves = Halves {
-            pairs: self.0.iter(),
-        };
+    fn serialize(&self, alloc: Global, serializer: &mut S) -> WriteResult<IndexMapResolver<W>, S> {
+        let halves = Halves::of(self.0.as_slice());
         ArchivedIndexMap::<A::Archived, B::Archived, FxHasher64, W>::serialize_from_iter::<
             S,
             A,
@@ -143,25 +98,6 @@ where
 /// A list of keys that is archived as an index set, in its order, under the load factor 7 / 8.
 #[derive(Drop)]
 pub struct OrderedItems<K>(pub Vec<K>);
-
-/// The keys of a list, by reference.
-#[derive(Drop)]
-struct Keys<'a, A> {
-    keys: std::slice::Iter<'a, A>,
-}
-
-impl<'a, A> Iterator for Keys<'a, A> {
-    type Item = &'a A;
-
-    ghost next_gives = { YieldsFirstBy (λ key. key.now) (λ s. iter_rest s.keys) };
-
-    ghost remaining = { λ s. at_most (length (iter_rest s.keys)) };
-
-    #[inline]
-    fn next(&mut self) -> Option<&'a A> {
-        self.keys.next()
-    }
-}
 
 impl<W: Width, A, K: KeyElement + StandsFor<A>> StandsFor<OrderedItems<A>>
     for IndexSetOf<K, FxHasher64, W> {
@@ -187,21 +123,8 @@ where
         (index_set_format W.word W.Place.encoding A.Archived.shape A.format
         (hash_of (fx_hasher low_halves) A.calls) (7, 8))) };
 
-    fn resolve(
-        &self,
-        resolver: IndexSetResolver<W>,
-        pos: u64,
-        out: &mut [u8],
-    ) -> Result<(), DistanceTooLarge> {
-        let len = resolver.len();
-        let load_factor = resolver.load_factor();
-        ArchivedIndexSet::<A::Archived, FxHasher64, W>::resolve_from_len(
-            len,
-            load_factor,
-            resolver,
-            pos,
-            out,
-        )
+    fn resolve(&self, resolver: IndexSetResolver<W>, pos: u64, out: &mut [u8]) -> ResolveResult {
+        resolver.resolve(pos, out)
     }
 
     ghost laws = { let stands = IndexSetStands W.word A.Archived.shape A.Archived.stands
@@ -221,19 +144,13 @@ where
     A::Archived: KeyElement,
     A: NativeKey<A::Archived>,
 {
-    fn serialize(
-        &self,
-        alloc: Global,
-        serializer: &mut S,
-    ) -> Result<IndexSetResolver<W>, WriteError<S::Fault>> {
-        let keys = Keys {
-            keys: self.0.iter(),
-        };
+    fn serialize(&self, alloc: Global, serializer: &mut S) -> WriteResult<IndexSetResolver<W>, S> {
+        let keys = Refs::of(self.0.as_slice());
         ArchivedIndexSet::<A::Archived, FxHasher64, W>::serialize_from_iter::<
             S,
             A,
             &A,
-            Keys<'_, A>,
+            Refs<'_, A>,
         >(alloc, keys, self.0.len(), (7, 8), serializer)
     }
 }

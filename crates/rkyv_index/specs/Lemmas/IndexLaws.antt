@@ -14,7 +14,9 @@ use Rattle.rkyv_base.specs.Shape.{Shape, IsElement, IsAlign}
 use Rattle.rkyv_base.specs.Text.{IsArchiveWord, by_archive_word}
 use Rattle.rkyv_table.specs.Table.Header.{cap_at, len_at}
 use Rattle.rkyv_table.specs.Controls.Numbers.{control_count}
-use Rattle.rkyv_table.specs.Lemmas.ItemPositions.{HoldsWithin, holds_at, item_holds, told_pos}
+use Rattle.rkyv_table.specs.Lemmas.ItemPositions.{HoldsWithin, holds_at, item_holds}
+use Rattle.rkyv_table.specs.Lemmas.ItemPositions.{within_lower}
+use Rattle.rkyv_table.specs.Lemmas.SameControls.{same_controls}
 use Rattle.rkyv_table.specs.Lemmas.PlaceLaws.{AllBelow, all_between, all_clear, all_lower, all_near}
 use Rattle.rkyv_table.specs.Lemmas.PlaceLaws.{all_one_failure}
 use Rattle.rkyv_table.specs.Table.Places.{AllHold, FirstFails}
@@ -81,16 +83,8 @@ each_holds s law at b hi a (suc n) lo l i o h from to =
                 h.1;
           })
       | inr ne ↦
-          let r = each_holds s law at b hi (a + 1) n h.0 l i k.1 h.2 (omega arith) (omega arith) in
-          record {
-            lower = r.lower;
-            rest = r.rest;
-            above = omega (arith, k.0, r.above);
-            below =
-                r.below;
-            ends = r.ends;
-            holds = r.holds;
-          }
+          within_lower s b (at i) h.0 lo hi l k.0
+          (each_holds s law at b hi (a + 1) n h.0 l i k.1 h.2 (omega arith) (omega arith))
     ]
 
 -- where all places are below n, none is the first that isn't
@@ -230,19 +224,6 @@ module _ (w : Width) (kind : IsArchiveWord w) where
         ap (from_le_bytes w) (same_part b c lo m q (q + byte_len w) u.0 u.1 (omega arith) part)
         ∙ ap (number_at w c) (item_same w b c p fixed (byte_len w) i)
 
-    pub same_controls : 0 < cap_at w b p → table_controls w b p ≡ table_controls w c p
-    same_controls some =
-        let t = holds_at w P P_law b p lo hi m h some in
-        let at = told_pos w (byte_len w) b p t.begin t.part.begins in
-        let above = t.part.above in
-        let ends = t.ends in
-        let z = controls_pos w b p in
-        same_part b c lo m z (z + control_count (cap_at w b p)) (omega (arith, at, above))
-        (omega (arith, at, ends)) (omega arith) part
-        ∙ ap (λ n. slice_range c n (n + control_count (cap_at w b p))) (pos_same w b c p fixed)
-        ∙ ap (λ n. slice_range c (controls_pos w c p) (controls_pos w c p + control_count n))
-        (cap_same w b c p fixed)
-
     same_walk : walk (table_controls w b p) (cap_at w b p) ≡ walk (table_controls w c p)
         (cap_at w c p)
     same_walk = elim (cases_eq (cap_at w b p) 0) [
@@ -251,7 +232,8 @@ module _ (w : Width) (kind : IsArchiveWord w) where
           ap (walk (table_controls w b p)) none ∙ walk_none (table_controls w b p)
           ∙ sym (ap (walk (table_controls w c p)) z ∙ walk_none (table_controls w c p))
       | inr some ↦
-          ap (λ (xs : List ℕ). walk xs (cap_at w b p)) (same_controls (omega arith))
+          ap (λ (xs : List ℕ). walk xs (cap_at w b p))
+          (same_controls w P P_law b c p lo hi m o h fixed part (omega arith))
           ∙ ap (walk (table_controls w c p)) (cap_same w b c p fixed)
     ]
 

@@ -22,13 +22,14 @@ use Rattle.rkyv_table.specs.Table.Reading.{IsWalked, WrittenAt, home_positions, 
 use Rattle.rkyv_table.specs.Table.Reading.{table_controls}
 use Rattle.rkyv_table.specs.Lemmas.SameHeader.{cap_same, len_same}
 use Rattle.rkyv_table.specs.Lemmas.TableLaws.{table_element}
+use Rattle.rkyv_table.specs.Lemmas.SameControls.{same_controls}
 use Rattle.rkyv_table.proofs.SameTable.{written_there}
 use Rattle.rkyv_table.proofs.WrittenTables.{home_pos, home_walked}
 use Rattle.rkyv_index.specs.Index.{hash_at}
 use Rattle.rkyv_index.specs.IndexFormat.{IndexStands, IndexWrittenAt}
 use Rattle.rkyv_index.specs.IndexLayout.{entries_pos, pair_pos}
 use Rattle.rkyv_index.specs.Lemmas.IndexLaws.{each_holds, entry_inside, place_element}
-use Rattle.rkyv_index.specs.Lemmas.IndexLaws.{head_same, place_same_at, same_controls, told_same}
+use Rattle.rkyv_index.specs.Lemmas.IndexLaws.{head_same, place_same_at, told_same}
 use Rattle.rkyv_index.specs.IndexLayout.{IndexHolds, entry_at}
 use Rattle.rkyv_index.specs.IndexLayout.{index_shape, place_shape, places_of}
 
@@ -191,7 +192,8 @@ module _ (w : Width) (kind : IsArchiveWord w) (k v : Shape) (kl : IsElement k) (
     stands_again = record {
       homes = st.homes;
       written = written_again w S.size hash b c p head
-          (same_controls w kind b c p lo hi h.middle o head table_near h.table)
+          (same_controls w (place_shape w) (place_element w kind) b c p lo hi h.middle o h.table
+          head table_near)
           (place_same_at w kind b c p lo hi h.middle o head table_near h.table)
           (λ i below. same_hash i below ∙ ap (hash c) (same_pos i)) st.homes st.written;
       len = sym same_len ∙ st.len;

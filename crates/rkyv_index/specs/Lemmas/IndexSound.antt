@@ -96,89 +96,92 @@ module _ {P X R : Type 0} (w : Width) (kind : IsArchiveWord w) (e : Encoding P)
     (stands : List ℕ → ℕ → X → Type 0) (f : Format X R) (fl : IsFormat s stands f) (own : X → ℕ)
     (hash : List ℕ → ℕ → ℕ) (alike : (x : X) (b : List ℕ) (q : ℕ) → Standing s b q → stands b q
     x → own x ≡ hash b q)
-    (factor : ℕ × ℕ) (xs : List X) where
-  abbrev Places : List (ℕ × P)
-  Places = places_from own e.value 0 xs
+    (factor : ℕ × ℕ) where
+  module _ (xs : List X) where
+    abbrev Places : List (ℕ × P)
+    Places = places_from own e.value 0 xs
 
-  count : length Places ≡ length xs
-  count = places_count own e.value 0 xs
+    count : length Places ≡ length xs
+    count = places_count own e.value 0 xs
 
-  module _ (c : List ℕ) (p : ℕ) (stand : TableStands w (scalar_shape e) (ScalarStands e) factor c p
-      Places) where
-    tw : IsWrittenOf w (byte_len e.word) (ScalarStands e) c p Places
-    tw = table_written w (scalar_shape e) (ScalarStands e) factor c p Places stand
+    module _ (c : List ℕ) (p : ℕ) (stand : TableStands w (scalar_shape e) (ScalarStands e) factor
+        c p Places) where
+      tw : IsWrittenOf w (byte_len e.word) (ScalarStands e) c p Places
+      tw = table_written w (scalar_shape e) (ScalarStands e) factor c p Places stand
 
-    hashes_count : length (hashes_of Places) ≡ length xs
-    hashes_count = length-map Places (λ (y : ℕ × P). y.0) ∙ count
+      hashes_count : length (hashes_of Places) ≡ length xs
+      hashes_count = length-map Places (λ (y : ℕ × P). y.0) ∙ count
 
-    homes_count : length tw.homes ≡ length xs
-    homes_count = home_count w c p (hashes_of Places) tw.homes tw.written ∙ hashes_count
+      homes_count : length tw.homes ≡ length xs
+      homes_count = home_count w c p (hashes_of Places) tw.homes tw.written ∙ hashes_count
 
-    -- the place in the home of the j-th value is j
-    places_tell : (j : ℕ) → j < length xs → number_at w c
-        (slice_index (home_positions w (byte_len w) c p tw.homes) j) ≡ j
-    places_tell j h =
-        let z : 0 + j ≡ j = omega arith in
-        let q = slice_index (home_positions w (byte_len e.word) c p tw.homes) j in
-        let there : e.value (number_at e.word c q) ≡ e.value j = tw.at j (e.value j)
-        (place_there own e.value 0 xs j h ∙ ap (λ n. Some (e.value n)) z) in
-        let told : number_at e.word c q ≡ j = sym (back (number_at e.word c q)) ∙ ap e.code there
-        ∙ back j in
-        subst (λ v. number_at v c (slice_index (home_positions w (byte_len v) c p tw.homes) j) ≡ j)
-        place.word told
+      -- the place in the home of the j-th value is j
+      places_tell : (j : ℕ) → j < length xs → number_at w c
+          (slice_index (home_positions w (byte_len w) c p tw.homes) j) ≡ j
+      places_tell j h =
+          let z : 0 + j ≡ j = omega arith in
+          let q = slice_index (home_positions w (byte_len e.word) c p tw.homes) j in
+          let there : e.value (number_at e.word c q) ≡ e.value j = tw.at j (e.value j)
+          (place_there own e.value 0 xs j h ∙ ap (λ n. Some (e.value n)) z) in
+          let told : number_at e.word c q ≡ j = sym (back (number_at e.word c q)) ∙ ap e.code there
+          ∙ back j in
+          subst (λ v. number_at v c
+          (slice_index (home_positions w (byte_len v) c p tw.homes) j) ≡ j) place.word told
 
-    -- each place that is walked is that of a value
-    walked_below : (i : ℕ) → IsWalked w c p i → number_at w c (item_at w (byte_len w) c p i) <
-        length xs
-    walked_below i walked = elim tw.written.placed [
-      | inl none ↦
-          let n : length xs ≡ 0 = sym hashes_count ∙ ap length none.0 in
-          let z : cap_at w c p ≡ 0 = stand.cap ∙ ap (λ k. capacity k factor) (count ∙ n) in
-          absurd (omega (arith, walked.0, z))
-      | inr some ↦
-          let visits = walked_homes (cap_at w c p) (hashes_of Places) tw.homes _ some.0
-          tw.written.fit some.1 in
-          let home = (visits.members i).0 (full_walked (cap_at w c p) _ i walked) in
-          let j : ℕ = home.0 in
-          let below : j < length xs = omega (arith, home.1, homes_count) in
-          let at : slice_index tw.homes j ≡ i = get_or_default tw.homes j 0 i home.1 ∙ home.2 in
-          let q : slice_index (home_positions w (byte_len w) c p tw.homes) j ≡ item_at w
-          (byte_len w) c p i = home_pos w (byte_len w) c p tw.homes j home.1
-          ∙ ap (item_at w (byte_len w) c p) at in
-          let told : number_at w c (item_at w (byte_len w) c p i) ≡ j = ap (number_at w c) (sym q)
-          ∙ places_tell j below in
-          omega (arith, told, below)
-    ]
+      -- each place that is walked is that of a value
+      walked_below : (i : ℕ) → IsWalked w c p i → number_at w c (item_at w (byte_len w) c p i) <
+          length xs
+      walked_below i walked = elim tw.written.placed [
+        | inl none ↦
+            let n : length xs ≡ 0 = sym hashes_count ∙ ap length none.0 in
+            let z : cap_at w c p ≡ 0 = stand.cap ∙ ap (λ k. capacity k factor) (count ∙ n) in
+            absurd (omega (arith, walked.0, z))
+        | inr some ↦
+            let visits = walked_homes (cap_at w c p) (hashes_of Places) tw.homes _ some.0
+            tw.written.fit some.1 in
+            let home = (visits.members i).0 (full_walked (cap_at w c p) _ i walked) in
+            let j : ℕ = home.0 in
+            let below : j < length xs = omega (arith, home.1, homes_count) in
+            let at : slice_index tw.homes j ≡ i = get_or_default tw.homes j 0 i home.1 ∙ home.2 in
+            let q : slice_index (home_positions w (byte_len w) c p tw.homes) j ≡ item_at w
+            (byte_len w) c p i = home_pos w (byte_len w) c p tw.homes j home.1
+            ∙ ap (item_at w (byte_len w) c p) at in
+            let told : number_at w c (item_at w (byte_len w) c p i) ≡ j = ap (number_at w c) (sym q)
+            ∙ places_tell j below in
+            omega (arith, told, below)
+      ]
 
-    places_below : PlacesBelow w c (length xs) (item_positions w (byte_len w) c p)
-    places_below i d below =
-        let ws = walk (table_controls w c p) (cap_at w c p) in
-        let n : i < length ws = omega (arith, below, length-map ws (item_at w (byte_len w) c p)) in
-        let bucket : ℕ = get_or ws i d in
-        let walked : IsWalked w c p bucket = walked_full (cap_at w c p) (table_controls w c p)
-        bucket (i, n, get_or_default ws i bucket d n) in
-        let e = get_or-map (item_at w (byte_len w) c p) ws i d d n in
-        let h = walked_below bucket walked in
-        subst (λ q. number_at w c q < length xs) (sym e) h
+      places_below : PlacesBelow w c (length xs) (item_positions w (byte_len w) c p)
+      places_below i d below =
+          let ws = walk (table_controls w c p) (cap_at w c p) in
+          let n : i < length ws =
+          omega (arith, below, length-map ws (item_at w (byte_len w) c p)) in
+          let bucket : ℕ = get_or ws i d in
+          let walked : IsWalked w c p bucket = walked_full (cap_at w c p) (table_controls w c p)
+          bucket (i, n, get_or_default ws i bucket d n) in
+          let e = get_or-map (item_at w (byte_len w) c p) ws i d d n in
+          let h = walked_below bucket walked in
+          subst (λ q. number_at w c q < length xs) (sym e) h
 
-    places_are : map (number_at w c) (home_positions w (byte_len w) c p tw.homes) ≡ places_of
-        (length xs)
-    places_are =
-        let hs = home_positions w (byte_len w) c p tw.homes in
-        let n : length hs ≡ length xs = length-map tw.homes (item_at w (byte_len w) c p)
-        ∙ homes_count in
-        let m = length-map hs (number_at w c) in
-        ext_get_or 0 (map (number_at w c) hs) (places_of (length xs))
-        (m ∙ n ∙ sym (length-range_with_len 0 (length xs)))
-        (λ i below.
-        let k : i < length xs = omega (arith, below, m, n) in
-        get_or-map (number_at w c) hs i 0 0 (omega (arith, k, n)) ∙ places_tell i k
-        ∙ sym (get_or-range_with_len 0 (length xs) i 0 k ∙ omega arith))
+      places_are : map (number_at w c) (home_positions w (byte_len w) c p tw.homes) ≡ places_of
+          (length xs)
+      places_are =
+          let hs = home_positions w (byte_len w) c p tw.homes in
+          let n : length hs ≡ length xs = length-map tw.homes (item_at w (byte_len w) c p)
+          ∙ homes_count in
+          let m = length-map hs (number_at w c) in
+          ext_get_or 0 (map (number_at w c) hs) (places_of (length xs))
+          (m ∙ n ∙ sym (length-range_with_len 0 (length xs)))
+          (λ i below.
+          let k : i < length xs = omega (arith, below, m, n) in
+          get_or-map (number_at w c) hs i 0 0 (omega (arith, k, n)) ∙ places_tell i k
+          ∙ sym (get_or-range_with_len 0 (length xs) i 0 k ∙ omega arith))
 
-  module _ (r : IndexResolver) (c : List ℕ) (p0 p : ℕ) (part out : List ℕ) (t : IndexParts w e s f
-      own factor xs p0 part r) (i : IsIndexHeader w r.table.len (resolved_capacity r.table) r p out)
-      (sp : Sits c p0 part) (so : Sits c p out) (o : p0 + length part ≤ p) (al : p % byte_len w ≡ 0)
-    where
+    module _ (r : IndexResolver) (c : List ℕ) (p0 p : ℕ) (part out : List ℕ)
+        (t : IndexParts w e s f own factor xs p0 part r)
+        (i : IsIndexHeader w r.table.len (resolved_capacity r.table) r p out)
+        (sp : Sits c p0 part) (so : Sits c p out) (o : p0 + length part ≤ p)
+        (al : p % byte_len w ≡ 0) where
       abbrev row : List ℕ
       row = t.row
 
@@ -244,8 +247,8 @@ module _ {P X R : Type 0} (w : Width) (kind : IsArchiveWord w) (e : Encoding P)
       place_told : entries_pos w c p ≡ begin
       place_told = ap unsigned_abs told
 
-      table : (l : ℕ) × TableHolds w (scalar_shape e) c p p0 (p0 + length zb.table) l × TableStands
-          w
+      table : (l : ℕ) × TableHolds w (scalar_shape e) c p p0 (p0 + length zb.table) l
+          × TableStands w
           (scalar_shape e) (ScalarStands e) factor c p Places
       table = (table_is_format w kind (scalar_shape e) (scalar_element e word) (ScalarStands e)
           (scalar_format e) (scalar_is_format e word) factor).sound Places r.table c p0 p zb.table
@@ -318,7 +321,8 @@ module _ {P X R : Type 0} (w : Width) (kind : IsArchiveWord w) (e : Encoding P)
           (range_with_len 0 (length xs))
           (p0 + length zb.table) table.0 rows.0 b.1
           (omega (arith, t.at, front_length, head_length)) rows.1 in
-          let size : len_at w c p * s.size ≡ length xs * s.size = ap (λ n. n * s.size) len_told in (
+          let size : len_at w c p * s.size ≡ length xs * s.size =
+          ap (λ n. n * s.size) len_told in (
             begin + len_at w c p * s.size,
             record {
               middle = table.0;
@@ -340,20 +344,13 @@ module _ {P X R : Type 0} (w : Width) (kind : IsArchiveWord w) (e : Encoding P)
                   aligned = begin_aligned;
                 };
                 last = low.0;
-                hold = subst (λ n. AllHold s (λ k. begin + k * s.size) c begin (range_with_len 0 n)
-                    table.0 low.0) (sym len_told) low.1;
+                hold = subst (λ n. AllHold s (λ k. begin + k * s.size) c begin
+                    (range_with_len 0 n) table.0 low.0) (sym len_told) low.1;
                 ends = refl;
               };
             },
           )
 
-module _ {P X R : Type 0} (w : Width) (kind : IsArchiveWord w) (e : Encoding P)
-    (place : IsPlace w e) (back : CodesReadBack e) (word : IsWord e.word) (s : Shape)
-    (laws : IsElement s)
-    (stands : List ℕ → ℕ → X → Type 0) (f : Format X R) (fl : IsFormat s stands f) (own : X → ℕ)
-    (hash : List ℕ → ℕ → ℕ) (alike : (x : X) (b : List ℕ) (q : ℕ) → Standing s b q → stands b q
-    x → own x ≡ hash b q)
-    (factor : ℕ × ℕ) where
   header_whole : (r : IndexResolver) (p : ℕ) (out : List ℕ) → IsIndexHeader w r.table.len
       (resolved_capacity r.table) r p out → length out ≡ 4 * byte_len w
   header_whole r p out i =
@@ -382,12 +379,10 @@ module _ {P X R : Type 0} (w : Width) (kind : IsArchiveWord w) (e : Encoding P)
     whole = λ xs r p out i. header_whole r p out i;
     clear = λ xs r p out i far. header_clear r p out i far;
     sound = λ xs r c p0 p part out t i sp so o al.
-        let h = holds w kind e place back word s laws stands f fl own hash alike factor xs r c p0 p
-        part out t i sp so o al in (
+        let h = holds xs r c p0 p part out t i sp so o al in (
           h.0,
           h.1,
-          row_stands w kind e place back word s laws stands f fl own hash alike factor xs r
-              c p0 p part out t i sp so o al,
+          row_stands xs r c p0 p part out t i sp so o al,
         );
   }
 

@@ -1,13 +1,14 @@
 -- Values that were written in a row hold and stand.
 use Rattle.std.proofs.Common.{arith, refl, sym, ◌∙◌, ap, subst, zero, length-append}
 use Rattle.std.proofs.lemmas.Option.{none-some, same_Some}
-use Rattle.std.specs.Prelude.{◌≡◌, ℕ, suc, ◌+◌, ◌*◌, ◌%◌, ◌≤◌, List, [], ◌∷◌, ◌++◌, drop, length}
+use Rattle.std.specs.Prelude.{◌≡◌, ℕ, suc, ◌+◌, ◌*◌, ◌%◌, ◌≤◌, List, [], ◌∷◌, ◌++◌, length}
 use Rattle.std.specs.Prelude.{slice_get, Some}
 use Rattle.std.specs.List.{range_with_len}
 use Rattle.rkyv_base.specs.Bytes.{Sits, sits_back, sits_front}
 use Rattle.rkyv_base.specs.Format.{Format, IsFormat}
 use Rattle.rkyv_base.specs.Shape.{IsElement, Shape, Standing, standing, sum_multiple}
 use Rattle.rkyv_table.specs.Lemmas.PlaceLaws.{all_lower}
+use Rattle.rkyv_table.specs.Lemmas.SlotSound.{same_both}
 use Rattle.rkyv_table.specs.Table.Places.{AllHold}
 use Rattle.rkyv_index.specs.Row.{RowImages, RowParts}
 
@@ -16,12 +17,6 @@ next_times n size = omega arith
 
 times_suc : (n size : ℕ) → suc n * size ≡ size + n * size
 times_suc n size = omega arith
-
-same_head : {A : Type 0} (x y : A) (xs ys : List A) → x ∷ xs ≡ y ∷ ys → x ≡ y
-same_head x y xs ys e = same_Some x y (ap (λ l. slice_get l 0) e)
-
-same_tail : {A : Type 0} (x y : A) (xs ys : List A) → x ∷ xs ≡ y ∷ ys → xs ≡ ys
-same_tail x y xs ys e = ap (λ l. drop 1 l) e
 
 module _ {X R : Type 0} (s : Shape) (laws : IsElement s) (stands : List ℕ → ℕ → X → Type 0)
     (f : Format X R) (fl : IsFormat s stands f) where
@@ -70,15 +65,13 @@ module _ {X R : Type 0} (s : Shape) (laws : IsElement s) (stands : List ℕ → 
     row_sound (x ∷ xs) n p part out rs m i sp so o al =
         let a : List ℕ = m.0 in
         let b : List ℕ = m.2 in
-        let same : m.1 ∷ m.3 ≡ i.0 ∷ i.1 = sym m.7 ∙ i.4 in
-        let r1 : m.1 ≡ i.0 = same_head m.1 i.0 m.3 i.1 same in
-        let r2 : m.3 ≡ i.1 = same_tail m.1 i.0 m.3 i.1 same in
+        let same = same_both m.1 i.0 m.3 i.1 (sym m.7 ∙ i.4) in
         let sab : Sits c p (a ++ b) = subst (Sits c p) m.6 sp in
         let sio : Sits c (at n) (i.2 ++ i.3) = subst (Sits c (at n)) i.7 so in
         let whole : length i.2 ≡ s.size = fl.whole x i.0 (at n) i.2 i.5 in
         let np : length part ≡ length a + length b = ap length m.6 ∙ length-append a b in
         let next : at n + length i.2 ≡ at (n + 1) = omega (arith, whole, next_times n s.size) in
-        let d = fl.sound x i.0 c p (at n) a i.2 (subst (λ r. f.parts x p a r) r1 m.4) i.5
+        let d = fl.sound x i.0 c p (at n) a i.2 (subst (λ r. f.parts x p a r) same.0 m.4) i.5
         (sits_front c p a b sab) (sits_front c (at n) i.2 i.3 sio) (omega arith) al in
         let w = laws.between c (at n) p (p + length a) d.0 (omega arith) d.1 in
         let h1 = laws.higher c (at n) p (p + length a) begin d.0 (omega arith) d.1 in
@@ -86,7 +79,7 @@ module _ {X R : Type 0} (s : Shape) (laws : IsElement s) (stands : List ℕ → 
         (ap (λ k. at n + k) (sym whole) ∙ next) (sum_multiple (at n) s.size s.align
         laws.align_is al laws.size_whole) in
         let rec = row_sound xs (n + 1) (p + length a) b i.3 i.1
-        (subst (λ y. RowParts f xs (p + length a) b y) r2 m.5)
+        (subst (λ y. RowParts f xs (p + length a) b y) same.1 m.5)
         (subst (λ k. RowImages f xs i.1 k i.3) next i.6)
         (sits_back c p a b sab) (subst (λ k. Sits c k i.3) next (sits_back c (at n) i.2 i.3 sio))
         (omega arith) al2 in

@@ -2,7 +2,6 @@
 ghost use Rattle.std.specs.Prelude.{IfErr, IfOk, MatchResult, length, pos as int, ◌%◌, ◌*◌, ◌+ℤ◌};
 ghost use Rattle.std.specs.Prelude.{◌+◌, ◌<◌, ◌≡◌, ◌≤◌};
 ghost use Rattle.std.specs.Int.{byte_len};
-ghost use Rattle.rkyv_base.specs.Checking.{Fails, Passes};
 ghost use Rattle.rkyv_base.specs.Shape.{Viewed};
 ghost use Rattle.rkyv_table.specs.Table.Header.{len_at};
 ghost use Rattle.rkyv_table.specs.Table.Places.{FirstFails, SomeHold};
@@ -15,7 +14,6 @@ ghost use Rattle.rkyv_index.specs.IndexLayout.{
   PlacesBelow,
   entries_told,
   entry_at,
-  index_shape,
   place_shape,
   places_of,
 };
@@ -29,7 +27,7 @@ use rkyv_table::table::{ArchivedHashTable, TableOf};
 
 /// Checks that each place in the table at `pos` is below its length, by ascending bucket, and
 /// answers the length.
-fn check_places<W: Width>(bytes: &[u8], pos: u64) -> Result<usize, VerifyError>
+pub(crate) fn check_places<W: Width>(bytes: &[u8], pos: u64) -> Result<usize, VerifyError>
     requires { Viewed (table_shape W.word (place_shape W.word)) bytes.now pos }
     ensures below { IfOk result (λ _. PlacesBelow W.word bytes.now (len_at W.word bytes.now pos)
         (item_positions W.word (byte_len W.word) bytes.now pos)) }
@@ -104,7 +102,7 @@ fn entries_size(len: usize, size: usize) -> u128
 
 /// Checks the part of `len` entries of the index map whose header stands at `pos`, and answers
 /// where it ends: it stands in the range, where the header tells, and the entries hold in order.
-fn check_part<W: Width, T: Element>(
+pub(crate) fn check_part<W: Width, T: Element>(
     bytes: &[u8],
     pos: u64,
     len: usize,
@@ -124,36 +122,6 @@ fn check_part<W: Width, T: Element>(
     };
     match check_entries::<T>(bytes, begin, len, range.lo) {
         Ok(()) => Ok(begin + (len * size) as u64),
-        Err(e) => Err(e),
-    }
-}
-
-/// Checks the index map of entries T whose header stands at `pos`.
-pub(crate) fn check_index<W: Width, T: Element>(
-    bytes: &[u8],
-    pos: u64,
-    range: PartRange,
-) -> Result<PartRange, VerifyError>
-    requires inside { pos + 4 * byte_len W.word ≤ length bytes.now }
-    requires aligned { pos % byte_len W.word ≡ 0 }
-    requires ordered { (range.lo ≤ range.hi) × (range.hi ≤ pos) }
-    ensures { MatchResult result
-        (Passes (index_shape W.word T.shape) bytes.now pos range)
-        (Fails (index_shape W.word T.shape) bytes.now pos range) }
-{
-    let rest = match ArchivedHashTable::<W::Place, W>::verify(bytes, pos, range) {
-        Ok(rest) => rest,
-        Err(e) => return Err(e),
-    };
-    let len = match check_places::<W>(bytes, pos) {
-        Ok(len) => len,
-        Err(e) => return Err(e),
-    };
-    match check_part::<W, T>(bytes, pos, len, rest) {
-        Ok(end) => Ok(PartRange {
-            lo: end,
-            hi: range.hi,
-        }),
         Err(e) => Err(e),
     }
 }

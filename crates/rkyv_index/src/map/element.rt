@@ -4,11 +4,12 @@ ghost use Rattle.rkyv_index.specs.IndexLayout.{index_shape};
 ghost use Rattle.rkyv_index.specs.Lemmas.IndexLaws.{index_element};
 
 use crate::map::IndexMapOf;
-use crate::map::check::check_index;
+use crate::map::check::{check_part, check_places};
 use rkyv_base::element::{Element, PartRange};
 use rkyv_base::entry::Entry;
 use rkyv_base::errors::VerifyError;
 use rkyv_base::width::Width;
+use rkyv_table::table::ArchivedHashTable;
 
 impl<K: Element, V: Element, H, W: Width> Element for IndexMapOf<K, V, H, W> {
     ghost shape = { index_shape W.word (entry_shape K.shape V.shape) };
@@ -23,9 +24,22 @@ impl<K: Element, V: Element, H, W: Width> Element for IndexMapOf<K, V, H, W> {
         W::ALIGN
     }
 
-    #[inline]
     fn check(bytes: &[u8], pos: u64, range: PartRange) -> Result<PartRange, VerifyError> {
-        check_index::<W, Entry<K, V>>(bytes, pos, range)
+        let rest = match ArchivedHashTable::<W::Place, W>::verify(bytes, pos, range) {
+            Ok(rest) => rest,
+            Err(e) => return Err(e),
+        };
+        let len = match check_places::<W>(bytes, pos) {
+            Ok(len) => len,
+            Err(e) => return Err(e),
+        };
+        match check_part::<W, Entry<K, V>>(bytes, pos, len, rest) {
+            Ok(end) => Ok(PartRange {
+                lo: end,
+                hi: range.hi,
+            }),
+            Err(e) => Err(e),
+        }
     }
 
     ghost laws = { index_element W.word W.layout.kind (entry_shape K.shape V.shape)

@@ -1,15 +1,14 @@
 //! Many lookups in one index map.
-ghost use Rattle.std.specs.Prelude.{IfSome, length, ◌+◌, ◌<◌, ◌≡◌, ◌≤◌};
+ghost use Rattle.std.specs.Prelude.{IfSome, length, ◌+◌, ◌≡◌, ◌≤◌};
 ghost use Rattle.std.specs.Int.{byte_len};
 ghost use Rattle.std.specs.Option.{option_map};
 ghost use Rattle.rkyv_base.specs.Bytes.{number_at};
 ghost use Rattle.rkyv_base.specs.View.{bytes_of, pos_of};
-ghost use Rattle.rkyv_index.specs.Complete.{FindsOneKey};
-ghost use Rattle.rkyv_index.specs.Index.{AreEntries, FindsFirstKey, FindsKey, IsFoundAt, IsFullAt};
-ghost use Rattle.rkyv_index.specs.Index.{IsFullIn, IsHeld, IsIndexMap, IsKeyOf, IsPairAt, IsPairIn};
-ghost use Rattle.rkyv_index.specs.Index.{IsPlace, IsPlaceOf, IsValueAt, IsValueIn, fits_at};
-ghost use Rattle.rkyv_index.specs.Index.{full_place, index_len, index_of};
-ghost use Rattle.rkyv_index.specs.IndexMapFinder.{IsIndexMapFinder, map_of};
+ghost use Rattle.rkyv_base.specs.declared.view.View.{View};
+ghost use Rattle.rkyv_index.specs.Index.{AreEntries, IsFoundAt, IsFullIn, IsHeldPlace, IsIndexMap};
+ghost use Rattle.rkyv_index.specs.Index.{IsKeyOf, IsPairOf, IsPlaceOf, IsValueOf, full_place};
+ghost use Rattle.rkyv_index.specs.IndexMapFinder.{IsIndexMapFinder, index_in, map_of};
+ghost use Rattle.rkyv_index.specs.Lookups.{GetsKey, GetsPlace, TellsKey};
 
 use crate::map::ArchivedIndexMap;
 use crate::map::entries::Entries;
@@ -80,14 +79,9 @@ impl<'a, K: KeyElement, V: Element, H: KeyHasher, W: Width> IndexMapFinder<'a, K
     pub(crate) fn find_key<Q: Query<K>>(self, key: &Q) -> Option<usize>
         requires finder { IsIndexMapFinder W.word W.Place.encoding K.shape V.shape self }
         requires query { Q.can_read key.now }
-        ensures walked { IfSome result (IsHeld W.word (map_of self.entry)) }
-        ensures below { IfSome result (λ i. i < index_len W.word (map_of self.entry)) }
-        ensures answer { FindsKey (index_of W.word K.shape V.shape (map_of self.entry)) H.hasher
-            (Q.calls key.now) (Q.fits key.now) (IsPlace result) }
-        ensures first { FindsFirstKey (index_of W.word K.shape V.shape (map_of self.entry)) H.hasher
-            K.key_calls (Q.fits key.now) (IsPlace result) }
-        ensures complete { FindsOneKey (index_of W.word K.shape V.shape (map_of self.entry))
-            H.hasher K.key_calls K.same (Q.fits key.now) result }
+        ensures { GetsPlace (index_in W.word K.shape V.shape self.entry) H.hasher
+            (Q.calls key.now) K.key_calls K.same (Q.fits key.now)
+            (IsHeldPlace W.word (map_of self.entry)) result result }
     {
         let hash = hash_value::<Q, H>(key);
         let entries = self.entries;
@@ -97,9 +91,9 @@ impl<'a, K: KeyElement, V: Element, H: KeyHasher, W: Width> IndexMapFinder<'a, K
                 requires entries { AreEntries W.word K.shape V.shape entries }
                 requires query { Q.can_read key.now }
                 requires place { IsPlaceOf W.word entries.map item }
-                ensures { result ≡ fits_at (index_of W.word K.shape V.shape entries.entry.map)
-                    (Q.fits key.entry.now)
-                    (number_at W.word (bytes_of item.entry) (pos_of item.entry)) }
+                ensures { (k : View K) × IsKeyOf W.word K.shape V.shape entries.entry.map
+                    (number_at W.word (bytes_of item.entry) (pos_of item.entry)) k
+                    × (result ≡ Q.fits key.entry.now (bytes_of k) (pos_of k)) }
             { key.same(entries.key_at(item)) },
         );
         place_in::<W>(held)
@@ -110,13 +104,9 @@ impl<'a, K: KeyElement, V: Element, H: KeyHasher, W: Width> IndexMapFinder<'a, K
     pub fn get_full<Q: Query<K>>(self, key: &Q) -> Option<(usize, View<'a, K>, View<'a, V>)>
         requires finder { IsIndexMapFinder W.word W.Place.encoding K.shape V.shape self }
         requires query { Q.can_read key.now }
-        ensures walked { IfSome result (IsFullIn W.word K.shape V.shape (map_of self.entry)) }
-        ensures answer { FindsKey (index_of W.word K.shape V.shape (map_of self.entry)) H.hasher
-            (Q.calls key.now) (Q.fits key.now) (IsFullAt result) }
-        ensures first { FindsFirstKey (index_of W.word K.shape V.shape (map_of self.entry)) H.hasher
-            K.key_calls (Q.fits key.now) (IsFullAt result) }
-        ensures complete { FindsOneKey (index_of W.word K.shape V.shape (map_of self.entry))
-            H.hasher K.key_calls K.same (Q.fits key.now) (full_place result) }
+        ensures { GetsPlace (index_in W.word K.shape V.shape self.entry) H.hasher
+            (Q.calls key.now) K.key_calls K.same (Q.fits key.now)
+            (IsFullIn W.word K.shape V.shape (map_of self.entry)) result (full_place result) }
     {
         match self.find_key(key) {
             Some(place) => {
@@ -132,13 +122,9 @@ impl<'a, K: KeyElement, V: Element, H: KeyHasher, W: Width> IndexMapFinder<'a, K
     pub fn get_key_value<Q: Query<K>>(self, key: &Q) -> Option<(View<'a, K>, View<'a, V>)>
         requires finder { IsIndexMapFinder W.word W.Place.encoding K.shape V.shape self }
         requires query { Q.can_read key.now }
-        ensures walked { IfSome result (IsPairIn W.word K.shape V.shape (map_of self.entry)) }
-        ensures answer { FindsKey (index_of W.word K.shape V.shape (map_of self.entry)) H.hasher
-            (Q.calls key.now) (Q.fits key.now)
-            (IsPairAt W.word K.shape V.shape (map_of self.entry) result) }
-        ensures first { FindsFirstKey (index_of W.word K.shape V.shape (map_of self.entry)) H.hasher
-            K.key_calls (Q.fits key.now)
-            (IsPairAt W.word K.shape V.shape (map_of self.entry) result) }
+        ensures { GetsKey (index_in W.word K.shape V.shape self.entry) H.hasher
+            (Q.calls key.now) K.key_calls (Q.fits key.now)
+            (IsPairOf W.word K.shape V.shape (map_of self.entry)) result }
     {
         match self.find_key(key) {
             Some(place) => {
@@ -154,13 +140,9 @@ impl<'a, K: KeyElement, V: Element, H: KeyHasher, W: Width> IndexMapFinder<'a, K
     pub fn get<Q: Query<K>>(self, key: &Q) -> Option<View<'a, V>>
         requires finder { IsIndexMapFinder W.word W.Place.encoding K.shape V.shape self }
         requires query { Q.can_read key.now }
-        ensures walked { IfSome result (IsValueIn W.word K.shape V.shape (map_of self.entry)) }
-        ensures answer { FindsKey (index_of W.word K.shape V.shape (map_of self.entry)) H.hasher
-            (Q.calls key.now) (Q.fits key.now)
-            (IsValueAt W.word K.shape V.shape (map_of self.entry) result) }
-        ensures first { FindsFirstKey (index_of W.word K.shape V.shape (map_of self.entry)) H.hasher
-            K.key_calls (Q.fits key.now)
-            (IsValueAt W.word K.shape V.shape (map_of self.entry) result) }
+        ensures { GetsKey (index_in W.word K.shape V.shape self.entry) H.hasher
+            (Q.calls key.now) K.key_calls (Q.fits key.now)
+            (IsValueOf W.word K.shape V.shape (map_of self.entry)) result }
     {
         match self.find_key(key) {
             Some(place) => Some(self.entries.entry(place).value()),
@@ -173,12 +155,9 @@ impl<'a, K: KeyElement, V: Element, H: KeyHasher, W: Width> IndexMapFinder<'a, K
     pub fn get_index_of<Q: Query<K>>(self, key: &Q) -> Option<usize>
         requires finder { IsIndexMapFinder W.word W.Place.encoding K.shape V.shape self }
         requires query { Q.can_read key.now }
-        ensures walked { IfSome result (IsHeld W.word (map_of self.entry)) }
-        ensures below { IfSome result (λ i. i < index_len W.word (map_of self.entry)) }
-        ensures answer { FindsKey (index_of W.word K.shape V.shape (map_of self.entry)) H.hasher
-            (Q.calls key.now) (Q.fits key.now) (IsPlace result) }
-        ensures first { FindsFirstKey (index_of W.word K.shape V.shape (map_of self.entry)) H.hasher
-            K.key_calls (Q.fits key.now) (IsPlace result) }
+        ensures { GetsPlace (index_in W.word K.shape V.shape self.entry) H.hasher
+            (Q.calls key.now) K.key_calls K.same (Q.fits key.now)
+            (IsHeldPlace W.word (map_of self.entry)) result result }
     {
         self.find_key(key)
     }
@@ -188,10 +167,8 @@ impl<'a, K: KeyElement, V: Element, H: KeyHasher, W: Width> IndexMapFinder<'a, K
     pub fn contains_key<Q: Query<K>>(self, key: &Q) -> bool
         requires finder { IsIndexMapFinder W.word W.Place.encoding K.shape V.shape self }
         requires query { Q.can_read key.now }
-        ensures answer { FindsKey (index_of W.word K.shape V.shape (map_of self.entry)) H.hasher
-            (Q.calls key.now) (Q.fits key.now) (IsFoundAt result) }
-        ensures first { FindsFirstKey (index_of W.word K.shape V.shape (map_of self.entry)) H.hasher
-            K.key_calls (Q.fits key.now) (IsFoundAt result) }
+        ensures { TellsKey (index_in W.word K.shape V.shape self.entry) H.hasher
+            (Q.calls key.now) K.key_calls (Q.fits key.now) (IsFoundAt result) }
     {
         self.find_key(key).is_some()
     }

@@ -1,8 +1,8 @@
 //! Walking over the pairs of an index map, in order.
-ghost use Rattle.std.specs.Prelude.{IfSome, Some, length, ◌≡◌};
-ghost use Rattle.std.specs.Iterator.{UpTo, at_most};
-ghost use Rattle.std.specs.Iterator.SizeHint.{IsWithinCount};
+ghost use Rattle.std.specs.Prelude.{length, ◌≡◌};
+ghost use Rattle.std.specs.Iterator.{at_most};
 ghost use Rattle.rkyv_base.specs.Entry.{entry_shape};
+ghost use Rattle.rkyv_table.specs.Table.Hints.{HintsExactly};
 ghost use Rattle.rkyv_table.specs.Table.RawItems.{AllStand};
 ghost use Rattle.rkyv_index.specs.Index.{IsIndexMap, index_archive, index_len, key_positions};
 ghost use Rattle.rkyv_table.specs.Table.PairWalks.{TakesKey, TakesPair, TakesValue};
@@ -61,10 +61,7 @@ impl<'a, K: Element, V: Element> Iterator for Iter<'a, K, V> {
 
     #[inline]
     fn size_hint(&self) -> (usize, Option<usize>)
-        ensures lower { IsWithinCount result.0 (at_most (length self.now.places)) }
-        ensures upper { IfSome result.1 (UpTo (at_most (length self.now.places))) }
-        ensures exact { (result.0 ≡ length self.now.places)
-            × (result.1 ≡ Some (length self.now.places)) }
+        ensures { HintsExactly result (length self.now.places) }
     {
         (self.left, Some(self.left))
     }
@@ -110,10 +107,7 @@ impl<'a, K: Element, V: Element> Iterator for Keys<'a, K, V> {
 
     #[inline]
     fn size_hint(&self) -> (usize, Option<usize>)
-        ensures lower { IsWithinCount result.0 (at_most (length self.now.places)) }
-        ensures upper { IfSome result.1 (UpTo (at_most (length self.now.places))) }
-        ensures exact { (result.0 ≡ length self.now.places)
-            × (result.1 ≡ Some (length self.now.places)) }
+        ensures { HintsExactly result (length self.now.places) }
     {
         self.pairs.size_hint()
     }
@@ -159,10 +153,7 @@ impl<'a, K: Element, V: Element> Iterator for Values<'a, K, V> {
 
     #[inline]
     fn size_hint(&self) -> (usize, Option<usize>)
-        ensures lower { IsWithinCount result.0 (at_most (length self.now.places)) }
-        ensures upper { IfSome result.1 (UpTo (at_most (length self.now.places))) }
-        ensures exact { (result.0 ≡ length self.now.places)
-            × (result.1 ≡ Some (length self.now.places)) }
+        ensures { HintsExactly result (length self.now.places) }
     {
         self.rest.size_hint()
     }

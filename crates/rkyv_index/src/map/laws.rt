@@ -3,11 +3,8 @@
 ghost use Rattle.rkyv_index.specs.Index.{hash_at};
 ghost use Rattle.rkyv_index.specs.IndexFormat.{hash_of};
 ghost use Rattle.rkyv_index.specs.Reading.{PairsReadBackAreListed};
-ghost use Rattle.rkyv_index.specs.ValueWrites.{
-  ValueWritesKeepAnswers,
-  ValueWritesKeepIndexMaps,
-  ValuesWrittenStand,
-};
+ghost use Rattle.rkyv_index.specs.ValueWrites.{ValueWritesKeepAnswers, ValuesWrittenStand};
+ghost use Rattle.rkyv_index.specs.ValueWrites.{ValueWritesKeepIndexMaps};
 
 use rkyv_base::element::{Element, StandsFor};
 use rkyv_base::width::Width;

@@ -6,13 +6,11 @@ ghost use Rattle.rkyv_scan.specs.Hash.{hash_of_calls};
 ghost use Rattle.rkyv_base.specs.View.{IsAt, IsView, bytes_of, pos_of};
 ghost use Rattle.rkyv_base.specs.declared.view.View.{View};
 ghost use Rattle.rkyv_table.specs.Table.Reading.{IsItem};
-ghost use Rattle.rkyv_index.specs.Complete.{FindsOneKey};
-ghost use Rattle.rkyv_index.specs.Index.{AreEntries, FindsBy, FindsFirstBy, FindsFirstKey};
-ghost use Rattle.rkyv_index.specs.Index.{FindsKey, IsFoundAt, IsFullAt, IsFullIn, IsHeld};
-ghost use Rattle.rkyv_index.specs.Index.{IsIndexMap, IsKeyOf, IsPairAt, IsPairIn, IsPlace};
-ghost use Rattle.rkyv_index.specs.Index.{IsValueAt, IsValueIn, MayAskKeys, ReadsFew};
-ghost use Rattle.rkyv_index.specs.Index.{full_place, index_archive, index_len, index_of};
+ghost use Rattle.rkyv_index.specs.Index.{AreEntries, IsFoundAt, IsFullIn, IsHeldPlace, IsIndexMap};
+ghost use Rattle.rkyv_index.specs.Index.{IsKeyOf, IsPairAt, IsPairOf, IsValueAt, IsValueOf};
+ghost use Rattle.rkyv_index.specs.Index.{MayAskKeys, ReadsFew, full_place, index_archive, index_of};
 ghost use Rattle.rkyv_index.specs.Index.{index_pos};
+ghost use Rattle.rkyv_index.specs.Lookups.{GetsBy, GetsKey, GetsPlace, GetsPlaceBy, TellsKey};
 
 use crate::map::ArchivedIndexMap;
 use rkyv_base::element::Element;
@@ -28,22 +26,16 @@ impl<'a, K: KeyElement, V: Element, H: KeyHasher, W: Width> ArchivedIndexMap<'a,
     /// Finds the place of a key under the hash of `key` that the comparison accepts, and counts the
     /// strides of controls that are read.
     #[inline]
-    pub(crate) fn find<Q: KeyHash, F: Fn(&Q, View<'a, K>) -> bool>(
-        self,
-        key: &Q,
-        cmp: F,
-        strides: &mut Strides,
-    ) -> Option<usize>
+    pub(crate) fn find<Q: KeyHash, F>(self, key: &Q, cmp: F, strides: &mut Strides) -> Option<usize>
+    where
+        F: Fn(&Q, View<'a, K>) -> bool,
         requires map { IsIndexMap W.word K.shape V.shape self }
         requires query { Q.can_read key.now }
         requires room { strides.old ≤ 2 ^ 63 }
         requires callable { MayAskKeys (index_of W.word K.shape V.shape self) (F.pre cmp key) }
-        ensures walked { IfSome result (IsHeld W.word self.entry) }
-        ensures below { IfSome result (λ i. i < index_len W.word self.entry) }
-        ensures answer { FindsBy (index_of W.word K.shape V.shape self.entry)
-            (F.post cmp key.entry) H.hasher (Q.calls key.now) (IsPlace result) }
-        ensures first { FindsFirstBy (index_of W.word K.shape V.shape self.entry)
-            (F.post cmp key.entry) H.hasher (Q.calls key.now) K.key_calls (IsPlace result) }
+        ensures found { GetsPlaceBy (index_of W.word K.shape V.shape self.entry) H.hasher
+            (Q.calls key.now) K.key_calls (F.post cmp key.entry) (IsHeldPlace W.word self.entry)
+            result result }
         ensures hash { hash_of_calls H.hasher (Q.calls key.now) < 2 ^ 64 }
         ensures bounded { ReadsFew W.word self.entry strides.old strides.new }
     {
@@ -74,19 +66,19 @@ impl<'a, K: KeyElement, V: Element, H: KeyHasher, W: Width> ArchivedIndexMap<'a,
     /// answers; which one, the table decides. The comparison is asked for keys of the map alone,
     /// and may be asked twice of one.
     #[inline]
-    pub fn get_full_with<Q: KeyHash, F: Fn(&Q, View<'a, K>) -> bool>(
+    pub fn get_full_with<Q: KeyHash, F>(
         self,
         key: &Q,
         cmp: F,
     ) -> Option<(usize, View<'a, K>, View<'a, V>)>
+    where
+        F: Fn(&Q, View<'a, K>) -> bool,
         requires map { IsIndexMap W.word K.shape V.shape self }
         requires query { Q.can_read key.now }
         requires callable { MayAskKeys (index_of W.word K.shape V.shape self) (F.pre cmp key) }
-        ensures walked { IfSome result (IsFullIn W.word K.shape V.shape self.entry) }
-        ensures answer { FindsBy (index_of W.word K.shape V.shape self.entry)
-            (F.post cmp key.entry) H.hasher (Q.calls key.now) (IsFullAt result) }
-        ensures first { FindsFirstBy (index_of W.word K.shape V.shape self.entry)
-            (F.post cmp key.entry) H.hasher (Q.calls key.now) K.key_calls (IsFullAt result) }
+        ensures { GetsPlaceBy (index_of W.word K.shape V.shape self.entry) H.hasher
+            (Q.calls key.now) K.key_calls (F.post cmp key.entry)
+            (IsFullIn W.word K.shape V.shape self.entry) result (full_place result) }
     {
         match self.find(key, cmp, &mut Strides::new()) {
             Some(place) => {
@@ -102,14 +94,9 @@ impl<'a, K: KeyElement, V: Element, H: KeyHasher, W: Width> ArchivedIndexMap<'a,
     pub(crate) fn find_key<Q: Query<K>>(self, key: &Q) -> Option<usize>
         requires map { IsIndexMap W.word K.shape V.shape self }
         requires query { Q.can_read key.now }
-        ensures walked { IfSome result (IsHeld W.word self.entry) }
-        ensures below { IfSome result (λ i. i < index_len W.word self.entry) }
-        ensures answer { FindsKey (index_of W.word K.shape V.shape self.entry) H.hasher
-            (Q.calls key.now) (Q.fits key.now) (IsPlace result) }
-        ensures first { FindsFirstKey (index_of W.word K.shape V.shape self.entry) H.hasher
-            K.key_calls (Q.fits key.now) (IsPlace result) }
-        ensures complete { FindsOneKey (index_of W.word K.shape V.shape self.entry) H.hasher
-            K.key_calls K.same (Q.fits key.now) result }
+        ensures { GetsPlace (index_of W.word K.shape V.shape self.entry) H.hasher
+            (Q.calls key.now) K.key_calls K.same (Q.fits key.now) (IsHeldPlace W.word self.entry)
+            result result }
     {
         self.find(
             key,
@@ -132,13 +119,9 @@ impl<'a, K: KeyElement, V: Element, H: KeyHasher, W: Width> ArchivedIndexMap<'a,
     pub fn get_full<Q: Query<K>>(self, key: &Q) -> Option<(usize, View<'a, K>, View<'a, V>)>
         requires map { IsIndexMap W.word K.shape V.shape self }
         requires query { Q.can_read key.now }
-        ensures walked { IfSome result (IsFullIn W.word K.shape V.shape self.entry) }
-        ensures answer { FindsKey (index_of W.word K.shape V.shape self.entry) H.hasher
-            (Q.calls key.now) (Q.fits key.now) (IsFullAt result) }
-        ensures first { FindsFirstKey (index_of W.word K.shape V.shape self.entry) H.hasher
-            K.key_calls (Q.fits key.now) (IsFullAt result) }
-        ensures complete { FindsOneKey (index_of W.word K.shape V.shape self.entry) H.hasher
-            K.key_calls K.same (Q.fits key.now) (full_place result) }
+        ensures { GetsPlace (index_of W.word K.shape V.shape self.entry) H.hasher
+            (Q.calls key.now) K.key_calls K.same (Q.fits key.now)
+            (IsFullIn W.word K.shape V.shape self.entry) result (full_place result) }
     {
         match self.find_key(key) {
             Some(place) => {
@@ -153,10 +136,8 @@ impl<'a, K: KeyElement, V: Element, H: KeyHasher, W: Width> ArchivedIndexMap<'a,
     #[inline]
     fn pair_of(self, place: Option<usize>) -> Option<(View<'a, K>, View<'a, V>)>
         requires map { IsIndexMap W.word K.shape V.shape self }
-        requires held { IfSome place (IsHeld W.word self) }
-        requires below { IfSome place (λ i. i < index_len W.word self) }
-        ensures walked { IfSome result (IsPairIn W.word K.shape V.shape self.entry) }
-        ensures at { IsPairAt W.word K.shape V.shape self.entry result place }
+        requires held { IfSome place (IsHeldPlace W.word self) }
+        ensures { IsPairAt W.word K.shape V.shape self.entry result place }
     {
         match place {
             Some(place) => {
@@ -171,10 +152,8 @@ impl<'a, K: KeyElement, V: Element, H: KeyHasher, W: Width> ArchivedIndexMap<'a,
     #[inline]
     fn value_of(self, place: Option<usize>) -> Option<View<'a, V>>
         requires map { IsIndexMap W.word K.shape V.shape self }
-        requires held { IfSome place (IsHeld W.word self) }
-        requires below { IfSome place (λ i. i < index_len W.word self) }
-        ensures walked { IfSome result (IsValueIn W.word K.shape V.shape self.entry) }
-        ensures at { IsValueAt W.word K.shape V.shape self.entry result place }
+        requires held { IfSome place (IsHeldPlace W.word self) }
+        ensures { IsValueAt W.word K.shape V.shape self.entry result place }
     {
         match place {
             Some(place) => Some(self.entries().entry(place).value()),
@@ -184,21 +163,18 @@ impl<'a, K: KeyElement, V: Element, H: KeyHasher, W: Width> ArchivedIndexMap<'a,
 
     /// The key and the value of the pair that `get_full_with` answers.
     #[inline]
-    pub fn get_key_value_with<Q: KeyHash, F: Fn(&Q, View<'a, K>) -> bool>(
+    pub fn get_key_value_with<Q: KeyHash, F>(
         self,
         key: &Q,
         cmp: F,
     ) -> Option<(View<'a, K>, View<'a, V>)>
+    where
+        F: Fn(&Q, View<'a, K>) -> bool,
         requires map { IsIndexMap W.word K.shape V.shape self }
         requires query { Q.can_read key.now }
         requires callable { MayAskKeys (index_of W.word K.shape V.shape self) (F.pre cmp key) }
-        ensures walked { IfSome result (IsPairIn W.word K.shape V.shape self.entry) }
-        ensures answer { FindsBy (index_of W.word K.shape V.shape self.entry)
-            (F.post cmp key.entry) H.hasher (Q.calls key.now)
-            (IsPairAt W.word K.shape V.shape self.entry result) }
-        ensures first { FindsFirstBy (index_of W.word K.shape V.shape self.entry)
-            (F.post cmp key.entry) H.hasher (Q.calls key.now) K.key_calls
-            (IsPairAt W.word K.shape V.shape self.entry result) }
+        ensures { GetsBy (index_of W.word K.shape V.shape self.entry) H.hasher (Q.calls key.now)
+            K.key_calls (F.post cmp key.entry) (IsPairOf W.word K.shape V.shape self.entry) result }
     {
         self.pair_of(self.find(key, cmp, &mut Strides::new()))
     }
@@ -208,32 +184,23 @@ impl<'a, K: KeyElement, V: Element, H: KeyHasher, W: Width> ArchivedIndexMap<'a,
     pub fn get_key_value<Q: Query<K>>(self, key: &Q) -> Option<(View<'a, K>, View<'a, V>)>
         requires map { IsIndexMap W.word K.shape V.shape self }
         requires query { Q.can_read key.now }
-        ensures walked { IfSome result (IsPairIn W.word K.shape V.shape self.entry) }
-        ensures answer { FindsKey (index_of W.word K.shape V.shape self.entry) H.hasher
-            (Q.calls key.now) (Q.fits key.now) (IsPairAt W.word K.shape V.shape self.entry result) }
-        ensures first { FindsFirstKey (index_of W.word K.shape V.shape self.entry) H.hasher
-            K.key_calls (Q.fits key.now) (IsPairAt W.word K.shape V.shape self.entry result) }
+        ensures { GetsKey (index_of W.word K.shape V.shape self.entry) H.hasher (Q.calls key.now)
+            K.key_calls (Q.fits key.now) (IsPairOf W.word K.shape V.shape self.entry) result }
     {
         self.pair_of(self.find_key(key))
     }
 
     /// The value of the pair that `get_full_with` answers.
     #[inline]
-    pub fn get_with<Q: KeyHash, F: Fn(&Q, View<'a, K>) -> bool>(
-        self,
-        key: &Q,
-        cmp: F,
-    ) -> Option<View<'a, V>>
+    pub fn get_with<Q: KeyHash, F>(self, key: &Q, cmp: F) -> Option<View<'a, V>>
+    where
+        F: Fn(&Q, View<'a, K>) -> bool,
         requires map { IsIndexMap W.word K.shape V.shape self }
         requires query { Q.can_read key.now }
         requires callable { MayAskKeys (index_of W.word K.shape V.shape self) (F.pre cmp key) }
-        ensures walked { IfSome result (IsValueIn W.word K.shape V.shape self.entry) }
-        ensures answer { FindsBy (index_of W.word K.shape V.shape self.entry)
-            (F.post cmp key.entry) H.hasher (Q.calls key.now)
-            (IsValueAt W.word K.shape V.shape self.entry result) }
-        ensures first { FindsFirstBy (index_of W.word K.shape V.shape self.entry)
-            (F.post cmp key.entry) H.hasher (Q.calls key.now) K.key_calls
-            (IsValueAt W.word K.shape V.shape self.entry result) }
+        ensures { GetsBy (index_of W.word K.shape V.shape self.entry) H.hasher (Q.calls key.now)
+            K.key_calls (F.post cmp key.entry) (IsValueOf W.word K.shape V.shape self.entry)
+            result }
     {
         self.value_of(self.find(key, cmp, &mut Strides::new()))
     }
@@ -243,32 +210,23 @@ impl<'a, K: KeyElement, V: Element, H: KeyHasher, W: Width> ArchivedIndexMap<'a,
     pub fn get<Q: Query<K>>(self, key: &Q) -> Option<View<'a, V>>
         requires map { IsIndexMap W.word K.shape V.shape self }
         requires query { Q.can_read key.now }
-        ensures walked { IfSome result (IsValueIn W.word K.shape V.shape self.entry) }
-        ensures answer { FindsKey (index_of W.word K.shape V.shape self.entry) H.hasher
-            (Q.calls key.now) (Q.fits key.now)
-            (IsValueAt W.word K.shape V.shape self.entry result) }
-        ensures first { FindsFirstKey (index_of W.word K.shape V.shape self.entry) H.hasher
-            K.key_calls (Q.fits key.now) (IsValueAt W.word K.shape V.shape self.entry result) }
+        ensures { GetsKey (index_of W.word K.shape V.shape self.entry) H.hasher (Q.calls key.now)
+            K.key_calls (Q.fits key.now) (IsValueOf W.word K.shape V.shape self.entry) result }
     {
         self.value_of(self.find_key(key))
     }
 
     /// The place of the pair that `get_full_with` answers.
     #[inline]
-    pub fn get_index_of_with<Q: KeyHash, F: Fn(&Q, View<'a, K>) -> bool>(
-        self,
-        key: &Q,
-        cmp: F,
-    ) -> Option<usize>
+    pub fn get_index_of_with<Q: KeyHash, F>(self, key: &Q, cmp: F) -> Option<usize>
+    where
+        F: Fn(&Q, View<'a, K>) -> bool,
         requires map { IsIndexMap W.word K.shape V.shape self }
         requires query { Q.can_read key.now }
         requires callable { MayAskKeys (index_of W.word K.shape V.shape self) (F.pre cmp key) }
-        ensures walked { IfSome result (IsHeld W.word self.entry) }
-        ensures below { IfSome result (λ i. i < index_len W.word self.entry) }
-        ensures answer { FindsBy (index_of W.word K.shape V.shape self.entry)
-            (F.post cmp key.entry) H.hasher (Q.calls key.now) (IsPlace result) }
-        ensures first { FindsFirstBy (index_of W.word K.shape V.shape self.entry)
-            (F.post cmp key.entry) H.hasher (Q.calls key.now) K.key_calls (IsPlace result) }
+        ensures { GetsPlaceBy (index_of W.word K.shape V.shape self.entry) H.hasher
+            (Q.calls key.now) K.key_calls (F.post cmp key.entry) (IsHeldPlace W.word self.entry)
+            result result }
     {
         self.find(key, cmp, &mut Strides::new())
     }
@@ -279,22 +237,21 @@ impl<'a, K: KeyElement, V: Element, H: KeyHasher, W: Width> ArchivedIndexMap<'a,
     ///
     /// The count may be at most 9,223,372,036,854,775,808.
     #[inline]
-    pub fn get_index_of_counted<Q: KeyHash, F: Fn(&Q, View<'a, K>) -> bool>(
+    pub fn get_index_of_counted<Q: KeyHash, F>(
         self,
         key: &Q,
         cmp: F,
         strides: &mut Strides,
     ) -> Option<usize>
+    where
+        F: Fn(&Q, View<'a, K>) -> bool,
         requires map { IsIndexMap W.word K.shape V.shape self }
         requires query { Q.can_read key.now }
         requires room { strides.old ≤ 2 ^ 63 }
         requires callable { MayAskKeys (index_of W.word K.shape V.shape self) (F.pre cmp key) }
-        ensures walked { IfSome result (IsHeld W.word self.entry) }
-        ensures below { IfSome result (λ i. i < index_len W.word self.entry) }
-        ensures answer { FindsBy (index_of W.word K.shape V.shape self.entry)
-            (F.post cmp key.entry) H.hasher (Q.calls key.now) (IsPlace result) }
-        ensures first { FindsFirstBy (index_of W.word K.shape V.shape self.entry)
-            (F.post cmp key.entry) H.hasher (Q.calls key.now) K.key_calls (IsPlace result) }
+        ensures found { GetsPlaceBy (index_of W.word K.shape V.shape self.entry) H.hasher
+            (Q.calls key.now) K.key_calls (F.post cmp key.entry) (IsHeldPlace W.word self.entry)
+            result result }
         ensures bounded { ReadsFew W.word self.entry strides.old strides.new }
     {
         self.find(key, cmp, strides)
@@ -305,12 +262,9 @@ impl<'a, K: KeyElement, V: Element, H: KeyHasher, W: Width> ArchivedIndexMap<'a,
     pub fn get_index_of<Q: Query<K>>(self, key: &Q) -> Option<usize>
         requires map { IsIndexMap W.word K.shape V.shape self }
         requires query { Q.can_read key.now }
-        ensures walked { IfSome result (IsHeld W.word self.entry) }
-        ensures below { IfSome result (λ i. i < index_len W.word self.entry) }
-        ensures answer { FindsKey (index_of W.word K.shape V.shape self.entry) H.hasher
-            (Q.calls key.now) (Q.fits key.now) (IsPlace result) }
-        ensures first { FindsFirstKey (index_of W.word K.shape V.shape self.entry) H.hasher
-            K.key_calls (Q.fits key.now) (IsPlace result) }
+        ensures { GetsPlace (index_of W.word K.shape V.shape self.entry) H.hasher
+            (Q.calls key.now) K.key_calls K.same (Q.fits key.now) (IsHeldPlace W.word self.entry)
+            result result }
     {
         self.find_key(key)
     }
@@ -320,9 +274,7 @@ impl<'a, K: KeyElement, V: Element, H: KeyHasher, W: Width> ArchivedIndexMap<'a,
     pub fn contains_key<Q: Query<K>>(self, key: &Q) -> bool
         requires map { IsIndexMap W.word K.shape V.shape self }
         requires query { Q.can_read key.now }
-        ensures answer { FindsKey (index_of W.word K.shape V.shape self.entry) H.hasher
-            (Q.calls key.now) (Q.fits key.now) (IsFoundAt result) }
-        ensures first { FindsFirstKey (index_of W.word K.shape V.shape self.entry) H.hasher
+        ensures { TellsKey (index_of W.word K.shape V.shape self.entry) H.hasher (Q.calls key.now)
             K.key_calls (Q.fits key.now) (IsFoundAt result) }
     {
         self.find_key(key).is_some()

@@ -1,10 +1,10 @@
 //! What resolves a written index map, and its header.
 
-ghost use Rattle.std.specs.Prelude.{◌≡◌, ◌+◌, ◌<◌, ◌^◌, MatchResult, length};
-ghost use Rattle.rkyv_index.specs.IndexHeader.{IndexFar, IndexResolver, IsIndexHeader};
-ghost use Rattle.rkyv_table.specs.Controls.Numbers.{capacity};
+ghost use Rattle.std.specs.Prelude.{◌≡◌, ◌+◌, ◌<◌, ◌^◌, length};
+ghost use Rattle.rkyv_index.specs.IndexHeader.{IndexResolver, WritesIndexHeader};
 
 use crate::map::ArchivedIndexMap;
+use rkyv_base::archive::ResolveResult;
 use rkyv_base::errors::DistanceTooLarge;
 use rkyv_base::width::{Narrow, Width};
 use rkyv_table::table::ArchivedHashTable;
@@ -41,6 +41,21 @@ impl<W: Width> IndexMapResolver<W> {
     {
         self.table.load_factor()
     }
+
+    /// Writes the header of what was written, which is to stand at `pos`, over the whole of `out`,
+    /// as `resolve_from_len` does of its length and its load factor.
+    ///
+    /// # Errors
+    /// Those of an index map's `resolve_from_len`; `out` is unchanged.
+    pub fn resolve(self, pos: u64, out: &mut [u8]) -> ResolveResult
+        requires room { length out.old ≡ W.INDEX_SIZE }
+        requires fits { pos + W.INDEX_SIZE < 2 ^ 64 }
+        ensures { WritesIndexHeader W.word self.table.len self.table.load_factor self pos out.old
+            out.new result }
+    {
+        let (len, load_factor) = (self.len(), self.load_factor());
+        ArchivedIndexMap::<'_, (), (), (), W>::resolve_from_len(len, load_factor, self, pos, out)
+    }
 }
 
 impl<'a, K, V, H, W: Width> ArchivedIndexMap<'a, K, V, H, W> {
@@ -58,13 +73,11 @@ impl<'a, K, V, H, W: Width> ArchivedIndexMap<'a, K, V, H, W> {
         resolver: IndexMapResolver<W>,
         pos: u64,
         out: &mut [u8],
-    ) -> Result<(), DistanceTooLarge>
+    ) -> ResolveResult
         requires same { (len ≡ resolver.table.len) × (load_factor ≡ resolver.table.load_factor) }
         requires room { length out.old ≡ W.INDEX_SIZE }
         requires fits { pos + W.INDEX_SIZE < 2 ^ 64 }
-        ensures { MatchResult result
-            (λ _. IsIndexHeader W.word len (capacity len load_factor) resolver pos out.new)
-            (λ _. IndexFar W.word len resolver pos × (out.new ≡ out.old)) }
+        ensures { WritesIndexHeader W.word len load_factor resolver pos out.old out.new result }
     {
         let distance = match W::distance(resolver.entries, pos + W::TABLE_SIZE as u64) {
             Some(distance) => distance,

@@ -6,6 +6,7 @@ ghost use Rattle.rkyv_base.specs.Sealing.{value_pos};
 ghost use Rattle.rkyv_base.specs.Shape.{Viewed};
 ghost use Rattle.rkyv_base.specs.View.{IsView};
 ghost use Rattle.rkyv_table.specs.Table.Header.{len_at};
+ghost use Rattle.rkyv_table.specs.Table.PairSeals.{LendsPair, LendsValue};
 ghost use Rattle.rkyv_index.specs.Index.{FindsBy, FindsFirstBy, FindsFirstKey, FindsKey};
 ghost use Rattle.rkyv_index.specs.Index.{IsHeldAt, IsIndexMap, IsPlace, MayAskKeys};
 ghost use Rattle.rkyv_index.specs.Index.{index_bytes, index_pos};
@@ -13,13 +14,12 @@ ghost use Rattle.rkyv_index.specs.SealedIndex.{
   IsFullSeal,
   IsFullSealAt,
   IsIndexSeal,
+  IsPairPlace,
   IsPairPos,
   IsPairSeal,
   IsPairSealAt,
   IsValueSeal,
   IsValueSealAt,
-  LendsPair,
-  LendsValue,
   index_of_seal,
 };
 
@@ -125,8 +125,8 @@ impl<'a, K: KeyElement, V: Element, H: KeyHasher, W: Width> ArchivedIndexMap<'a,
         requires map { IsIndexSeal W.word K.shape V.shape this }
         requires below { place < len_at W.word (archive_in this) (pos_in this) }
         ensures inside { LiesIn V.shape result.1 }
-        ensures lent { LendsPair W.word K.shape V.shape (archive_in this.entry) (pos_in this.entry)
-            place result }
+        ensures lent { LendsPair K.shape V.shape (archive_in this.entry)
+            (IsPairPlace W.word K.shape V.shape this.entry place) result }
     {
         let pos = Self::pair_pos_in(&this, place);
         this.split_value(pos)
@@ -139,8 +139,8 @@ impl<'a, K: KeyElement, V: Element, H: KeyHasher, W: Width> ArchivedIndexMap<'a,
         requires below { place < len_at W.word (archive_in this) (pos_in this) }
         ensures inside { LiesIn V.shape result }
         ensures viewed { Viewed V.shape (bytes_in result) (seal_pos result) }
-        ensures lent { LendsValue W.word K.shape V.shape (archive_in this.entry) (pos_in this.entry)
-            place result }
+        ensures lent { LendsValue K.shape V.shape (archive_in this.entry)
+            (IsPairPlace W.word K.shape V.shape this.entry place) result }
     {
         let pos = Self::pair_pos_in(&this, place);
         value_seal::<K, V, H, W>(this, pos)

@@ -1,19 +1,10 @@
 //! Many lookups in one index set.
-ghost use Rattle.std.specs.Prelude.{IfSome, ◌<◌, ◌≡◌};
-ghost use Rattle.rkyv_index.specs.Complete.{FindsOneKey};
-ghost use Rattle.rkyv_index.specs.Index.{FindsFirstKey, FindsKey, IsFoundAt, IsHeld, IsPlace};
-ghost use Rattle.rkyv_index.specs.Index.{index_len};
-ghost use Rattle.rkyv_index.specs.IndexSet.{
-  IsFullMemberAt,
-  IsFullMemberIn,
-  IsIndexSet,
-  IsMemberAt,
-  IsMemberIn,
-  full_member_place,
-  index_of_set,
-  keys_of,
-};
-ghost use Rattle.rkyv_index.specs.IndexSetFinder.{IsIndexSetFinder, set_of};
+ghost use Rattle.std.specs.Prelude.{◌≡◌};
+ghost use Rattle.rkyv_index.specs.Index.{IsFoundAt, IsHeldPlace};
+ghost use Rattle.rkyv_index.specs.IndexSet.{IsFullMemberIn, IsIndexSet, IsMemberOf};
+ghost use Rattle.rkyv_index.specs.IndexSet.{full_member_place, keys_of};
+ghost use Rattle.rkyv_index.specs.IndexSetFinder.{IsIndexSetFinder, index_in_set, set_of};
+ghost use Rattle.rkyv_index.specs.Lookups.{GetsKey, GetsPlace, TellsKey};
 
 use crate::map::finder::IndexMapFinder;
 use crate::set::ArchivedIndexSet;
@@ -52,13 +43,9 @@ impl<'a, K: KeyElement, H: KeyHasher, W: Width> IndexSetFinder<'a, K, H, W> {
     pub fn get_full<Q: Query<K>>(self, key: &Q) -> Option<(usize, View<'a, K>)>
         requires finder { IsIndexSetFinder W.word W.Place.encoding K.shape self }
         requires query { Q.can_read key.now }
-        ensures walked { IfSome result (IsFullMemberIn W.word K.shape (set_of self.entry)) }
-        ensures answer { FindsKey (index_of_set W.word K.shape (set_of self.entry)) H.hasher
-            (Q.calls key.now) (Q.fits key.now) (IsFullMemberAt result) }
-        ensures first { FindsFirstKey (index_of_set W.word K.shape (set_of self.entry)) H.hasher
-            K.key_calls (Q.fits key.now) (IsFullMemberAt result) }
-        ensures complete { FindsOneKey (index_of_set W.word K.shape (set_of self.entry)) H.hasher
-            K.key_calls K.same (Q.fits key.now) (full_member_place result) }
+        ensures { GetsPlace (index_in_set W.word K.shape self.entry) H.hasher
+            (Q.calls key.now) K.key_calls K.same (Q.fits key.now)
+            (IsFullMemberIn W.word K.shape (set_of self.entry)) result (full_member_place result) }
     {
         match self.map.get_full(key) {
             Some((place, stored, _)) => Some((place, stored)),
@@ -71,12 +58,9 @@ impl<'a, K: KeyElement, H: KeyHasher, W: Width> IndexSetFinder<'a, K, H, W> {
     pub fn get<Q: Query<K>>(self, key: &Q) -> Option<View<'a, K>>
         requires finder { IsIndexSetFinder W.word W.Place.encoding K.shape self }
         requires query { Q.can_read key.now }
-        ensures walked { IfSome result (IsMemberIn W.word K.shape (set_of self.entry)) }
-        ensures answer { FindsKey (index_of_set W.word K.shape (set_of self.entry)) H.hasher
-            (Q.calls key.now) (Q.fits key.now)
-            (IsMemberAt W.word K.shape (set_of self.entry) result) }
-        ensures first { FindsFirstKey (index_of_set W.word K.shape (set_of self.entry)) H.hasher
-            K.key_calls (Q.fits key.now) (IsMemberAt W.word K.shape (set_of self.entry) result) }
+        ensures { GetsKey (index_in_set W.word K.shape self.entry) H.hasher
+            (Q.calls key.now) K.key_calls (Q.fits key.now)
+            (IsMemberOf W.word K.shape (set_of self.entry)) result }
     {
         match self.map.get_full(key) {
             Some((_, stored, _)) => Some(stored),
@@ -89,12 +73,9 @@ impl<'a, K: KeyElement, H: KeyHasher, W: Width> IndexSetFinder<'a, K, H, W> {
     pub fn get_index_of<Q: Query<K>>(self, key: &Q) -> Option<usize>
         requires finder { IsIndexSetFinder W.word W.Place.encoding K.shape self }
         requires query { Q.can_read key.now }
-        ensures walked { IfSome result (IsHeld W.word (keys_of (set_of self.entry))) }
-        ensures below { IfSome result (λ i. i < index_len W.word (keys_of (set_of self.entry))) }
-        ensures answer { FindsKey (index_of_set W.word K.shape (set_of self.entry)) H.hasher
-            (Q.calls key.now) (Q.fits key.now) (IsPlace result) }
-        ensures first { FindsFirstKey (index_of_set W.word K.shape (set_of self.entry)) H.hasher
-            K.key_calls (Q.fits key.now) (IsPlace result) }
+        ensures { GetsPlace (index_in_set W.word K.shape self.entry) H.hasher
+            (Q.calls key.now) K.key_calls K.same (Q.fits key.now)
+            (IsHeldPlace W.word (keys_of (set_of self.entry))) result result }
     {
         self.map.get_index_of(key)
     }
@@ -104,10 +85,8 @@ impl<'a, K: KeyElement, H: KeyHasher, W: Width> IndexSetFinder<'a, K, H, W> {
     pub fn contains<Q: Query<K>>(self, key: &Q) -> bool
         requires finder { IsIndexSetFinder W.word W.Place.encoding K.shape self }
         requires query { Q.can_read key.now }
-        ensures answer { FindsKey (index_of_set W.word K.shape (set_of self.entry)) H.hasher
-            (Q.calls key.now) (Q.fits key.now) (IsFoundAt result) }
-        ensures first { FindsFirstKey (index_of_set W.word K.shape (set_of self.entry)) H.hasher
-            K.key_calls (Q.fits key.now) (IsFoundAt result) }
+        ensures { TellsKey (index_in_set W.word K.shape self.entry) H.hasher
+            (Q.calls key.now) K.key_calls (Q.fits key.now) (IsFoundAt result) }
     {
         self.map.contains_key(key)
     }

@@ -1,23 +1,15 @@
 //! An index set, how many keys it has, and finding one of them.
-ghost use Rattle.std.specs.Prelude.{IfSome, IsTrue, MatchOption, length, ◌<◌, ◌↔◌, ◌≡◌, ◌≤◌};
+ghost use Rattle.std.specs.Prelude.{IfSome, IsTrue, MatchOption, length, ◌↔◌, ◌≡◌, ◌≤◌};
 ghost use Rattle.rkyv_base.specs.Empty.{unit_shape};
 ghost use Rattle.rkyv_base.specs.Entry.{entry_shape};
 ghost use Rattle.rkyv_base.specs.View.{IsAt, IsView, archive_of, pos_of};
 ghost use Rattle.rkyv_table.specs.Table.RawItems.{AllStand};
-ghost use Rattle.rkyv_index.specs.Complete.{FindsOneKey};
-ghost use Rattle.rkyv_index.specs.Index.{FindsFirstKey, FindsKey, IsFoundAt, IsHeld, IsKeyOf};
-ghost use Rattle.rkyv_index.specs.Index.{IsPlace, index_archive, index_len, key_positions};
-ghost use Rattle.rkyv_index.specs.IndexSet.{
-  IsFullMemberAt,
-  IsFullMemberIn,
-  IsIndexSet,
-  IsMemberAt,
-  IsMemberIn,
-  full_member_place,
-  index_of_set,
-  index_set_shape,
-  keys_of,
-};
+ghost use Rattle.rkyv_index.specs.Index.{IsFoundAt, IsHeldPlace, IsKeyOf, index_archive};
+ghost use Rattle.rkyv_index.specs.Index.{index_len, key_positions};
+ghost use Rattle.rkyv_index.specs.IndexSet.{IsFullMemberIn, IsIndexSet, IsMemberAt, IsMemberOf};
+ghost use Rattle.rkyv_index.specs.IndexSet.{full_member_place, index_of_set, index_set_shape};
+ghost use Rattle.rkyv_index.specs.IndexSet.{keys_of};
+ghost use Rattle.rkyv_index.specs.Lookups.{GetsKey, GetsPlace, TellsKey};
 
 use crate::map::iter::Keys;
 use crate::map::{ArchivedIndexMap, IndexMapOf};
@@ -93,13 +85,9 @@ impl<'a, K: KeyElement, H: KeyHasher, W: Width> ArchivedIndexSet<'a, K, H, W> {
     pub fn get_full<Q: Query<K>>(self, key: &Q) -> Option<(usize, View<'a, K>)>
         requires set { IsIndexSet W.word K.shape self }
         requires query { Q.can_read key.now }
-        ensures walked { IfSome result (IsFullMemberIn W.word K.shape self.entry) }
-        ensures answer { FindsKey (index_of_set W.word K.shape self.entry) H.hasher
-            (Q.calls key.now) (Q.fits key.now) (IsFullMemberAt result) }
-        ensures first { FindsFirstKey (index_of_set W.word K.shape self.entry) H.hasher
-            K.key_calls (Q.fits key.now) (IsFullMemberAt result) }
-        ensures complete { FindsOneKey (index_of_set W.word K.shape self.entry) H.hasher
-            K.key_calls K.same (Q.fits key.now) (full_member_place result) }
+        ensures { GetsPlace (index_of_set W.word K.shape self.entry) H.hasher (Q.calls key.now)
+            K.key_calls K.same (Q.fits key.now)
+            (IsFullMemberIn W.word K.shape self.entry) result (full_member_place result) }
     {
         match self.map.get_full(key) {
             Some((place, stored, _)) => Some((place, stored)),
@@ -112,11 +100,8 @@ impl<'a, K: KeyElement, H: KeyHasher, W: Width> ArchivedIndexSet<'a, K, H, W> {
     pub fn get<Q: Query<K>>(self, key: &Q) -> Option<View<'a, K>>
         requires set { IsIndexSet W.word K.shape self }
         requires query { Q.can_read key.now }
-        ensures walked { IfSome result (IsMemberIn W.word K.shape self.entry) }
-        ensures answer { FindsKey (index_of_set W.word K.shape self.entry) H.hasher
-            (Q.calls key.now) (Q.fits key.now) (IsMemberAt W.word K.shape self.entry result) }
-        ensures first { FindsFirstKey (index_of_set W.word K.shape self.entry) H.hasher
-            K.key_calls (Q.fits key.now) (IsMemberAt W.word K.shape self.entry result) }
+        ensures { GetsKey (index_of_set W.word K.shape self.entry) H.hasher (Q.calls key.now)
+            K.key_calls (Q.fits key.now) (IsMemberOf W.word K.shape self.entry) result }
     {
         self.key_of(self.map.find_key(key))
     }
@@ -125,10 +110,8 @@ impl<'a, K: KeyElement, H: KeyHasher, W: Width> ArchivedIndexSet<'a, K, H, W> {
     #[inline]
     fn key_of(self, place: Option<usize>) -> Option<View<'a, K>>
         requires set { IsIndexSet W.word K.shape self }
-        requires held { IfSome place (IsHeld W.word (keys_of self)) }
-        requires below { IfSome place (λ i. i < index_len W.word (keys_of self)) }
-        ensures walked { IfSome result (IsMemberIn W.word K.shape self.entry) }
-        ensures at { IsMemberAt W.word K.shape self.entry result place }
+        requires held { IfSome place (IsHeldPlace W.word (keys_of self)) }
+        ensures { IsMemberAt W.word K.shape self.entry result place }
     {
         match place {
             Some(place) => Some(self.map.entries().entry(place).key()),
@@ -141,12 +124,9 @@ impl<'a, K: KeyElement, H: KeyHasher, W: Width> ArchivedIndexSet<'a, K, H, W> {
     pub fn get_index_of<Q: Query<K>>(self, key: &Q) -> Option<usize>
         requires set { IsIndexSet W.word K.shape self }
         requires query { Q.can_read key.now }
-        ensures walked { IfSome result (IsHeld W.word (keys_of self.entry)) }
-        ensures below { IfSome result (λ i. i < index_len W.word (keys_of self.entry)) }
-        ensures answer { FindsKey (index_of_set W.word K.shape self.entry) H.hasher
-            (Q.calls key.now) (Q.fits key.now) (IsPlace result) }
-        ensures first { FindsFirstKey (index_of_set W.word K.shape self.entry) H.hasher
-            K.key_calls (Q.fits key.now) (IsPlace result) }
+        ensures { GetsPlace (index_of_set W.word K.shape self.entry) H.hasher (Q.calls key.now)
+            K.key_calls K.same (Q.fits key.now) (IsHeldPlace W.word (keys_of self.entry)) result
+            result }
     {
         self.map.get_index_of(key)
     }
@@ -156,9 +136,7 @@ impl<'a, K: KeyElement, H: KeyHasher, W: Width> ArchivedIndexSet<'a, K, H, W> {
     pub fn contains<Q: Query<K>>(self, key: &Q) -> bool
         requires set { IsIndexSet W.word K.shape self }
         requires query { Q.can_read key.now }
-        ensures answer { FindsKey (index_of_set W.word K.shape self.entry) H.hasher
-            (Q.calls key.now) (Q.fits key.now) (IsFoundAt result) }
-        ensures first { FindsFirstKey (index_of_set W.word K.shape self.entry) H.hasher
+        ensures { TellsKey (index_of_set W.word K.shape self.entry) H.hasher (Q.calls key.now)
             K.key_calls (Q.fits key.now) (IsFoundAt result) }
     {
         self.map.contains_key(key)

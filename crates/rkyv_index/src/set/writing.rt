@@ -1,28 +1,27 @@
 //! Writing index sets.
 
-ghost use Rattle.std.specs.Prelude.{◌≡◌, ◌+◌, ◌<◌, ◌^◌, MatchResult, length};
+ghost use Rattle.std.specs.Prelude.{◌≡◌, ◌+◌, ◌<◌, ◌^◌, length};
 ghost use Rattle.rkyv_base.specs.Pairs.{written_as};
-ghost use Rattle.rkyv_table.specs.Controls.Numbers.{capacity};
 ghost use Rattle.rkyv_index.specs.Handing.{WritesUnder};
 ghost use Rattle.rkyv_index.specs.IndexFormat.{hash_of};
-ghost use Rattle.rkyv_index.specs.IndexHeader.{IndexFar, IsIndexHeader};
+ghost use Rattle.rkyv_index.specs.IndexHeader.{WritesIndexHeader};
 ghost use Rattle.rkyv_index.specs.SetFormat.{index_set_format};
-ghost use Rattle.rkyv_table.specs.Table.Lent.{UnitStep, lent_keys};
+ghost use Rattle.rkyv_table.specs.Table.Lent.{lent_keys};
 
 use crate::map::ArchivedIndexMap;
 use crate::map::resolve::IndexMapResolver;
 use crate::map::serialize::ListFormat;
 use crate::set::{ArchivedIndexSet, IndexSetOf};
 use crate::width::PlaceWidth;
-use rkyv_base::archive::{Archive, Serialize};
+use rkyv_base::archive::{Archive, ResolveResult, Serialize, WriteResult};
 use rkyv_base::element::{Element, StandsFor};
-use rkyv_base::errors::{DistanceTooLarge, WriteError};
 use rkyv_base::lend::Lend;
 use rkyv_base::width::Narrow;
 use rkyv_base::writer::Writer;
 use rkyv_keys::hash::KeyHash;
 use rkyv_keys::keys::{KeyElement, NativeKey};
 use rkyv_scan::hash::KeyHasher;
+use rkyv_table::table::lent::WithUnits;
 use std::alloc::Global;
 
 /// What resolves a written index set: what resolves the map of its keys.
@@ -35,30 +34,6 @@ impl<K: Element, H: KeyHasher, W: PlaceWidth, A: KeyHash + Archive<W>, BK: Lend<
     ghost format = { λ load_factor. written_as (lent_keys BK.lent)
         (index_set_format W.word W.Place.encoding K.shape A.format (hash_of H.hasher A.calls)
         load_factor) };
-}
-
-/// The keys of an iterator, each with the unit value.
-#[derive(Drop)]
-struct WithUnits<I> {
-    keys: I,
-}
-
-impl<BK, I: Iterator<Item = BK>> Iterator for WithUnits<I> {
-    type Item = (BK, ());
-
-    ghost can_next = { λ s. I.can_next s.keys };
-
-    ghost next_gives = { λ s r t. UnitStep I.next_gives s.keys r t.keys };
-
-    ghost remaining = { λ s. I.remaining s.keys };
-
-    #[inline]
-    fn next(&mut self) -> Option<(BK, ())> {
-        match self.keys.next() {
-            Some(key) => Some((key, ())),
-            None => None,
-        }
-    }
 }
 
 impl<'a, K: KeyElement, H: KeyHasher, W: PlaceWidth> ArchivedIndexSet<'a, K, H, W> {
@@ -82,7 +57,7 @@ impl<'a, K: KeyElement, H: KeyHasher, W: PlaceWidth> ArchivedIndexSet<'a, K, H, 
         len: usize,
         load_factor: (usize, usize),
         serializer: &mut S,
-    ) -> Result<IndexSetResolver<W>, WriteError<S::Fault>>
+    ) -> WriteResult<IndexSetResolver<W>, S>
     where
         K: StandsFor<A>,
         requires can { I.can_next iter }
@@ -112,13 +87,11 @@ impl<'a, K: KeyElement, H: KeyHasher, W: PlaceWidth> ArchivedIndexSet<'a, K, H, 
         resolver: IndexSetResolver<W>,
         pos: u64,
         out: &mut [u8],
-    ) -> Result<(), DistanceTooLarge>
+    ) -> ResolveResult
         requires same { (len ≡ resolver.table.len) × (load_factor ≡ resolver.table.load_factor) }
         requires room { length out.old ≡ W.INDEX_SIZE }
         requires fits { pos + W.INDEX_SIZE < 2 ^ 64 }
-        ensures { MatchResult result
-            (λ _. IsIndexHeader W.word len (capacity len load_factor) resolver pos out.new)
-            (λ _. IndexFar W.word len resolver pos × (out.new ≡ out.old)) }
+        ensures { WritesIndexHeader W.word len load_factor resolver pos out.old out.new result }
     {
         ArchivedIndexMap::<K, (), H, W>::resolve_from_len(len, load_factor, resolver, pos, out)
     }

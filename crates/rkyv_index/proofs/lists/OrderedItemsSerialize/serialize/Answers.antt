@@ -7,20 +7,20 @@ use Rattle.rkyv_scan.specs.Hash.{fx_hasher, low_halves}
 use Rattle.rkyv_index.specs.IndexFormat.{hash_of}
 use Rattle.rkyv_index.specs.SetFormat.{index_set_format}
 use Rattle.rkyv_table.specs.Table.Lent.{lent_keys}
-use Rattle.rkyv_index.specs.declared.lists.Keys.{Keys}
+use Rattle.rkyv_table.specs.declared.table.lent.Refs.{Refs}
 use Rattle.rkyv_table.proofs.Listing.{all_came, answers_listed, no_other_came}
 use Rattle.rkyv_index.proofs.lists.OrderedItemsSerialize.serialize.Goals as goal
 
 pub returns : goal.returns
 returns g c =
     let values = c.args.self.now.0.items in
-    let keys : Keys g.row.A.Denot = record { keys = c.iter.result } in
+    let keys : Refs g.row.A.Denot = c.of-keys.result in
     let view : Bor g.row.A.Denot → g.row.A.Denot = λ key. key.now in
-    let rest : Keys g.row.A.Denot → List g.row.A.Denot = λ s. iter_rest s.keys in
+    let rest : Refs g.row.A.Denot → List g.row.A.Denot = λ s. iter_rest s.items in
     let steps = YieldsFirstBy view rest in
     let hash = hash_of (fx_hasher low_halves) g.A.KeyHash.calls in
     let f = index_set_format g.W.Width.word g.W.Place.Scalar.encoding g.A.Archived.Element.shape g.A.Archive.format hash (7, 8) in
-    let all : iter_rest c.iter.result ≡ values = search rules in
+    let all : iter_rest keys.items ≡ values = search rules in
     let count : c.len.result ≡ length values = search rules in
     answers_listed (Drains steps keys) (GaveOther steps c.len.result keys) (lent_keys (λ k. k.now)) values
     (λ items d. all_came view rest items keys d ∙ all) (λ n h. no_other_came view rest c.len.result keys (ap length all ∙ sym count) n h)

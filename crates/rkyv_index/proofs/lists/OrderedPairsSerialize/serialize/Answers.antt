@@ -7,20 +7,20 @@ use Rattle.rkyv_scan.specs.Hash.{fx_hasher, low_halves}
 use Rattle.rkyv_table.specs.Table.Lent.{lent_pairs}
 use Rattle.rkyv_index.specs.IndexFormat.{hash_of}
 use Rattle.rkyv_index.specs.IndexFormat.{index_format}
-use Rattle.rkyv_index.specs.declared.lists.Halves.{Halves}
+use Rattle.rkyv_table.specs.declared.table.lent.Halves.{Halves}
 use Rattle.rkyv_table.proofs.Listing.{all_came, answers_listed, no_other_came}
 use Rattle.rkyv_index.proofs.lists.OrderedPairsSerialize.serialize.Goals as goal
 
 pub returns : goal.returns
 returns g c =
     let values = c.args.self.now.0.items in
-    let halves : Halves g.row.A.Denot g.row.B.Denot = record { pairs = c.iter.result } in
+    let halves : Halves g.row.A.Denot g.row.B.Denot = c.of-halves.result in
     let view : Bor g.row.A.Denot × Bor g.row.B.Denot → g.row.A.Denot × g.row.B.Denot = λ halves. (halves.0.now, halves.1.now) in
     let rest : Halves g.row.A.Denot g.row.B.Denot → List (g.row.A.Denot × g.row.B.Denot) = λ s. iter_rest s.pairs in
     let steps = YieldsFirstBy view rest in
     let hash = hash_of (fx_hasher low_halves) g.A.KeyHash.calls in
     let f = index_format g.W.Width.word g.W.Place.Scalar.encoding g.A.Archived.Element.shape g.B.Archived.Element.shape g.A.Archive.format g.B.Archive.format hash (7, 8) in
-    let all : iter_rest c.iter.result ≡ values = search rules in
+    let all : iter_rest halves.pairs ≡ values = search rules in
     let count : c.len.result ≡ length values = search rules in
     answers_listed (Drains steps halves) (GaveOther steps c.len.result halves) (lent_pairs (λ k. k.now) (λ k. k.now)) values
     (λ items d. all_came view rest items halves d ∙ all) (λ n h. no_other_came view rest c.len.result halves (ap length all ∙ sym count) n h)

@@ -1,5 +1,6 @@
 use Rattle.std.proofs.Common.{◌<◌}
 use Rattle.std.specs.Prelude.{IfSome}
+use Rattle.std.proofs.lemmas.Option.{IfSome_then}
 use Rattle.rkyv_scan.specs.Hash.{hash_of_calls}
 use Rattle.rkyv_table.specs.Table.Header.{len_at}
 use Rattle.rkyv_index.specs.Index.{IsHeldAt, IsPlace, hash_at}
@@ -7,10 +8,10 @@ use Rattle.rkyv_index.proofs.SealedIndex.{answers_read, as_read, finds_first_rea
 use Rattle.rkyv_index.proofs.map.ArchivedIndexMap.find_in.Goals as goal
 
 pub returns-clause-held : goal.returns-clause-held
-returns-clause-held g c = as_read c.read.result _ _ c.read.ensures.bytes c.read.ensures.pos (λ d r. IfSome c.find.result (IsHeldAt g.W.Width.word d r)) c.find.ensures.walked
+returns-clause-held g c = as_read c.read.result _ _ c.read.ensures.bytes c.read.ensures.pos (λ d r. IfSome c.find.result (IsHeldAt g.W.Width.word d r)) (IfSome_then c.find.result c.find.ensures.found.walked (λ i there. there.0))
 
 pub returns-clause-below : goal.returns-clause-below
-returns-clause-below g c = as_read c.read.result _ _ c.read.ensures.bytes c.read.ensures.pos (λ d r. IfSome c.find.result (λ i. i < len_at g.W.Width.word d r)) c.find.ensures.below
+returns-clause-below g c = as_read c.read.result _ _ c.read.ensures.bytes c.read.ensures.pos (λ d r. IfSome c.find.result (λ i. i < len_at g.W.Width.word d r)) (IfSome_then c.find.result c.find.ensures.found.walked (λ i there. there.1))
 
 pub returns-clause-answer : goal.returns-clause-answer
 returns-clause-answer g c = λ accept answers.
@@ -21,7 +22,7 @@ returns-clause-answer g c = λ accept answers.
     let e = c.read.ensures in
     let hash = hash_of_calls g.H.KeyHasher.hasher (g.Q.KeyHash.calls c.args.key.now) in
     finds_read m _ _ e.bytes e.pos w k v hash accept (IsPlace c.find.result)
-    (c.find.ensures.answer accept (answers_read m _ _ e.bytes e.pos w k v _ accept answers))
+    (c.find.ensures.found.answer accept (answers_read m _ _ e.bytes e.pos w k v _ accept answers))
 
 pub returns-clause-first : goal.returns-clause-first
 returns-clause-first g c = λ accept answers under.
@@ -32,4 +33,4 @@ returns-clause-first g c = λ accept answers under.
     let e = c.read.ensures in
     let key_hash = hash_at g.H.KeyHasher.hasher g.K.KeyElement.key_calls in
     finds_first_read m _ _ e.bytes e.pos w k v key_hash accept (IsPlace c.find.result)
-    (c.find.ensures.first accept (answers_read m _ _ e.bytes e.pos w k v _ accept answers) (under_read m _ _ e.bytes e.pos w k v _ key_hash accept under))
+    (c.find.ensures.found.first accept (answers_read m _ _ e.bytes e.pos w k v _ accept answers) (under_read m _ _ e.bytes e.pos w k v _ key_hash accept under))

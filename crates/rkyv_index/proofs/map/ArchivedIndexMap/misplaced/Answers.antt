@@ -1,4 +1,4 @@
-use Rattle.std.proofs.Common.{subst, ◌≡◌, ◌-◌, ◌<◌, ◌≤◌, ◌∙◌, ap, arith, sym, Bool, List, ℕ, filter, length}
+use Rattle.std.proofs.Common.{subst, ◌≡◌, ◌+◌, ◌-◌, ◌<◌, ◌≤◌, ◌∙◌, ap, arith, sym, true, false, Bool, List, ℕ, filter, length}
 use Rattle.std.specs.List.{range_with_len}
 use Rattle.rkyv_index.specs.Equality.{TellsRepeated, is_misplaced, is_repeated}
 use Rattle.rkyv_index.specs.Index.{hash_at, index_len, index_of}
@@ -11,9 +11,16 @@ use Rattle.rkyv_index.proofs.map.ArchivedIndexMap.misplaced.Goals as goal
 left_first : (P : ℕ → Bool) (n : ℕ) → length (filter P (range_with_len 0 (n - 0))) ≡ length (filter P (range_with_len 0 n))
 left_first P n = ap (λ (xs : List ℕ). length (filter P xs)) (all_left n)
 
--- and none at last
-left_last : (P : ℕ → Bool) (i n : ℕ) → n ≤ i → length (filter P (range_with_len i (n - i))) ≡ 0
-left_last P i n end = ap (λ (xs : List ℕ). length (filter P xs)) (none_left i n end)
+-- a place more is counted, or passed, and at last none is left
+module _ (P : ℕ → Bool) (count i n all : ℕ) (told : count + length (filter P (range_with_len i (n - i))) ≡ all) where
+  one_more : (next : ℕ) → i < n → P i ≡ true → next ≡ count + 1 → next + length (filter P (range_with_len (i + 1) (n - (i + 1)))) ≡ all
+  one_more next below passes e = let s = filter_step P i n below passes in omega (arith, s, e, told)
+
+  none_more : (next : ℕ) → i < n → P i ≡ false → next ≡ count → next + length (filter P (range_with_len (i + 1) (n - (i + 1)))) ≡ all
+  none_more next below fails e = let s = filter_skip P i n below fails in omega (arith, s, e, told)
+
+  all_told : n ≤ i → count ≡ all
+  all_told end = let none = ap (λ (xs : List ℕ). length (filter P xs)) (none_left i n end) in omega (arith, told, none)
 
 pub loop-place-init : goal.loop-place-init
 loop-place-init g c =
@@ -44,47 +51,23 @@ loop-place-preserved g c =
     let repeats = subst (λ x. TellsRepeated (index x) key_hash same i c.is_misplaced.result) c.entries-entries.ensures.map c.is_misplaced.ensures.repeated in
     elim c.if-is_misplaced.branch [
       | then-is_misplaced x ↦
-          let s = filter_step P i n below (sym is ∙ x.if-is_misplaced.true) in
           let e = x.count-is in
-          record {
-            few = omega arith;
-            told = omega (arith, s, e, told);
-            repeated = λ homes written.
-                let t = filter_step R i n below (sym (repeats homes written) ∙ x.if-is_misplaced.true) in
-                let before = inv.repeated homes written in
-                omega (arith, t, e, before);
-          }
+          let hit = x.if-is_misplaced.true in
+          record { few = omega arith; told = one_more P _ i n _ told _ below (sym is ∙ hit) e; repeated = λ homes written. one_more R _ i n _ (inv.repeated homes written) _ below (sym (repeats homes written) ∙ hit) e }
       | else-is_misplaced x ↦
-          let s = filter_skip P i n below (sym is ∙ x.if-is_misplaced.false) in
           let e = x.count-is in
-          record {
-            few = omega arith;
-            told = omega (arith, s, e, told);
-            repeated = λ homes written.
-                let t = filter_skip R i n below (sym (repeats homes written) ∙ x.if-is_misplaced.false) in
-                let before = inv.repeated homes written in
-                omega (arith, t, e, before);
-          }
+          let miss = x.if-is_misplaced.false in
+          record { few = omega arith; told = none_more P _ i n _ told _ below (sym is ∙ miss) e; repeated = λ homes written. none_more R _ i n _ (inv.repeated homes written) _ below (sym (repeats homes written) ∙ miss) e }
     ]
 
 pub returns-clause-told : goal.returns-clause-told
 returns-clause-told g c =
-    let m = index_of g.W.Width.word g.K.Element.shape g.V.Element.shape c.args.self in
-    let n : ℕ = index_len g.W.Width.word c.args.self in
-    let key_hash = hash_at g.H.KeyHasher.hasher g.K.KeyElement.key_calls in
-    let end : c.len-place-end.result ≡ n = c.len-place-end.ensures in
+    let end : c.len-place-end.result ≡ index_len g.W.Width.word c.args.self = c.len-place-end.ensures in
     let test = c.loop-place-test.false in
-    let told = c.loop-place.invariant.told in
-    let none = left_last (is_misplaced m key_hash g.K.ElementEq.same) c.loop-place.place n (omega (arith, test, end)) in
-    omega (arith, told, none)
+    all_told _ _ c.loop-place.place (index_len g.W.Width.word c.args.self) _ c.loop-place.invariant.told (omega (arith, test, end))
 
 pub returns-clause-repeated : goal.returns-clause-repeated
 returns-clause-repeated g c = λ homes written.
-    let m = index_of g.W.Width.word g.K.Element.shape g.V.Element.shape c.args.self in
-    let n : ℕ = index_len g.W.Width.word c.args.self in
-    let key_hash = hash_at g.H.KeyHasher.hasher g.K.KeyElement.key_calls in
-    let end : c.len-place-end.result ≡ n = c.len-place-end.ensures in
+    let end : c.len-place-end.result ≡ index_len g.W.Width.word c.args.self = c.len-place-end.ensures in
     let test = c.loop-place-test.false in
-    let told = c.loop-place.invariant.repeated homes written in
-    let none = left_last (is_repeated m key_hash g.K.ElementEq.same) c.loop-place.place n (omega (arith, test, end)) in
-    omega (arith, told, none)
+    all_told _ _ c.loop-place.place (index_len g.W.Width.word c.args.self) _ (c.loop-place.invariant.repeated homes written) (omega (arith, test, end))

@@ -6,14 +6,15 @@ use Rattle.rkyv_index.specs.Index.{index_len, key_pos}
 use Rattle.rkyv_index.specs.SealedIndex.{IsPairPos}
 use Rattle.rkyv_index.specs.ValueWrites.{pair_at}
 use Rattle.rkyv_index.proofs.Held.{entry_viewed}
-use Rattle.rkyv_index.proofs.SealedIndex.{as_read, to_read}
+use Rattle.rkyv_table.proofs.Moved.{moved}
+use Rattle.rkyv_index.proofs.SealedIndex.{as_read}
 use Rattle.rkyv_index.proofs.ValueWrites.{pair_place}
 use Rattle.rkyv_index.proofs.map.ArchivedIndexMap.pair_pos_in.Goals as goal
 
 pub entry-requires-clause-below : goal.entry-requires-clause-below
 entry-requires-clause-below g c =
     subst (λ m. c.args.place < index_len g.W.Width.word m) (sym c.entries.ensures.map)
-    (to_read c.read.result _ _ c.read.ensures.bytes c.read.ensures.pos (λ d r. c.args.place < len_at g.W.Width.word d r) c.requires.below)
+    (moved (λ d r. c.args.place < len_at g.W.Width.word d r) _ _ _ _ (sym c.read.ensures.bytes) (sym c.read.ensures.pos) c.requires.below)
 
 pub returns-clause-at : goal.returns-clause-at
 returns-clause-at g c =

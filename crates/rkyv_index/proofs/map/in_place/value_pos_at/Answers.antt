@@ -3,7 +3,8 @@ use Rattle.rkyv_base.specs.Entry.{value_offset}
 use Rattle.rkyv_table.specs.Table.Header.{len_at}
 use Rattle.rkyv_index.specs.Index.{index_len, key_pos}
 use Rattle.rkyv_index.specs.ValueWrites.{pair_at}
-use Rattle.rkyv_index.proofs.SealedIndex.{as_read, to_read}
+use Rattle.rkyv_table.proofs.Moved.{moved}
+use Rattle.rkyv_index.proofs.SealedIndex.{as_read}
 use Rattle.rkyv_index.proofs.ValueWrites.{pair_place}
 use Rattle.rkyv_index.proofs.map.in_place.value_pos_at.Goals as goal
 
@@ -12,7 +13,7 @@ entry-requires-clause-below g c =
     let bytes = ap (λ v. v.archive.now) c.of-map.ensures.view ∙ ap (λ a. a.now) c.new.ensures.0 in
     let place = ap (λ v. v.pos) c.of-map.ensures.view ∙ c.new.ensures.1 in
     subst (λ m. c.args.place < index_len g.W.Width.word m) (sym c.entries.ensures.map)
-    (to_read c.of-map.result _ _ bytes place (λ d r. c.args.place < len_at g.W.Width.word d r) c.requires.below)
+    (moved (λ d r. c.args.place < len_at g.W.Width.word d r) _ _ _ _ (sym bytes) (sym place) c.requires.below)
 
 pub returns-clause-at : goal.returns-clause-at
 returns-clause-at g c =

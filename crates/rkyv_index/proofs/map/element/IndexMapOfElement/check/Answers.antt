@@ -1,8 +1,9 @@
 use Rattle.std.proofs.Common.{◌≡◌, inl, inr, refl, subst, List, ℕ}
+use Rattle.rkyv_base.specs.Entry.{entry_shape}
 use Rattle.rkyv_index.specs.IndexLayout.{EntriesFail, EntriesIn, entries_told}
 use Rattle.rkyv_index.specs.Lemmas.PlaceShapes.{words_fail, words_hold}
 use Rattle.rkyv_index.proofs.Checking.{table_viewed}
-use Rattle.rkyv_index.proofs.map.check.check_index.Goals as goal
+use Rattle.rkyv_index.proofs.map.element.IndexMapOfElement.check.Goals as goal
 
 -- what holds of two numbers holds of equal ones
 both : (F : ℕ → ℕ → Type 0) (n n' hi hi' : ℕ) → n ≡ n' → hi ≡ hi' → F n hi → F n' hi'
@@ -38,7 +39,7 @@ returns-in-Err-check_part g c =
       table,
       inr (
         c.in-Ok-check_places.ensures.below,
-        both (λ n hi. EntriesFail g.T.Element.shape b (entries_told w b c.args.pos) n m hi c.in-Err-check_part.e) _ _ _ _ c.in-Ok-check_places.ensures.len c.in-Ok.ensures.0 c.in-Err-check_part.ensures,
+        both (λ n hi. EntriesFail (entry_shape g.K.Element.shape g.V.Element.shape) b (entries_told w b c.args.pos) n m hi c.in-Err-check_part.e) _ _ _ _ c.in-Ok-check_places.ensures.len c.in-Ok.ensures.0 c.in-Err-check_part.ensures,
       ),
     )
 
@@ -52,6 +53,6 @@ returns-in-Ok-check_part g c =
         middle = m;
         table = words_hold w g.W.Place.Scalar.encoding g.met.W.Width.place b c.args.pos c.args.range.lo c.args.range.hi m c.in-Ok.ensures.1;
         below = c.in-Ok-check_places.ensures.below;
-        entries = both (λ n hi. EntriesIn g.T.Element.shape b (entries_told w b c.args.pos) n m hi c.in-Ok-check_part.end) _ _ _ _ c.in-Ok-check_places.ensures.len c.in-Ok.ensures.0 c.in-Ok-check_part.ensures;
+        entries = both (λ n hi. EntriesIn (entry_shape g.K.Element.shape g.V.Element.shape) b (entries_told w b c.args.pos) n m hi c.in-Ok-check_part.end) _ _ _ _ c.in-Ok-check_places.ensures.len c.in-Ok.ensures.0 c.in-Ok-check_part.ensures;
       },
     )
