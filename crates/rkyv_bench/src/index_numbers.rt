@@ -1,11 +1,10 @@
 //! The calls for index maps of numbers to numbers.
 
 ghost use Rattle.std.specs.Prelude.{◌≡◌};
-ghost use Rattle.rkyv_bench_calls.specs.Archives.{number_shape};
 ghost use Rattle.rkyv_bench_calls.specs.Building.{IsBuilt};
 ghost use Rattle.rkyv_bench_calls.specs.Index.{IndexesNumbers, IsIndexArchive, IsIndexLengthAnd1};
-ghost use Rattle.rkyv_bench_calls.specs.Index.{index_number_looked_up, index_root, index_walked};
-ghost use Rattle.rkyv_bench_calls.specs.Totals.{number_weight, pair_weight, total};
+ghost use Rattle.rkyv_bench_calls.specs.Index.{index_number_looked_up, index_walk_total};
+ghost use Rattle.rkyv_bench_calls.specs.Totals.{total};
 
 use rkyv_bench_calls::index_numbers::{
     access_index_u32, build_index_u32, lookup_index_u32, lookup_index_u32_by_finder, walk_index_u32,
@@ -32,7 +31,7 @@ pub extern "C" fn rkyv_bench_build_index_u32(
 /// The length of the archived index map and one more, or 0 where the bytes are no archive of one.
 #[unsafe(no_mangle)]
 pub extern "C" fn rkyv_bench_access_index_u32(archive: &[u8]) -> usize
-    ensures { IsIndexLengthAnd1 number_shape archive.now result }
+    ensures { IsIndexLengthAnd1 archive.now result }
 {
     access_index_u32(archive)
 }
@@ -42,7 +41,7 @@ pub extern "C" fn rkyv_bench_access_index_u32(archive: &[u8]) -> usize
 /// The archive must have been accepted: `rkyv_bench_access_index_u32` answered more than 0.
 #[unsafe(no_mangle)]
 pub extern "C" fn rkyv_bench_lookup_index_u32(archive: &[u8], keys: &[u32]) -> u64
-    requires { IsIndexArchive number_shape archive.now }
+    requires { IsIndexArchive archive.now }
     ensures { result ≡ total (index_number_looked_up archive.now) keys.now }
 {
     lookup_index_u32(archive, keys)
@@ -53,7 +52,7 @@ pub extern "C" fn rkyv_bench_lookup_index_u32(archive: &[u8], keys: &[u32]) -> u
 /// The archive must have been accepted: `rkyv_bench_access_index_u32` answered more than 0.
 #[unsafe(no_mangle)]
 pub extern "C" fn rkyv_bench_lookup_index_u32_by_finder(archive: &[u8], keys: &[u32]) -> u64
-    requires { IsIndexArchive number_shape archive.now }
+    requires { IsIndexArchive archive.now }
     ensures { result ≡ total (index_number_looked_up archive.now) keys.now }
 {
     lookup_index_u32_by_finder(archive, keys)
@@ -64,9 +63,8 @@ pub extern "C" fn rkyv_bench_lookup_index_u32_by_finder(archive: &[u8], keys: &[
 /// The archive must have been accepted: `rkyv_bench_access_index_u32` answered more than 0.
 #[unsafe(no_mangle)]
 pub extern "C" fn rkyv_bench_walk_index_u32(archive: &[u8]) -> u64
-    requires { IsIndexArchive number_shape archive.now }
-    ensures { result ≡ total (pair_weight number_shape number_weight archive.now)
-        (index_walked number_shape archive.now (index_root archive.now)) }
+    requires { IsIndexArchive archive.now }
+    ensures { result ≡ index_walk_total archive.now }
 {
     walk_index_u32(archive)
 }

@@ -1,10 +1,10 @@
 //! The calls for maps of numbers to numbers.
 
 ghost use Rattle.std.specs.Prelude.{◌≡◌};
-ghost use Rattle.rkyv_bench_calls.specs.Archives.{IsArchive, IsLengthAnd1, number_shape, root};
+ghost use Rattle.rkyv_bench_calls.specs.Archives.{IsArchive, IsLengthAnd1, number_shape};
 ghost use Rattle.rkyv_bench_calls.specs.Building.{IsBuilt, MapsNumbers};
 ghost use Rattle.rkyv_bench_calls.specs.Totals.{number_hash, number_looked_up, number_weight};
-ghost use Rattle.rkyv_bench_calls.specs.Totals.{pair_weight, total, walked};
+ghost use Rattle.rkyv_bench_calls.specs.Totals.{total, walk_total};
 
 use rkyv_bench_calls::numbers::{
     access_u32, build_u32, hash_u32, lookup_u32, lookup_u32_by_finder, walk_u32,
@@ -72,8 +72,7 @@ pub extern "C" fn rkyv_bench_lookup_u32_by_finder(archive: &[u8], keys: &[u32]) 
 #[unsafe(no_mangle)]
 pub extern "C" fn rkyv_bench_walk_u32(archive: &[u8]) -> u64
     requires { IsArchive number_shape archive.now }
-    ensures { result ≡ total (pair_weight number_shape number_weight archive.now)
-        (walked number_shape archive.now (root archive.now)) }
+    ensures { result ≡ walk_total number_shape number_weight archive.now }
 {
     walk_u32(archive)
 }

@@ -1,11 +1,11 @@
 //! The calls for maps of texts to numbers.
 
 ghost use Rattle.std.specs.Prelude.{◌≡◌};
-ghost use Rattle.rkyv_bench_calls.specs.Archives.{IsArchive, IsLengthAnd1, root, short_text};
+ghost use Rattle.rkyv_bench_calls.specs.Archives.{IsArchive, IsLengthAnd1, short_text};
 ghost use Rattle.rkyv_bench_calls.specs.Building.{IsBuilt, MapsTexts};
 ghost use Rattle.rkyv_bench_calls.specs.Cuts.{AreTexts, texts};
-ghost use Rattle.rkyv_bench_calls.specs.Totals.{pair_weight, text_hash, text_looked_up};
-ghost use Rattle.rkyv_bench_calls.specs.Totals.{text_weight, total, walked};
+ghost use Rattle.rkyv_bench_calls.specs.Totals.{text_hash, text_looked_up, text_weight, total};
+ghost use Rattle.rkyv_bench_calls.specs.Totals.{walk_total};
 
 use rkyv_bench_calls::texts::{
     access_text, build_text, hash_text, lookup_text, lookup_text_by_finder, walk_text,
@@ -82,8 +82,7 @@ pub extern "C" fn rkyv_bench_lookup_text_by_finder(
 #[unsafe(no_mangle)]
 pub extern "C" fn rkyv_bench_walk_text(archive: &[u8]) -> u64
     requires { IsArchive short_text archive.now }
-    ensures { result ≡ total (pair_weight short_text text_weight archive.now)
-        (walked short_text archive.now (root archive.now)) }
+    ensures { result ≡ walk_total short_text text_weight archive.now }
 {
     walk_text(archive)
 }

@@ -1,19 +1,27 @@
 -- The number behind a key that was found.
-use Rattle.std.proofs.Common.{◌≡◌, ℕ, ◌+◌, ◌^◌, ap, refl, List, Option, None, Some}
+use Rattle.std.proofs.Common.{◌≡◌, ℕ, ◌+◌, ap, refl, ◌∙◌, Option, None, Some}
+use Rattle.std.specs.Borrow.{Bor}
 use Rattle.std.specs.Int.{w32}
-use Rattle.std.specs.Option.{option_map}
+use Rattle.std.specs.Prelude.{IfSome, List}
 use Rattle.rkyv_base.specs.Bytes.{number_at}
 use Rattle.rkyv_base.specs.Entry.{value_offset}
 use Rattle.rkyv_base.specs.Shape.{Shape}
+use Rattle.rkyv_base.specs.View.{IsView}
+use Rattle.rkyv_base.specs.declared.view.View.{View}
+use Rattle.rkyv_collections.specs.Map.{IsValueAt, IsValueIn, map_bytes}
+use Rattle.rkyv_collections.specs.declared.map.ArchivedHashMap.{ArchivedHashMap}
 use Rattle.rkyv_bench_calls.specs.Archives.{number_shape}
-use Rattle.rkyv_bench_calls.specs.Totals.{value_or_miss}
+use Rattle.rkyv_bench_calls.specs.Totals.{number_seen, value_or_miss}
 
-pub value_found : (key : Shape) (b : List ℕ) (place : Option ℕ) (p : ℕ) → Some p ≡ option_map (λ q. q + value_offset key number_shape) place
-    → number_at w32 b p ≡ value_or_miss key b place
-value_found key b None p h = cc
-value_found key b (Some q) p h = let e : p ≡ q + value_offset key number_shape = cc in ap (number_at w32 b) e
+pub found_viewed : {K V H W : Type 0} (key : Shape) (m : ArchivedHashMap K V H W) (found : Option (View V)) → IfSome found (IsValueIn w32 key number_shape m) → IfSome found (IsView number_shape)
+found_viewed key m None walked = walked
+found_viewed key m (Some value) walked = walked.viewed
 
--- and where none was found
-pub value_missed : (key : Shape) (b : List ℕ) (place : Option ℕ) → None ≡ option_map (λ q. q + value_offset key number_shape) place → 2 ^ 32 ≡ value_or_miss key b place
-value_missed key b None h = refl
-value_missed key b (Some q) h = cc
+pub found_seen : {K V H W : Type 0} (key : Shape) (m : ArchivedHashMap K V H W) (found : Option (View V)) (place : Option ℕ) → IfSome found (IsValueIn w32 key number_shape m) → IsValueAt key number_shape found place
+    → number_seen found ≡ value_or_miss key (map_bytes m) place
+found_seen key m None None walked at = refl
+found_seen key m None (Some q) walked at = cc
+found_seen key m (Some value) None walked at = cc
+found_seen key m (Some value) (Some q) walked at =
+    let place : value.pos ≡ q + value_offset key number_shape = cc in
+    ap (λ (a : Bor (List ℕ)). number_at w32 a.now value.pos) walked.at.0 ∙ ap (number_at w32 (map_bytes m)) place

@@ -36,7 +36,10 @@ root b = length b - 12
 abbrev pub IsMapAtRoot : {K V H W : Type 0} → ArchivedHashMap K V H W → Bor (List ℕ) → Type 0
 IsMapAtRoot m archive = IsAt m.view archive (root archive.now)
 
+-- a length and one more where it is one, and 0 where it is none
+abbrev pub IsAnd1 : Type 0 → ℕ → ℕ → Type 0
+IsAnd1 IsOne length n = (IsOne × (n ≡ length + 1)) ⊎ ((IsOne → ⊥) × (n ≡ 0))
+
 -- the map's length and one more, or 0 where the bytes are no archive
 abbrev pub IsLengthAnd1 : Shape → List ℕ → ℕ → Type 0
-IsLengthAnd1 key b n = (IsArchive key b × (n ≡ len_at w32 b (root b) + 1))
-    ⊎ ((IsArchive key b → ⊥) × (n ≡ 0))
+IsLengthAnd1 key b n = IsAnd1 (IsArchive key b) (len_at w32 b (root b)) n

@@ -1,5 +1,5 @@
 -- The archives of index maps to numbers that are measured, and what each measured call sums up.
-use Rattle.std.specs.Prelude.{◌≡◌, ℕ, ◌+◌, ◌-◌, ◌^◌, ◌==◌, ◌⊎◌, Bool, List, length, Option, None}
+use Rattle.std.specs.Prelude.{ℕ, ◌+◌, ◌-◌, ◌^◌, Bool, List, length, Option, None}
 use Rattle.std.specs.Prelude.{Some}
 use Rattle.std.specs.Borrow.{Bor}
 use Rattle.std.specs.Int.{w32}
@@ -19,16 +19,17 @@ use Rattle.rkyv_index.specs.Index.{index_bytes, index_found, index_pos, pair_pos
 use Rattle.rkyv_index.specs.IndexFormat.{IndexStands, index_format}
 use Rattle.rkyv_index.specs.IndexLayout.{index_shape, pair_pos}
 use Rattle.rkyv_index.specs.declared.map.ArchivedIndexMap.{ArchivedIndexMap}
-use Rattle.rkyv_bench_calls.specs.Archives.{number_shape}
-use Rattle.rkyv_bench_calls.specs.Totals.{hash_by, number_hash}
+use Rattle.rkyv_bench_calls.specs.Archives.{IsAnd1, number_shape}
+use Rattle.rkyv_bench_calls.specs.Totals.{hash_by, is_number, number_calls, number_hash}
+use Rattle.rkyv_bench_calls.specs.Totals.{number_weight, pair_weight, total}
 
--- an index map of such keys to numbers of 32 bits
-abbrev pub index_map_of : Shape → Shape
-index_map_of key = index_shape w32 (entry_shape key number_shape)
+-- an index map of numbers to numbers of 32 bits
+abbrev pub index_map : Shape
+index_map = index_shape w32 (entry_shape number_shape number_shape)
 
--- the bytes are accepted as the archive of an index map of such keys
-abbrev pub IsIndexArchive : Shape → List ℕ → Type 0
-IsIndexArchive key b = Accepted 4294967295 (index_map_of key) b
+-- the bytes are accepted as the archive of an index map of numbers
+abbrev pub IsIndexArchive : List ℕ → Type 0
+IsIndexArchive b = Accepted 4294967295 index_map b
 
 -- where its header stands
 abbrev pub index_root : List ℕ → ℕ
@@ -39,9 +40,8 @@ abbrev pub IsIndexAtRoot : {K V H W : Type 0} → ArchivedIndexMap K V H W → B
 IsIndexAtRoot m archive = IsAt m.view archive (index_root archive.now)
 
 -- the index map's length and one more, or 0 where the bytes are no archive
-abbrev pub IsIndexLengthAnd1 : Shape → List ℕ → ℕ → Type 0
-IsIndexLengthAnd1 key b n = (IsIndexArchive key b × (n ≡ len_at w32 b (index_root b) + 1))
-    ⊎ ((IsIndexArchive key b → ⊥) × (n ≡ 0))
+abbrev pub IsIndexLengthAnd1 : List ℕ → ℕ → Type 0
+IsIndexLengthAnd1 b n = IsAnd1 (IsIndexArchive b) (len_at w32 b (index_root b)) n
 
 -- where the key of place i stands
 abbrev pub index_key_pos : Shape → List ℕ → ℕ → ℕ → ℕ
@@ -53,36 +53,44 @@ place_or_miss key b p None = 2 ^ 32
 place_or_miss key b p (Some i) =
     number_at w32 b (index_key_pos key b p i + value_offset key number_shape)
 
--- that of the place which a lookup under a hash finds in the archive, of those whose keys fit
-abbrev pub index_looked_up : Shape → List ℕ → ℕ → ℕ → (ℕ → Bool) → ℕ
-index_looked_up key b p hash fits = place_or_miss key b p
-    (index_found w32 b p hash (λ i. fits (index_key_pos key b p i)))
+-- that of the place which a lookup with these calls finds in the archive, of those whose keys fit
+abbrev pub index_looked_up : Shape → List ℕ → ℕ → List HasherCall → (List ℕ → ℕ → Bool) → ℕ
+index_looked_up key b p calls fits = place_or_miss key b p
+    (index_found w32 b p (hash_by calls) (λ i. fits b (index_key_pos key b p i)))
 
--- that of the index map, for a key that makes these calls, where fits tells which keys are it
+-- that of the index map
 abbrev pub index_answer : {K V H W : Type 0} → Shape → ArchivedIndexMap K V H W → List HasherCall
     → (List ℕ → ℕ → Bool) → ℕ
-index_answer key m calls fits =
-    index_looked_up key (index_bytes m) (index_pos m) (hash_by calls) (fits (index_bytes m))
+index_answer key m = index_looked_up key (index_bytes m) (index_pos m)
 
 -- that of a number, in the archive whose header stands at p
 abbrev pub index_number_looked_up_at : List ℕ → ℕ → ℕ → ℕ
 index_number_looked_up_at b p number =
-    index_looked_up number_shape b p (number_hash number) (λ q. number == number_at w32 b q)
+    index_looked_up number_shape b p (number_calls number) (is_number number)
 
 -- what is counted of an asked number, in the index map at the root
 abbrev pub index_number_looked_up : List ℕ → ℕ → ℕ
 index_number_looked_up b number = index_number_looked_up_at b (index_root b) number
 
 -- where the keys of the archived index map stand, in order
-abbrev pub index_walked : Shape → List ℕ → ℕ → List ℕ
-index_walked key b p = pair_positions w32 (entry_shape key number_shape).size b p
+abbrev pub index_walked : List ℕ → List ℕ
+index_walked b = pair_positions w32 (entry_shape number_shape number_shape).size b (index_root b)
 
--- the bytes are the archive of an index map of these numbers, each to the value at its place, in
--- this order, under the load factor 7 / 8, and no others
-abbrev pub IndexesNumbers : List ℕ → List ℕ → List ℕ → Type 0
-IndexesNumbers keys values bytes = ArchiveOf 4294967295 (index_map_of number_shape)
+-- what a walk over the index map counts
+abbrev pub index_walk_total : List ℕ → ℕ
+index_walk_total b = total (pair_weight number_shape number_weight b) (index_walked b)
+
+-- the bytes are the archive of an index map of numbers to numbers, in this order, under the load
+-- factor 7 / 8, and no others
+abbrev pub IsNumberIndex : List (ℕ × ℕ) → List ℕ → Type 0
+IsNumberIndex pairs bytes = ArchiveOf 4294967295 index_map
     (IndexStands w32 number_shape number_shape (ScalarStands (unsigned w32))
     (ScalarStands (unsigned w32)) (λ b q. number_hash (number_at w32 b q)) (7, 8))
     (listed 4294967295 (7, 8) (index_format w32 (unsigned w32) number_shape number_shape
     (scalar_format (unsigned w32)) (scalar_format (unsigned w32)) number_hash (7, 8)))
-    (zip keys values) bytes
+    pairs bytes
+
+-- the bytes are the archive of an index map of these numbers, each to the value at its place, in
+-- this order, and no others
+abbrev pub IndexesNumbers : List ℕ → List ℕ → List ℕ → Type 0
+IndexesNumbers keys values bytes = IsNumberIndex (zip keys values) bytes

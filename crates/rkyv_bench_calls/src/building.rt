@@ -12,9 +12,8 @@ ghost use Rattle.rkyv_collections.specs.MapFormat.{MapStands, hash_of, map_forma
 ghost use Rattle.rkyv_collections.specs.Lemmas.MapSound.{map_near, map_sound};
 ghost use Rattle.rkyv_bench_calls.specs.Building.{IsBuilt, IsPut};
 
-use rkyv_base::archive::{Archive, Serialize};
+use rkyv_base::archive::{Archive, ResolveResult, Serialize, WriteResult};
 use rkyv_base::element::{Element, StandsFor};
-use rkyv_base::errors::{DistanceTooLarge, WriteError};
 use rkyv_base::root::to_bytes;
 use rkyv_base::width::{Narrow, Width};
 use rkyv_base::writer::{VecWriter, Writer};
@@ -31,6 +30,40 @@ pub(crate) struct Pairs<'a, A, B, H> {
     pub(crate) keys: &'a [A],
     pub(crate) values: &'a [B],
     pub(crate) hasher: PhantomData<H>,
+}
+
+impl<'a, A, B, H> Pairs<'a, A, B, H> {
+    #[inline]
+    pub(crate) fn new(keys: &'a [A], values: &'a [B]) -> Pairs<'a, A, B, H>
+        ensures keys { result.keys ≡ keys.entry }
+        ensures values { result.values ≡ values.entry }
+    {
+        Pairs {
+            keys,
+            values,
+            hasher: PhantomData,
+        }
+    }
+
+    /// Its pairs.
+    #[inline]
+    pub(crate) fn both(&self) -> Both<'a, A, B>
+        ensures keys { iter_rest result.keys ≡ self.now.keys.now }
+        ensures values { iter_rest result.values ≡ self.now.values.now }
+    {
+        Both {
+            keys: self.keys.iter(),
+            values: self.values.iter(),
+        }
+    }
+
+    /// How many pairs there are.
+    #[inline]
+    pub(crate) fn len(&self) -> usize
+        ensures { result ≡ length (zip self.now.keys.now self.now.values.now) }
+    {
+        self.keys.len().min(self.values.len())
+    }
 }
 
 /// The pairs that are still to come.
@@ -83,21 +116,8 @@ where
         (map_format W.word A.Archived.shape B.Archived.shape A.format B.format
         (hash_of H.hasher A.calls) (7, 8))) };
 
-    fn resolve(
-        &self,
-        resolver: HashMapResolver<W>,
-        pos: u64,
-        out: &mut [u8],
-    ) -> Result<(), DistanceTooLarge> {
-        let len = resolver.len();
-        let load_factor = resolver.load_factor();
-        ArchivedHashMap::<A::Archived, B::Archived, H, W>::resolve_from_len(
-            len,
-            load_factor,
-            resolver,
-            pos,
-            out,
-        )
+    fn resolve(&self, resolver: HashMapResolver<W>, pos: u64, out: &mut [u8]) -> ResolveResult {
+        resolver.resolve(pos, out)
     }
 
     ghost laws = { let stands = MapStands W.word A.Archived.shape B.Archived.shape A.Archived.stands
@@ -124,24 +144,14 @@ where
     A::Archived: KeyElement,
     A: NativeKey<A::Archived>,
 {
-    fn serialize(
-        &self,
-        alloc: Global,
-        serializer: &mut S,
-    ) -> Result<HashMapResolver<W>, WriteError<S::Fault>> {
-        let both = Both {
-            keys: self.keys.iter(),
-            values: self.values.iter(),
-        };
-        let len = self.keys.len().min(self.values.len());
-        ArchivedHashMap::<A::Archived, B::Archived, H, W>::serialize_from_iter::<
-            S,
-            A,
-            B,
-            A,
-            B,
-            Both<'_, A, B>,
-        >(alloc, both, len, (7, 8), serializer)
+    fn serialize(&self, alloc: Global, serializer: &mut S) -> WriteResult<HashMapResolver<W>, S> {
+        ArchivedHashMap::<A::Archived, B::Archived, H, W>::serialize_from_iter::<S, A, B, A, B, _>(
+            alloc,
+            self.both(),
+            self.len(),
+            (7, 8),
+            serializer,
+        )
     }
 }
 

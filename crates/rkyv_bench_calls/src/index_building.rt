@@ -10,10 +10,9 @@ ghost use Rattle.rkyv_index.specs.IndexLayout.{index_shape};
 ghost use Rattle.rkyv_index.specs.Lemmas.IndexNear.{index_stands_near};
 ghost use Rattle.rkyv_index.specs.Lemmas.IndexSound.{index_sound};
 
-use crate::building::{Both, Pairs};
-use rkyv_base::archive::{Archive, Serialize};
+use crate::building::Pairs;
+use rkyv_base::archive::{Archive, ResolveResult, Serialize, WriteResult};
 use rkyv_base::element::StandsFor;
-use rkyv_base::errors::{DistanceTooLarge, WriteError};
 use rkyv_base::width::Width;
 use rkyv_base::writer::Writer;
 use rkyv_index::width::PlaceWidth;
@@ -50,21 +49,8 @@ where
         (index_format W.word W.Place.encoding A.Archived.shape B.Archived.shape A.format B.format
         (hash_of H.hasher A.calls) (7, 8))) };
 
-    fn resolve(
-        &self,
-        resolver: IndexMapResolver<W>,
-        pos: u64,
-        out: &mut [u8],
-    ) -> Result<(), DistanceTooLarge> {
-        let len = resolver.len();
-        let load_factor = resolver.load_factor();
-        ArchivedIndexMap::<A::Archived, B::Archived, H, W>::resolve_from_len(
-            len,
-            load_factor,
-            resolver,
-            pos,
-            out,
-        )
+    fn resolve(&self, resolver: IndexMapResolver<W>, pos: u64, out: &mut [u8]) -> ResolveResult {
+        resolver.resolve(pos, out)
     }
 
     ghost laws = { let stands = IndexStands W.word A.Archived.shape B.Archived.shape
@@ -92,23 +78,13 @@ where
     A::Archived: KeyElement,
     A: NativeKey<A::Archived>,
 {
-    fn serialize(
-        &self,
-        alloc: Global,
-        serializer: &mut S,
-    ) -> Result<IndexMapResolver<W>, WriteError<S::Fault>> {
-        let both = Both {
-            keys: self.0.keys.iter(),
-            values: self.0.values.iter(),
-        };
-        let len = self.0.keys.len().min(self.0.values.len());
-        ArchivedIndexMap::<A::Archived, B::Archived, H, W>::serialize_from_iter::<
-            S,
-            A,
-            B,
-            A,
-            B,
-            Both<'_, A, B>,
-        >(alloc, both, len, (7, 8), serializer)
+    fn serialize(&self, alloc: Global, serializer: &mut S) -> WriteResult<IndexMapResolver<W>, S> {
+        ArchivedIndexMap::<A::Archived, B::Archived, H, W>::serialize_from_iter::<S, A, B, A, B, _>(
+            alloc,
+            self.0.both(),
+            self.0.len(),
+            (7, 8),
+            serializer,
+        )
     }
 }

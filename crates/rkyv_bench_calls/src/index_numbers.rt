@@ -1,21 +1,22 @@
 //! The calls for index maps of numbers to numbers.
 
+ghost use Rattle.std.specs.Int.{w32};
 ghost use Rattle.std.specs.Prelude.{◌≡◌};
+ghost use Rattle.rkyv_index.specs.Index.{IsIndexMap};
 ghost use Rattle.rkyv_bench_calls.specs.Archives.{number_shape};
 ghost use Rattle.rkyv_bench_calls.specs.Building.{IsBuilt};
-ghost use Rattle.rkyv_bench_calls.specs.Index.{IndexesNumbers, IsIndexArchive, IsIndexLengthAnd1};
-ghost use Rattle.rkyv_bench_calls.specs.Index.{index_number_looked_up, index_root, index_walked};
-ghost use Rattle.rkyv_bench_calls.specs.Totals.{number_weight, pair_weight, total};
+ghost use Rattle.rkyv_bench_calls.specs.Index.{IndexesNumbers, IsIndexArchive, IsIndexAtRoot};
+ghost use Rattle.rkyv_bench_calls.specs.Index.{IsIndexLengthAnd1, index_number_looked_up};
+ghost use Rattle.rkyv_bench_calls.specs.Index.{index_walk_total};
+ghost use Rattle.rkyv_bench_calls.specs.Totals.{total};
 
 use crate::building::{Pairs, build};
 use crate::index_building::IndexPairs;
-use crate::index_totals::{
-    index_finder_in, index_in, index_length_and_1, index_lookup_total,
-    index_lookup_total_by_finder, index_walk_total,
-};
+use crate::totals::{lookup_total, pair_total};
+use rkyv_base::access::{access, access_unchecked};
+use rkyv_index::{ArchivedIndexMap, IndexMapOf};
 use rkyv_scan::hash::FxHasher64;
 use std::alloc::Global;
-use std::marker::PhantomData;
 
 /// Archives an index map of the keys, each with the value at its place, in their order, under the
 /// load factor 7 / 8, into the front of `out`, and answers the archive's length.
@@ -25,51 +26,56 @@ use std::marker::PhantomData;
 pub fn build_index_u32(alloc: Global, keys: &[u32], values: &[u32], out: &mut [u8]) -> usize
     ensures { IsBuilt (IndexesNumbers keys.now values.now) out.old out.new result }
 {
-    let pairs: Pairs<'_, u32, u32, FxHasher64> = Pairs {
-        keys,
-        values,
-        hasher: PhantomData,
-    };
+    let pairs: Pairs<'_, u32, u32, FxHasher64> = Pairs::new(keys, values);
     build(alloc, &IndexPairs(pairs), out)
 }
 
 /// The length of the archived index map and one more, or 0 where the bytes are no archive of one.
 pub fn access_index_u32(archive: &[u8]) -> usize
-    ensures { IsIndexLengthAnd1 number_shape archive.now result }
+    ensures { IsIndexLengthAnd1 archive.now result }
 {
-    index_length_and_1::<u32>(archive)
+    match access::<IndexMapOf<u32, u32>>(archive) {
+        Ok(root) => ArchivedIndexMap::of(root).len() + 1,
+        Err(_) => 0,
+    }
+}
+
+/// The index map of an archive.
+#[inline]
+fn index_in<'a>(archive: &'a [u8]) -> ArchivedIndexMap<'a, u32, u32>
+    requires { IsIndexArchive archive.now }
+    ensures at { IsIndexAtRoot result archive.entry }
+    ensures map { IsIndexMap w32 number_shape number_shape result }
+{
+    ArchivedIndexMap::of(access_unchecked::<IndexMapOf<u32, u32>>(archive))
 }
 
 /// The sum modulo 2^64 of the value of each key that is found, and of 2^32 for each other key.
 ///
 /// The archive must have been accepted: `access_index_u32` answered more than 0.
 pub fn lookup_index_u32(archive: &[u8], keys: &[u32]) -> u64
-    requires { IsIndexArchive number_shape archive.now }
+    requires { IsIndexArchive archive.now }
     ensures { result ≡ total (index_number_looked_up archive.now) keys.now }
 {
-    index_lookup_total::<u32, u32, &u32, std::slice::Iter<'_, u32>>(index_in(archive), keys.iter())
+    lookup_total::<u32, u32, _, _, _>(index_in(archive), keys.iter())
 }
 
 /// As `lookup_index_u32`, by a finder of the index map.
 ///
 /// The archive must have been accepted: `access_index_u32` answered more than 0.
 pub fn lookup_index_u32_by_finder(archive: &[u8], keys: &[u32]) -> u64
-    requires { IsIndexArchive number_shape archive.now }
+    requires { IsIndexArchive archive.now }
     ensures { result ≡ total (index_number_looked_up archive.now) keys.now }
 {
-    index_lookup_total_by_finder::<u32, u32, &u32, std::slice::Iter<'_, u32>>(
-        index_finder_in(archive),
-        keys.iter(),
-    )
+    lookup_total::<u32, u32, _, _, _>(index_in(archive).finder(), keys.iter())
 }
 
 /// The sum modulo 2^64 of all keys and all values.
 ///
 /// The archive must have been accepted: `access_index_u32` answered more than 0.
 pub fn walk_index_u32(archive: &[u8]) -> u64
-    requires { IsIndexArchive number_shape archive.now }
-    ensures { result ≡ total (pair_weight number_shape number_weight archive.now)
-        (index_walked number_shape archive.now (index_root archive.now)) }
+    requires { IsIndexArchive archive.now }
+    ensures { result ≡ index_walk_total archive.now }
 {
-    index_walk_total::<u32>(index_in(archive))
+    pair_total::<u32, _>(index_in(archive).iter())
 }

@@ -1,24 +1,22 @@
 //! The calls for maps of numbers to numbers.
 
 ghost use Rattle.std.specs.Prelude.{◌≡◌};
-ghost use Rattle.rkyv_bench_calls.specs.Archives.{IsArchive, IsLengthAnd1, number_shape, root};
+ghost use Rattle.rkyv_bench_calls.specs.Archives.{IsArchive, IsLengthAnd1, number_shape};
 ghost use Rattle.rkyv_bench_calls.specs.Building.{IsBuilt, MapsNumbers};
 ghost use Rattle.rkyv_bench_calls.specs.Totals.{number_hash, number_looked_up, number_weight};
-ghost use Rattle.rkyv_bench_calls.specs.Totals.{pair_weight, total, walked};
+ghost use Rattle.rkyv_bench_calls.specs.Totals.{total, walk_total};
 
 use crate::building::{Pairs, build};
-use crate::totals::{
-    finder_in, hash_total, length_and_1, lookup_total, lookup_total_by_finder, map_in, walk_total,
-};
+use crate::maps::{length_and_1, map_in};
+use crate::totals::{hash_total, lookup_total, pair_total};
 use rkyv_scan::hash::FxHasher64;
 use std::alloc::Global;
-use std::marker::PhantomData;
 
 /// The sum modulo 2^64 of the hashes of the keys.
 pub fn hash_u32(keys: &[u32]) -> u64
     ensures { result ≡ total number_hash keys.now }
 {
-    hash_total::<u32, &u32, std::slice::Iter<'_, u32>>(keys.iter())
+    hash_total::<u32, _, _>(keys.iter())
 }
 
 /// Archives a map of the keys, each with the value at its place, under the load factor 7 / 8, into
@@ -29,11 +27,7 @@ pub fn hash_u32(keys: &[u32]) -> u64
 pub fn build_u32(alloc: Global, keys: &[u32], values: &[u32], out: &mut [u8]) -> usize
     ensures { IsBuilt (MapsNumbers keys.now values.now) out.old out.new result }
 {
-    let pairs: Pairs<'_, u32, u32, FxHasher64> = Pairs {
-        keys,
-        values,
-        hasher: PhantomData,
-    };
+    let pairs: Pairs<'_, u32, u32, FxHasher64> = Pairs::new(keys, values);
     build(alloc, &pairs, out)
 }
 
@@ -51,7 +45,7 @@ pub fn lookup_u32(archive: &[u8], keys: &[u32]) -> u64
     requires { IsArchive number_shape archive.now }
     ensures { result ≡ total (number_looked_up archive.now) keys.now }
 {
-    lookup_total::<u32, u32, &u32, std::slice::Iter<'_, u32>>(map_in(archive), keys.iter())
+    lookup_total::<u32, u32, _, _, _>(map_in(archive), keys.iter())
 }
 
 /// As `lookup_u32`, by a finder of the map.
@@ -61,10 +55,7 @@ pub fn lookup_u32_by_finder(archive: &[u8], keys: &[u32]) -> u64
     requires { IsArchive number_shape archive.now }
     ensures { result ≡ total (number_looked_up archive.now) keys.now }
 {
-    lookup_total_by_finder::<u32, u32, &u32, std::slice::Iter<'_, u32>>(
-        finder_in(archive),
-        keys.iter(),
-    )
+    lookup_total::<u32, u32, _, _, _>(map_in(archive).finder(), keys.iter())
 }
 
 /// The sum modulo 2^64 of all keys and all values.
@@ -72,8 +63,7 @@ pub fn lookup_u32_by_finder(archive: &[u8], keys: &[u32]) -> u64
 /// The archive must have been accepted: `access_u32` answered more than 0.
 pub fn walk_u32(archive: &[u8]) -> u64
     requires { IsArchive number_shape archive.now }
-    ensures { result ≡ total (pair_weight number_shape number_weight archive.now)
-        (walked number_shape archive.now (root archive.now)) }
+    ensures { result ≡ walk_total number_shape number_weight archive.now }
 {
-    walk_total::<u32>(map_in(archive))
+    pair_total::<u32, _>(map_in(archive).iter())
 }

@@ -8,7 +8,7 @@ ghost use Rattle.rkyv_bench_calls.specs.Building.{IsBuilt};
 ghost use Rattle.rkyv_bench_calls.specs.Std.{IsReadBack, StdMapsNumbers};
 
 use crate::building::build;
-use crate::totals::map_in;
+use crate::maps::map_in;
 use rkyv_base::errors::ReadError;
 use rkyv_collections::std_maps::hashed::Hashed;
 use rkyv_scan::hash::FxHasher64;

@@ -1,28 +1,26 @@
 //! The calls for maps of texts to numbers.
 
 ghost use Rattle.std.specs.Prelude.{◌≡◌};
-ghost use Rattle.rkyv_bench_calls.specs.Archives.{IsArchive, IsLengthAnd1, root, short_text};
+ghost use Rattle.rkyv_bench_calls.specs.Archives.{IsArchive, IsLengthAnd1, short_text};
 ghost use Rattle.rkyv_bench_calls.specs.Building.{IsBuilt, MapsTexts};
 ghost use Rattle.rkyv_bench_calls.specs.Cuts.{AreTexts, texts};
-ghost use Rattle.rkyv_bench_calls.specs.Totals.{pair_weight, text_hash, text_looked_up};
-ghost use Rattle.rkyv_bench_calls.specs.Totals.{text_weight, total, walked};
+ghost use Rattle.rkyv_bench_calls.specs.Totals.{text_hash, text_looked_up, text_weight, total};
+ghost use Rattle.rkyv_bench_calls.specs.Totals.{walk_total};
 
 use crate::building::{Pairs, build};
-use crate::cuts::{Cuts, cut, list};
-use crate::totals::{
-    finder_in, hash_total, length_and_1, lookup_total, lookup_total_by_finder, map_in, walk_total,
-};
+use crate::cuts::{cut, list};
+use crate::maps::{length_and_1, map_in};
+use crate::totals::{hash_total, lookup_total, pair_total};
 use rkyv_base::text::Text;
 use rkyv_scan::hash::FxHasher64;
 use std::alloc::Global;
-use std::marker::PhantomData;
 
 /// The sum modulo 2^64 of the hashes of the texts.
 pub fn hash_text(bytes: &[u8], ends: &[u32]) -> u64
     requires { AreTexts bytes.now ends.now }
     ensures { result ≡ total text_hash (texts bytes.now ends.now) }
 {
-    hash_total::<&str, &str, Cuts<'_>>(cut(bytes, ends))
+    hash_total::<&str, _, _>(cut(bytes, ends))
 }
 
 /// Archives a map of the texts, each with the value at its place, under the load factor 7 / 8, into
@@ -44,11 +42,7 @@ pub fn build_text(
         Ok(keys) => keys,
         Err(_) => return 0,
     };
-    let pairs: Pairs<'_, &str, u32, FxHasher64> = Pairs {
-        keys: keys.as_slice(),
-        values,
-        hasher: PhantomData,
-    };
+    let pairs: Pairs<'_, &str, u32, FxHasher64> = Pairs::new(keys.as_slice(), values);
     build(alloc, &pairs, out)
 }
 
@@ -67,7 +61,7 @@ pub fn lookup_text(archive: &[u8], bytes: &[u8], ends: &[u32]) -> u64
     requires texts { AreTexts bytes.now ends.now }
     ensures { result ≡ total (text_looked_up archive.now) (texts bytes.now ends.now) }
 {
-    lookup_total::<Text, &str, &str, Cuts<'_>>(map_in(archive), cut(bytes, ends))
+    lookup_total::<Text, &str, _, _, _>(map_in(archive), cut(bytes, ends))
 }
 
 /// As `lookup_text`, by a finder of the map.
@@ -78,7 +72,7 @@ pub fn lookup_text_by_finder(archive: &[u8], bytes: &[u8], ends: &[u32]) -> u64
     requires texts { AreTexts bytes.now ends.now }
     ensures { result ≡ total (text_looked_up archive.now) (texts bytes.now ends.now) }
 {
-    lookup_total_by_finder::<Text, &str, &str, Cuts<'_>>(finder_in(archive), cut(bytes, ends))
+    lookup_total::<Text, &str, _, _, _>(map_in(archive).finder(), cut(bytes, ends))
 }
 
 /// The sum modulo 2^64 of the lengths of all keys, in bytes, and of all values.
@@ -86,8 +80,7 @@ pub fn lookup_text_by_finder(archive: &[u8], bytes: &[u8], ends: &[u32]) -> u64
 /// The archive must have been accepted: `access_text` answered more than 0.
 pub fn walk_text(archive: &[u8]) -> u64
     requires { IsArchive short_text archive.now }
-    ensures { result ≡ total (pair_weight short_text text_weight archive.now)
-        (walked short_text archive.now (root archive.now)) }
+    ensures { result ≡ walk_total short_text text_weight archive.now }
 {
-    walk_total::<Text>(map_in(archive))
+    pair_total::<Text, _>(map_in(archive).iter())
 }

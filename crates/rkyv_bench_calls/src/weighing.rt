@@ -3,9 +3,9 @@
 ghost use Rattle.std.specs.Prelude.{List, ℕ, ◌≡◌};
 ghost use Rattle.rkyv_base.specs.View.{IsView};
 ghost use Rattle.rkyv_keys.specs.Places.{at_view};
-ghost use Rattle.rkyv_bench_calls.specs.Archives.{number_shape, short_text};
 ghost use Rattle.rkyv_bench_calls.specs.Totals.{number_weight, text_weight};
 
+use crate::lookups::number_in;
 use rkyv_base::element::Element;
 use rkyv_base::text::Text;
 use rkyv_base::view::View;
@@ -16,20 +16,17 @@ pub(crate) trait Weigh: Element {
     ghost weight: { List ℕ → ℕ → ℕ };
 
     /// What it counts.
-    fn weigh(key: View<'_, Self>) -> u64
-        requires { IsView Self.shape key }
-        ensures { result ≡ at_view weight key.entry };
+    fn weigh(key: &View<'_, Self>) -> u64
+        requires { IsView Self.shape key.now }
+        ensures { result ≡ at_view weight key.now };
 }
 
 impl Weigh for u32 {
     ghost weight = { number_weight };
 
     #[inline]
-    fn weigh(key: View<'_, u32>) -> u64
-        requires { IsView number_shape key }
-        ensures { result ≡ at_view number_weight key.entry }
-    {
-        u64::from(key.to_native())
+    fn weigh(key: &View<'_, u32>) -> u64 {
+        number_in(*key)
     }
 }
 
@@ -37,10 +34,7 @@ impl Weigh for Text {
     ghost weight = { text_weight };
 
     #[inline]
-    fn weigh(key: View<'_, Text>) -> u64
-        requires { IsView short_text key }
-        ensures { result ≡ at_view text_weight key.entry }
-    {
+    fn weigh(key: &View<'_, Text>) -> u64 {
         key.as_str().len() as u64
     }
 }

@@ -8,6 +8,7 @@ ghost use Rattle.rkyv_c_calls.specs.Listed.{GivesFirstNumber, SetsFirstNumber};
 ghost use Rattle.rkyv_c_calls.specs.Items.{HandsOut, IsArchiveOfNumbers, NoArchiveOfNumbers};
 
 use rkyv_c_calls::building::Built;
+use rkyv_c_calls::form::Form;
 use rkyv_c_calls::number_items::{NumberItem, build_numbers};
 use rkyv_c_calls::numbers::{
     NumberPair, count_numbers, get_number, next_number, open_numbers, set_number,
@@ -21,7 +22,7 @@ pub extern "C" fn rkyv_c_open_numbers(archive: &[u8], long_values: bool, wide: b
     ensures told { Opens (limit_of wide) (number_map long_values wide) archive.now result }
     ensures accepts { IsNumberArchive long_values wide archive.now → result ≡ 0 }
 {
-    open_numbers(archive, long_values, wide)
+    open_numbers(archive, Form { long_values, wide })
 }
 
 /// How many pairs the map has.
@@ -32,7 +33,7 @@ pub extern "C" fn rkyv_c_count_numbers(archive: &[u8], long_values: bool, wide: 
     requires { IsNumberArchive long_values wide archive.now }
     ensures { Counts (word_of wide) number_key (value_shape long_values) archive.now result }
 {
-    count_numbers(archive, long_values, wide)
+    count_numbers(archive, Form { long_values, wide })
 }
 
 /// Gives the value of a key: 0, or 1 where it isn't found; `value` is kept then.
@@ -50,7 +51,7 @@ pub extern "C" fn rkyv_c_get_number(
     ensures gives { GivesNumber long_values wide archive.now key value.old result value.new }
     ensures listed { GivesFirstNumber long_values wide archive.now key value.old result value.new }
 {
-    get_number(archive, long_values, wide, key, value)
+    get_number(archive, Form { long_values, wide }, key, value)
 }
 
 /// Writes the value of a key in place: 0; or 3 where the map's values have 32 bits and this one
@@ -70,7 +71,7 @@ pub extern "C" fn rkyv_c_set_number(
     ensures sets { SetsNumber long_values wide archive.old key value result archive.new }
     ensures listed { SetsFirstNumber long_values wide archive.old key value result archive.new }
 {
-    set_number(archive, long_values, wide, key, value)
+    set_number(archive, Form { long_values, wide }, key, value)
 }
 
 /// Takes the next pair, by ascending bucket: 0, or 2 where none is left; `pair` is kept then.
@@ -86,7 +87,7 @@ pub extern "C" fn rkyv_c_next_number(
     requires { IsNumberArchive long_values wide archive.now }
     ensures { StepsNumbers long_values wide archive.now pair.old result pair.new }
 {
-    next_number(archive, long_values, wide, pair)
+    next_number(archive, Form { long_values, wide }, pair)
 }
 
 /// Makes the archive of the items, in their order, under the load factor 7 / 8: 0, and `built` has
@@ -104,5 +105,5 @@ pub extern "C" fn rkyv_c_build_numbers(
     ensures { HandsOut (IsArchiveOfNumbers long_values wide items.now)
         (NoArchiveOfNumbers long_values wide items.now) built.old result built.new }
 {
-    build_numbers(alloc, items, long_values, wide, built)
+    build_numbers(alloc, items, Form { long_values, wide }, built)
 }

@@ -9,6 +9,7 @@ ghost use Rattle.rkyv_c_calls.specs.Listed.{GivesFirstText, SetsFirstText};
 ghost use Rattle.rkyv_c_calls.specs.Items.{HandsOut, IsArchiveOfTexts, NoArchiveOfTexts};
 
 use rkyv_c_calls::building::Built;
+use rkyv_c_calls::form::Form;
 use rkyv_c_calls::text_items::{TextItem, build_texts};
 use rkyv_c_calls::texts::{
     TextPair, count_texts, get_text, is_text, next_text, open_texts, set_text,
@@ -22,7 +23,7 @@ pub extern "C" fn rkyv_c_open_texts(archive: &[u8], long_values: bool, wide: boo
     ensures told { Opens (limit_of wide) (text_map long_values wide) archive.now result }
     ensures accepts { IsTextArchive long_values wide archive.now → result ≡ 0 }
 {
-    open_texts(archive, long_values, wide)
+    open_texts(archive, Form { long_values, wide })
 }
 
 /// How many pairs the map has.
@@ -33,7 +34,7 @@ pub extern "C" fn rkyv_c_count_texts(archive: &[u8], long_values: bool, wide: bo
     requires { IsTextArchive long_values wide archive.now }
     ensures { Counts (word_of wide) (text_key wide) (value_shape long_values) archive.now result }
 {
-    count_texts(archive, long_values, wide)
+    count_texts(archive, Form { long_values, wide })
 }
 
 /// Gives the value of a key: 0; or 4 where its bytes aren't UTF-8, or 1 where it isn't found, and
@@ -53,7 +54,7 @@ pub extern "C" fn rkyv_c_get_text(
     ensures listed { IsUtf8 key.now
         → GivesFirstText long_values wide archive.now key.now value.old result value.new }
 {
-    get_text(archive, long_values, wide, key, value)
+    get_text(archive, Form { long_values, wide }, key, value)
 }
 
 /// Writes the value of a key in place: 0; or 4 where the key's bytes aren't UTF-8, 3 where the
@@ -75,7 +76,7 @@ pub extern "C" fn rkyv_c_set_text(
     ensures listed { IsUtf8 key.now
         → SetsFirstText long_values wide archive.old key.now value result archive.new }
 {
-    set_text(archive, long_values, wide, key, value)
+    set_text(archive, Form { long_values, wide }, key, value)
 }
 
 /// Takes the next pair, by ascending bucket: 0, or 2 where none is left; `pair` is kept then. The
@@ -92,7 +93,7 @@ pub extern "C" fn rkyv_c_next_text<'a>(
     requires { IsTextArchive long_values wide archive.now }
     ensures { StepsTexts long_values wide archive.now pair.old result pair.new }
 {
-    next_text(archive, long_values, wide, pair)
+    next_text(archive, Form { long_values, wide }, pair)
 }
 
 /// Whether the bytes are a text: UTF-8.
@@ -116,5 +117,5 @@ pub extern "C" fn rkyv_c_build_texts(
     ensures { HandsOut (IsArchiveOfTexts long_values wide items.now)
         (NoArchiveOfTexts long_values wide items.now) built.old result built.new }
 {
-    build_texts(alloc, items, long_values, wide, built)
+    build_texts(alloc, items, Form { long_values, wide }, built)
 }

@@ -1,24 +1,37 @@
 -- What is answered of the first pair of a list whose key is asked for.
 use Rattle.std.proofs.Common.{◌≡◌, ◌∙◌, ℕ, Bool, List, None, Option, Some, ap, false, subst, sym, true}
 use Rattle.std.specs.Option.{is_some}
-use Rattle.std.specs.Prelude.{MatchOption}
+use Rattle.std.specs.Borrow.{Bor}
+use Rattle.std.specs.Int.{Width}
+use Rattle.std.specs.Prelude.{IfSome, MatchOption}
 use Rattle.std.proofs.lemmas.Option.{same_Some}
+use Rattle.rkyv_base.specs.Shape.{Shape, Viewed}
 use Rattle.rkyv_base.specs.declared.view.View.{View}
+use Rattle.rkyv_table.specs.Table.Reading.{pos_of_found}
+use Rattle.rkyv_collections.specs.Map.{IsValueIn, map_bytes}
+use Rattle.rkyv_collections.specs.declared.map.ArchivedHashMap.{ArchivedHashMap}
 use Rattle.rkyv_collections.specs.ListedLookups.{IsFoundValue}
 
 -- the value stands at the place
 abbrev StandsIn : {B : Type 0} → (List ℕ → ℕ → B → Type 0) → List ℕ → Option ℕ → B → Type 0
 StandsIn stands b place x = (q : ℕ) × (place ≡ Some q) × stands b q x
 
--- of a view that was found, where it is; and of none that there is none
-pub place_told : {V B : Type 0} (stands : List ℕ → ℕ → B → Type 0) (b : List ℕ) (view : View V) (pos : ℕ) (o : Option B) → view.archive.now ≡ b → pos ≡ view.pos → IsFoundValue stands (Some view) o
-    → MatchOption o (Some pos ≡ None) (StandsIn stands b (Some pos))
-place_told stands b view pos None e f h = absurd h
-place_told stands b view pos (Some x) e f h = (view.pos, ap Some f, subst (λ d. stands d view.pos x) e h)
+-- what stands at a position stands where a view of it is
+pub view_stands : {T : Type 0} (s : Shape) (view : View T) (a : Bor (List ℕ)) (p : ℕ) → view.archive ≡ a → view.pos ≡ p → Viewed s a.now p → Viewed s view.archive.now view.pos
+view_stands s view a p e f h = subst (Viewed s view.archive.now) (sym f) (subst (λ (d : Bor (List ℕ)). Viewed s d.now p) (sym e) h)
 
-pub no_place : {B : Type 0} (stands : List ℕ → ℕ → B → Type 0) (b : List ℕ) (place : Option ℕ) (o : Option B) → place ≡ None → IsFoundValue {V = ℕ} stands None o → MatchOption o (place ≡ None) (StandsIn stands b place)
-no_place stands b place None e h = e
-no_place stands b place (Some x) e h = absurd h
+-- of what was found in a map whose bytes these are: where it is, and that it stands there
+module _ {K V H W : Type 0} (w : Width) (k v : Shape) (m : ArchivedHashMap K V H W) (b : List ℕ) (same : map_bytes m ≡ b) where
+  pub found_viewed : (found : Option (View V)) (place : Option ℕ) → place ≡ pos_of_found found → IfSome found (IsValueIn w k v m) → IfSome place (Viewed v b)
+  found_viewed None place e h = subst (λ (o : Option ℕ). IfSome o (Viewed v b)) (sym e) h
+  found_viewed (Some value) place e h = subst (λ (o : Option ℕ). IfSome o (Viewed v b)) (sym e) (subst (λ d. Viewed v d value.pos) (ap (λ (a : Bor (List ℕ)). a.now) h.at.0 ∙ same) h.viewed)
+
+  pub found_placed : {B : Type 0} (stands : List ℕ → ℕ → B → Type 0) (found : Option (View V)) (place : Option ℕ) (o : Option B) → place ≡ pos_of_found found → IfSome found (IsValueIn w k v m)
+      → IsFoundValue stands found o → MatchOption o (place ≡ None) (StandsIn stands b place)
+  found_placed stands None place None e within h = e
+  found_placed stands None place (Some x) e within h = absurd h
+  found_placed stands (Some value) place None e within h = absurd h
+  found_placed stands (Some value) place (Some x) e within h = (value.pos, e, subst (λ d. stands d value.pos x) (ap (λ (a : Bor (List ℕ)). a.now) within.at.0 ∙ same) h)
 
 -- of a place, the number there; and of none, what was there before
 module _ {N : Type 0} (num : ℕ → ℕ) (value : ℕ → N) (place : Option ℕ) (status after before : ℕ) where

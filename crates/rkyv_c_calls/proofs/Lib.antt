@@ -2,3 +2,4 @@ pub mod Writing
 pub mod Forms
 pub mod Collected
 pub mod First
+pub mod Next

@@ -12,7 +12,7 @@ use Rattle.rkyv_base.specs.Entry.{entry_shape}
 use Rattle.rkyv_base.specs.Numbers.{unsigned}
 use Rattle.rkyv_base.specs.Scalar.{Encoding, scalar_shape}
 use Rattle.rkyv_base.specs.Sealing.{value_pos, with_value}
-use Rattle.rkyv_base.specs.Shape.{Shape}
+use Rattle.rkyv_base.specs.Shape.{Shape, Viewed}
 use Rattle.rkyv_base.specs.Text.{text_shape}
 use Rattle.rkyv_base.specs.declared.errors.VerifyError.{VerifyError}
 use Rattle.rkyv_collections.specs.Map.{map_shape}
@@ -53,6 +53,18 @@ number_map long_values wide = map_shape (word_of wide) number_key (value_shape l
 -- the header of a map of texts
 abbrev pub text_map : Bool → Bool → Shape
 text_map long_values wide = map_shape (word_of wide) (text_key wide) (value_shape long_values)
+
+-- the header of a map stands at the position
+abbrev pub IsMapAt : Width → Shape → Shape → List ℕ → ℕ → Type 0
+IsMapAt w k v b p = Viewed (map_shape w k v) b p
+
+-- the bytes are accepted as the archive of a map of such keys to such values
+abbrev pub IsMapArchive : {N : Type 0} → Width → ℕ → Shape → Encoding N → List ℕ → Type 0
+IsMapArchive w limit k e b = Accepted limit (map_shape w k (scalar_shape e)) b
+
+-- the key and the value of a pair of such a map stand at the position
+abbrev pub IsPairAt : {N : Type 0} → Shape → Encoding N → List ℕ → ℕ → Type 0
+IsPairAt k e b p = Viewed (entry_shape k (scalar_shape e)) b p
 
 -- the bytes are accepted as the archive of a map of numbers
 abbrev pub IsNumberArchive : Bool → Bool → List ℕ → Type 0

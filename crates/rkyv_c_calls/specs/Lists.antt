@@ -18,17 +18,6 @@ use Rattle.rkyv_collections.specs.Map.{hash_at, map_shape}
 use Rattle.rkyv_collections.specs.MapFormat.{MapStands, hash_of, map_format}
 use Rattle.rkyv_c_calls.specs.Archives.{root}
 
--- of each list for which the map at p stands, the value of the first pair whose key is asked for
--- stands at the place; or there is neither
-abbrev pub PlaceOfFirst : {A B : Type 0} → Width → Shape → Shape → (List ℕ → ℕ → A → Type 0)
-    → (List ℕ → ℕ → B → Type 0) → (List ℕ → ℕ → List HasherCall) → (A → Bool) → List ℕ → ℕ
-    → Option ℕ → Type 0
-PlaceOfFirst {A} {B} w k v key value key_calls asks b p place =
-    (factor : ℕ × ℕ) (pairs : List (A × B))
-    → MapStands w k v key value (hash_at (fx_hasher low_halves) key_calls) factor b p pairs
-    → MatchOption (first_value asks pairs) (place ≡ None)
-    (λ x. (q : ℕ) × (place ≡ Some q) × value b q x)
-
 module _ {A N : Type 0} (w : Width) (k : Shape) (key : List ℕ → ℕ → A → Type 0)
     (key_calls : List ℕ → ℕ → List HasherCall) (e : Encoding N) where
   -- a map of the pairs stands at the position, under a load factor
@@ -39,6 +28,14 @@ module _ {A N : Type 0} (w : Width) (k : Shape) (key : List ℕ → ℕ → A �
   -- a map of the pairs stands at the root of an archive
   abbrev pub PairsStand : ℕ × ℕ → List ℕ → List (A × N) → Type 0
   PairsStand factor b pairs = PairsStandAt factor b (root w k (scalar_shape e) b) pairs
+
+  -- of each list for which the archive stands, the value of the first pair whose key is asked for
+  -- stands at the place; or there is neither
+  abbrev pub PlaceOfFirst : (A → Bool) → List ℕ → Option ℕ → Type 0
+  PlaceOfFirst asks b place = (factor : ℕ × ℕ) (pairs : List (A × N))
+      → PairsStand factor b pairs
+      → MatchOption (first_value asks pairs) (place ≡ None)
+      (λ x. (q : ℕ) × (place ≡ Some q) × ScalarStands e b q x)
 
   -- Of the first pair whose key is asked for, of each list for which the archive stands, the value
   -- is given; or there is none, and what was there is kept.

@@ -34,21 +34,21 @@ Steps buckets next IsTold before status after =
     ⊎ ((bucket : ℕ) × (buckets (next before) ≡ bucket ∷ buckets (bucket + 1)) × (status ≡ 0)
     × (next after ≡ bucket + 1) × IsTold bucket after)
 
+-- the value of the pair at q
+abbrev pub value_at : {N : Type 0} → Encoding N → List ℕ → Shape → ℕ → ℕ
+value_at e b k q = number_at e.word b (value_pos k (scalar_shape e) q)
+
 module _ {N : Type 0} (w : Width) (e : Encoding N) (b : List ℕ) where
   -- where the pair in a bucket stands, of a map of keys of a shape
   abbrev pub pair_pos : Shape → ℕ → ℕ
   pair_pos k bucket =
       item_at w (entry_shape k (scalar_shape e)).size b (root w k (scalar_shape e) b) bucket
 
-  -- the value of the pair at q
-  abbrev pub value_at : Shape → ℕ → ℕ
-  value_at k q = number_at e.word b (value_pos k (scalar_shape e) q)
-
   -- the pair in a bucket of a map of numbers
   abbrev pub IsNumberPair : ℕ → NumberPair → Type 0
   IsNumberPair bucket pair =
       (pair.key ≡ number_at w32 b (pair_pos number_key bucket))
-      × (pair.value ≡ value_at number_key (pair_pos number_key bucket))
+      × (pair.value ≡ value_at e b number_key (pair_pos number_key bucket))
 
   -- the next pair of a map of numbers
   abbrev pub NextNumber : NumberPair → ℕ → NumberPair → Type 0
@@ -60,7 +60,7 @@ module _ {N : Type 0} (w : Width) (e : Encoding N) (b : List ℕ) where
   abbrev pub IsTextPair : ℕ → TextPair → Type 0
   IsTextPair bucket pair =
       (pair.key.now ≡ text_at w b (pair_pos (text_shape w) bucket))
-      × (pair.value ≡ value_at (text_shape w) (pair_pos (text_shape w) bucket))
+      × (pair.value ≡ value_at e b (text_shape w) (pair_pos (text_shape w) bucket))
 
   -- the next pair of a map of texts
   abbrev pub NextText : TextPair → ℕ → TextPair → Type 0

@@ -4,10 +4,12 @@ ghost use Rattle.std.specs.Prelude.{◌≡◌};
 ghost use Rattle.rkyv_base.specs.Access.{Accepted};
 ghost use Rattle.rkyv_base.specs.Shape.{Viewed};
 ghost use Rattle.rkyv_collections.specs.Map.{map_shape};
-ghost use Rattle.rkyv_table.specs.Table.Header.{len_at};
-ghost use Rattle.rkyv_c_calls.specs.Archives.{Opens, root};
+ghost use Rattle.rkyv_base.specs.Scalar.{scalar_shape};
+ghost use Rattle.rkyv_c_calls.specs.Archives.{IsMapArchive, Opens, root};
+ghost use Rattle.rkyv_c_calls.specs.Calls.{Counts};
 
 use crate::status::{DONE, refusal};
+use crate::value::Value;
 use rkyv_base::access::{access_in, access_unchecked};
 use rkyv_base::element::Element;
 use rkyv_base::view::View;
@@ -37,11 +39,12 @@ pub(crate) fn root_of<K: Element, V: Element, W: Width>(archive: &[u8]) -> u64
     access_unchecked::<HashMapOf<K, V, FxHasher64, W>>(archive).pos()
 }
 
-/// How many pairs the map at `root` has.
+/// How many pairs the map of an archive has.
 #[inline]
-pub(crate) fn pair_count<K: Element, V: Element, W: Width>(archive: &[u8], root: u64) -> usize
-    requires { Viewed (map_shape W.word K.shape V.shape) archive.now root }
-    ensures { result ≡ len_at W.word archive.now root }
+pub(crate) fn pair_count<K: Element, V: Value, W: Width>(archive: &[u8]) -> usize
+    requires { IsMapArchive W.word W.LIMIT K.shape V.encoding archive.now }
+    ensures { Counts W.word K.shape (scalar_shape V.encoding) archive.now result }
 {
+    let root = root_of::<K, V, W>(archive);
     ArchivedHashMap::<K, V, FxHasher64, W>::of(View::new(archive, root)).len()
 }

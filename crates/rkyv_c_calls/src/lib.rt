@@ -6,6 +6,7 @@
 
 mod archives;
 pub mod building;
+pub mod form;
 pub mod laws;
 mod lookup;
 pub mod number_items;

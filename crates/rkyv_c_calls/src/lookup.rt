@@ -1,20 +1,17 @@
 //! Finding the value of a key, and writing it in place.
 
-ghost use Rattle.std.specs.Option.{option_map};
 ghost use Rattle.std.specs.Prelude.{IfSome, false, true, ◌≡◌};
-ghost use Rattle.rkyv_base.specs.Access.{Accepted};
 ghost use Rattle.rkyv_base.specs.Bytes.{number_at};
 ghost use Rattle.rkyv_base.specs.Scalar.{scalar_shape};
-ghost use Rattle.rkyv_base.specs.Sealing.{value_pos};
 ghost use Rattle.rkyv_base.specs.Shape.{Viewed};
-ghost use Rattle.rkyv_collections.specs.Map.{FindsKeyAt, map_shape};
-ghost use Rattle.rkyv_c_calls.specs.Archives.{Gives, Sets, hash_by, value_found};
+ghost use Rattle.rkyv_table.specs.Table.Reading.{pos_of_found};
+ghost use Rattle.rkyv_c_calls.specs.Archives.{Gives, IsMapArchive, Sets, value_found};
 ghost use Rattle.rkyv_c_calls.specs.Lists.{GivesFirst, PlaceOfFirst, SetsFirstOf};
 
 use crate::archives::root_of;
 use crate::status::{DONE, NOT_FOUND, VALUE_TOO_LARGE};
 use crate::value::Value;
-use rkyv_base::element::StandsFor;
+use rkyv_base::element::{Element, StandsFor};
 use rkyv_base::view::View;
 use rkyv_base::width::Width;
 use rkyv_collections::map::ArchivedHashMap;
@@ -22,28 +19,35 @@ use rkyv_collections::map::in_place::set_value_of;
 use rkyv_collections::map::laws::lookups_find_listed;
 use rkyv_collections::{FxHasher64, KeyElement, NativeKey};
 
-/// Where the value of the key stands that is asked for, in the map at `root`.
+/// Where the value that was found stands.
 #[inline]
-fn value_place<A: NativeKey<K>, B, K: KeyElement + StandsFor<A>, V: StandsFor<B>, W: Width>(
-    archive: &[u8],
-    root: u64,
-    key: &A,
-) -> Option<u64>
-    requires map { Viewed (map_shape W.word K.shape V.shape) archive.now root }
-    requires query { A.can_read key.now }
-    ensures viewed { IfSome result (Viewed V.shape archive.now) }
-    ensures found { FindsKeyAt W.word K.shape V.shape archive.now root
-        (hash_by (A.calls key.now)) (A.fits key.now archive.now)
-        (λ place. result ≡ option_map (value_pos K.shape V.shape) place) }
-    ensures listed { PlaceOfFirst W.word K.shape V.shape K.stands V.stands K.key_calls
-        (A.eq key.now) archive.now root result }
+fn found_pos<V: Element>(found: Option<View<'_, V>>) -> Option<u64>
+    ensures { result ≡ pos_of_found found.entry }
 {
-    lookups_find_listed::<A, B, K, V, FxHasher64, W>();
-    let map = ArchivedHashMap::<K, V, FxHasher64, W>::of(View::new(archive, root));
-    match map.get(key) {
+    match found {
         Some(value) => Some(value.pos()),
         None => None,
     }
+}
+
+/// Where the value of the key stands that is asked for, in the map of an archive.
+#[inline]
+fn value_place<A: NativeKey<K>, K: KeyElement + StandsFor<A>, V: Value, W: Width>(
+    archive: &[u8],
+    key: &A,
+) -> Option<u64>
+    requires archive { IsMapArchive W.word W.LIMIT K.shape V.encoding archive.now }
+    requires query { A.can_read key.now }
+    ensures viewed { IfSome result (Viewed (scalar_shape V.encoding) archive.now) }
+    ensures found { result ≡ value_found W.word K.shape (scalar_shape V.encoding) archive.now
+        (A.calls key.now) (A.fits key.now archive.now) }
+    ensures listed { PlaceOfFirst W.word K.shape K.stands K.key_calls V.encoding (A.eq key.now)
+        archive.now result }
+{
+    lookups_find_listed::<A, V, K, V, FxHasher64, W>();
+    let root = root_of::<K, V, W>(archive);
+    let map = ArchivedHashMap::<K, V, FxHasher64, W>::of(View::new(archive, root));
+    found_pos(map.get(key))
 }
 
 /// The number at a position.
@@ -63,8 +67,7 @@ pub(crate) fn get_in<A: NativeKey<K>, K: KeyElement + StandsFor<A>, V: Value, W:
     key: &A,
     value: &mut u64,
 ) -> u32
-    requires archive { Accepted W.LIMIT (map_shape W.word K.shape (scalar_shape V.encoding))
-        archive.now }
+    requires archive { IsMapArchive W.word W.LIMIT K.shape V.encoding archive.now }
     requires query { A.can_read key.now }
     ensures gives { Gives V.encoding.word archive.now
         (value_found W.word K.shape (scalar_shape V.encoding) archive.now (A.calls key.now)
@@ -72,8 +75,7 @@ pub(crate) fn get_in<A: NativeKey<K>, K: KeyElement + StandsFor<A>, V: Value, W:
     ensures listed { GivesFirst W.word K.shape K.stands K.key_calls V.encoding (A.eq key.now)
         archive.now value.old result value.new }
 {
-    let root = root_of::<K, V, W>(archive);
-    match value_place::<A, V, K, V, W>(archive, root, key) {
+    match value_place::<A, K, V, W>(archive, key) {
         Some(pos) => {
             *value = number_in::<V>(archive, pos);
             DONE
@@ -100,11 +102,9 @@ pub(crate) fn set_in<A: NativeKey<K>, K: KeyElement + StandsFor<A>, V: Value, W:
     key: &A,
     value: u64,
 ) -> u32
-    requires archive { Accepted W.LIMIT (map_shape W.word K.shape (scalar_shape V.encoding))
-        archive.old }
+    requires archive { IsMapArchive W.word W.LIMIT K.shape V.encoding archive.old }
     requires query { A.can_read key.now }
-    ensures kept { Accepted W.LIMIT (map_shape W.word K.shape (scalar_shape V.encoding))
-        archive.new }
+    ensures kept { IsMapArchive W.word W.LIMIT K.shape V.encoding archive.new }
     ensures sets { Sets V.encoding archive.old
         (value_found W.word K.shape (scalar_shape V.encoding) archive.old (A.calls key.now)
         (A.fits key.now archive.old)) value result archive.new }

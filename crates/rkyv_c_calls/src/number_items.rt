@@ -6,6 +6,7 @@ ghost use Rattle.rkyv_c_calls.specs.Items.{ArePairsOfNumbers, HandsOut, NoPairsO
 ghost use Rattle.rkyv_c_calls.specs.Items.{NumbersMade, NumbersRefused};
 
 use crate::building::{Built, archive_of, hand_out};
+use crate::form::Form;
 use crate::status::{NO_MEMORY, VALUE_TOO_LARGE, write_refusal};
 use crate::value::Value;
 use rkyv_base::width::{Narrow, Wide, Width};
@@ -59,17 +60,12 @@ fn archive_in<V: Value, W: Width>(alloc: Global, items: &[NumberItem]) -> Result
 }
 
 /// The archive of the items, in one of the forms.
-fn archive_by(
-    alloc: Global,
-    items: &[NumberItem],
-    long_values: bool,
-    wide: bool,
-) -> Result<Vec<u8>, u32>
+fn archive_by(alloc: Global, items: &[NumberItem], form: Form) -> Result<Vec<u8>, u32>
     ensures { MatchResult result
-        (λ v. IsArchiveOfNumbers long_values wide items.now v.items)
-        (NoArchiveOfNumbers long_values wide items.now) }
+        (λ v. IsArchiveOfNumbers form.long_values form.wide items.now v.items)
+        (NoArchiveOfNumbers form.long_values form.wide items.now) }
 {
-    match (long_values, wide) {
+    match (form.long_values, form.wide) {
         (false, false) => archive_in::<u32, Narrow>(alloc, items),
         (true, false) => archive_in::<u64, Narrow>(alloc, items),
         (false, true) => archive_in::<u32, Wide>(alloc, items),
@@ -82,15 +78,9 @@ fn archive_by(
 ///
 /// `VALUE_TOO_LARGE` where a value has more bits than the map's, `NO_MEMORY` where a growth is
 /// refused, and each other cause of a write; `built` is kept then.
-pub fn build_numbers(
-    alloc: Global,
-    items: &[NumberItem],
-    long_values: bool,
-    wide: bool,
-    built: &mut Built<'_>,
-) -> u32
-    ensures { HandsOut (IsArchiveOfNumbers long_values wide items.now)
-        (NoArchiveOfNumbers long_values wide items.now) built.old result built.new }
+pub fn build_numbers(alloc: Global, items: &[NumberItem], form: Form, built: &mut Built<'_>) -> u32
+    ensures { HandsOut (IsArchiveOfNumbers form.long_values form.wide items.now)
+        (NoArchiveOfNumbers form.long_values form.wide items.now) built.old result built.new }
 {
-    hand_out(archive_by(alloc, items, long_values, wide), built)
+    hand_out(archive_by(alloc, items, form), built)
 }

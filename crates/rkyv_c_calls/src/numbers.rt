@@ -2,19 +2,16 @@
 
 ghost use Rattle.std.specs.Prelude.{◌≡◌};
 ghost use Rattle.std.specs.Int.{w32};
-ghost use Rattle.rkyv_base.specs.Access.{Accepted};
 ghost use Rattle.rkyv_base.specs.Bytes.{number_at};
-ghost use Rattle.rkyv_base.specs.Entry.{entry_shape};
-ghost use Rattle.rkyv_base.specs.Scalar.{scalar_shape};
-ghost use Rattle.rkyv_base.specs.Shape.{Viewed};
-ghost use Rattle.rkyv_collections.specs.Map.{map_shape};
-ghost use Rattle.rkyv_c_calls.specs.Archives.{IsNumberArchive, Opens, limit_of, number_key};
-ghost use Rattle.rkyv_c_calls.specs.Archives.{number_map, value_shape, word_of};
+ghost use Rattle.rkyv_c_calls.specs.Archives.{IsMapArchive, IsNumberArchive, IsPairAt, Opens};
+ghost use Rattle.rkyv_c_calls.specs.Archives.{limit_of, number_key, number_map, value_shape};
+ghost use Rattle.rkyv_c_calls.specs.Archives.{word_of};
 ghost use Rattle.rkyv_c_calls.specs.Calls.{Counts, GivesNumber, SetsNumber, StepsNumbers};
 ghost use Rattle.rkyv_c_calls.specs.Listed.{GivesFirstNumber, SetsFirstNumber};
 ghost use Rattle.rkyv_c_calls.specs.Walking.{NextNumber};
 
 use crate::archives::{open_map, pair_count, root_of};
+use crate::form::Form;
 use crate::lookup::{get_in, set_in};
 use crate::status::{DONE, END};
 use crate::value::Value;
@@ -34,11 +31,12 @@ pub struct NumberPair {
 
 /// Whether the bytes are the archive of such a map: `DONE`, or from 16 on the first point at which
 /// they are none.
-pub fn open_numbers(archive: &[u8], long_values: bool, wide: bool) -> u32
-    ensures told { Opens (limit_of wide) (number_map long_values wide) archive.now result }
-    ensures accepts { IsNumberArchive long_values wide archive.now → result ≡ 0 }
+pub fn open_numbers(archive: &[u8], form: Form) -> u32
+    ensures told { Opens (limit_of form.wide) (number_map form.long_values form.wide) archive.now
+        result }
+    ensures accepts { IsNumberArchive form.long_values form.wide archive.now → result ≡ 0 }
 {
-    match (long_values, wide) {
+    match (form.long_values, form.wide) {
         (false, false) => open_map::<u32, u32, Narrow>(archive),
         (true, false) => open_map::<u32, u64, Narrow>(archive),
         (false, true) => open_map::<u32, u32, Wide>(archive),
@@ -46,40 +44,33 @@ pub fn open_numbers(archive: &[u8], long_values: bool, wide: bool) -> u32
     }
 }
 
-/// The number of pairs of the map at the root of an archive.
-fn count_in<V: Value, W: Width>(archive: &[u8]) -> usize
-    requires { Accepted W.LIMIT (map_shape W.word number_key (scalar_shape V.encoding))
-        archive.now }
-    ensures { Counts W.word number_key (scalar_shape V.encoding) archive.now result }
-{
-    let root = root_of::<u32, V, W>(archive);
-    pair_count::<u32, V, W>(archive, root)
-}
-
 /// How many pairs the map has.
 ///
 /// The archive must have been accepted: `open_numbers` answered `DONE`.
-pub fn count_numbers(archive: &[u8], long_values: bool, wide: bool) -> usize
-    requires { IsNumberArchive long_values wide archive.now }
-    ensures { Counts (word_of wide) number_key (value_shape long_values) archive.now result }
+pub fn count_numbers(archive: &[u8], form: Form) -> usize
+    requires { IsNumberArchive form.long_values form.wide archive.now }
+    ensures { Counts (word_of form.wide) number_key (value_shape form.long_values) archive.now
+        result }
 {
-    match (long_values, wide) {
-        (false, false) => count_in::<u32, Narrow>(archive),
-        (true, false) => count_in::<u64, Narrow>(archive),
-        (false, true) => count_in::<u32, Wide>(archive),
-        (true, true) => count_in::<u64, Wide>(archive),
+    match (form.long_values, form.wide) {
+        (false, false) => pair_count::<u32, u32, Narrow>(archive),
+        (true, false) => pair_count::<u32, u64, Narrow>(archive),
+        (false, true) => pair_count::<u32, u32, Wide>(archive),
+        (true, true) => pair_count::<u32, u64, Wide>(archive),
     }
 }
 
 /// Gives the value of a key.
 ///
 /// `NOT_FOUND` where it isn't found; `value` is kept then. The archive must have been accepted.
-pub fn get_number(archive: &[u8], long_values: bool, wide: bool, key: u32, value: &mut u64) -> u32
-    requires { IsNumberArchive long_values wide archive.now }
-    ensures gives { GivesNumber long_values wide archive.now key value.old result value.new }
-    ensures listed { GivesFirstNumber long_values wide archive.now key value.old result value.new }
+pub fn get_number(archive: &[u8], form: Form, key: u32, value: &mut u64) -> u32
+    requires { IsNumberArchive form.long_values form.wide archive.now }
+    ensures gives { GivesNumber form.long_values form.wide archive.now key value.old result
+        value.new }
+    ensures listed { GivesFirstNumber form.long_values form.wide archive.now key value.old result
+        value.new }
 {
-    match (long_values, wide) {
+    match (form.long_values, form.wide) {
         (false, false) => get_in::<u32, u32, u32, Narrow>(archive, &key, value),
         (true, false) => get_in::<u32, u32, u64, Narrow>(archive, &key, value),
         (false, true) => get_in::<u32, u32, u32, Wide>(archive, &key, value),
@@ -91,13 +82,14 @@ pub fn get_number(archive: &[u8], long_values: bool, wide: bool, key: u32, value
 ///
 /// `VALUE_TOO_LARGE` where the map's values have 32 bits and this one more, `NOT_FOUND` where the
 /// key isn't found; no byte is changed then. The archive must have been accepted, and stays so.
-pub fn set_number(archive: &mut [u8], long_values: bool, wide: bool, key: u32, value: u64) -> u32
-    requires { IsNumberArchive long_values wide archive.old }
-    ensures kept { IsNumberArchive long_values wide archive.new }
-    ensures sets { SetsNumber long_values wide archive.old key value result archive.new }
-    ensures listed { SetsFirstNumber long_values wide archive.old key value result archive.new }
+pub fn set_number(archive: &mut [u8], form: Form, key: u32, value: u64) -> u32
+    requires { IsNumberArchive form.long_values form.wide archive.old }
+    ensures kept { IsNumberArchive form.long_values form.wide archive.new }
+    ensures sets { SetsNumber form.long_values form.wide archive.old key value result archive.new }
+    ensures listed { SetsFirstNumber form.long_values form.wide archive.old key value result
+        archive.new }
 {
-    match (long_values, wide) {
+    match (form.long_values, form.wide) {
         (false, false) => set_in::<u32, u32, u32, Narrow>(archive, &key, value),
         (true, false) => set_in::<u32, u32, u64, Narrow>(archive, &key, value),
         (false, true) => set_in::<u32, u32, u32, Wide>(archive, &key, value),
@@ -107,7 +99,7 @@ pub fn set_number(archive: &mut [u8], long_values: bool, wide: bool, key: u32, v
 
 /// The key of the pair at a position.
 fn key_in<V: Value>(archive: &[u8], pos: u64) -> u32
-    requires { Viewed (entry_shape number_key (scalar_shape V.encoding)) archive.now pos }
+    requires { IsPairAt number_key V.encoding archive.now pos }
     ensures { result ≡ number_at w32 archive.now pos }
 {
     let entry: View<'_, Entry<u32, V>> = View::new(archive, pos);
@@ -116,8 +108,7 @@ fn key_in<V: Value>(archive: &[u8], pos: u64) -> u32
 
 /// Takes the next pair of the map at the root of an archive.
 fn next_in<V: Value, W: Width>(archive: &[u8], pair: &mut NumberPair) -> u32
-    requires { Accepted W.LIMIT (map_shape W.word number_key (scalar_shape V.encoding))
-        archive.now }
+    requires { IsMapArchive W.word W.LIMIT number_key V.encoding archive.now }
     ensures { NextNumber W.word V.encoding archive.now pair.old result pair.new }
 {
     let root = root_of::<u32, V, W>(archive);
@@ -138,11 +129,11 @@ fn next_in<V: Value, W: Width>(archive: &[u8], pair: &mut NumberPair) -> u32
 /// Takes the next pair, by ascending bucket.
 ///
 /// `END` where none is left; `pair` is kept then. The archive must have been accepted.
-pub fn next_number(archive: &[u8], long_values: bool, wide: bool, pair: &mut NumberPair) -> u32
-    requires { IsNumberArchive long_values wide archive.now }
-    ensures { StepsNumbers long_values wide archive.now pair.old result pair.new }
+pub fn next_number(archive: &[u8], form: Form, pair: &mut NumberPair) -> u32
+    requires { IsNumberArchive form.long_values form.wide archive.now }
+    ensures { StepsNumbers form.long_values form.wide archive.now pair.old result pair.new }
 {
-    match (long_values, wide) {
+    match (form.long_values, form.wide) {
         (false, false) => next_in::<u32, Narrow>(archive, pair),
         (true, false) => next_in::<u64, Narrow>(archive, pair),
         (false, true) => next_in::<u32, Wide>(archive, pair),

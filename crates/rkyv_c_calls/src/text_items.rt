@@ -6,6 +6,7 @@ ghost use Rattle.rkyv_c_calls.specs.Items.{ArePairsOfTexts, HandsOut, NoPairsOfT
 ghost use Rattle.rkyv_c_calls.specs.Items.{TextsMade, TextsRefused};
 
 use crate::building::{Built, archive_of, hand_out};
+use crate::form::Form;
 use crate::status::{NO_MEMORY, NOT_TEXT, VALUE_TOO_LARGE, write_refusal};
 use crate::texts::text_of;
 use crate::value::Value;
@@ -64,17 +65,12 @@ fn archive_in<V: Value, W: Width>(alloc: Global, items: &[TextItem<'_>]) -> Resu
 }
 
 /// The archive of the items, in one of the forms.
-fn archive_by(
-    alloc: Global,
-    items: &[TextItem<'_>],
-    long_values: bool,
-    wide: bool,
-) -> Result<Vec<u8>, u32>
+fn archive_by(alloc: Global, items: &[TextItem<'_>], form: Form) -> Result<Vec<u8>, u32>
     ensures { MatchResult result
-        (λ v. IsArchiveOfTexts long_values wide items.now v.items)
-        (NoArchiveOfTexts long_values wide items.now) }
+        (λ v. IsArchiveOfTexts form.long_values form.wide items.now v.items)
+        (NoArchiveOfTexts form.long_values form.wide items.now) }
 {
-    match (long_values, wide) {
+    match (form.long_values, form.wide) {
         (false, false) => archive_in::<u32, Narrow>(alloc, items),
         (true, false) => archive_in::<u64, Narrow>(alloc, items),
         (false, true) => archive_in::<u32, Wide>(alloc, items),
@@ -87,15 +83,9 @@ fn archive_by(
 ///
 /// `NOT_TEXT` where a key isn't UTF-8, `VALUE_TOO_LARGE` where a value has too many bits,
 /// `NO_MEMORY` where a growth is refused, and each other cause of a write; `built` is kept then.
-pub fn build_texts(
-    alloc: Global,
-    items: &[TextItem<'_>],
-    long_values: bool,
-    wide: bool,
-    built: &mut Built<'_>,
-) -> u32
-    ensures { HandsOut (IsArchiveOfTexts long_values wide items.now)
-        (NoArchiveOfTexts long_values wide items.now) built.old result built.new }
+pub fn build_texts(alloc: Global, items: &[TextItem<'_>], form: Form, built: &mut Built<'_>) -> u32
+    ensures { HandsOut (IsArchiveOfTexts form.long_values form.wide items.now)
+        (NoArchiveOfTexts form.long_values form.wide items.now) built.old result built.new }
 {
-    hand_out(archive_by(alloc, items, long_values, wide), built)
+    hand_out(archive_by(alloc, items, form), built)
 }

@@ -2,20 +2,17 @@
 
 ghost use Rattle.std.specs.Prelude.{IsTrue, ◌↔◌, MatchOption, ◌≡◌};
 ghost use Rattle.std.specs.Str.{IsUtf8};
-ghost use Rattle.rkyv_base.specs.Access.{Accepted};
-ghost use Rattle.rkyv_base.specs.Entry.{entry_shape};
 ghost use Rattle.rkyv_base.specs.Numbers.{unsigned};
-ghost use Rattle.rkyv_base.specs.Scalar.{scalar_shape};
-ghost use Rattle.rkyv_base.specs.Shape.{Viewed};
 ghost use Rattle.rkyv_base.specs.Text.{text_at, text_shape};
-ghost use Rattle.rkyv_collections.specs.Map.{map_shape};
-ghost use Rattle.rkyv_c_calls.specs.Archives.{Gives, IsTextArchive, Opens, Sets, limit_of};
-ghost use Rattle.rkyv_c_calls.specs.Archives.{text_key, text_map, value_shape, word_of};
+ghost use Rattle.rkyv_c_calls.specs.Archives.{Gives, IsMapArchive, IsPairAt, IsTextArchive};
+ghost use Rattle.rkyv_c_calls.specs.Archives.{Opens, Sets, limit_of, text_key, text_map};
+ghost use Rattle.rkyv_c_calls.specs.Archives.{value_shape, word_of};
 ghost use Rattle.rkyv_c_calls.specs.Calls.{Counts, GivesText, SetsText, StepsTexts, text_found};
 ghost use Rattle.rkyv_c_calls.specs.Listed.{GivesFirstText, SetsFirstText};
 ghost use Rattle.rkyv_c_calls.specs.Walking.{NextText};
 
 use crate::archives::{open_map, pair_count, root_of};
+use crate::form::Form;
 use crate::lookup::{get_in, set_in};
 use crate::status::{DONE, END, NOT_TEXT};
 use crate::value::Value;
@@ -58,11 +55,12 @@ pub fn is_text(bytes: &[u8]) -> bool
 
 /// Whether the bytes are the archive of such a map: `DONE`, or from 16 on the first point at which
 /// they are none.
-pub fn open_texts(archive: &[u8], long_values: bool, wide: bool) -> u32
-    ensures told { Opens (limit_of wide) (text_map long_values wide) archive.now result }
-    ensures accepts { IsTextArchive long_values wide archive.now → result ≡ 0 }
+pub fn open_texts(archive: &[u8], form: Form) -> u32
+    ensures told { Opens (limit_of form.wide) (text_map form.long_values form.wide) archive.now
+        result }
+    ensures accepts { IsTextArchive form.long_values form.wide archive.now → result ≡ 0 }
 {
-    match (long_values, wide) {
+    match (form.long_values, form.wide) {
         (false, false) => open_map::<Text<Narrow>, u32, Narrow>(archive),
         (true, false) => open_map::<Text<Narrow>, u64, Narrow>(archive),
         (false, true) => open_map::<Text<Wide>, u32, Wide>(archive),
@@ -70,40 +68,31 @@ pub fn open_texts(archive: &[u8], long_values: bool, wide: bool) -> u32
     }
 }
 
-/// The number of pairs of the map at the root of an archive.
-fn count_in<V: Value, W: Width>(archive: &[u8]) -> usize
-    requires { Accepted W.LIMIT (map_shape W.word (text_shape W.word) (scalar_shape V.encoding))
-        archive.now }
-    ensures { Counts W.word (text_shape W.word) (scalar_shape V.encoding) archive.now result }
-{
-    let root = root_of::<Text<W>, V, W>(archive);
-    pair_count::<Text<W>, V, W>(archive, root)
-}
-
 /// How many pairs the map has.
 ///
 /// The archive must have been accepted: `open_texts` answered `DONE`.
-pub fn count_texts(archive: &[u8], long_values: bool, wide: bool) -> usize
-    requires { IsTextArchive long_values wide archive.now }
-    ensures { Counts (word_of wide) (text_key wide) (value_shape long_values) archive.now result }
+pub fn count_texts(archive: &[u8], form: Form) -> usize
+    requires { IsTextArchive form.long_values form.wide archive.now }
+    ensures { Counts (word_of form.wide) (text_key form.wide) (value_shape form.long_values)
+        archive.now result }
 {
-    match (long_values, wide) {
-        (false, false) => count_in::<u32, Narrow>(archive),
-        (true, false) => count_in::<u64, Narrow>(archive),
-        (false, true) => count_in::<u32, Wide>(archive),
-        (true, true) => count_in::<u64, Wide>(archive),
+    match (form.long_values, form.wide) {
+        (false, false) => pair_count::<Text<Narrow>, u32, Narrow>(archive),
+        (true, false) => pair_count::<Text<Narrow>, u64, Narrow>(archive),
+        (false, true) => pair_count::<Text<Wide>, u32, Wide>(archive),
+        (true, true) => pair_count::<Text<Wide>, u64, Wide>(archive),
     }
 }
 
 /// Gives the value of a text.
-fn get_of(archive: &[u8], long_values: bool, wide: bool, key: &str, value: &mut u64) -> u32
-    requires { IsTextArchive long_values wide archive.now }
-    ensures gives { Gives (word_of long_values) archive.now
-        (text_found long_values wide archive.now key.now) value.old result value.new }
-    ensures listed { GivesFirstText long_values wide archive.now key.now value.old result
+fn get_of(archive: &[u8], form: Form, key: &str, value: &mut u64) -> u32
+    requires { IsTextArchive form.long_values form.wide archive.now }
+    ensures gives { Gives (word_of form.long_values) archive.now
+        (text_found form.long_values form.wide archive.now key.now) value.old result value.new }
+    ensures listed { GivesFirstText form.long_values form.wide archive.now key.now value.old result
         value.new }
 {
-    match (long_values, wide) {
+    match (form.long_values, form.wide) {
         (false, false) => get_in::<&str, Text<Narrow>, u32, Narrow>(archive, &key, value),
         (true, false) => get_in::<&str, Text<Narrow>, u64, Narrow>(archive, &key, value),
         (false, true) => get_in::<&str, Text<Wide>, u32, Wide>(archive, &key, value),
@@ -115,27 +104,29 @@ fn get_of(archive: &[u8], long_values: bool, wide: bool, key: &str, value: &mut 
 ///
 /// `NOT_TEXT` where its bytes aren't UTF-8, `NOT_FOUND` where it isn't found; `value` is kept then.
 /// The archive must have been accepted.
-pub fn get_text(archive: &[u8], long_values: bool, wide: bool, key: &[u8], value: &mut u64) -> u32
-    requires { IsTextArchive long_values wide archive.now }
-    ensures gives { GivesText long_values wide archive.now key.now value.old result value.new }
+pub fn get_text(archive: &[u8], form: Form, key: &[u8], value: &mut u64) -> u32
+    requires { IsTextArchive form.long_values form.wide archive.now }
+    ensures gives { GivesText form.long_values form.wide archive.now key.now value.old result
+        value.new }
     ensures listed { IsUtf8 key.now
-        → GivesFirstText long_values wide archive.now key.now value.old result value.new }
+        → GivesFirstText form.long_values form.wide archive.now key.now value.old result value.new }
 {
     match text_of(key) {
-        Some(text) => get_of(archive, long_values, wide, text, value),
+        Some(text) => get_of(archive, form, text, value),
         None => NOT_TEXT,
     }
 }
 
 /// Writes the value of a text in place.
-fn set_of(archive: &mut [u8], long_values: bool, wide: bool, key: &str, value: u64) -> u32
-    requires { IsTextArchive long_values wide archive.old }
-    ensures kept { IsTextArchive long_values wide archive.new }
-    ensures sets { Sets (unsigned (word_of long_values)) archive.old
-        (text_found long_values wide archive.old key.now) value result archive.new }
-    ensures listed { SetsFirstText long_values wide archive.old key.now value result archive.new }
+fn set_of(archive: &mut [u8], form: Form, key: &str, value: u64) -> u32
+    requires { IsTextArchive form.long_values form.wide archive.old }
+    ensures kept { IsTextArchive form.long_values form.wide archive.new }
+    ensures sets { Sets (unsigned (word_of form.long_values)) archive.old
+        (text_found form.long_values form.wide archive.old key.now) value result archive.new }
+    ensures listed { SetsFirstText form.long_values form.wide archive.old key.now value result
+        archive.new }
 {
-    match (long_values, wide) {
+    match (form.long_values, form.wide) {
         (false, false) => set_in::<&str, Text<Narrow>, u32, Narrow>(archive, &key, value),
         (true, false) => set_in::<&str, Text<Narrow>, u64, Narrow>(archive, &key, value),
         (false, true) => set_in::<&str, Text<Wide>, u32, Wide>(archive, &key, value),
@@ -148,22 +139,23 @@ fn set_of(archive: &mut [u8], long_values: bool, wide: bool, key: &str, value: u
 /// `NOT_TEXT` where the key's bytes aren't UTF-8, `VALUE_TOO_LARGE` where the map's values have 32
 /// bits and this one more, `NOT_FOUND` where the key isn't found; no byte is changed then. The
 /// archive must have been accepted, and stays so.
-pub fn set_text(archive: &mut [u8], long_values: bool, wide: bool, key: &[u8], value: u64) -> u32
-    requires { IsTextArchive long_values wide archive.old }
-    ensures kept { IsTextArchive long_values wide archive.new }
-    ensures sets { SetsText long_values wide archive.old key.now value result archive.new }
+pub fn set_text(archive: &mut [u8], form: Form, key: &[u8], value: u64) -> u32
+    requires { IsTextArchive form.long_values form.wide archive.old }
+    ensures kept { IsTextArchive form.long_values form.wide archive.new }
+    ensures sets { SetsText form.long_values form.wide archive.old key.now value result
+        archive.new }
     ensures listed { IsUtf8 key.now
-        → SetsFirstText long_values wide archive.old key.now value result archive.new }
+        → SetsFirstText form.long_values form.wide archive.old key.now value result archive.new }
 {
     match text_of(key) {
-        Some(text) => set_of(archive, long_values, wide, text, value),
+        Some(text) => set_of(archive, form, text, value),
         None => NOT_TEXT,
     }
 }
 
 /// The key of the pair at a position.
 fn key_in<V: Value, W: Width>(archive: &[u8], pos: u64) -> &[u8]
-    requires { Viewed (entry_shape (text_shape W.word) (scalar_shape V.encoding)) archive.now pos }
+    requires { IsPairAt (text_shape W.word) V.encoding archive.now pos }
     ensures { result.now ≡ text_at W.word archive.now pos }
 {
     let entry: View<'_, Entry<Text<W>, V>> = View::new(archive, pos);
@@ -172,8 +164,7 @@ fn key_in<V: Value, W: Width>(archive: &[u8], pos: u64) -> &[u8]
 
 /// Takes the next pair of the map at the root of an archive.
 fn next_in<'a, V: Value, W: Width>(archive: &'a [u8], pair: &mut TextPair<'a>) -> u32
-    requires { Accepted W.LIMIT (map_shape W.word (text_shape W.word) (scalar_shape V.encoding))
-        archive.now }
+    requires { IsMapArchive W.word W.LIMIT (text_shape W.word) V.encoding archive.now }
     ensures { NextText W.word V.encoding archive.now pair.old result pair.new }
 {
     let root = root_of::<Text<W>, V, W>(archive);
@@ -194,16 +185,11 @@ fn next_in<'a, V: Value, W: Width>(archive: &'a [u8], pair: &mut TextPair<'a>) -
 /// Takes the next pair, by ascending bucket.
 ///
 /// `END` where none is left; `pair` is kept then. The archive must have been accepted.
-pub fn next_text<'a>(
-    archive: &'a [u8],
-    long_values: bool,
-    wide: bool,
-    pair: &mut TextPair<'a>,
-) -> u32
-    requires { IsTextArchive long_values wide archive.now }
-    ensures { StepsTexts long_values wide archive.now pair.old result pair.new }
+pub fn next_text<'a>(archive: &'a [u8], form: Form, pair: &mut TextPair<'a>) -> u32
+    requires { IsTextArchive form.long_values form.wide archive.now }
+    ensures { StepsTexts form.long_values form.wide archive.now pair.old result pair.new }
 {
-    match (long_values, wide) {
+    match (form.long_values, form.wide) {
         (false, false) => next_in::<u32, Narrow>(archive, pair),
         (true, false) => next_in::<u64, Narrow>(archive, pair),
         (false, true) => next_in::<u32, Wide>(archive, pair),

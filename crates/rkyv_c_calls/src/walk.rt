@@ -4,17 +4,15 @@ ghost use Rattle.std.specs.Prelude.{[], IfSome, MatchOption, length, pos as int,
 ghost use Rattle.std.specs.Prelude.{slice_range, unsigned_abs, ℕ, ◌*◌, ◌+ℤ◌, ◌+◌, ◌-◌, ◌<◌, ◌∷◌};
 ghost use Rattle.std.specs.Prelude.{◌^◌, ◌≡◌, ◌≤◌};
 ghost use Rattle.std.specs.Int.{byte_len};
-ghost use Rattle.rkyv_base.specs.Bytes.{number_at, signed_at};
+ghost use Rattle.rkyv_base.specs.Bytes.{signed_at};
 ghost use Rattle.rkyv_base.specs.Entry.{entry_shape};
-ghost use Rattle.rkyv_base.specs.Scalar.{scalar_shape};
-ghost use Rattle.rkyv_base.specs.Sealing.{value_pos};
 ghost use Rattle.rkyv_base.specs.Shape.{Viewed};
-ghost use Rattle.rkyv_collections.specs.Map.{map_shape};
 ghost use Rattle.rkyv_table.specs.Controls.Numbers.{control_count};
 ghost use Rattle.rkyv_table.specs.Controls.Walking.{full_from};
 ghost use Rattle.rkyv_table.specs.Table.Header.{cap_at};
 ghost use Rattle.rkyv_table.specs.Table.Reading.{controls_pos};
-ghost use Rattle.rkyv_c_calls.specs.Walking.{IsNextPlace};
+ghost use Rattle.rkyv_c_calls.specs.Archives.{IsMapAt, IsPairAt};
+ghost use Rattle.rkyv_c_calls.specs.Walking.{IsNextPlace, value_at};
 
 use crate::value::Value;
 use rkyv_base::element::Element;
@@ -77,7 +75,7 @@ fn controls_begin(root: u64, distance: Distance) -> usize
 /// How many buckets the map at `root` has.
 #[inline]
 fn bucket_count<K: Element, V: Element, W: Width>(archive: &[u8], root: u64) -> usize
-    requires { Viewed (map_shape W.word K.shape V.shape) archive.now root }
+    requires { IsMapAt W.word K.shape V.shape archive.now root }
     ensures { result ≡ cap_at W.word archive.now root }
 {
     ArchivedHashMap::<K, V, FxHasher64, W>::of(View::new(archive, root)).capacity()
@@ -86,7 +84,7 @@ fn bucket_count<K: Element, V: Element, W: Width>(archive: &[u8], root: u64) -> 
 /// Where the first of the controls of the map at `root` stands, which has buckets.
 #[inline]
 fn controls_in<K: Element, V: Element, W: Width>(archive: &[u8], root: u64, cap: usize) -> usize
-    requires map { Viewed (map_shape W.word K.shape V.shape) archive.now root }
+    requires map { IsMapAt W.word K.shape V.shape archive.now root }
     requires cap { cap ≡ cap_at W.word archive.now root }
     requires some { 0 < cap }
     ensures at { result ≡ controls_pos W.word archive.now root }
@@ -121,7 +119,7 @@ pub(crate) fn next_place<K: Element, V: Element, W: Width>(
     root: u64,
     from: u64,
 ) -> Option<Place>
-    requires { Viewed (map_shape W.word K.shape V.shape) archive.now root }
+    requires { IsMapAt W.word K.shape V.shape archive.now root }
     ensures next { IsNextPlace W.word K.shape V.shape archive.now root from result }
     ensures viewed { IfSome result (λ place. Viewed (entry_shape K.shape V.shape) archive.now
         place.pos) }
@@ -146,9 +144,8 @@ pub(crate) fn next_place<K: Element, V: Element, W: Width>(
 /// The value of the pair at a position, as a number of 64 bits.
 #[inline]
 pub(crate) fn value_in<K: Element, V: Value>(archive: &[u8], pos: u64) -> u64
-    requires { Viewed (entry_shape K.shape (scalar_shape V.encoding)) archive.now pos }
-    ensures { result ≡ number_at V.encoding.word archive.now
-        (value_pos K.shape (scalar_shape V.encoding) pos) }
+    requires { IsPairAt K.shape V.encoding archive.now pos }
+    ensures { result ≡ value_at V.encoding archive.now K.shape pos }
 {
     let entry: View<'_, Entry<K, V>> = View::new(archive, pos);
     entry.value().to_native().to_number()

@@ -1,8 +1,14 @@
 use Rattle.std.proofs.Common.{◌∙◌, ap}
+use Rattle.rkyv_base.specs.Scalar.{scalar_shape}
 use Rattle.rkyv_table.specs.Table.Header.{len_at}
+use Rattle.rkyv_collections.specs.Map.{map_shape}
+use Rattle.rkyv_c_calls.proofs.First.{view_stands}
 use Rattle.rkyv_c_calls.proofs.archives.pair_count.Goals as goal
+
+pub of-requires : goal.of-requires
+of-requires g c = view_stands (map_shape g.W.Width.word g.K.Element.shape (scalar_shape g.V.Scalar.encoding)) c.new.result c.args.archive c.root_of-root.result c.new.ensures.0 c.new.ensures.1 c.root_of-root.ensures.viewed
 
 pub returns : goal.returns
 returns g c =
     let len = len_at g.W.Width.word in
-    c.len.ensures ∙ ap (λ v. len v.archive.now v.pos) c.of.ensures.view ∙ ap (λ a. len a.now c.new.result.pos) c.new.ensures.0 ∙ ap (len c.args.archive.now) c.new.ensures.1
+    c.len.ensures ∙ ap (λ v. len v.archive.now v.pos) c.of.ensures.view ∙ ap (λ a. len a.now c.new.result.pos) c.new.ensures.0 ∙ ap (len c.args.archive.now) (c.new.ensures.1 ∙ c.root_of-root.ensures.at)

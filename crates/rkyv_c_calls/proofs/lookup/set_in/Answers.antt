@@ -1,15 +1,8 @@
-use Rattle.std.proofs.Common.{◌≡◌, ◌∙◌, ℕ, ◌-◌, List, Option, ap, arith, inl, inr, length, refl, subst, sym}
-use Rattle.std.specs.Option.{option_map}
-use Rattle.std.specs.Prelude.{MatchOption}
-use Rattle.rkyv_scan.specs.Groups.{generic_kind}
+use Rattle.std.proofs.Common.{◌≡◌, ◌∙◌, ℕ, ◌-◌, List, ap, arith, inl, inr, length, refl, subst, sym}
 use Rattle.rkyv_scan.specs.Hash.{fx_hasher, low_halves}
-use Rattle.rkyv_base.specs.Entry.{entry_shape}
 use Rattle.rkyv_base.specs.Scalar.{scalar_shape}
-use Rattle.rkyv_base.specs.Sealing.{value_pos, with_value}
-use Rattle.rkyv_table.specs.Table.Reading.{pos_found}
 use Rattle.rkyv_collections.specs.Map.{hash_at, map_shape}
-use Rattle.rkyv_c_calls.specs.Archives.{hash_by}
-use Rattle.rkyv_c_calls.proofs.Writing.{accepted_again, stands_after_set, status_of_set}
+use Rattle.rkyv_c_calls.proofs.Writing.{set_kept, set_told}
 use Rattle.rkyv_collections.specs.InPlace.{with_first}
 use Rattle.rkyv_collections.specs.ListedLookups.{first_pair}
 use Rattle.rkyv_c_calls.specs.Lists.{PairsStandAt}
@@ -21,29 +14,17 @@ returns-in-None-clause-sets g c = inl (c.in-None.ensures.told, refl, refl)
 
 pub returns-clause-kept : goal.returns-clause-kept
 returns-clause-kept g c =
-    let w = g.W.Width.word in
-    let k = g.K.Element.shape in
-    let e = g.V.Scalar.encoding in
-    let v = scalar_shape e in
-    let b = c.args.archive.now in
     let set = c.set_value_of-found in
-    let place : Option ℕ = option_map (value_pos k v) (pos_found generic_kind w (entry_shape k v).size b c.root_of-root.result (hash_by (g.A.KeyHash.calls c.args.key.now)) (g.A.Query.fits c.args.key.now b)) in
-    let stands = stands_after_set w k e (hash_at (fx_hasher low_halves) g.K.KeyElement.key_calls) b c.root_of-root.result c.in-Some.number set.result set.new.archive place set.ensures.answer c.root_of-root.ensures.viewed in
-    let same : length set.new.archive ≡ length b = omega (arith, set.auto.archive) in
-    accepted_again g.W.Width.LIMIT (map_shape w k v) b set.new.archive c.root_of-root.result c.requires.archive c.root_of-root.ensures.at same stands
+    let same : length set.new.archive ≡ length c.args.archive.now = omega (arith, set.auto.archive) in
+    set_kept g.W.Width.word g.K.Element.shape g.V.Scalar.encoding (hash_at (fx_hasher low_halves) g.K.KeyElement.key_calls) c.args.archive.now c.root_of-root.result (g.A.KeyHash.calls c.args.key.now)
+    (g.A.Query.fits c.args.key.now c.args.archive.now) c.in-Some.number set.result set.new.archive c.root_of-root.ensures.at set.ensures.answer g.W.Width.LIMIT c.requires.archive c.root_of-root.ensures.viewed same
 
 pub returns-clause-sets : goal.returns-clause-sets
 returns-clause-sets g c =
-    let w = g.W.Width.word in
-    let k = g.K.Element.shape in
-    let e = g.V.Scalar.encoding in
-    let v = scalar_shape e in
-    let b = c.args.archive.now in
     let set = c.set_value_of-found in
-    let place : ℕ → Option ℕ = λ p. option_map (value_pos k v) (pos_found generic_kind w (entry_shape k v).size b p (hash_by (g.A.KeyHash.calls c.args.key.now)) (g.A.Query.fits c.args.key.now b)) in
-    let status = status_of_set w k e (hash_at (fx_hasher low_halves) g.K.KeyElement.key_calls) b c.root_of-root.result c.in-Some.number set.result set.new.archive c.status_of.result (place c.root_of-root.result) c.status_of.ensures.yes c.status_of.ensures.no set.ensures.answer in
-    let Told : Option ℕ → Type 0 = λ o. MatchOption o ((c.status_of.result ≡ 1) × (set.new.archive ≡ b)) (λ q. (c.status_of.result ≡ 0) × (set.new.archive ≡ with_value e b q c.in-Some.number)) in
-    inr (c.in-Some.number, c.in-Some.ensures.told, subst Told (ap place c.root_of-root.ensures.at) status)
+    let told = set_told g.W.Width.word g.K.Element.shape g.V.Scalar.encoding (hash_at (fx_hasher low_halves) g.K.KeyElement.key_calls) c.args.archive.now c.root_of-root.result (g.A.KeyHash.calls c.args.key.now)
+    (g.A.Query.fits c.args.key.now c.args.archive.now) c.in-Some.number set.result set.new.archive c.root_of-root.ensures.at set.ensures.answer c.status_of.result c.status_of.ensures.yes c.status_of.ensures.no in
+    inr (c.in-Some.number, c.in-Some.ensures.told, told)
 
 pub returns-in-None-clause-listed : goal.returns-in-None-clause-listed
 returns-in-None-clause-listed g c = λ factor pairs stands. inl (c.in-None.ensures.told, refl)

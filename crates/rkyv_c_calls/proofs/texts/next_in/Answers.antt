@@ -1,29 +1,15 @@
-use Rattle.std.proofs.Common.{◌≡◌, ℕ, ◌+◌, ◌∙◌, [], ◌∷◌, ap, inl, inr, refl, subst}
-use Rattle.rkyv_base.specs.Bytes.{number_at}
-use Rattle.rkyv_base.specs.Entry.{entry_shape}
-use Rattle.rkyv_base.specs.Scalar.{scalar_shape}
-use Rattle.rkyv_base.specs.Sealing.{value_pos}
-use Rattle.rkyv_table.specs.Table.Reading.{item_at}
+use Rattle.std.proofs.Common.{inl, inr, refl}
 use Rattle.rkyv_base.specs.Text.{text_at, text_shape}
-use Rattle.rkyv_c_calls.specs.Walking.{buckets_from}
+use Rattle.rkyv_c_calls.proofs.Next.{none_left, pair_told, some_left}
 use Rattle.rkyv_c_calls.proofs.texts.next_in.Goals as goal
 
 pub returns-in-None : goal.returns-in-None
-returns-in-None g c =
-    let w = g.W.Width.word in
-    let b = c.args.archive.now in
-    inl (subst (λ p. buckets_from w b p c.args.pair.now.next ≡ []) c.root_of-root.ensures.at c.in-None.ensures.next, refl, refl)
+returns-in-None g c = inl (none_left g.W.Width.word g.V.Scalar.encoding c.args.archive.now (text_shape g.W.Width.word) c.root_of-root.result c.root_of-root.ensures.at c.args.pair.now.next c.in-None.ensures.next, refl, refl)
 
 pub returns : goal.returns
 returns g c =
-    let w = g.W.Width.word in
-    let v = scalar_shape g.V.Scalar.encoding in
-    let s = entry_shape (text_shape w) v in
-    let b = c.args.archive.now in
-    let i = c.in-Some.place.bucket in
-    let root = c.root_of-root.ensures.at in
-    let taken = subst (λ p. buckets_from w b p c.args.pair.now.next ≡ i ∷ buckets_from w b p (i + 1)) root c.in-Some.ensures.next.0 in
-    let pos = c.in-Some.ensures.next.1 ∙ ap (λ p. item_at w s.size b p i) root in
-    let key = c.key_in-key.ensures ∙ ap (λ (q : ℕ). text_at w b q) pos in
-    let value = c.value_in-value.ensures ∙ ap (λ (q : ℕ). number_at g.V.Scalar.encoding.word b (value_pos (text_shape w) v q)) pos in
-    inr (i, taken, refl, refl, (key, value))
+    let place = c.in-Some.place in
+    let next = c.in-Some.ensures.next in
+    let taken = some_left g.W.Width.word g.V.Scalar.encoding c.args.archive.now (text_shape g.W.Width.word) c.root_of-root.result c.root_of-root.ensures.at c.args.pair.now.next place.bucket next.0 in
+    let told = pair_told g.W.Width.word g.V.Scalar.encoding c.args.archive.now (text_shape g.W.Width.word) c.root_of-root.result c.root_of-root.ensures.at (text_at g.W.Width.word c.args.archive.now) place.bucket place.pos c.key_in-key.result.now c.value_in-value.result next.1 c.key_in-key.ensures c.value_in-value.ensures in
+    inr (place.bucket, taken, refl, refl, told)

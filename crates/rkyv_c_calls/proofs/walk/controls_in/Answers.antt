@@ -1,34 +1,33 @@
-use Rattle.std.proofs.Common.{◌≡◌, ◌<◌, arith}
+use Rattle.std.proofs.Common.{◌≡◌, ℕ, ◌+◌, ◌<◌, ◌≤◌, List, arith, length, pos, ◌+ℤ◌}
+use Rattle.std.specs.Int.{Width}
+use Rattle.rkyv_base.specs.Bytes.{signed_at}
 use Rattle.rkyv_base.specs.Entry.{entry_element, entry_shape}
+use Rattle.rkyv_base.specs.Shape.{IsElement, Shape, Viewed}
+use Rattle.rkyv_collections.specs.Map.{map_shape}
+use Rattle.rkyv_table.specs.Controls.Numbers.{control_count}
 use Rattle.rkyv_table.specs.Table.Header.{cap_at}
 use Rattle.rkyv_table.specs.Table.Reading.{controls_pos}
 use Rattle.rkyv_table.proofs.Items.{controls_inside}
 use Rattle.rkyv_c_calls.proofs.walk.controls_in.Goals as goal
 
+-- the controls lie inside the bytes, and begin where the header tells
+inside : (w : Width) (k v : Shape) → IsElement k → IsElement v → (b : List ℕ) (p cap : ℕ) → Viewed (map_shape w k v) b p → cap ≡ cap_at w b p → 0 < cap
+    → (controls_pos w b p + control_count cap ≤ length b) × (pos (controls_pos w b p) ≡ pos p +ℤ signed_at w b p)
+inside w k v kl vl b p cap map same some =
+    let there : 0 < cap_at w b p = omega (arith, same, some) in
+    let u = controls_inside w (entry_shape k v) (entry_element k v kl vl) b p map there in
+    (rw same u.0, u.1)
+
 pub controls_begin-requires : goal.controls_begin-requires
 controls_begin-requires g c =
-    let w = g.W.Width.word in
-    let k = g.K.Element.shape in
-    let v = g.V.Element.shape in
-    let b = c.args.archive.now in
-    let p = c.args.root in
-    let cap = c.requires.cap in
-    let some : 0 < cap_at w b p = omega arith in
-    let u = controls_inside w (entry_shape k v) (entry_element k v g.met.K.Element.laws g.met.V.Element.laws) b p c.requires.map some in
-    (controls_pos w b p, rw c.distance_at.ensures u.1, omega (arith, u.0))
+    let u = inside g.W.Width.word g.K.Element.shape g.V.Element.shape g.met.K.Element.laws g.met.V.Element.laws c.args.archive.now c.args.root c.args.cap c.requires.map c.requires.cap c.requires.some in
+    (controls_pos g.W.Width.word c.args.archive.now c.args.root, rw c.distance_at.ensures u.1, omega (arith, u.0))
 
 pub returns-clause-at : goal.returns-clause-at
 returns-clause-at g c = rw c.distance_at.ensures at c.controls_begin.ensures
 
 pub returns-clause-inside : goal.returns-clause-inside
 returns-clause-inside g c =
-    let w = g.W.Width.word in
-    let k = g.K.Element.shape in
-    let v = g.V.Element.shape in
-    let b = c.args.archive.now in
-    let p = c.args.root in
-    let cap = c.requires.cap in
-    let some : 0 < cap_at w b p = omega arith in
-    let u = controls_inside w (entry_shape k v) (entry_element k v g.met.K.Element.laws g.met.V.Element.laws) b p c.requires.map some in
-    let at : c.controls_begin.result ≡ controls_pos w b p = rw c.distance_at.ensures at c.controls_begin.ensures in
-    rw (at, cap) u.0
+    let u = inside g.W.Width.word g.K.Element.shape g.V.Element.shape g.met.K.Element.laws g.met.V.Element.laws c.args.archive.now c.args.root c.args.cap c.requires.map c.requires.cap c.requires.some in
+    let at : c.controls_begin.result ≡ controls_pos g.W.Width.word c.args.archive.now c.args.root = rw c.distance_at.ensures at c.controls_begin.ensures in
+    rw at u.0

@@ -1,0 +1,10 @@
+use Rattle.std.proofs.Common.{◌∙◌}
+use Rattle.rkyv_index.specs.IndexMapFinder.{map_of}
+use Rattle.rkyv_bench_calls.proofs.IndexFound.{index_found_seen, index_found_viewed}
+use Rattle.rkyv_bench_calls.proofs.lookups.IndexMapFinderU32Lookup.value_or_miss.Goals as goal
+
+pub number_or_miss-requires : goal.number_or_miss-requires
+number_or_miss-requires g c = index_found_viewed g.K.Element.shape (map_of c.args.self.now) _ c.get.result c.get.ensures.walked
+
+pub returns : goal.returns
+returns g c = c.number_or_miss.ensures ∙ index_found_seen g.K.Element.shape (map_of c.args.self.now) c.get.result _ c.get.ensures.answer

@@ -1,0 +1,101 @@
+//! Maps and finders in which keys are looked up.
+
+ghost use Rattle.std.specs.Prelude.{IfSome, List, ℕ, Bool, ◌≡◌};
+ghost use Rattle.std.specs.Int.{w32};
+ghost use Rattle.rkyv_scan.specs.Hash.{HasherCall};
+ghost use Rattle.rkyv_base.specs.Numbers.{unsigned};
+ghost use Rattle.rkyv_base.specs.View.{IsView};
+ghost use Rattle.rkyv_keys.specs.Places.{at_view};
+ghost use Rattle.rkyv_collections.specs.Map.{IsMap};
+ghost use Rattle.rkyv_collections.specs.MapFinder.{IsMapFinder, map_of};
+ghost use Rattle.rkyv_index.specs.Index.{IsIndexMap};
+ghost use Rattle.rkyv_index.specs.IndexMapFinder.{IsIndexMapFinder, map_of as index_of};
+ghost use Rattle.rkyv_bench_calls.specs.Archives.{number_shape};
+ghost use Rattle.rkyv_bench_calls.specs.Index.{index_answer};
+ghost use Rattle.rkyv_bench_calls.specs.Totals.{map_answer, number_seen, number_weight};
+
+use rkyv_base::view::View;
+use rkyv_collections::map::ArchivedHashMap;
+use rkyv_collections::map::finder::MapFinder;
+use rkyv_index::{ArchivedIndexMap, IndexMapFinder};
+use rkyv_keys::keys::{KeyElement, Query};
+
+/// A map or an index map to numbers, or a finder of one.
+pub(crate) trait Lookup<K: KeyElement>: Copy + Drop {
+    // What it takes that keys can be looked up.
+    ghost ready: { Self → Type 0 };
+
+    // What is counted of a key that makes these calls, where fits tells which keys are it.
+    ghost answer: { Self → List HasherCall → (List ℕ → ℕ → Bool) → ℕ };
+
+    /// The value of a key, or 2^32 where it isn't found.
+    fn value_or_miss<Q: Query<K>>(&self, key: &Q) -> u64
+        requires ready { ready self.now }
+        requires read { Q.can_read key.now }
+        ensures { result ≡ answer self.now (Q.calls key.now) (Q.fits key.now) };
+}
+
+/// The number that is viewed.
+#[inline]
+pub(crate) fn number_in(number: View<'_, u32>) -> u64
+    requires { IsView number_shape number }
+    ensures { result ≡ at_view number_weight number.entry }
+{
+    u64::from(number.to_native())
+}
+
+/// The number that was found, or 2^32 where none was.
+#[inline]
+fn number_or_miss(found: Option<View<'_, u32>>) -> u64
+    requires { IfSome found (IsView number_shape) }
+    ensures { result ≡ number_seen found.entry }
+{
+    match found {
+        Some(number) => number_in(number),
+        None => 0x1_0000_0000,
+    }
+}
+
+impl<'a, K: KeyElement> Lookup<K> for ArchivedHashMap<'a, K, u32> {
+    ghost ready = { IsMap w32 K.shape number_shape };
+
+    ghost answer = { map_answer K.shape };
+
+    #[inline]
+    fn value_or_miss<Q: Query<K>>(&self, key: &Q) -> u64 {
+        number_or_miss(self.get(key))
+    }
+}
+
+impl<'a, K: KeyElement> Lookup<K> for MapFinder<'a, K, u32> {
+    ghost ready = { IsMapFinder w32 K.shape number_shape };
+
+    ghost answer = { λ finder. map_answer K.shape (map_of finder) };
+
+    #[inline]
+    fn value_or_miss<Q: Query<K>>(&self, key: &Q) -> u64 {
+        number_or_miss(self.get(key))
+    }
+}
+
+impl<'a, K: KeyElement> Lookup<K> for ArchivedIndexMap<'a, K, u32> {
+    ghost ready = { IsIndexMap w32 K.shape number_shape };
+
+    ghost answer = { index_answer K.shape };
+
+    #[inline]
+    fn value_or_miss<Q: Query<K>>(&self, key: &Q) -> u64 {
+        number_or_miss(self.get(key))
+    }
+}
+
+impl<'a, K: KeyElement> Lookup<K> for IndexMapFinder<'a, K, u32> {
+    ghost ready = { IsIndexMapFinder w32 (unsigned w32) K.shape number_shape };
+
+    ghost answer = { λ finder. index_answer K.shape (index_of finder) };
+
+    #[inline]
+    fn value_or_miss<Q: Query<K>>(&self, key: &Q) -> u64 {
+        number_or_miss(self.get(key))
+    }
+}

@@ -1,0 +1,31 @@
+//! The maps of archives.
+
+ghost use Rattle.std.specs.Int.{w32};
+ghost use Rattle.rkyv_collections.specs.Map.{IsMap};
+ghost use Rattle.rkyv_bench_calls.specs.Archives.{IsArchive, IsLengthAnd1, IsMapAtRoot};
+ghost use Rattle.rkyv_bench_calls.specs.Archives.{number_shape};
+
+use rkyv_base::access::{access, access_unchecked};
+use rkyv_base::element::Element;
+use rkyv_collections::map::{ArchivedHashMap, HashMapOf};
+
+/// The length of the archived map and one more, or 0 where the bytes are no archive of one.
+#[inline]
+pub(crate) fn length_and_1<K: Element>(archive: &[u8]) -> usize
+    ensures { IsLengthAnd1 K.shape archive.now result }
+{
+    match access::<HashMapOf<K, u32>>(archive) {
+        Ok(root) => ArchivedHashMap::of(root).len() + 1,
+        Err(_) => 0,
+    }
+}
+
+/// The map of an archive.
+#[inline]
+pub(crate) fn map_in<'a, K: Element>(archive: &'a [u8]) -> ArchivedHashMap<'a, K, u32>
+    requires { IsArchive K.shape archive.now }
+    ensures at { IsMapAtRoot result archive.entry }
+    ensures map { IsMap w32 K.shape number_shape result }
+{
+    ArchivedHashMap::of(access_unchecked::<HashMapOf<K, u32>>(archive))
+}
