@@ -4,7 +4,7 @@
 //! requires: texts are made from `&str`s alone, and lookups and walks are given archives that were
 //! accepted.
 
-use std::ffi::c_void;
+use std::ffi::{c_int, c_void};
 
 // A slice crosses as a pointer and then a length. An allocator takes no bytes.
 unsafe extern "C" {
@@ -98,6 +98,18 @@ unsafe extern "C" {
     fn malloc(size: usize) -> *mut c_void;
     fn realloc(block: *mut c_void, size: usize) -> *mut c_void;
     fn free(block: *mut c_void);
+    fn mallopt(what: c_int, value: c_int) -> c_int;
+}
+
+/// Has the C library keep what is freed, where it would give large blocks back to the system, which
+/// makes them anew of zeros, page by page, when they are first touched. It stands for both sides:
+/// std's maps ask the same functions for memory.
+pub fn keep_memory() {
+    const M_TRIM_THRESHOLD: c_int = -1;
+    const M_MMAP_MAX: c_int = -4;
+    // SAFETY: both are glibc's own settings; one that isn't known is refused with 0.
+    let kept = unsafe { mallopt(M_TRIM_THRESHOLD, c_int::MAX) != 0 && mallopt(M_MMAP_MAX, 0) != 0 };
+    assert!(kept, "this C library has no such settings");
 }
 
 /// What the library's allocator is answered: whether there is memory, and where.

@@ -1,4 +1,6 @@
 //! Measures archived hash maps against std's `HashMap`, and prints a table in Markdown.
+//!
+//! With the argument `--keep-memory`, what is freed stays with the program.
 
 // What an older library doesn't have isn't measured of it.
 #![cfg_attr(feature = "older", allow(dead_code, unused_imports))]
@@ -446,10 +448,19 @@ fn run_other_maps(
 }
 
 fn main() {
+    let keeps = std::env::args().any(|argument| argument == "--keep-memory");
+    if keeps {
+        library::keep_memory();
+    }
     let cores = std::thread::available_parallelism().map_or(0, usize::from);
     println!(
-        "Cores: {cores}. Load (1, 5, 15 minutes) before: {}.",
-        load()
+        "Cores: {cores}. Load (1, 5, 15 minutes) before: {}. {}.",
+        load(),
+        if keeps {
+            "Freed memory is kept"
+        } else {
+            "Freed memory goes back to the system"
+        }
     );
     println!();
     println!("| keys | entries | measure | ours, ns | std SipHash, ns | std Fx, ns | ours / SipHash | ours / Fx | |");

@@ -1,0 +1,276 @@
+/* Measures two builds of the library `rkyv_bench` in one process, and prints a table in Markdown.
+ *
+ *     compare BEFORE.so AFTER.so [--keep-memory]
+ *
+ * In each round every measure is taken of both, the first of them in turn: so what else the machine
+ * does falls on both alike. A row has the median ratio of the rounds. Lookups by a finder are
+ * compared with those without one where the build before has none. With `--keep-memory`, what is
+ * freed stays with the program. */
+#define _GNU_SOURCE
+#include <dlfcn.h>
+#include <malloc.h>
+#include <stdint.h>
+#include <stdio.h>
+#include <stdlib.h>
+#include <string.h>
+#include <time.h>
+
+enum { LONGEST_TEXT = 26, KEYS_A_VALUE = 1000000, MOST_ROUNDS = 31 };
+
+static const size_t COUNTS[] = {1000, 100000, 1000000};
+enum { COUNT_COUNT = sizeof COUNTS / sizeof COUNTS[0] };
+
+enum measure {
+    BUILD, HITS, MISSES, HITS_BY_FINDER, MISSES_BY_FINDER, ACCESS, WALK,
+    BUILD_TEXT, HITS_TEXT, MISSES_TEXT, HITS_TEXT_BY_FINDER, MISSES_TEXT_BY_FINDER, ACCESS_TEXT,
+    WALK_TEXT, MEASURES
+};
+
+static const char *const NAMES[MEASURES] = {
+    "u32 | build", "u32 | lookup, found", "u32 | lookup, not found",
+    "u32 | lookup by a finder, found", "u32 | lookup by a finder, not found", "u32 | access",
+    "u32 | walk", "text | build", "text | lookup, found", "text | lookup, not found",
+    "text | lookup by a finder, found", "text | lookup by a finder, not found", "text | access",
+    "text | walk",
+};
+
+struct library {
+    size_t (*build)(const uint32_t *, size_t, const uint32_t *, size_t, uint8_t *, size_t);
+    size_t (*build_text)(const uint8_t *, size_t, const uint32_t *, size_t, const uint32_t *,
+                         size_t, uint8_t *, size_t);
+    size_t (*access)(const uint8_t *, size_t);
+    size_t (*access_text)(const uint8_t *, size_t);
+    uint64_t (*lookup)(const uint8_t *, size_t, const uint32_t *, size_t);
+    uint64_t (*lookup_text)(const uint8_t *, size_t, const uint8_t *, size_t, const uint32_t *,
+                            size_t);
+    uint64_t (*find)(const uint8_t *, size_t, const uint32_t *, size_t);
+    uint64_t (*find_text)(const uint8_t *, size_t, const uint8_t *, size_t, const uint32_t *,
+                          size_t);
+    uint64_t (*walk)(const uint8_t *, size_t);
+    uint64_t (*walk_text)(const uint8_t *, size_t);
+};
+
+/* Keys as numbers, and as texts: their bytes one after the other, and where each ends. */
+struct keys {
+    uint32_t *numbers;
+    uint8_t *bytes;
+    uint32_t *ends;
+};
+
+struct workload {
+    size_t count;
+    struct keys stored, found, missing;
+    uint32_t *values;
+    uint8_t *archive, *text_archive, *out;
+    size_t len, text_len, room;
+};
+
+static void stop(const char *why) {
+    fprintf(stderr, "compare: %s\n", why);
+    exit(1);
+}
+
+static void *room_for(size_t bytes) {
+    void *room = malloc(bytes);
+    if (room == NULL)
+        stop("no memory");
+    memset(room, 0, bytes);
+    return room;
+}
+
+static void *found_in(void *handle, const char *name, const char *instead) {
+    void *function = dlsym(handle, name);
+    if (function == NULL && instead != NULL)
+        function = dlsym(handle, instead);
+    if (function == NULL)
+        stop(name);
+    return function;
+}
+
+static struct library opened(const char *file) {
+    void *handle = dlopen(file, RTLD_NOW | RTLD_LOCAL);
+    if (handle == NULL)
+        stop(dlerror());
+    struct library it;
+    *(void **)&it.build = found_in(handle, "rkyv_bench_build_u32", NULL);
+    *(void **)&it.build_text = found_in(handle, "rkyv_bench_build_text", NULL);
+    *(void **)&it.access = found_in(handle, "rkyv_bench_access_u32", NULL);
+    *(void **)&it.access_text = found_in(handle, "rkyv_bench_access_text", NULL);
+    *(void **)&it.lookup = found_in(handle, "rkyv_bench_lookup_u32", NULL);
+    *(void **)&it.lookup_text = found_in(handle, "rkyv_bench_lookup_text", NULL);
+    *(void **)&it.find =
+        found_in(handle, "rkyv_bench_lookup_u32_by_finder", "rkyv_bench_lookup_u32");
+    *(void **)&it.find_text =
+        found_in(handle, "rkyv_bench_lookup_text_by_finder", "rkyv_bench_lookup_text");
+    *(void **)&it.walk = found_in(handle, "rkyv_bench_walk_u32", NULL);
+    *(void **)&it.walk_text = found_in(handle, "rkyv_bench_walk_text", NULL);
+    return it;
+}
+
+/* A xorshift generator of 32 bits. */
+static uint32_t random_number(void) {
+    static uint32_t state = 2463534242u;
+    state ^= state << 13;
+    state ^= state >> 17;
+    state ^= state << 5;
+    return state;
+}
+
+/* The texts of the numbers: their digits, and up to 15 letters more. */
+static void add_texts(struct keys *keys, size_t count) {
+    size_t end = 0;
+    keys->bytes = room_for(count * LONGEST_TEXT);
+    keys->ends = room_for(count * sizeof *keys->ends);
+    for (size_t i = 0; i < count; i++) {
+        uint32_t number = keys->numbers[i];
+        end += (size_t)sprintf((char *)keys->bytes + end, "%u%.*s", number, (int)(number % 16),
+                               "abcdefghijklmno");
+        keys->ends[i] = (uint32_t)end;
+    }
+}
+
+static struct keys random_keys(size_t count) {
+    struct keys keys = {room_for(count * sizeof *keys.numbers), NULL, NULL};
+    for (size_t i = 0; i < count; i++)
+        keys.numbers[i] = random_number();
+    add_texts(&keys, count);
+    return keys;
+}
+
+static struct keys shuffled(const struct keys *stored, size_t count) {
+    struct keys keys = {room_for(count * sizeof *keys.numbers), NULL, NULL};
+    memcpy(keys.numbers, stored->numbers, count * sizeof *keys.numbers);
+    for (size_t i = count - 1; i > 0; i--) {
+        size_t j = random_number() % (i + 1);
+        uint32_t number = keys.numbers[i];
+        keys.numbers[i] = keys.numbers[j];
+        keys.numbers[j] = number;
+    }
+    add_texts(&keys, count);
+    return keys;
+}
+
+static uint64_t build(const struct library *it, const struct workload *w, uint8_t *out) {
+    return it->build(w->stored.numbers, w->count, w->values, w->count, out, w->room);
+}
+
+static uint64_t build_text(const struct library *it, const struct workload *w, uint8_t *out) {
+    const struct keys *k = &w->stored;
+    return it->build_text(k->bytes, k->ends[w->count - 1], k->ends, w->count, w->values, w->count,
+                          out, w->room);
+}
+
+static uint64_t ask_texts(uint64_t (*lookup)(const uint8_t *, size_t, const uint8_t *, size_t,
+                                             const uint32_t *, size_t),
+                          const struct workload *w, const struct keys *k) {
+    return lookup(w->text_archive, w->text_len, k->bytes, k->ends[w->count - 1], k->ends, w->count);
+}
+
+/* One turn of a measure, and its sum. */
+static uint64_t turn(enum measure measure, const struct library *it, const struct workload *w) {
+    switch (measure) {
+    case BUILD: return build(it, w, w->out);
+    case HITS: return it->lookup(w->archive, w->len, w->found.numbers, w->count);
+    case MISSES: return it->lookup(w->archive, w->len, w->missing.numbers, w->count);
+    case HITS_BY_FINDER: return it->find(w->archive, w->len, w->found.numbers, w->count);
+    case MISSES_BY_FINDER: return it->find(w->archive, w->len, w->missing.numbers, w->count);
+    case ACCESS: return it->access(w->archive, w->len);
+    case WALK: return it->walk(w->archive, w->len);
+    case BUILD_TEXT: return build_text(it, w, w->out);
+    case HITS_TEXT: return ask_texts(it->lookup_text, w, &w->found);
+    case MISSES_TEXT: return ask_texts(it->lookup_text, w, &w->missing);
+    case HITS_TEXT_BY_FINDER: return ask_texts(it->find_text, w, &w->found);
+    case MISSES_TEXT_BY_FINDER: return ask_texts(it->find_text, w, &w->missing);
+    case ACCESS_TEXT: return it->access_text(w->text_archive, w->text_len);
+    case WALK_TEXT: return it->walk_text(w->text_archive, w->text_len);
+    case MEASURES: break;
+    }
+    return 0;
+}
+
+/* Makes keys and archives; both builds have to make the same bytes. */
+static struct workload prepared(size_t count, const struct library both[2]) {
+    struct workload w = {.count = count, .room = count * 48 + 4096};
+    w.stored = random_keys(count);
+    w.found = shuffled(&w.stored, count);
+    w.missing = random_keys(count);
+    w.values = random_keys(count).numbers;
+    w.archive = room_for(w.room);
+    w.text_archive = room_for(w.room);
+    w.out = room_for(w.room);
+    w.len = build(&both[0], &w, w.archive);
+    w.text_len = build_text(&both[0], &w, w.text_archive);
+    if (w.len == 0 || build(&both[1], &w, w.out) != w.len || memcmp(w.archive, w.out, w.len) != 0)
+        stop("the archives of numbers differ");
+    if (w.text_len == 0 || build_text(&both[1], &w, w.out) != w.text_len ||
+        memcmp(w.text_archive, w.out, w.text_len) != 0)
+        stop("the archives of texts differ");
+    return w;
+}
+
+/* The thread's own running time, in nanoseconds. */
+static double now(void) {
+    struct timespec time;
+    clock_gettime(CLOCK_THREAD_CPUTIME_ID, &time);
+    return (double)time.tv_sec * 1e9 + (double)time.tv_nsec;
+}
+
+static int compared(const void *left, const void *right) {
+    double a = *(const double *)left, b = *(const double *)right;
+    return (a > b) - (a < b);
+}
+
+static double median(double *values, size_t count) {
+    qsort(values, count, sizeof *values, compared);
+    return values[count / 2];
+}
+
+struct result {
+    double before, after, ratio;
+};
+
+/* The nanoseconds of an entry, before and after, and the median ratio. */
+static struct result measured(enum measure measure, const struct library both[2],
+                              const struct workload *w) {
+    size_t rounds = w->count < KEYS_A_VALUE ? MOST_ROUNDS : 15;
+    size_t turns = w->count < KEYS_A_VALUE ? KEYS_A_VALUE / w->count : 1;
+    double times[2][MOST_ROUNDS], ratios[MOST_ROUNDS];
+    uint64_t sums[2] = {0, 0};
+    for (size_t round = 0; round < rounds; round++) {
+        for (size_t half = 0; half < 2; half++) {
+            size_t which = (round + half) % 2;
+            double begun = now();
+            for (size_t i = 0; i < turns; i++)
+                sums[which] += turn(measure, &both[which], w);
+            times[which][round] = (now() - begun) / (double)(turns * w->count);
+        }
+        ratios[round] = times[1][round] / times[0][round];
+    }
+    if (sums[0] != sums[1])
+        stop("the sums differ");
+    return (struct result){median(times[0], rounds), median(times[1], rounds),
+                           median(ratios, rounds)};
+}
+
+int main(int count, char **arguments) {
+    if (count < 3 || count > 4 || (count == 4 && strcmp(arguments[3], "--keep-memory") != 0))
+        stop("compare BEFORE.so AFTER.so [--keep-memory]");
+    if (count == 4 && (!mallopt(M_TRIM_THRESHOLD, INT32_MAX) || !mallopt(M_MMAP_MAX, 0)))
+        stop("this C library has no such settings");
+    struct library both[2] = {opened(arguments[1]), opened(arguments[2])};
+    struct result results[MEASURES][COUNT_COUNT];
+    for (size_t i = 0; i < COUNT_COUNT; i++) {
+        struct workload w = prepared(COUNTS[i], both);
+        for (enum measure measure = 0; measure < MEASURES; measure++)
+            results[measure][i] = measured(measure, both, &w);
+    }
+    puts("| keys | measure | before, ns | after, ns | after / before |");
+    puts("|---|---|--:|--:|--:|");
+    for (enum measure measure = 0; measure < MEASURES; measure++) {
+        const struct result *r = results[measure];
+        printf("| %s | %.2f %.2f %.2f | %.2f %.2f %.2f | %.2f %.2f %.2f |\n", NAMES[measure],
+               r[0].before, r[1].before, r[2].before, r[0].after, r[1].after, r[2].after,
+               r[0].ratio, r[1].ratio, r[2].ratio);
+    }
+    return 0;
+}
