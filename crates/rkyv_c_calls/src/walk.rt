@@ -1,14 +1,12 @@
 //! Walking over the pairs of a map, from any bucket on.
 
-ghost use Rattle.std.specs.Prelude.{[], IfSome, MatchOption, length, pos as int, slice_index};
-ghost use Rattle.std.specs.Prelude.{slice_range, unsigned_abs, ℕ, ◌*◌, ◌+ℤ◌, ◌+◌, ◌-◌, ◌<◌, ◌∷◌};
-ghost use Rattle.std.specs.Prelude.{◌^◌, ◌≡◌, ◌≤◌};
+ghost use Rattle.std.specs.Prelude.{IfSome, length, pos as int, slice_range, unsigned_abs, ℕ, ◌*◌};
+ghost use Rattle.std.specs.Prelude.{◌+ℤ◌, ◌+◌, ◌-◌, ◌<◌, ◌^◌, ◌≡◌, ◌≤◌};
 ghost use Rattle.std.specs.Int.{byte_len};
 ghost use Rattle.rkyv_base.specs.Bytes.{signed_at};
 ghost use Rattle.rkyv_base.specs.Entry.{entry_shape};
 ghost use Rattle.rkyv_base.specs.Shape.{Viewed};
 ghost use Rattle.rkyv_table.specs.Controls.Numbers.{control_count};
-ghost use Rattle.rkyv_table.specs.Controls.Walking.{full_from};
 ghost use Rattle.rkyv_table.specs.Table.Header.{cap_at};
 ghost use Rattle.rkyv_table.specs.Table.Reading.{controls_pos};
 ghost use Rattle.rkyv_c_calls.specs.Archives.{IsMapAt, IsPairAt};
@@ -22,28 +20,13 @@ use rkyv_base::width::Width;
 use rkyv_collections::FxHasher64;
 use rkyv_collections::map::ArchivedHashMap;
 use rkyv_table::controls::numbers::control_count;
+use rkyv_table::controls::walk::next_full;
 
 /// A full bucket, and where the pair in it stands.
 #[derive(Clone, Copy)]
 pub(crate) struct Place {
     pub(crate) bucket: u64,
     pub(crate) pos: u64,
-}
-
-/// The first of the first `cap` buckets from `from` on whose control is full.
-#[inline]
-fn next_full(controls: &[u8], cap: usize, from: usize) -> Option<usize>
-    requires { cap ≤ length controls.now }
-    ensures { MatchOption result (full_from controls.now cap from ≡ [])
-        (λ b. (b < cap) × (slice_index controls.now b < 128)
-        × (full_from controls.now cap from ≡ b ∷ full_from controls.now cap (b + 1))) }
-{
-    for bucket in from..cap {
-        if controls[bucket] < 0x80 {
-            return Some(bucket);
-        }
-    }
-    None
 }
 
 /// How far the first control stands from a header, in bytes.

@@ -1,9 +1,10 @@
 //! Walking the full buckets, a group at a time.
-ghost use Rattle.std.specs.Prelude.{List, [], length, ℕ, ◌<◌, ◌≡◌, ◌≤◌};
+ghost use Rattle.std.specs.Prelude.{List, MatchOption, [], length, slice_index, ℕ, ◌*◌, ◌+◌};
+ghost use Rattle.std.specs.Prelude.{◌<◌, ◌∷◌, ◌≡◌, ◌≤◌};
 ghost use Rattle.std.specs.Iterator.{YieldsFirst, item_count};
 ghost use Rattle.rkyv_table.specs.Controls.Numbers.{control_count};
 ghost use Rattle.rkyv_table.specs.Controls.Placing.{walk};
-ghost use Rattle.rkyv_table.specs.Controls.Walking.{IsWalk, left};
+ghost use Rattle.rkyv_table.specs.Controls.Walking.{IsWalk, full_from, left};
 
 use rkyv_scan::simd::{GroupKind, MAX_GROUP_WIDTH, Marks};
 use std::marker::Model;
@@ -94,4 +95,20 @@ pub fn count_full<G: GroupKind>(controls: &[u8], cap: usize) -> usize
     ensures { result ≡ length (walk controls.now cap) }
 {
     Walk::<G>::new(controls, cap).count()
+}
+
+/// The first of the first `cap` buckets from `from` on whose control is full.
+#[inline]
+pub fn next_full(controls: &[u8], cap: usize, from: usize) -> Option<usize>
+    requires { cap ≤ length controls.now }
+    ensures { MatchOption result (full_from controls.now cap from ≡ [])
+        (λ b. (b < cap) × (slice_index controls.now b < 128)
+        × (full_from controls.now cap from ≡ b ∷ full_from controls.now cap (b + 1))) }
+{
+    for bucket in from..cap {
+        if controls[bucket] < 0x80 {
+            return Some(bucket);
+        }
+    }
+    None
 }

@@ -1,6 +1,6 @@
 //! Walking over the items of a table to write them.
-ghost use Rattle.std.specs.Prelude.{IfSome, MatchOption, [], length, slice_index, slice_range, ◌*◌};
-ghost use Rattle.std.specs.Prelude.{◌+◌, ◌-◌, ◌<◌, ◌∷◌, ◌≡◌, ◌≤◌};
+ghost use Rattle.std.specs.Prelude.{IfSome, MatchOption, length, slice_range, ◌*◌, ◌+◌, ◌-◌, ◌<◌};
+ghost use Rattle.std.specs.Prelude.{◌≡◌, ◌≤◌};
 ghost use Rattle.std.specs.Int.{byte_len};
 ghost use Rattle.rkyv_base.specs.Scalar.{scalar_shape};
 ghost use Rattle.rkyv_base.specs.Seal.{LiesIn, archive_in, bytes_in, pos_in};
@@ -8,23 +8,36 @@ ghost use Rattle.rkyv_base.specs.Sealing.{Keeps, Sealed, with_value};
 ghost use Rattle.rkyv_table.specs.Table.Header.{cap_at, len_at};
 ghost use Rattle.rkyv_table.specs.Controls.Placing.{walk};
 ghost use Rattle.rkyv_table.specs.Table.Reading.{table_controls};
-ghost use Rattle.rkyv_table.specs.Table.SealedItems.{CountsDown, FindsFirstLeft, IsSealIter};
-ghost use Rattle.rkyv_table.specs.Table.SealedItems.{KeepsCursor, LendsArchive, LendsFirst};
-ghost use Rattle.rkyv_table.specs.Table.SealedItems.{MaySeal};
-ghost use Rattle.rkyv_table.specs.Table.SealedItems.{MaySealIn, MaySealNext, MayWriteAt};
-ghost use Rattle.rkyv_table.specs.Table.SealedItems.{MayWriteNext};
-ghost use Rattle.rkyv_table.specs.Table.SealedItems.{SameArchive, SealedBy, StaysThere};
-ghost use Rattle.rkyv_table.specs.Table.SealedItems.{StepsAndWrites};
-ghost use Rattle.rkyv_table.specs.Table.SealedItems.{TakesPosition, WrittenBy, buckets_left};
-ghost use Rattle.rkyv_table.specs.Table.SealedItems.{cursor_bytes, items_left};
+ghost use Rattle.rkyv_table.specs.Table.SealedItems.{
+  CountsDown,
+  FindsFirstLeft,
+  IsSealIter,
+  KeepsCursor,
+  LendsArchive,
+  LendsFirst,
+  MaySeal,
+  MaySealIn,
+  MaySealNext,
+  MayWriteAt,
+  MayWriteNext,
+  SameArchive,
+  SealedBy,
+  StaysThere,
+  StepsAndWrites,
+  TakesPosition,
+  WrittenBy,
+  buckets_left,
+  cursor_bytes,
+  items_left,
+};
 ghost use Rattle.rkyv_scan.specs.Groups.{generic_kind};
 ghost use Rattle.rkyv_table.specs.Table.Bare.{LendsFound, MayAskOf};
 ghost use Rattle.rkyv_table.specs.Table.RawItems.{pos_before};
 ghost use Rattle.rkyv_table.specs.Table.SealedLookup.{IsTableSeal};
 ghost use Rattle.rkyv_base.specs.Shape.{Viewed};
 ghost use Rattle.rkyv_table.specs.Table.Layout.{table_shape};
-ghost use Rattle.rkyv_table.specs.Controls.Walking.{full_from};
 
+use crate::controls::walk::next_full;
 use crate::table::items::Items;
 use crate::table::{ArchivedHashTable, TableOf};
 use rkyv_base::element::Element;
@@ -33,22 +46,6 @@ use rkyv_base::seal::{ArchiveSeal, Seal, set_at};
 use rkyv_base::view::View;
 use rkyv_base::width::Width;
 use std::marker::PhantomData;
-
-/// The first of the first `cap` buckets from `from` on whose control is full.
-#[inline]
-fn next_full(controls: &[u8], cap: usize, from: usize) -> Option<usize>
-    requires { cap ≤ length controls.now }
-    ensures { MatchOption result (full_from controls.now cap from ≡ [])
-        (λ b. (b < cap) × (slice_index controls.now b < 128)
-        × (full_from controls.now cap from ≡ b ∷ full_from controls.now cap (b + 1))) }
-{
-    for bucket in from..cap {
-        if controls[bucket] < 0x80 {
-            return Some(bucket);
-        }
-    }
-    None
-}
 
 /// The `count` bytes from `place` on, where they are there.
 #[inline]

@@ -1,6 +1,6 @@
 use Rattle.std.proofs.Common.{◌∙◌}
 use Rattle.rkyv_table.proofs.SealedItems.{full_end, full_skipped, full_taken}
-use Rattle.rkyv_c_calls.proofs.walk.next_full.Goals as goal
+use Rattle.rkyv_table.proofs.controls.walk.next_full.Goals as goal
 
 pub returns-then-controls-bucket-lt128 : goal.returns-then-controls-bucket-lt128
 returns-then-controls-bucket-lt128 c = (

@@ -1,6 +1,0 @@
-use Rattle.std.proofs.Common.{◌≡◌}
-use Rattle.rkyv_table.specs.Controls.Walking.{full_from}
-use Rattle.rkyv_table.proofs.table.raw_iter_seal.next_full.Given as goal
-
-abbrev pub invariant-loop-bucket : goal.invariant-loop-bucket
-invariant-loop-bucket l = full_from l.fn.controls l.fn.cap l.fn.from ≡ full_from l.fn.controls l.fn.cap l.bucket
