@@ -12,10 +12,9 @@ ghost use Rattle.rkyv_base.specs.Pairs.{
   written_as-format,
 };
 
-use crate::archive::{Archive, Serialize};
+use crate::archive::{Archive, ResolveResult, Serialize, WriteResult};
 use crate::element::StandsFor;
 use crate::entry::Entry;
-use crate::errors::{DistanceTooLarge, WriteError};
 use crate::lend::Lend;
 use crate::pairs::{EntryResolver, resolve_entry, serialize_entry};
 use crate::width::Width;
@@ -67,12 +66,7 @@ impl<W: Width, BK: Lend<A>, BV: Lend<B>, A: Archive<W>, B: Archive<W>> Archive<W
         (pair_format A.Archived.shape B.Archived.shape A.format B.format) };
 
     #[inline]
-    fn resolve(
-        &self,
-        resolver: EntryResolver<A::Resolver, B::Resolver>,
-        pos: u64,
-        out: &mut [u8],
-    ) -> Result<(), DistanceTooLarge> {
+    fn resolve(&self, resolver: Self::Resolver, pos: u64, out: &mut [u8]) -> ResolveResult {
         resolve_entry::<W, A, B>(self.key.lend(), self.value.lend(), resolver, pos, out)
     }
 
@@ -93,11 +87,7 @@ impl<
     B: Serialize<S, W>,
 > Serialize<S, W> for EntryAdapter<BK, BV, A, B> {
     #[inline]
-    fn serialize(
-        &self,
-        alloc: Global,
-        serializer: &mut S,
-    ) -> Result<EntryResolver<A::Resolver, B::Resolver>, WriteError<S::Fault>> {
+    fn serialize(&self, alloc: Global, serializer: &mut S) -> WriteResult<Self::Resolver, S> {
         serialize_entry::<S, W, A, B>(self.key.lend(), self.value.lend(), alloc, serializer)
     }
 }

@@ -30,12 +30,7 @@ pub trait Archive<W: Width> {
     ///
     /// # Errors
     /// Where a distance to a part doesn't fit the width; `out` may then hold any bytes.
-    fn resolve(
-        &self,
-        resolver: Self::Resolver,
-        pos: u64,
-        out: &mut [u8],
-    ) -> Result<(), DistanceTooLarge>
+    fn resolve(&self, resolver: Self::Resolver, pos: u64, out: &mut [u8]) -> ResolveResult
         requires room { length out.old ≡ Self.Archived.shape.size }
         requires fits { pos + Self.Archived.shape.size < 2 ^ 64 }
         ensures { MatchResult result
@@ -52,11 +47,7 @@ pub trait Serialize<S: Writer, W: Width>: Archive<W> {
     /// # Errors
     /// The cause is that of the first piece or value that fails. What the writer held before is
     /// kept.
-    fn serialize(
-        &self,
-        alloc: Global,
-        serializer: &mut S,
-    ) -> Result<Self::Resolver, WriteError<S::Fault>>
+    fn serialize(&self, alloc: Global, serializer: &mut S) -> WriteResult<Self::Resolver, S>
         ensures { Serializes W.LIMIT Self.format self.now
             (S.output serializer.old) (S.output serializer.new) result };
 }

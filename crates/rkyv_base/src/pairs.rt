@@ -3,18 +3,12 @@
 ghost use Rattle.std.specs.Prelude.{◌≡◌, ◌+◌, ◌^◌, ◌<◌, ◌≤◌, length, MatchResult};
 ghost use Rattle.rkyv_base.specs.Entry.{entry_shape};
 ghost use Rattle.rkyv_base.specs.Format.{Serializes};
-ghost use Rattle.rkyv_base.specs.Pairs.{
-  Padded,
-  PairStands,
-  pair_format,
-  pair_is_format,
-  pair_near,
-};
+ghost use Rattle.rkyv_base.specs.Pairs.{Padded, PairStands, pair_format, pair_is_format, pair_near};
 
-use crate::archive::{Archive, Serialize};
+use crate::archive::{Archive, ResolveResult, Serialize, WriteResult};
 use crate::element::{Element, StandsFor};
 use crate::entry::{Entry, LARGEST, value_offset, whole_size};
-use crate::errors::{DistanceTooLarge, WriteError};
+use crate::errors::WriteError;
 use crate::width::Width;
 use crate::writer::Writer;
 use std::alloc::Global;
@@ -33,7 +27,7 @@ fn resolve_padded<W: Width, V: Archive<W>>(
     resolver: V::Resolver,
     pos: u64,
     out: &mut [u8],
-) -> Result<(), DistanceTooLarge>
+) -> ResolveResult
     requires room { V.Archived.shape.size ≤ length out.old }
     requires fits { pos + V.Archived.shape.size < 2 ^ 64 }
     ensures { MatchResult result
@@ -54,7 +48,7 @@ pub(crate) fn resolve_entry<W: Width, A: Archive<W>, B: Archive<W>>(
     resolver: EntryResolver<A::Resolver, B::Resolver>,
     pos: u64,
     out: &mut [u8],
-) -> Result<(), DistanceTooLarge>
+) -> ResolveResult
     requires room { length out.old ≡ (entry_shape A.Archived.shape B.Archived.shape).size }
     requires fits { pos + (entry_shape A.Archived.shape B.Archived.shape).size < 2 ^ 64 }
     ensures { let f = pair_format A.Archived.shape B.Archived.shape A.format B.format in
@@ -79,7 +73,7 @@ pub(crate) fn serialize_entry<S: Writer, W: Width, A: Serialize<S, W>, B: Serial
     value: &B,
     alloc: Global,
     serializer: &mut S,
-) -> Result<EntryResolver<A::Resolver, B::Resolver>, WriteError<S::Fault>>
+) -> WriteResult<EntryResolver<A::Resolver, B::Resolver>, S>
     ensures { let f = pair_format A.Archived.shape B.Archived.shape A.format B.format in
         Serializes W.LIMIT f (key.now, value.now)
         (S.output serializer.old) (S.output serializer.new) result }
@@ -110,12 +104,7 @@ impl<W: Width, A: Archive<W>, B: Archive<W>> Archive<W> for (A, B) {
     ghost format = { pair_format A.Archived.shape B.Archived.shape A.format B.format };
 
     #[inline]
-    fn resolve(
-        &self,
-        resolver: EntryResolver<A::Resolver, B::Resolver>,
-        pos: u64,
-        out: &mut [u8],
-    ) -> Result<(), DistanceTooLarge> {
+    fn resolve(&self, resolver: Self::Resolver, pos: u64, out: &mut [u8]) -> ResolveResult {
         resolve_entry::<W, A, B>(&self.0, &self.1, resolver, pos, out)
     }
 
@@ -125,11 +114,7 @@ impl<W: Width, A: Archive<W>, B: Archive<W>> Archive<W> for (A, B) {
 
 impl<S: Writer, W: Width, A: Serialize<S, W>, B: Serialize<S, W>> Serialize<S, W> for (A, B) {
     #[inline]
-    fn serialize(
-        &self,
-        alloc: Global,
-        serializer: &mut S,
-    ) -> Result<EntryResolver<A::Resolver, B::Resolver>, WriteError<S::Fault>> {
+    fn serialize(&self, alloc: Global, serializer: &mut S) -> WriteResult<Self::Resolver, S> {
         serialize_entry::<S, W, A, B>(&self.0, &self.1, alloc, serializer)
     }
 }

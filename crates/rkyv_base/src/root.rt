@@ -3,7 +3,7 @@
 ghost use Rattle.std.specs.Prelude.{MatchResult};
 ghost use Rattle.rkyv_base.specs.Root.{ArchiveOf, ArchiveRefused, WritesRoot};
 
-use crate::archive::Serialize;
+use crate::archive::{Serialize, WriteResult};
 use crate::element::Element;
 use crate::errors::WriteError;
 use crate::width::{Narrow, Width};
@@ -20,7 +20,7 @@ pub fn write_root_in<W: Width, S: Writer, V: Serialize<S, W>>(
     alloc: Global,
     value: &V,
     serializer: &mut S,
-) -> Result<u64, WriteError<S::Fault>>
+) -> WriteResult<u64, S>
     ensures { WritesRoot W.LIMIT V.Archived.shape.align V.format value.now
         (S.output serializer.old) (S.output serializer.new) result }
 {
@@ -75,7 +75,7 @@ pub fn write_root<S: Writer, V: Serialize<S, Narrow>>(
     alloc: Global,
     value: &V,
     serializer: &mut S,
-) -> Result<u64, WriteError<S::Fault>>
+) -> WriteResult<u64, S>
     ensures { WritesRoot 4294967295 V.Archived.shape.align V.format value.now
         (S.output serializer.old) (S.output serializer.new) result }
 {

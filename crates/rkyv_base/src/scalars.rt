@@ -14,9 +14,9 @@ ghost use Rattle.rkyv_base.specs.Scalar.{
   scalar_shape,
 };
 
-use crate::archive::{Archive, Serialize};
+use crate::archive::{Archive, ResolveResult, Serialize, WriteResult};
 use crate::element::{Element, PartRange, StandsFor};
-use crate::errors::{DistanceTooLarge, VerifyError, WriteError};
+use crate::errors::VerifyError;
 use crate::width::Width;
 use crate::writer::Writer;
 use std::alloc::Global;
@@ -91,7 +91,7 @@ impl<W: Width, N: Scalar> Archive<W> for N {
     ghost format = { scalar_format N.encoding };
 
     #[inline]
-    fn resolve(&self, _resolver: (), _pos: u64, out: &mut [u8]) -> Result<(), DistanceTooLarge> {
+    fn resolve(&self, _resolver: (), _pos: u64, out: &mut [u8]) -> ResolveResult {
         self.write(out);
         Ok(())
     }
@@ -101,7 +101,7 @@ impl<W: Width, N: Scalar> Archive<W> for N {
 
 impl<S: Writer, W: Width, N: Scalar> Serialize<S, W> for N {
     #[inline]
-    fn serialize(&self, _alloc: Global, _serializer: &mut S) -> Result<(), WriteError<S::Fault>> {
+    fn serialize(&self, _alloc: Global, _serializer: &mut S) -> WriteResult<(), S> {
         Ok(())
     }
 }

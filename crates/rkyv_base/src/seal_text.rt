@@ -3,14 +3,8 @@
 ghost use Rattle.std.specs.Prelude.{◌≡◌, ℕ, ◌+◌, ◌≤◌, List, length, map, MatchOption};
 ghost use Rattle.std.specs.Char.{to_ascii_uppercase};
 ghost use Rattle.rkyv_base.specs.Seal.{LiesIn, SealStays, bytes_in, seal_pos};
-ghost use Rattle.rkyv_base.specs.SealedText.{
-  IsElsewhere,
-  IsInline,
-  IsSealedText,
-  Raised,
-  ReadsInline,
-  inline_at,
-};
+ghost use Rattle.rkyv_base.specs.SealedText.{IsElsewhere, IsInline, IsSealedText, Raised};
+ghost use Rattle.rkyv_base.specs.SealedText.{ReadsInline, inline_at};
 ghost use Rattle.rkyv_base.specs.Sealing.{Keeps, Sealed};
 ghost use Rattle.rkyv_base.specs.Text.{text_at, text_shape, text_size};
 

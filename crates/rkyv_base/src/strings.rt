@@ -26,7 +26,7 @@ ghost use Rattle.rkyv_base.specs.TextWriting.{
   text_limit,
 };
 
-use crate::archive::{Archive, Serialize};
+use crate::archive::{Archive, ResolveResult, Serialize, WriteResult};
 use crate::errors::{DistanceTooLarge, WriteError};
 use crate::text::Text;
 use crate::width::Width;
@@ -79,7 +79,7 @@ fn resolve_text<W: Width>(
     resolver: TextResolver,
     pos: u64,
     out: &mut [u8],
-) -> Result<(), DistanceTooLarge>
+) -> ResolveResult
     requires { length out.old ≡ text_size W.word }
     ensures { MatchResult result
         (λ _. (text_format W.word).image text.now resolver pos out.new)
@@ -107,7 +107,7 @@ fn resolve_text<W: Width>(
 fn serialize_text<S: Writer, W: Width>(
     text: &str,
     serializer: &mut S,
-) -> Result<TextResolver, WriteError<S::Fault>>
+) -> WriteResult<TextResolver, S>
     ensures { Serializes W.LIMIT (text_format W.word) text.now
         (S.output serializer.old) (S.output serializer.new) result }
 {
@@ -132,12 +132,7 @@ impl<'t, W: Width> Archive<W> for &'t str {
     ghost format = { written_as (λ t. t.now) (text_format W.word) };
 
     #[inline]
-    fn resolve(
-        &self,
-        resolver: TextResolver,
-        pos: u64,
-        out: &mut [u8],
-    ) -> Result<(), DistanceTooLarge> {
+    fn resolve(&self, resolver: TextResolver, pos: u64, out: &mut [u8]) -> ResolveResult {
         resolve_text::<W>(self, resolver, pos, out)
     }
 
@@ -152,12 +147,7 @@ impl<W: Width> Archive<W> for String {
     ghost format = { written_as string_bytes (text_format W.word) };
 
     #[inline]
-    fn resolve(
-        &self,
-        resolver: TextResolver,
-        pos: u64,
-        out: &mut [u8],
-    ) -> Result<(), DistanceTooLarge> {
+    fn resolve(&self, resolver: TextResolver, pos: u64, out: &mut [u8]) -> ResolveResult {
         resolve_text::<W>(self.as_str(), resolver, pos, out)
     }
 
@@ -166,11 +156,7 @@ impl<W: Width> Archive<W> for String {
 
 impl<'t, S: Writer, W: Width> Serialize<S, W> for &'t str {
     #[inline]
-    fn serialize(
-        &self,
-        _alloc: Global,
-        serializer: &mut S,
-    ) -> Result<TextResolver, WriteError<S::Fault>>
+    fn serialize(&self, _alloc: Global, serializer: &mut S) -> WriteResult<TextResolver, S>
         ensures { Serializes W.LIMIT (text_format W.word) self.now.now
             (S.output serializer.old) (S.output serializer.new) result }
     {
@@ -180,11 +166,7 @@ impl<'t, S: Writer, W: Width> Serialize<S, W> for &'t str {
 
 impl<S: Writer, W: Width> Serialize<S, W> for String {
     #[inline]
-    fn serialize(
-        &self,
-        _alloc: Global,
-        serializer: &mut S,
-    ) -> Result<TextResolver, WriteError<S::Fault>>
+    fn serialize(&self, _alloc: Global, serializer: &mut S) -> WriteResult<TextResolver, S>
         ensures { Serializes W.LIMIT (text_format W.word) (string_bytes self.now)
             (S.output serializer.old) (S.output serializer.new) result }
     {

@@ -10,9 +10,9 @@ ghost use Rattle.rkyv_base.specs.Empty.{
   unit_stands,
 };
 
-use crate::archive::{Archive, Serialize};
+use crate::archive::{Archive, ResolveResult, Serialize, WriteResult};
 use crate::element::{Element, PartRange, StandsFor};
-use crate::errors::{DistanceTooLarge, VerifyError, WriteError};
+use crate::errors::VerifyError;
 use crate::width::Width;
 use crate::writer::Writer;
 use std::alloc::Global;
@@ -52,7 +52,7 @@ impl<W: Width> Archive<W> for () {
     ghost format = { unit_format };
 
     #[inline]
-    fn resolve(&self, _resolver: (), _pos: u64, _out: &mut [u8]) -> Result<(), DistanceTooLarge> {
+    fn resolve(&self, _resolver: (), _pos: u64, _out: &mut [u8]) -> ResolveResult {
         Ok(())
     }
 
@@ -61,7 +61,7 @@ impl<W: Width> Archive<W> for () {
 
 impl<S: Writer, W: Width> Serialize<S, W> for () {
     #[inline]
-    fn serialize(&self, _alloc: Global, _serializer: &mut S) -> Result<(), WriteError<S::Fault>> {
+    fn serialize(&self, _alloc: Global, _serializer: &mut S) -> WriteResult<(), S> {
         Ok(())
     }
 }

@@ -71,6 +71,9 @@ impl<'a, N: Scalar> View<'a, N> {
     }
 }
 
+/// A key and its value, as they stand in an archive.
+pub type PairView<'a, K, V> = (View<'a, K>, View<'a, V>);
+
 impl<'a, K: Element, V: Element> View<'a, Entry<K, V>> {
     /// The key of the entry.
     #[inline]

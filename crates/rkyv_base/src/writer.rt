@@ -23,6 +23,7 @@ ghost use Rattle.rkyv_base.specs.Writing.{
   held,
 };
 
+use crate::archive::WriteResult;
 use crate::element::Element;
 use crate::errors::WriteError;
 use crate::width::{Narrow, Width};
@@ -144,10 +145,7 @@ impl Writer for VecWriter {
 /// `PositionTooLarge` where the piece would end past the width's limit, and nothing is written;
 /// `Writer` where the writer fails, which may have taken a front of the piece.
 #[inline]
-pub fn append_in<W: Width, S: Writer>(
-    serializer: &mut S,
-    bytes: &[u8],
-) -> Result<(), WriteError<S::Fault>>
+pub fn append_in<W: Width, S: Writer>(serializer: &mut S, bytes: &[u8]) -> WriteResult<(), S>
     ensures { AppendsPiece W.LIMIT bytes.now
         (S.output serializer.old) (S.output serializer.new) result }
 {
@@ -168,9 +166,7 @@ pub fn append_in<W: Width, S: Writer>(
 /// # Errors
 /// Those of `append_in`.
 #[inline]
-pub fn align_for_in<W: Width, T: Element, S: Writer>(
-    serializer: &mut S,
-) -> Result<u64, WriteError<S::Fault>>
+pub fn align_for_in<W: Width, T: Element, S: Writer>(serializer: &mut S) -> WriteResult<u64, S>
     ensures { Aligns W.LIMIT T.shape.align
         (S.output serializer.old) (S.output serializer.new) result }
 {
@@ -188,7 +184,7 @@ pub fn align_for_in<W: Width, T: Element, S: Writer>(
 /// # Errors
 /// As `append_in`, with the limit 4,294,967,295.
 #[inline]
-pub fn append<S: Writer>(serializer: &mut S, bytes: &[u8]) -> Result<(), WriteError<S::Fault>>
+pub fn append<S: Writer>(serializer: &mut S, bytes: &[u8]) -> WriteResult<(), S>
     ensures { AppendsPiece 4294967295 bytes.now
         (S.output serializer.old) (S.output serializer.new) result }
 {
@@ -200,7 +196,7 @@ pub fn append<S: Writer>(serializer: &mut S, bytes: &[u8]) -> Result<(), WriteEr
 /// # Errors
 /// As `align_for_in`, with the limit 4,294,967,295.
 #[inline]
-pub fn align_for<T: Element, S: Writer>(serializer: &mut S) -> Result<u64, WriteError<S::Fault>>
+pub fn align_for<T: Element, S: Writer>(serializer: &mut S) -> WriteResult<u64, S>
     ensures { Aligns 4294967295 T.shape.align
         (S.output serializer.old) (S.output serializer.new) result }
 {

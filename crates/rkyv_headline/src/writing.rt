@@ -3,7 +3,7 @@
 ghost use Rattle.rkyv_table.specs.Table.Input.{from_both};
 ghost use Rattle.rkyv_headline.specs.Listing.{WritesList};
 
-use rkyv_base::archive::Serialize;
+use rkyv_base::archive::{Serialize, WriteResult};
 use rkyv_base::errors::WriteError;
 use rkyv_base::lend::Lend;
 use rkyv_base::width::Width;
@@ -38,7 +38,7 @@ pub(crate) fn write_list<
     len: usize,
     load_factor: (usize, usize),
     serializer: &mut S,
-) -> Result<Written, WriteError<S::Fault>>
+) -> WriteResult<Written, S>
     requires { I.can_next items × J.can_next hashes }
     ensures { WritesList W.word W.MAX_CAPACITY W.LIMIT U.Archived.shape X.lent U.format
         (from_both I.next_gives J.next_gives items hashes) len load_factor

@@ -5,10 +5,9 @@ ghost use Rattle.rkyv_base.specs.Pairs.{PairStands, pair_format, pair_near, writ
 ghost use Rattle.rkyv_own.specs.Seeing.{pair_seen};
 
 use rkyv_base::adapter::EntryAdapter;
-use rkyv_base::archive::{Archive, Serialize};
+use rkyv_base::archive::{Archive, ResolveResult, Serialize, WriteResult};
 use rkyv_base::element::StandsFor;
 use rkyv_base::entry::Entry;
-use rkyv_base::errors::{DistanceTooLarge, WriteError};
 use rkyv_base::pairs::EntryResolver;
 use rkyv_base::width::Width;
 use rkyv_base::writer::Writer;
@@ -61,12 +60,7 @@ impl<W: Width, A: Archive<W>, B: Archive<W>, T: AsPair<First = A, Second = B>> A
         (pair_format A.Archived.shape B.Archived.shape A.format B.format) };
 
     #[inline]
-    fn resolve(
-        &self,
-        resolver: Self::Resolver,
-        pos: u64,
-        out: &mut [u8],
-    ) -> Result<(), DistanceTooLarge> {
+    fn resolve(&self, resolver: Self::Resolver, pos: u64, out: &mut [u8]) -> ResolveResult {
         let adapter: EntryAdapter<&A, &B, A, B> = EntryAdapter::new(
             self.0.first(),
             self.0.second(),
@@ -85,11 +79,7 @@ impl<
     T: AsPair<First = A, Second = B>,
 > Serialize<S, W> for Seen<T> {
     #[inline]
-    fn serialize(
-        &self,
-        alloc: Global,
-        serializer: &mut S,
-    ) -> Result<Self::Resolver, WriteError<S::Fault>> {
+    fn serialize(&self, alloc: Global, serializer: &mut S) -> WriteResult<Self::Resolver, S> {
         let adapter: EntryAdapter<&A, &B, A, B> = EntryAdapter::new(
             self.0.first(),
             self.0.second(),

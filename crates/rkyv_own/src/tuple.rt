@@ -4,10 +4,9 @@ ghost use Rattle.std.specs.Prelude.{◌≡◌};
 ghost use Rattle.rkyv_base.specs.Pairs.{PairStands, pair_format, pair_near, written_as};
 ghost use Rattle.rkyv_own.specs.Seeing.{pair_seen};
 
-use rkyv_base::archive::{Archive, Serialize};
+use rkyv_base::archive::{Archive, ResolveResult, Serialize, WriteResult};
 use rkyv_base::element::StandsFor;
 use rkyv_base::entry::Entry;
-use rkyv_base::errors::{DistanceTooLarge, WriteError};
 use rkyv_base::pairs::EntryResolver;
 use rkyv_base::width::Width;
 use rkyv_base::writer::Writer;
@@ -60,12 +59,7 @@ impl<
         (pair_format A.Archived.shape B.Archived.shape A.format B.format) };
 
     #[inline]
-    fn resolve(
-        &self,
-        resolver: Self::Resolver,
-        pos: u64,
-        out: &mut [u8],
-    ) -> Result<(), DistanceTooLarge> {
+    fn resolve(&self, resolver: Self::Resolver, pos: u64, out: &mut [u8]) -> ResolveResult {
         let tuple = self.0.tuple();
         <(A, B) as Archive<W>>::resolve(&tuple, resolver, pos, out)
     }
@@ -81,11 +75,7 @@ impl<
     T: AsTuple<First = A, Second = B>,
 > Serialize<S, W> for Tupled<T> {
     #[inline]
-    fn serialize(
-        &self,
-        alloc: Global,
-        serializer: &mut S,
-    ) -> Result<Self::Resolver, WriteError<S::Fault>> {
+    fn serialize(&self, alloc: Global, serializer: &mut S) -> WriteResult<Self::Resolver, S> {
         let tuple = self.0.tuple();
         <(A, B) as Serialize<S, W>>::serialize(&tuple, alloc, serializer)
     }

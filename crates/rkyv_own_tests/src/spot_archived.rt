@@ -12,10 +12,10 @@ ghost use Rattle.rkyv_own_tests.specs.Spot.{
 };
 
 use crate::spot::Spot;
-use rkyv_base::archive::{Archive, Serialize};
+use rkyv_base::archive::{Archive, ResolveResult, Serialize, WriteResult};
 use rkyv_base::element::{Element, PartRange, StandsFor};
 use rkyv_base::entry::Entry;
-use rkyv_base::errors::{DistanceTooLarge, VerifyError, WriteError};
+use rkyv_base::errors::VerifyError;
 use rkyv_base::pairs::EntryResolver;
 use rkyv_base::view::View;
 use rkyv_base::width::Width;
@@ -56,12 +56,7 @@ impl<W: Width> Archive<W> for Spot {
 
     ghost format = { spot_format };
 
-    fn resolve(
-        &self,
-        resolver: EntryResolver<(), ()>,
-        pos: u64,
-        out: &mut [u8],
-    ) -> Result<(), DistanceTooLarge> {
+    fn resolve(&self, resolver: EntryResolver<(), ()>, pos: u64, out: &mut [u8]) -> ResolveResult {
         let pair = (self.x, self.y);
         <(i32, i32) as Archive<W>>::resolve(&pair, resolver, pos, out)
     }
@@ -74,7 +69,7 @@ impl<S: Writer, W: Width> Serialize<S, W> for Spot {
         &self,
         alloc: Global,
         serializer: &mut S,
-    ) -> Result<EntryResolver<(), ()>, WriteError<S::Fault>> {
+    ) -> WriteResult<EntryResolver<(), ()>, S> {
         let pair = (self.x, self.y);
         <(i32, i32) as Serialize<S, W>>::serialize(&pair, alloc, serializer)
     }

@@ -8,8 +8,8 @@ ghost use Rattle.rkyv_base.specs.Format.{nothing_far, nothing_next};
 use crate::tests::refusals::{Refusal, refused};
 use rkyv_base::access::access;
 use rkyv_base::{
-    Archive, DistanceTooLarge, Element, Entry, Narrow, PartRange, Scalar, Serialize, StandsFor,
-    VecWriter, VerifyError, Width, WriteError, Writer, to_bytes, whole_size,
+    Archive, Element, Entry, Narrow, PartRange, ResolveResult, Scalar, Serialize, StandsFor,
+    VecWriter, VerifyError, Width, WriteError, WriteResult, Writer, to_bytes, whole_size,
 };
 use rkyv_testing::written::is_archived_as;
 use std::alloc::Global;
@@ -85,7 +85,7 @@ impl<W: Width> Archive<W> for Huge {
       far = nothing_far;
     } };
 
-    fn resolve(&self, _resolver: (), _pos: u64, _out: &mut [u8]) -> Result<(), DistanceTooLarge> {
+    fn resolve(&self, _resolver: (), _pos: u64, _out: &mut [u8]) -> ResolveResult {
         Ok(())
     }
 
@@ -97,7 +97,7 @@ impl<W: Width> Archive<W> for Huge {
 }
 
 impl<S: Writer, W: Width> Serialize<S, W> for Huge {
-    fn serialize(&self, _alloc: Global, _serializer: &mut S) -> Result<(), WriteError<S::Fault>> {
+    fn serialize(&self, _alloc: Global, _serializer: &mut S) -> WriteResult<(), S> {
         Ok(())
     }
 }

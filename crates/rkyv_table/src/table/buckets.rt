@@ -5,7 +5,7 @@ ghost use Rattle.rkyv_base.specs.Pairs.{written_as};
 ghost use Rattle.rkyv_base.specs.Writing.{end_of};
 ghost use Rattle.rkyv_table.specs.Table.Slots.{FillsBucket, WritesBuckets, filled};
 
-use rkyv_base::archive::Archive;
+use rkyv_base::archive::{Archive, ResolveResult, WriteResult};
 use rkyv_base::element::Element;
 use rkyv_base::errors::{DistanceTooLarge, WriteError};
 use rkyv_base::lend::Lend;
@@ -19,7 +19,7 @@ fn fill_bucket<W: Width, U: Archive<W>, X: Lend<U>>(
     rest: &mut Vec<U::Resolver>,
     pos: u64,
     bucket: &mut [u8],
-) -> Result<(), DistanceTooLarge>
+) -> ResolveResult
     requires some { IfSome slot.now (λ _. 0 < length rest.old.items) }
     requires room { length bucket.old ≡ U.Archived.shape.size }
     requires fits { pos + U.Archived.shape.size < 2 ^ 64 }
@@ -47,7 +47,7 @@ fn write_by<W: Width, S: Writer, U: Archive<W>, X: Lend<U>>(
     resolvers: Vec<U::Resolver>,
     bucket: &mut [u8],
     serializer: &mut S,
-) -> Result<(), WriteError<S::Fault>>
+) -> WriteResult<(), S>
     requires count { length resolvers.items ≡ filled slots.now }
     requires room { length bucket.old ≡ U.Archived.shape.size }
     requires within { end_of (S.output serializer.old) ≤ W.LIMIT }
@@ -77,7 +77,7 @@ pub(crate) fn write_buckets<W: Width, S: Writer, U: Archive<W>, X: Lend<U>>(
     resolvers: Vec<U::Resolver>,
     bucket: &mut [u8],
     serializer: &mut S,
-) -> Result<(), WriteError<S::Fault>>
+) -> WriteResult<(), S>
     requires count { length resolvers.items ≡ filled slots.now }
     requires room { length bucket.old ≡ U.Archived.shape.size }
     requires within { end_of (S.output serializer.old) ≤ W.LIMIT }

@@ -6,8 +6,7 @@ ghost use Rattle.rkyv_table.specs.Table.Slots.{WritesSlots, filled};
 
 use crate::table::buckets::write_buckets;
 use crate::table::parts::serialize_slots;
-use rkyv_base::archive::Serialize;
-use rkyv_base::errors::WriteError;
+use rkyv_base::archive::{Serialize, WriteResult};
 use rkyv_base::lend::Lend;
 use rkyv_base::width::Width;
 use rkyv_base::writer::{Writer, align_for_in, append_in};
@@ -22,7 +21,7 @@ pub(crate) fn write_table<W: Width, S: Writer, U: Serialize<S, W>, X: Lend<U>>(
     bucket: &mut [u8],
     resolvers: Vec<U::Resolver>,
     serializer: &mut S,
-) -> Result<u64, WriteError<S::Fault>>
+) -> WriteResult<u64, S>
     requires empty { resolvers.items ≡ [] }
     requires places { filled slots.now ≤ vec_capacity resolvers }
     requires room { length bucket.old ≡ U.Archived.shape.size }

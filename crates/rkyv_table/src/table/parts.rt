@@ -4,8 +4,7 @@ ghost use Rattle.std.specs.Prelude.{◌≡◌, ◌≤◌, [], vec_capacity};
 ghost use Rattle.rkyv_base.specs.Pairs.{written_as};
 ghost use Rattle.rkyv_table.specs.Table.Slots.{WritesParts, filled};
 
-use rkyv_base::archive::Serialize;
-use rkyv_base::errors::WriteError;
+use rkyv_base::archive::{Serialize, WriteResult};
 use rkyv_base::lend::Lend;
 use rkyv_base::width::Width;
 use rkyv_base::writer::Writer;
@@ -17,7 +16,7 @@ pub(crate) fn serialize_slots<W: Width, S: Writer, U: Serialize<S, W>, X: Lend<U
     slots: &[Option<X>],
     resolvers: &mut Vec<U::Resolver>,
     serializer: &mut S,
-) -> Result<(), WriteError<S::Fault>>
+) -> WriteResult<(), S>
     requires empty { resolvers.old.items ≡ [] }
     requires room { filled slots.now ≤ vec_capacity resolvers.old }
     ensures { WritesParts (written_as X.lent U.format) W.LIMIT slots.now resolvers.new.items

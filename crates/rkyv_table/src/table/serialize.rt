@@ -12,7 +12,7 @@ use crate::table::ArchivedHashTable;
 use crate::table::bytes::write_table;
 use crate::table::hands_in::{HandsIn, ItemsAndHashes, Pairs};
 use crate::table::resolve::HashTableResolver;
-use rkyv_base::archive::Serialize;
+use rkyv_base::archive::{Serialize, WriteResult};
 use rkyv_base::element::Element;
 use rkyv_base::errors::{IteratorLengthMismatch, WriteError};
 use rkyv_base::lend::Lend;
@@ -72,13 +72,7 @@ fn serialize_filled<
     U: Serialize<S, W>,
     X: Lend<U> + Drop,
     H: HandsIn<X>,
->(
-    alloc: Global,
-    given: H,
-    len: usize,
-    cap: usize,
-    serializer: &mut S,
-) -> Result<u64, WriteError<S::Fault>>
+>(alloc: Global, given: H, len: usize, cap: usize, serializer: &mut S) -> WriteResult<u64, S>
     requires can { H.can given }
     requires below { len < cap }
     requires fits { cap ≤ W.MAX_CAPACITY }
@@ -128,7 +122,7 @@ fn serialize_given<
     len: usize,
     load_factor: (usize, usize),
     serializer: &mut S,
-) -> Result<HashTableResolver<W>, WriteError<S::Fault>>
+) -> WriteResult<HashTableResolver<W>, S>
     requires { H.can given }
     ensures { WritesTable W.word W.MAX_CAPACITY W.LIMIT U.Archived.shape X.lent U.format
         (H.input given) len load_factor (S.output serializer.old) (S.output serializer.new)
@@ -198,7 +192,7 @@ impl<'a, T, W: Width> ArchivedHashTable<'a, T, W> {
         len: usize,
         load_factor: (usize, usize),
         serializer: &mut S,
-    ) -> Result<HashTableResolver<W>, WriteError<S::Fault>>
+    ) -> WriteResult<HashTableResolver<W>, S>
         requires { I.can_next items × J.can_next hashes }
         ensures { WritesTable W.word W.MAX_CAPACITY W.LIMIT T.shape X.lent U.format
             (from_both I.next_gives J.next_gives items hashes) len load_factor
@@ -230,7 +224,7 @@ impl<'a, T, W: Width> ArchivedHashTable<'a, T, W> {
         len: usize,
         load_factor: (usize, usize),
         serializer: &mut S,
-    ) -> Result<HashTableResolver<W>, WriteError<S::Fault>>
+    ) -> WriteResult<HashTableResolver<W>, S>
         requires { I.can_next pairs }
         ensures { WritesTable W.word W.MAX_CAPACITY W.LIMIT T.shape X.lent U.format
             (from_iter I.next_gives pairs) len load_factor

@@ -1,6 +1,6 @@
 //! Tables and archives that the tests write, and the bytes that they compare.
 
-use rkyv_base::archive::Serialize;
+use rkyv_base::archive::{Serialize, WriteResult};
 use rkyv_base::errors::WriteError;
 use rkyv_base::width::Narrow;
 use rkyv_base::writer::{NoMemory, VecWriter, Writer, align_for, append};
@@ -123,7 +123,7 @@ pub(crate) fn written<U: Serialize<VecWriter, Narrow>>(
 pub(crate) fn write_header<S: Writer>(
     resolver: HashTableResolver,
     writer: &mut S,
-) -> Result<(), WriteError<S::Fault>> {
+) -> WriteResult<(), S> {
     let root = match align_for::<u32, S>(writer) {
         Ok(root) => root,
         Err(error) => return Err(error),

@@ -1,5 +1,6 @@
 //! Writers that end in the midst of a table.
 
+use rkyv_base::archive::WriteResult;
 use crate::tests::archives::{hash_of_u32, write_header};
 use rkyv_base::errors::WriteError;
 use rkyv_base::limit::{LimitFault, LimitWriter};
@@ -11,7 +12,7 @@ use rkyv_testing::writers::{Broken, BrokenWriter, LateWriter};
 use std::alloc::Global;
 
 // Writes the table of the pair 1 and 2, and its header.
-fn write_one_pair<S: Writer>(alloc: Global, writer: &mut S) -> Result<(), WriteError<S::Fault>> {
+fn write_one_pair<S: Writer>(alloc: Global, writer: &mut S) -> WriteResult<(), S> {
     let resolver = match ArchivedHashTable::<_, Narrow>::serialize_from_iter::<
         S,
         (u32, u32),
