@@ -12,7 +12,7 @@ use crate::map::ArchivedHashMap;
 use crate::map::lookup::{found_pair, found_value, is_found};
 use rkyv_base::element::Element;
 use rkyv_base::entry::Entry;
-use rkyv_base::view::View;
+use rkyv_base::view::{PairView, View};
 use rkyv_base::width::{Narrow, Width};
 use rkyv_keys::hash::hash_value;
 use rkyv_keys::keys::{KeyElement, Query};
@@ -67,7 +67,7 @@ impl<'a, K: KeyElement, V: Element, H: KeyHasher, W: Width> MapFinder<'a, K, V, 
 
     /// As the map's `get_key_value`.
     #[inline]
-    pub fn get_key_value<Q: Query<K>>(self, key: &Q) -> Option<(View<'a, K>, View<'a, V>)>
+    pub fn get_key_value<Q: Query<K>>(self, key: &Q) -> Option<PairView<'a, K, V>>
         requires finder { IsMapFinder W.word K.shape V.shape self }
         requires query { Q.can_read key.now }
         ensures { GetsKey IsPairIn IsPairAt W.word K.shape V.shape (map_of self.entry)

@@ -10,7 +10,7 @@ ghost use Rattle.rkyv_table.specs.Table.PairWalks.{TakesKey, TakesPair, TakesVal
 use crate::map::ArchivedHashMap;
 use rkyv_base::element::Element;
 use rkyv_base::entry::Entry;
-use rkyv_base::view::View;
+use rkyv_base::view::{PairView, View};
 use rkyv_base::width::{Narrow, Width};
 use rkyv_scan::hash::FxHasher64;
 use rkyv_table::table::raw_iter::RawIter;
@@ -33,7 +33,7 @@ impl<'a, K, V, H, W> Model for Iter<'a, K, V, H, W> {
 }
 
 impl<'a, K: Element, V: Element, H, W> Iterator for Iter<'a, K, V, H, W> {
-    type Item = (View<'a, K>, View<'a, V>);
+    type Item = PairView<'a, K, V>;
 
     ghost can_next = { AllStand (entry_shape K.shape V.shape) };
 
@@ -42,7 +42,7 @@ impl<'a, K: Element, V: Element, H, W> Iterator for Iter<'a, K, V, H, W> {
     ghost remaining = { λ left. at_most (length left.places) };
 
     #[inline]
-    fn next(&mut self) -> Option<(View<'a, K>, View<'a, V>)> {
+    fn next(&mut self) -> Option<PairView<'a, K, V>> {
         match self.entries.next_view() {
             Some(entry) => Some((entry.key(), entry.value())),
             None => None,

@@ -14,7 +14,7 @@ ghost use Rattle.rkyv_collections.specs.MapFormat.{hash_of};
 use crate::map::ArchivedHashMap;
 use rkyv_base::element::Element;
 use rkyv_base::entry::Entry;
-use rkyv_base::view::View;
+use rkyv_base::view::{PairView, View};
 use rkyv_base::width::Width;
 use rkyv_keys::hash::{KeyHash, hash_value};
 use rkyv_keys::keys::{KeyElement, Query};
@@ -43,7 +43,7 @@ pub(crate) fn is_found<T: Element>(found: Option<View<'_, T>>) -> bool
 #[inline]
 pub(crate) fn found_pair<'a, K: Element, V: Element>(
     found: Option<View<'a, Entry<K, V>>>,
-) -> Option<(View<'a, K>, View<'a, V>)>
+) -> Option<PairView<'a, K, V>>
     requires { IfSome found (IsView (entry_shape K.shape V.shape)) }
     ensures { IsPairOfEntry K.shape V.shape result found.entry }
 {
@@ -102,11 +102,7 @@ impl<'a, K: KeyElement, V: Element, H: KeyHasher, W: Width> ArchivedHashMap<'a, 
     /// answers; which one, the table decides. The comparison is asked for keys of the map alone,
     /// and may be asked twice of one.
     #[inline]
-    pub fn get_key_value_with<Q: KeyHash, F>(
-        self,
-        key: &Q,
-        cmp: F,
-    ) -> Option<(View<'a, K>, View<'a, V>)>
+    pub fn get_key_value_with<Q: KeyHash, F>(self, key: &Q, cmp: F) -> Option<PairView<'a, K, V>>
     where
         F: Fn(&Q, View<'a, K>) -> bool,
         requires map { IsMap W.word K.shape V.shape self }
@@ -157,7 +153,7 @@ impl<'a, K: KeyElement, V: Element, H: KeyHasher, W: Width> ArchivedHashMap<'a, 
     /// Where `misplaced` is 0 none does: the one key that fits is found, and none exactly where
     /// none fits.
     #[inline]
-    pub fn get_key_value<Q: Query<K>>(self, key: &Q) -> Option<(View<'a, K>, View<'a, V>)>
+    pub fn get_key_value<Q: Query<K>>(self, key: &Q) -> Option<PairView<'a, K, V>>
         requires map { IsMap W.word K.shape V.shape self }
         requires query { Q.can_read key.now }
         ensures { GetsKey IsPairIn IsPairAt W.word K.shape V.shape self.entry H.hasher

@@ -7,14 +7,15 @@ ghost use Rattle.rkyv_base.specs.Scalar.{scalar_shape};
 ghost use Rattle.rkyv_base.specs.View.{IsAt, bytes_of, pos_of};
 ghost use Rattle.rkyv_table.specs.Table.Reading.{IsItem, IsTable, pos_of_found};
 ghost use Rattle.rkyv_index.specs.Index.{AreEntries, IsEntryOf, IsHeld, IsIndexMap, IsKeyOf};
-ghost use Rattle.rkyv_index.specs.Index.{index_archive, index_bytes, index_len, index_pos};
+ghost use Rattle.rkyv_index.specs.Index.{IsPairOf, index_archive, index_bytes, index_len};
+ghost use Rattle.rkyv_index.specs.Index.{index_pos};
 ghost use Rattle.rkyv_index.specs.IndexLayout.{entry_at};
 
 use crate::map::ArchivedIndexMap;
 use crate::map::check::begin_told;
 use rkyv_base::element::Element;
 use rkyv_base::entry::Entry;
-use rkyv_base::view::View;
+use rkyv_base::view::{PairView, View};
 use rkyv_base::width::Width;
 use rkyv_table::table::{ArchivedHashTable, TableOf};
 
@@ -79,6 +80,17 @@ impl<'a, K: Element, V: Element, H, W: Width> Entries<'a, K, V, H, W> {
     {
         let at = entry_pos(self.begin, place, Entry::<K, V>::size());
         self.map.view.at::<Entry<K, V>>(at)
+    }
+
+    /// The key and the value of a place.
+    #[inline]
+    pub(crate) fn pair(self, place: usize) -> PairView<'a, K, V>
+        requires entries { AreEntries W.word K.shape V.shape self }
+        requires below { place < index_len W.word self.map }
+        ensures { IsPairOf W.word K.shape V.shape self.entry.map place result }
+    {
+        let entry = self.entry(place);
+        (entry.key(), entry.value())
     }
 
     /// The place that a bucket of its table holds.

@@ -13,7 +13,7 @@ ghost use Rattle.rkyv_index.specs.Lookups.{GetsKey, GetsPlace, TellsKey};
 use crate::map::ArchivedIndexMap;
 use crate::map::entries::Entries;
 use rkyv_base::element::Element;
-use rkyv_base::view::View;
+use rkyv_base::view::{PairView, View};
 use rkyv_base::width::{Narrow, Width};
 use rkyv_keys::hash::hash_value;
 use rkyv_keys::keys::{KeyElement, Query};
@@ -119,7 +119,7 @@ impl<'a, K: KeyElement, V: Element, H: KeyHasher, W: Width> IndexMapFinder<'a, K
 
     /// As the map's `get_key_value`.
     #[inline]
-    pub fn get_key_value<Q: Query<K>>(self, key: &Q) -> Option<(View<'a, K>, View<'a, V>)>
+    pub fn get_key_value<Q: Query<K>>(self, key: &Q) -> Option<PairView<'a, K, V>>
         requires finder { IsIndexMapFinder W.word W.Place.encoding K.shape V.shape self }
         requires query { Q.can_read key.now }
         ensures { GetsKey (index_in W.word K.shape V.shape self.entry) H.hasher
@@ -127,10 +127,7 @@ impl<'a, K: KeyElement, V: Element, H: KeyHasher, W: Width> IndexMapFinder<'a, K
             (IsPairOf W.word K.shape V.shape (map_of self.entry)) result }
     {
         match self.find_key(key) {
-            Some(place) => {
-                let entry = self.entries.entry(place);
-                Some((entry.key(), entry.value()))
-            }
+            Some(place) => Some(self.entries.pair(place)),
             None => None,
         }
     }
@@ -144,10 +141,8 @@ impl<'a, K: KeyElement, V: Element, H: KeyHasher, W: Width> IndexMapFinder<'a, K
             (Q.calls key.now) K.key_calls (Q.fits key.now)
             (IsValueOf W.word K.shape V.shape (map_of self.entry)) result }
     {
-        match self.find_key(key) {
-            Some(place) => Some(self.entries.entry(place).value()),
-            None => None,
-        }
+        let place = self.find_key(key)?;
+        Some(self.entries.entry(place).value())
     }
 
     /// As the map's `get_index_of`.

@@ -10,7 +10,7 @@ ghost use Rattle.rkyv_table.specs.Table.PairWalks.{TakesKey, TakesPair, TakesVal
 use crate::map::ArchivedIndexMap;
 use rkyv_base::element::Element;
 use rkyv_base::entry::Entry;
-use rkyv_base::view::View;
+use rkyv_base::view::{PairView, View};
 use rkyv_base::width::Width;
 use std::marker::{Model, PhantomData};
 
@@ -40,7 +40,7 @@ impl<'a, K, V> Model for Iter<'a, K, V> {
 }
 
 impl<'a, K: Element, V: Element> Iterator for Iter<'a, K, V> {
-    type Item = (View<'a, K>, View<'a, V>);
+    type Item = PairView<'a, K, V>;
 
     ghost can_next = { AllStand (entry_shape K.shape V.shape) };
 
@@ -49,7 +49,7 @@ impl<'a, K: Element, V: Element> Iterator for Iter<'a, K, V> {
     ghost remaining = { λ left. at_most (length left.places) };
 
     #[inline]
-    fn next(&mut self) -> Option<(View<'a, K>, View<'a, V>)> {
+    fn next(&mut self) -> Option<PairView<'a, K, V>> {
         if self.left == 0 {
             return None;
         }

@@ -28,14 +28,9 @@ pub fn value_writes_keep_answers<K: KeyElement, V: Element, Q: Query<K>, H: KeyH
 
 /// An index map that stands for a list of pairs stands, once the value of a place was written, for
 /// the list with the new value at that place.
-pub fn values_written_stand<
-    A,
-    B,
-    K: KeyElement + StandsFor<A>,
-    V: StandsFor<B>,
-    H: KeyHasher,
-    W: Width,
->()
+pub fn values_written_stand<A, B, K: KeyElement, V: StandsFor<B>, H: KeyHasher, W: Width>()
+where
+    K: StandsFor<A>,
     ensures { ValuesWrittenStand W.word K.shape V.shape K.stands V.stands
         (hash_at H.hasher K.key_calls) }
 {}

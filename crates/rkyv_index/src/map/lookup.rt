@@ -14,7 +14,7 @@ ghost use Rattle.rkyv_index.specs.Lookups.{GetsBy, GetsKey, GetsPlace, GetsPlace
 
 use crate::map::ArchivedIndexMap;
 use rkyv_base::element::Element;
-use rkyv_base::view::View;
+use rkyv_base::view::{PairView, View};
 use rkyv_base::width::Width;
 use rkyv_keys::hash::{KeyHash, hash_value};
 use rkyv_keys::keys::{KeyElement, Query};
@@ -134,16 +134,13 @@ impl<'a, K: KeyElement, V: Element, H: KeyHasher, W: Width> ArchivedIndexMap<'a,
 
     /// The pair of a place that was found.
     #[inline]
-    fn pair_of(self, place: Option<usize>) -> Option<(View<'a, K>, View<'a, V>)>
+    fn pair_of(self, place: Option<usize>) -> Option<PairView<'a, K, V>>
         requires map { IsIndexMap W.word K.shape V.shape self }
         requires held { IfSome place (IsHeldPlace W.word self) }
         ensures { IsPairAt W.word K.shape V.shape self.entry result place }
     {
         match place {
-            Some(place) => {
-                let entry = self.entries().entry(place);
-                Some((entry.key(), entry.value()))
-            }
+            Some(place) => Some(self.entries().pair(place)),
             None => None,
         }
     }
@@ -163,11 +160,7 @@ impl<'a, K: KeyElement, V: Element, H: KeyHasher, W: Width> ArchivedIndexMap<'a,
 
     /// The key and the value of the pair that `get_full_with` answers.
     #[inline]
-    pub fn get_key_value_with<Q: KeyHash, F>(
-        self,
-        key: &Q,
-        cmp: F,
-    ) -> Option<(View<'a, K>, View<'a, V>)>
+    pub fn get_key_value_with<Q: KeyHash, F>(self, key: &Q, cmp: F) -> Option<PairView<'a, K, V>>
     where
         F: Fn(&Q, View<'a, K>) -> bool,
         requires map { IsIndexMap W.word K.shape V.shape self }
@@ -181,7 +174,7 @@ impl<'a, K: KeyElement, V: Element, H: KeyHasher, W: Width> ArchivedIndexMap<'a,
 
     /// The key and the value of the pair that `get_full` answers.
     #[inline]
-    pub fn get_key_value<Q: Query<K>>(self, key: &Q) -> Option<(View<'a, K>, View<'a, V>)>
+    pub fn get_key_value<Q: Query<K>>(self, key: &Q) -> Option<PairView<'a, K, V>>
         requires map { IsIndexMap W.word K.shape V.shape self }
         requires query { Q.can_read key.now }
         ensures { GetsKey (index_of W.word K.shape V.shape self.entry) H.hasher (Q.calls key.now)

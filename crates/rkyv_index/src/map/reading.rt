@@ -7,7 +7,7 @@ ghost use Rattle.rkyv_index.specs.IndexLayout.{index_shape};
 
 use crate::map::{ArchivedIndexMap, IndexMapOf};
 use rkyv_base::element::Element;
-use rkyv_base::view::View;
+use rkyv_base::view::{PairView, View};
 use rkyv_base::width::Width;
 
 impl<'a, K: Element, V: Element, H, W: Width> ArchivedIndexMap<'a, K, V, H, W> {
@@ -41,7 +41,7 @@ impl<'a, K: Element, V: Element, H, W: Width> ArchivedIndexMap<'a, K, V, H, W> {
 
     /// The key and the value of a place: `None` exactly where the place isn't below the length.
     #[inline]
-    pub fn get_index(self, place: usize) -> Option<(View<'a, K>, View<'a, V>)>
+    pub fn get_index(self, place: usize) -> Option<PairView<'a, K, V>>
         requires { IsIndexMap W.word K.shape V.shape self }
         ensures { MatchOption result
             (index_len W.word self.entry ≤ place)
@@ -50,7 +50,6 @@ impl<'a, K: Element, V: Element, H, W: Width> ArchivedIndexMap<'a, K, V, H, W> {
         if place >= self.len() {
             return None;
         }
-        let entry = self.entries().entry(place);
-        Some((entry.key(), entry.value()))
+        Some(self.entries().pair(place))
     }
 }

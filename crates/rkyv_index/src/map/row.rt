@@ -4,7 +4,7 @@ ghost use Rattle.std.specs.Prelude.{◌≡◌, ◌<◌, ◌≤◌, [], vec_capac
 ghost use Rattle.rkyv_base.specs.Writing.{end_of};
 ghost use Rattle.rkyv_index.specs.Row.{SerializesRow, WritesRow};
 
-use rkyv_base::archive::{Archive, Serialize};
+use rkyv_base::archive::{Archive, Serialize, WriteResult};
 use rkyv_base::errors::WriteError;
 use rkyv_base::width::Width;
 use rkyv_base::writer::{Writer, append_in};
@@ -16,7 +16,7 @@ pub(crate) fn serialize_row<W: Width, S: Writer, U: Serialize<S, W>>(
     values: &[U],
     resolvers: &mut Vec<U::Resolver>,
     serializer: &mut S,
-) -> Result<(), WriteError<S::Fault>>
+) -> WriteResult<(), S>
     requires empty { resolvers.old.items ≡ [] }
     requires room { length values.now ≤ vec_capacity resolvers.old }
     ensures { SerializesRow U.format W.LIMIT values.now resolvers.new.items
@@ -37,7 +37,7 @@ pub(crate) fn write_row<W: Width, S: Writer, U: Archive<W>>(
     resolvers: Vec<U::Resolver>,
     scratch: &mut [u8],
     serializer: &mut S,
-) -> Result<(), WriteError<S::Fault>>
+) -> WriteResult<(), S>
     requires count { length resolvers.items ≡ length values.now }
     requires room { 0 < length values.now → length scratch.old ≡ U.Archived.shape.size }
     requires within { end_of (S.output serializer.old) ≤ W.LIMIT }

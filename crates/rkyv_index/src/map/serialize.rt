@@ -15,7 +15,7 @@ use crate::map::write::write_index;
 use crate::map::{ArchivedIndexMap, IndexMapOf};
 use crate::width::PlaceWidth;
 use rkyv_base::adapter::EntryAdapter;
-use rkyv_base::archive::{Archive, Serialize};
+use rkyv_base::archive::{Archive, Serialize, WriteResult};
 use rkyv_base::element::{Element, StandsFor};
 use rkyv_base::entry::Entry;
 use rkyv_base::errors::{IteratorLengthMismatch, WriteError};
@@ -79,7 +79,7 @@ impl<'a, K: KeyElement, V, H: KeyHasher, W: PlaceWidth> ArchivedIndexMap<'a, K, 
         len: usize,
         load_factor: (usize, usize),
         serializer: &mut S,
-    ) -> Result<IndexMapResolver<W>, WriteError<S::Fault>>
+    ) -> WriteResult<IndexMapResolver<W>, S>
     where
         K: StandsFor<A>,
         V: StandsFor<B>,

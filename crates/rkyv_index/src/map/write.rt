@@ -8,8 +8,7 @@ use crate::map::places::{Hashed, HashedPlaces};
 use crate::map::resolve::IndexMapResolver;
 use crate::map::row::{serialize_row, write_row};
 use crate::width::PlaceWidth;
-use rkyv_base::archive::Serialize;
-use rkyv_base::errors::WriteError;
+use rkyv_base::archive::{Serialize, WriteResult};
 use rkyv_base::writer::{Writer, align_for_in};
 use rkyv_scan::Group;
 use rkyv_table::table::ArchivedHashTable;
@@ -23,7 +22,7 @@ fn write_places<W: PlaceWidth, H, S: Writer, U: Hashed<H>>(
     entries: &[U],
     load_factor: (usize, usize),
     serializer: &mut S,
-) -> Result<HashTableResolver<W>, WriteError<S::Fault>>
+) -> WriteResult<HashTableResolver<W>, S>
     requires capacity { HasCapacity (length entries.now) load_factor W.MAX_CAPACITY }
     requires hashes { (entry : U) → U.can_hash entry }
     ensures { WritesPlaces W.word W.Place.encoding U.hash load_factor W.MAX_CAPACITY W.LIMIT
@@ -48,7 +47,7 @@ pub(crate) fn write_index<W: PlaceWidth, H, S: Writer, U: Hashed<H> + Serialize<
     scratch: &mut [u8],
     load_factor: (usize, usize),
     serializer: &mut S,
-) -> Result<IndexMapResolver<W>, WriteError<S::Fault>>
+) -> WriteResult<IndexMapResolver<W>, S>
     requires capacity { HasCapacity (length entries.now) load_factor W.MAX_CAPACITY }
     requires hashes { (entry : U) → U.can_hash entry }
     requires empty { resolvers.items ≡ [] }
