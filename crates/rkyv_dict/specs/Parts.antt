@@ -33,6 +33,10 @@ abbrev pub parts_by : Width → ℕ → Shape → (List ℕ → ℕ → List ℕ
 parts_by word limit shape text same calls =
     record { word = word; limit = limit; shape = shape; text = text; same = same; calls = calls }
 
+-- the fixed bytes of a number of 32 bits
+abbrev pub number_shape : Shape
+number_shape = scalar_shape (unsigned w32)
+
 -- the number that stands at a place, as decimal digits
 abbrev pub number_text : List ℕ → ℕ → List ℕ
 number_text b p = decimal (number_at w32 b p)
@@ -44,7 +48,7 @@ number_calls n = U32 n ∷ []
 -- numbers of 32 bits
 abbrev pub number_parts : Bits → Parts
 number_parts bits =
-    parts_by (word_of bits) (limit_of bits) (scalar_shape (unsigned w32)) number_text
+    parts_by (word_of bits) (limit_of bits) number_shape number_text
     (λ b p c q. number_at w32 b p == number_at w32 c q) (λ b p. number_calls (number_at w32 b p))
 
 -- texts

@@ -1,14 +1,11 @@
 //! The keys and values of a dictionary's archives, and how they are printed.
 
 ghost use Rattle.std.specs.Prelude.{ℕ, List};
-ghost use Rattle.rkyv_dict.specs.Pushing.{Pushes};
-ghost use Rattle.std.specs.Int.{w32};
-ghost use Rattle.rkyv_base.specs.Numbers.{unsigned};
-ghost use Rattle.rkyv_base.specs.Scalar.{scalar_shape};
 ghost use Rattle.rkyv_base.specs.Text.{text_at, text_shape};
 ghost use Rattle.rkyv_base.specs.View.{IsView};
 ghost use Rattle.rkyv_keys.specs.Places.{at_view};
-ghost use Rattle.rkyv_dict.specs.Parts.{number_text};
+ghost use Rattle.rkyv_dict.specs.Parts.{number_shape, number_text};
+ghost use Rattle.rkyv_dict.specs.Pushing.{Pushes};
 
 use rkyv_base::text::Text;
 use rkyv_base::view::View;
@@ -34,7 +31,7 @@ impl Part for u32 {
     ghost text = { number_text };
 
     fn push(view: View<'_, u32>, out: &mut String) -> Result<(), AllocError>
-        requires { IsView (scalar_shape (unsigned w32)) view }
+        requires { IsView number_shape view }
         ensures { Pushes result out.old out.new (at_view number_text view.entry) }
     {
         let number = view.to_native();
