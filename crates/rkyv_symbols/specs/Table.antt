@@ -31,34 +31,30 @@ use Rattle.rkyv_collections.specs.MapFormat.{MapStands, hash_of, map_format}
 abbrev pub Symbols : Type 0
 Symbols = List (Bor (List ℕ) × ℕ)
 
--- the fixed bytes of a name
-abbrev pub name_shape : Shape
-name_shape = text_shape w32
-
--- of an address
+-- the fixed bytes of an address
 abbrev pub address_shape : Shape
 address_shape = scalar_shape (unsigned w64)
+
+-- of a name
+abbrev pub name_shape : Shape
+name_shape = text_shape w32
 
 -- of the header of a table
 abbrev pub header_shape : Shape
 header_shape = map_shape w32 name_shape address_shape
 
--- where the header stands
-abbrev pub root : List ℕ → ℕ
-root table = length table - header_shape.size
-
 -- the bytes are a table
 unfoldable pub IsTable : List ℕ → Type 0
 IsTable table = Accepted 4_294_967_295 header_shape table
-
--- the first point at which they are none
-unfoldable pub IsRefused : List ℕ → VerifyError → Type 0
-IsRefused table e = AccessFails 4_294_967_295 header_shape table e
 
 -- a map of the symbols stands at the position, under a load factor
 abbrev pub SymbolsStand : ℕ × ℕ → List ℕ → ℕ → Symbols → Type 0
 SymbolsStand factor = MapStands w32 name_shape address_shape (IsTextOf w32 (λ name. name.now))
     (ScalarStands (unsigned w64)) (hash_at (fx_hasher low_halves) (text_key_calls w32)) factor
+
+-- where the header of a table stands
+abbrev pub root : List ℕ → ℕ
+root table = length table - header_shape.size
 
 -- the table stands for the symbols
 unfoldable pub StandsFor : List ℕ → Symbols → Type 0
@@ -74,6 +70,10 @@ symbols_format factor = listed 4_294_967_295 factor (map_format w32 name_shape a
 unfoldable pub IsTableOf : Symbols → List ℕ → Type 0
 IsTableOf symbols table =
     ArchiveOf 4_294_967_295 header_shape (SymbolsStand (7, 8)) (symbols_format (7, 8)) symbols table
+
+-- the first point at which bytes are no table
+unfoldable pub IsRefused : List ℕ → VerifyError → Type 0
+IsRefused table e = AccessFails 4_294_967_295 header_shape table e
 
 -- why there is no table of the symbols
 unfoldable pub NoTableOf : {F : Type 0} → Symbols → WriteError F → Type 0
