@@ -5,16 +5,9 @@ ghost use Rattle.rkyv_keys.specs.Calls.{after_calls};
 ghost use Rattle.rkyv_keys.specs.Places.{at_view, at_views};
 ghost use Rattle.rkyv_keys.specs.Reading.{nothing_fails};
 ghost use Rattle.rkyv_own_tests.specs.Spot.{SpotStands, spot_shape};
-ghost use Rattle.rkyv_own_tests.specs.SpotKeys.{
-  spot_calls,
-  spot_equivalence,
-  spot_fits,
-  spot_fits_its_equal,
-  spot_key,
-  spot_key_calls,
-  spot_query,
-  spot_same,
-};
+ghost use Rattle.rkyv_own_tests.specs.SpotKeys.{spot_calls, spot_equivalence, spot_fits};
+ghost use Rattle.rkyv_own_tests.specs.SpotKeys.{spot_fits_its_equal, spot_key, spot_key_calls};
+ghost use Rattle.rkyv_own_tests.specs.SpotKeys.{spot_query, spot_same};
 
 use crate::spot::Spot;
 use crate::spot_archived::{ArchivedSpot, spot_of};

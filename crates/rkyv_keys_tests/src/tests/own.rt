@@ -5,20 +5,9 @@ ghost use Rattle.rkyv_base.specs.Bytes.{number_at};
 ghost use Rattle.rkyv_base.specs.View.{IsView, StandsAt};
 ghost use Rattle.rkyv_keys.specs.Calls.{after_calls};
 ghost use Rattle.rkyv_keys.specs.Places.{at_view, at_views};
-ghost use Rattle.rkyv_keys_tests.specs.LowByte.{
-  byte_call,
-  low_calls,
-  low_element,
-  low_equivalence,
-  low_fits,
-  low_key,
-  low_near,
-  low_query,
-  low_refuses,
-  low_same,
-  low_shape,
-  low_stands,
-};
+ghost use Rattle.rkyv_keys_tests.specs.LowByte.{byte_call, low_calls, low_element, low_equivalence};
+ghost use Rattle.rkyv_keys_tests.specs.LowByte.{low_fits, low_key, low_near, low_query};
+ghost use Rattle.rkyv_keys_tests.specs.LowByte.{low_refuses, low_same, low_shape, low_stands};
 
 use rkyv_base::access::access;
 use rkyv_base::{Element, PartRange, ReadError, StandsFor, VerifyError, View};
