@@ -19,22 +19,22 @@ use Rattle.rkyv_collections.specs.Map.{map_shape}
 use Rattle.rkyv_table.specs.Table.Reading.{pos_found}
 use Rattle.rkyv_c_calls.specs.Status.{refusal}
 
--- the first where the answer is no, the second where it is yes
-abbrev pub no_or_yes : {A : Type 0} → A → A → Bool → A
-no_or_yes no yes false = no
-no_or_yes no yes true = yes
+-- what holds of the shorter form, or of the longer one
+abbrev pub by_form : {A : Type 0} → A → A → Bool → A
+by_form shorter longer false = shorter
+by_form shorter longer true = longer
 
 -- a number of 32 bits, or of 64
 abbrev pub word_of : Bool → Width
-word_of = no_or_yes w32 w64
+word_of = by_form w32 w64
 
 -- the greatest length of an archive, narrow or wide
 abbrev pub limit_of : Bool → ℕ
-limit_of = no_or_yes 4_294_967_295 9_223_372_036_854_775_807
+limit_of = by_form 4_294_967_295 9_223_372_036_854_775_807
 
 -- the greatest number of buckets, narrow or wide
 abbrev pub most_of : Bool → ℕ
-most_of = no_or_yes 4_294_967_295 4_611_686_018_427_387_904
+most_of = by_form 4_294_967_295 4_611_686_018_427_387_904
 
 -- a number of 32 bits as a key
 abbrev pub number_key : Shape
