@@ -1,7 +1,7 @@
 //! Writers that end in the midst of a table.
 
-use rkyv_base::archive::WriteResult;
 use crate::tests::archives::{hash_of_u32, write_header};
+use rkyv_base::archive::WriteResult;
 use rkyv_base::errors::WriteError;
 use rkyv_base::limit::{LimitFault, LimitWriter};
 use rkyv_base::width::Narrow;
