@@ -1,14 +1,17 @@
 -- The first element of a list that passes, a stretch at a time.
-use Rattle.std.proofs.Common.{◌≡◌, ℕ, ◌+◌, ◌<◌, ◌≤◌, ◌^◌, ◌-◌, Bool, true, false, not, cond, ltb, List, length, get_or, map, Some, None, refl, sym, ap, subst, ◌∙◌, arith, ⊎_elim, w8}
+use Rattle.std.proofs.Common.{◌≡◌, ℕ, ◌+◌, ◌%◌, ◌<◌, ◌≤◌, ◌^◌, ◌-◌, Bool, true, false, not, cond, ltb, List, [], ◌∷◌, length, get_or, map, take, drop, replicate, Option, Some, None, refl, sym, ap, subst, ◌∙◌, arith, ⊎_elim, w8}
 use Rattle.std.specs.List.{position, prefix_len}
+use Rattle.std.specs.Option.{is_some}
 use Rattle.std.specs.Simd.Lanes.{mask_l}
 use Rattle.std.proofs.lemmas.Bool.{lt-ltb, le-ltb, cases_lt}
 use Rattle.std.proofs.lemmas.Option.{none-some}
-use Rattle.std.proofs.lemmas.List.{length-map}
+use Rattle.std.proofs.lemmas.Grind.{common_steps}
+use Rattle.std.proofs.lemmas.List.{get_or-drop, get_or-take, length-map, take_all}
 use Rattle.std.proofs.lemmas.List.Sums.{prefix_len_is, prefix_len_passes}
 use Rattle.std.proofs.lemmas.List.Quantifiers.{position-Some}
 use Rattle.std.proofs.lemmas.Nat.Bits.{bit_at-trailing_zeros}
-use Rattle.std.proofs.lemmas.Simd.{mask_l-lt, leading_from_mask_l, trailing_mask_l}
+use Rattle.std.proofs.lemmas.Simd.{mask_l-lt, mask_l-mod, leading_from_mask_l, tops_compared, trailing_mask_l}
+use lib.Lanes.{top, zip2}
 use lib.Count.{count_trailing_zeros}
 
 -- none of the first n passes
@@ -20,6 +23,17 @@ told p xs n e l = sym (ap (λ m. cond (ltb m (length xs)) (Some m) None) e ∙ a
 
 told_none : (p : ℕ → Bool) (xs : List ℕ) → prefix_len (λ x. not (p x)) xs ≡ length xs → None ≡ position p xs
 told_none p xs e = sym (ap (λ m. cond (ltb m (length xs)) (Some m) None) e ∙ ap (λ b. cond b (Some (length xs)) None) (le-ltb (length xs) (length xs) (omega arith)))
+
+splat_compared : (t : ℕ → ℕ → Bool) (y : ℕ) (xs : List ℕ) → zip2 t (replicate (length xs) y) xs ≡ map (t y) xs
+splat_compared t y [] = refl
+splat_compared t y (x ∷ xs) = ap (λ ms. t y x ∷ ms) (splat_compared t y xs)
+
+-- `to_bitmask` of the comparison t of a splat with eight
+pub splat_bitmask : (t : ℕ → ℕ → Bool) (y : ℕ) (xs : List ℕ) → length xs ≡ 8
+    → mask_l (map (top 7) (zip2 (λ a b. cond (t a b) (2 ^ 8 - 1) 0) (replicate 8 y) xs)) % 2 ^ 64 ≡ mask_l (map (t y) xs)
+splat_bitmask t y xs long =
+    ap (λ ms. mask_l ms % 2 ^ 64) (tops_compared w8 t (replicate 8 y) xs ∙ ap (λ n. zip2 t (replicate n y) xs) (sym long) ∙ splat_compared t y xs)
+    ∙ mask_l-mod (map (t y) xs) 64 (omega (arith, length-map xs (t y)))
 
 -- of eight, by the mask of those that pass
 pub some_marked : (p : ℕ → Bool) (xs : List ℕ) → length xs ≡ 8 → (mask_l (map p xs) ≡ 0 → ⊥) → Some (count_trailing_zeros 64 (mask_l (map p xs))) ≡ position p xs
@@ -45,7 +59,7 @@ fails_from : (b : Bool) → not b ≡ true → b ≡ false
 fails_from true h = cc
 fails_from false h = refl
 
-none_there : (p : ℕ → Bool) (ys : List ℕ) → None ≡ position p ys → NoneBelow p ys (length ys)
+pub none_there : (p : ℕ → Bool) (ys : List ℕ) → None ≡ position p ys → NoneBelow p ys (length ys)
 none_there p ys e k l =
     ⊎_elim (λ (s : prefix_len (λ x. not (p x)) ys < length ys). absurd (none-some (prefix_len (λ x. not (p x)) ys) (e ∙ sym (told p ys (prefix_len (λ x. not (p x)) ys) refl s))))
     (λ (g : length ys ≤ prefix_len (λ x. not (p x)) ys). fails_from (p (get_or ys k 0)) (prefix_len_passes (λ x. not (p x)) ys k 0 (omega arith)))
@@ -75,3 +89,30 @@ stretch_miss p xs ys at s before e = both_below p xs ys at (length ys) s (omega 
 pub none_first : (p : ℕ → Bool) (xs : List ℕ) (n : ℕ) → length xs ≤ n → NoneBelow p xs n → None ≡ position p xs
 none_first p xs n le below =
     told_none p xs (prefix_len_is (λ x. not (p x)) xs (length xs) 0 (omega arith) (λ k m. ap not (below k (omega arith))) (λ m. absurd (omega arith)))
+
+-- of what is left from `at` on: eight, and all
+pub eight : (xs : List ℕ) (at : ℕ) → at + 8 ≤ length xs → length (take 8 (drop at xs)) ≡ 8
+eight xs at le = grind (arith, common_steps)
+
+pub whole : (xs : List ℕ) (at : ℕ) → at ≤ length xs → at + length (drop at xs) ≡ length xs
+whole xs at le = grind (arith, common_steps)
+
+pub tail_is : (xs : List ℕ) (at : ℕ) → at ≤ length xs → take (length xs - at) (drop at xs) ≡ drop at xs
+tail_is xs at le = take_all (length xs - at) (drop at xs) (omega (arith, whole xs at le))
+
+pub eight_stretch : (xs : List ℕ) (at : ℕ) → at + 8 ≤ length xs → IsStretch xs (take 8 (drop at xs)) at
+eight_stretch xs at le =
+    let e = eight xs at le in
+    record {
+      inside = omega arith;
+      same = λ k l. get_or-take 8 (drop at xs) k 0 (omega arith) ∙ get_or-drop at xs k 0;
+    }
+
+pub rest_stretch : (xs : List ℕ) (at : ℕ) → at ≤ length xs → IsStretch xs (drop at xs) at
+rest_stretch xs at le =
+    let e = whole xs at le in
+    record { inside = omega arith; same = λ k l. get_or-drop at xs k 0 }
+
+pub is_absent : (o : Option ℕ) → is_some o ≡ false → None ≡ o
+is_absent None e = refl
+is_absent (Some x) e = cc

@@ -1,3 +1,4 @@
+pub mod Ascii
 pub mod GivingUp
 pub mod PairWriting
 pub mod RootWriting

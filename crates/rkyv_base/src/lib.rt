@@ -19,6 +19,7 @@ pub mod root;
 pub mod scalars;
 pub mod seal;
 pub mod seal_text;
+mod sought;
 pub mod strings;
 pub mod text;
 pub mod unit;

@@ -6,19 +6,17 @@ ghost use Rattle.std.specs.Prelude.{
   ◌+◌,
   ◌<◌,
   ◌≤◌,
-  ◌==◌,
   ◌^◌,
   length,
-  position,
-  take,
   string_bytes,
   true,
+  IsTrue,
   MatchResult,
   ℤ,
   pos as int,
   ◌+ℤ◌,
 };
-ghost use Rattle.std.specs.Str.{IsUtf8};
+ghost use Rattle.std.specs.Str.{IsAscii, IsUtf8};
 ghost use Rattle.rkyv_base.specs.declared.errors.VerifyError.TheVariants.{InvalidValue};
 ghost use Rattle.rkyv_base.specs.Checking.{Fails, Passes};
 ghost use Rattle.rkyv_base.specs.Text.{
@@ -41,10 +39,10 @@ ghost use Rattle.rkyv_base.specs.View.{IsView, bytes_of, pos_of};
 use crate::element::{Element, PartRange, StandsFor};
 use crate::errors::VerifyError;
 use crate::part::part_in;
+use crate::sought::{Ff, High, first, is_ascii};
 use crate::view::View;
 use crate::width::{Narrow, Width};
 use std::marker::PhantomData;
-use std::simd::prelude::*;
 
 /// Text, as it stands in an archive of the width W.
 ///
@@ -74,56 +72,25 @@ pub(crate) fn is_elsewhere(fixed: &[u8]) -> bool
     128 <= fixed[0] && fixed[0] < 192
 }
 
-/// The index of the first ff among the first eight bytes, by one comparison.
-#[inline]
-fn first_ff_of_eight(bytes: &[u8]) -> Option<usize>
-    requires { 8 ≤ length bytes.now }
-    ensures { result ≡ position (λ x. x == 255) (take 8 bytes.now) }
-{
-    let marks = u8x8::from_slice(bytes)
-        .simd_eq(u8x8::splat(0xff))
-        .to_bitmask();
-    if marks == 0 {
-        None
-    } else {
-        Some(marks.trailing_zeros() as usize)
-    }
-}
-
-/// The index of the first ff, byte by byte.
-#[inline]
-fn first_ff_of_bytes(bytes: &[u8]) -> Option<usize>
-    ensures { result ≡ position (λ x. x == 255) bytes.now }
-{
-    bytes.iter().position(|byte| *byte == 255)
-}
-
-/// The index of the first ff.
-#[inline]
-fn first_ff(fixed: &[u8]) -> Option<usize>
-    ensures { result ≡ position (λ x. x == 255) fixed.now }
-{
-    let mut at = 0;
-    while 8 <= fixed.len() - at {
-        if let Some(len) = first_ff_of_eight(&fixed[at..]) {
-            return Some(at + len);
-        }
-        at += 8;
-    }
-    match first_ff_of_bytes(&fixed[at..]) {
-        Some(len) => Some(at + len),
-        None => None,
-    }
-}
-
 /// The text that stands inline: the fixed bytes before the first ff.
 #[inline]
 pub(crate) fn inline_part(fixed: &[u8]) -> &[u8]
     ensures { result.now ≡ inline_text fixed.now }
 {
-    match first_ff(fixed) {
+    match first::<Ff>(fixed) {
         Some(len) => &fixed[..len],
         None => fixed,
+    }
+}
+
+/// Whether the text that stands inline is ASCII: the first byte that isn't is the ff behind it.
+#[inline]
+fn is_inline_ascii(fixed: &[u8]) -> bool
+    ensures { IsTrue result → IsAscii (inline_text fixed.now) }
+{
+    match first::<High>(fixed) {
+        Some(at) => fixed[at] == 255,
+        None => true,
     }
 }
 
@@ -161,6 +128,10 @@ fn far_start<W: Width>(fixed: &[u8], pos: u64) -> i128
     moved(pos, W::read_distance(fixed, W::ALIGN))
 }
 
+/// Up to this length a text elsewhere is first looked at as ASCII, eight bytes at a time; std's test
+/// of a longer one takes more at once.
+const SHORT: usize = 64;
+
 /// Looks whether the bytes of the text at `pos` are text.
 #[inline]
 fn check_utf8(text: &[u8], pos: u64) -> Result<(), VerifyError>
@@ -172,6 +143,33 @@ fn check_utf8(text: &[u8], pos: u64) -> Result<(), VerifyError>
         Ok(_) => Ok(()),
         Err(_) => Err(VerifyError::InvalidValue { pos }),
     }
+}
+
+/// Looks whether the fixed bytes of the text at `pos` are text before the first ff.
+#[inline]
+fn check_inline_utf8(fixed: &[u8], pos: u64) -> Result<(), VerifyError>
+    ensures { MatchResult result
+        (λ _. IsUtf8 (inline_text fixed.now))
+        (λ e. (IsUtf8 (inline_text fixed.now) → ⊥) × (e ≡ InvalidValue pos)) }
+{
+    if is_inline_ascii(fixed) {
+        return Ok(());
+    }
+    check_utf8(inline_part(fixed), pos)
+}
+
+/// Looks whether the bytes of the text at `pos`, which stand elsewhere, are text.
+#[inline]
+fn check_far_utf8(text: &[u8], pos: u64) -> Result<(), VerifyError>
+    requires { 8 ≤ length text.now }
+    ensures { MatchResult result
+        (λ _. IsUtf8 text.now)
+        (λ e. (IsUtf8 text.now → ⊥) × (e ≡ InvalidValue pos)) }
+{
+    if text.len() <= SHORT && is_ascii(text) {
+        return Ok(());
+    }
+    check_utf8(text, pos)
 }
 
 /// Looks at text that stands elsewhere.
@@ -194,7 +192,7 @@ fn check_far<W: Width>(bytes: &[u8], pos: u64, range: PartRange) -> Result<PartR
         Err(e) => return Err(e),
     };
     let end = at + len;
-    match check_utf8(&bytes[at as usize..end as usize], pos) {
+    match check_far_utf8(&bytes[at as usize..end as usize], pos) {
         Ok(()) => Ok(PartRange {
             lo: end,
             hi: range.hi,
@@ -222,7 +220,7 @@ impl<W: Width> Element for Text<W> {
         if is_elsewhere(fixed) {
             return check_far::<W>(bytes, pos, range);
         }
-        match check_utf8(inline_part(fixed), pos) {
+        match check_inline_utf8(fixed, pos) {
             Ok(()) => Ok(range),
             Err(e) => Err(e),
         }
