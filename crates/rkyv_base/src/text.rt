@@ -128,8 +128,8 @@ fn far_start<W: Width>(fixed: &[u8], pos: u64) -> i128
     moved(pos, W::read_distance(fixed, W::ALIGN))
 }
 
-/// Up to this length a text elsewhere is first looked at as ASCII, eight bytes at a time; std's test
-/// of a longer one takes more at once.
+/// Up to this length a text elsewhere is first looked at as ASCII, eight bytes at a time; of a
+/// longer one std's test takes more at once.
 const SHORT: usize = 64;
 
 /// Looks whether the bytes of the text at `pos` are text.
