@@ -199,16 +199,18 @@ fn read_u16(bytes: &[u8], at: usize) -> u16
     u16::from_le_bytes(u8x2::from_slice(&bytes[at..]).to_array())
 }
 
+// The number is read, and the word hashed, whether it is fed or not, here and in the two below: so
+// no branch rests on a length's bits, which no processor foretells of texts of many lengths.
 #[inline]
 fn hash_four_bytes(held: u64, bytes: &[u8]) -> u64
     ensures { result ≡ hash_words held (four_bytes bytes.now) }
 {
     let len = bytes.len();
-    if len / 4 % 2 == 1 {
-        hash_word(held, u64::from(read_u32(bytes, len / 8 * 8)))
-    } else {
-        held
+    if len < 4 {
+        return held;
     }
+    let fed = hash_word(held, u64::from(read_u32(bytes, len / 4 * 4 - 4)));
+    if len / 4 % 2 == 1 { fed } else { held }
 }
 
 #[inline]
@@ -216,11 +218,11 @@ fn hash_two_bytes(held: u64, bytes: &[u8]) -> u64
     ensures { result ≡ hash_words held (two_bytes bytes.now) }
 {
     let len = bytes.len();
-    if len / 2 % 2 == 1 {
-        hash_word(held, u64::from(read_u16(bytes, len / 4 * 4)))
-    } else {
-        held
+    if len < 2 {
+        return held;
     }
+    let fed = hash_word(held, u64::from(read_u16(bytes, len / 2 * 2 - 2)));
+    if len / 2 % 2 == 1 { fed } else { held }
 }
 
 #[inline]
@@ -228,11 +230,11 @@ fn hash_last_byte(held: u64, bytes: &[u8]) -> u64
     ensures { result ≡ hash_words held (last_byte bytes.now) }
 {
     let len = bytes.len();
-    if len % 2 == 1 {
-        hash_word(held, u64::from(bytes[len / 2 * 2]))
-    } else {
-        held
+    if len < 1 {
+        return held;
     }
+    let fed = hash_word(held, u64::from(bytes[len - 1]));
+    if len % 2 == 1 { fed } else { held }
 }
 
 // The words past the last whole one.
