@@ -1,13 +1,24 @@
 -- Indexes of symbols: the symbols by ascending address, and the archive of them.
-use Rattle.std.specs.Prelude.{ℕ, List, map}
+use Rattle.std.specs.Prelude.{◌≡◌, ◌⊎◌, ℕ, List, MatchResult, Result, map}
 use Rattle.std.specs.Borrow.{Bor}
+use Rattle.std.specs.Int.{w32, w64}
+use Rattle.std.specs.declared.vec.Vec.{Vec}
 use Rattle.std.proofs.Common.{nat_cmp}
 use Rattle.std.specs.List.Sorted.{IsNonDecreasingBy, IsPermutation, IsStableByKey}
 use Rattle.rkyv_base.specs.Format.{Format}
-use Rattle.rkyv_base.specs.Root.{ArchiveOf}
+use Rattle.rkyv_base.specs.Numbers.{unsigned}
+use Rattle.rkyv_base.specs.Root.{ArchiveOf, ArchiveRefused}
+use Rattle.rkyv_base.specs.Scalar.{ScalarStands}
 use Rattle.rkyv_base.specs.Shape.{Shape}
+use Rattle.rkyv_base.specs.Text.{text_at}
+use Rattle.rkyv_base.specs.View.{StandsAt, bytes_of, pos_of}
+use Rattle.rkyv_base.specs.declared.errors.WriteError.{WriteError}
+use Rattle.rkyv_base.specs.declared.errors.WriteError.TheVariants.{Memory}
+use Rattle.rkyv_base.specs.declared.view.View.{View}
+use Rattle.rkyv_index.specs.Index.{IsPairOf}
 use Rattle.rkyv_index.specs.declared.lists.OrderedPairs.{OrderedPairs}
-use Rattle.rkyv_symbols.specs.Table.{Symbols}
+use Rattle.rkyv_index.specs.declared.map.ArchivedIndexMap.{ArchivedIndexMap}
+use Rattle.rkyv_symbols.specs.Table.{Symbols, address_shape, name_shape}
 
 -- addresses, each with a name
 abbrev pub Row : Type 0
@@ -30,3 +41,28 @@ abbrev pub IsIndexOf : {R : Type 0} → Shape
 IsIndexOf shape stands format symbols index =
     (pairs : OrderedPairs ℕ (Bor (List ℕ))) × IsAscending (turned symbols) pairs.0.items
     × ArchiveOf 4_294_967_295 shape stands format pairs index
+
+-- no index was made of the symbols: memory for their row was refused, or writing its index gave up
+abbrev pub NoIndexOf : {F R : Type 0} → Shape → Format (OrderedPairs ℕ (Bor (List ℕ))) R → Symbols
+    → WriteError F → Type 0
+NoIndexOf shape format symbols e = (e ≡ Memory)
+    ⊎ ((pairs : OrderedPairs ℕ (Bor (List ℕ))) × IsAscending (turned symbols) pairs.0.items
+    × ArchiveRefused 4_294_967_295 shape format pairs e)
+
+-- the bytes are the archive of the symbols by ascending address, and nothing else; or none was
+-- made, and the cause that is told stands
+abbrev pub IndexResult : {F R Z : Type 0} → Shape
+    → (List ℕ → ℕ → OrderedPairs ℕ (Bor (List ℕ)) → Type 0)
+    → Format (OrderedPairs ℕ (Bor (List ℕ))) R → Symbols → Result (Vec ℕ Z) (WriteError F)
+    → Type 0
+IndexResult shape stands format symbols result =
+    MatchResult result (λ index. IsIndexOf shape stands format symbols index.items)
+    (NoIndexOf shape format symbols)
+
+-- the address and the name are those of a place of an index
+abbrev pub IsEntryOf : {K V H W : Type 0} → ArchivedIndexMap K V H W → ℕ → ℕ × Bor (List ℕ)
+    → Type 0
+IsEntryOf {K} {V} index place entry = (pair : View K × View V)
+    × IsPairOf w32 address_shape name_shape index place pair
+    × StandsAt (ScalarStands (unsigned w64)) pair.0 entry.0
+    × (entry.1.now ≡ text_at w32 (bytes_of pair.1) (pos_of pair.1))

@@ -1,12 +1,12 @@
 //! Indexes of symbols: archives of index maps of addresses to names, in ascending order of address.
 ghost use Rattle.std.specs.Int.{w32, w64};
-ghost use Rattle.std.specs.Prelude.{IfErr, IfOk, IsOk, ◌≡◌};
+ghost use Rattle.std.specs.Prelude.{IfErr, IfOk, IsOk, MatchOption, ◌≡◌, ◌≤◌};
 ghost use Rattle.rkyv_base.specs.Access.{AccessFails, Accepted};
 ghost use Rattle.rkyv_base.specs.Numbers.{unsigned};
 ghost use Rattle.rkyv_base.specs.Scalar.{scalar_shape};
 ghost use Rattle.rkyv_base.specs.Text.{text_shape};
-ghost use Rattle.rkyv_index.specs.Index.{IsIndexMap};
-ghost use Rattle.rkyv_symbols_program.specs.ByAddress.{IsAscending, IsIndexOf, turned};
+ghost use Rattle.rkyv_index.specs.Index.{IsIndexMap, index_len};
+ghost use Rattle.rkyv_symbols_program.specs.ByAddress.{IndexResult, IsAscending, IsEntryOf, turned};
 
 use rkyv_base::access::access;
 use rkyv_base::archive::Archive;
@@ -53,16 +53,16 @@ fn ascending<'a>(
 /// # Errors
 /// Those of `to_bytes` of an index map, as where a growth is refused.
 pub fn archive(alloc: Global, symbols: &[(&str, u64)]) -> Result<Vec<u8>, WriteError<NoMemory>>
-    ensures { IfOk result (λ index. IsIndexOf ⟦<Index as Element>⟧.shape
-        ⟦<Index as StandsFor<Row<'static>>>⟧.stands
-        ⟦<Row<'static> as Archive<Narrow>>⟧.format symbols.now index.items) }
+    ensures { IndexResult ⟦<Index as Element>⟧.shape ⟦<Index as StandsFor<Row<'static>>>⟧.stands
+        ⟦<Row<'static> as Archive<Narrow>>⟧.format symbols.now result }
 {
-    match ascending(alloc, symbols) {
-        Ok(row) => {
-            let index = to_bytes(alloc, &OrderedPairs(row))?;
-            Ok(index)
-        }
-        Err(_) => Err(WriteError::Memory),
+    let row = match ascending(alloc, symbols) {
+        Ok(row) => row,
+        Err(_) => return Err(WriteError::Memory),
+    };
+    match to_bytes(alloc, &OrderedPairs(row)) {
+        Ok(index) => Ok(index),
+        Err(e) => Err(e),
     }
 }
 
@@ -84,6 +84,7 @@ pub fn open(index: &[u8]) -> Result<ArchivedIndexMap<'_, u64, Text>, VerifyError
 /// The address and the name at a place of an index map, or none from its length on.
 pub fn entry<'a>(map: ArchivedIndexMap<'a, u64, Text>, place: usize) -> Option<(u64, &'a str)>
     requires { IsIndexMap w32 (scalar_shape (unsigned w64)) (text_shape w32) map }
+    ensures { MatchOption result (index_len w32 map.entry ≤ place) (IsEntryOf map.entry place) }
 {
     match map.get_index(place) {
         Some((address, name)) => Some((address.to_native(), name.as_str())),
