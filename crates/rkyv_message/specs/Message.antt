@@ -1,16 +1,19 @@
 -- Messages: what is one, which parts one stands for, and the number of a field of a part.
-use Rattle.std.specs.Prelude.{◌≡◌, ℕ, ◌-◌, Bool, List, length, Option, None, Some}
+use Rattle.std.specs.Prelude.{◌≡◌, ℕ, ◌-◌, Bool, List, MatchOption, Option, None, Some}
+use Rattle.std.specs.Prelude.{false, length, true}
 use Rattle.std.specs.Borrow.{Bor}
 use Rattle.std.specs.Int.{w32}
 use Rattle.std.specs.Option.{is_some, option_map}
+use Rattle.rkyv_scan.specs.Groups.{generic_kind}
 use Rattle.rkyv_scan.specs.Hash.{fx_hasher, low_halves}
 use Rattle.rkyv_base.specs.Access.{Accepted, AccessFails}
+use Rattle.rkyv_base.specs.Entry.{entry_shape}
 use Rattle.rkyv_base.specs.Format.{Format}
 use Rattle.rkyv_base.specs.Numbers.{unsigned}
 use Rattle.rkyv_base.specs.Pairs.{written_as}
 use Rattle.rkyv_base.specs.Root.{ArchiveOf, ArchiveRefused}
 use Rattle.rkyv_base.specs.Scalar.{ScalarStands, scalar_format, scalar_shape}
-use Rattle.rkyv_base.specs.Sealing.{value_pos}
+use Rattle.rkyv_base.specs.Sealing.{value_pos, with_value}
 use Rattle.rkyv_base.specs.Shape.{Shape, Viewed}
 use Rattle.rkyv_base.specs.Text.{text_at, text_shape}
 use Rattle.rkyv_base.specs.TextWriting.{text_format}
@@ -19,6 +22,7 @@ use Rattle.rkyv_base.specs.declared.errors.WriteError.{WriteError}
 use Rattle.rkyv_keys.specs.Calls.{text_calls}
 use Rattle.rkyv_keys.specs.OfTexts.{IsTextOf, same_bytes, text_key_calls}
 use Rattle.rkyv_table.specs.Table.Listed.{listed, written_under}
+use Rattle.rkyv_table.specs.Table.Reading.{pos_found}
 use Rattle.rkyv_table.specs.Table.TableFormat.{TableResolver}
 use Rattle.rkyv_collections.specs.InPlace.{with_first}
 use Rattle.rkyv_collections.specs.ListedLookups.{first_value}
@@ -158,6 +162,36 @@ IsPartsPos b p = (q : ℕ) × IsKeyPosAt w32 name_shape fields_shape b (root b) 
 abbrev pub FindsFirstPart : List ℕ → List ℕ → Option ℕ → Type 0
 FindsFirstPart b part found = FindsFirstKeyAt w32 name_shape fields_shape b (root b) name_hash
     (is_named_at part b) (λ place. found ≡ option_map (value_pos name_shape fields_shape) place)
+
+-- where the value stands behind the name that a lookup finds in the map at a position
+abbrev pub value_found : Shape → List ℕ → List ℕ → ℕ → Option ℕ
+value_found shape name b p = option_map (value_pos name_shape shape)
+    (pos_found generic_kind w32 (entry_shape name_shape shape).size b p
+    (hash_of (fx_hasher low_halves) text_calls name) (is_named_at name b))
+
+-- where the fields stand that a lookup of the part finds in the message, whoever made it
+abbrev pub fields_found : List ℕ → List ℕ → Option ℕ
+fields_found part message = value_found fields_shape part message (root message)
+
+-- where the number stands that a lookup of the field finds in the fields that stand there
+abbrev pub number_in_fields : List ℕ → List ℕ → Option ℕ → Option ℕ
+number_in_fields field message None = None
+number_in_fields field message (Some p) = value_found number_shape field message p
+
+-- where the number stands that lookups of the part and of the field find in the message
+abbrev pub number_found : List ℕ → List ℕ → List ℕ → Option ℕ
+number_found part field message = number_in_fields field message (fields_found part message)
+
+-- No number was found, and no byte is changed; or the one at the place is written, and no byte but
+-- its own is changed.
+abbrev pub WritesIfFound : Option ℕ → ℕ → List ℕ → List ℕ → Bool → Type 0
+WritesIfFound place number b c found = MatchOption place ((found ≡ false) × (c ≡ b))
+    (λ q. (found ≡ true) × (c ≡ with_value (unsigned w32) b q number))
+
+-- it is told whether there is such a number in the message, and that one is written alone
+abbrev pub WritesNumber : List ℕ → List ℕ → ℕ → List ℕ → List ℕ → Bool → Type 0
+WritesNumber part field number b c found =
+    WritesIfFound (number_found part field b) number b c found
 
 -- the part, with this number in the first field of the name
 abbrev pub with_field : List ℕ → ℕ → MapPairs (Bor (List ℕ)) ℕ ℕ → MapPairs (Bor (List ℕ)) ℕ ℕ

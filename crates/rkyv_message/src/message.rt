@@ -1,5 +1,7 @@
 //! Writing a message, reading a number of it, and writing one in place.
-ghost use Rattle.std.specs.Prelude.{IfErr, IfOk, IfSome, IsOk, MatchResult, false, ℕ, ◌≡◌};
+ghost use Rattle.std.specs.Option.{option_map};
+ghost use Rattle.std.specs.Prelude.{IfOk, IfSome, IsOk, MatchResult, ℕ, ◌≡◌};
+ghost use Rattle.rkyv_base.specs.Bytes.{number_at};
 ghost use Rattle.rkyv_collections.specs.Map.{IsMap, map_bytes, map_pos};
 ghost use Rattle.rkyv_message.specs.Message.{
   ArePartsFields,
@@ -15,10 +17,14 @@ ghost use Rattle.rkyv_message.specs.Message.{
   Parts,
   SetsNumber,
   StandsFor,
+  WritesNumber,
+  fields_found,
   first_number,
   name_shape,
+  number_found,
   number_in,
   number_shape,
+  value_found,
 };
 ghost use Rattle.std.specs.Int.{w32};
 
@@ -58,7 +64,9 @@ pub fn archive(alloc: Global, parts: &[(&str, Fields<'_>)]) -> Result<Vec<u8>, W
 /// The number of a field in a map of fields.
 fn field_number(fields: ArchivedHashMap<'_, Text, u32>, field: &str) -> Option<u32>
     requires map { IsMap w32 name_shape number_shape fields }
-    ensures { (factor : ℕ × ℕ) (list : FieldList)
+    ensures found { result ≡ option_map (number_at w32 (map_bytes fields.entry))
+        (value_found number_shape field.now (map_bytes fields.entry) (map_pos fields.entry)) }
+    ensures listed { (factor : ℕ × ℕ) (list : FieldList)
         → FieldsStand factor (map_bytes fields.entry) (map_pos fields.entry) list
         → result ≡ number_in field.now list }
 {
@@ -75,6 +83,7 @@ fn pos_of_part(message: &[u8], part: &str) -> Result<Option<u64>, VerifyError>
     ensures accepts { IsMessage message.now → IsOk result }
     ensures viewed { IfOk result (λ found. IfSome found (IsFields message.now)) }
     ensures at { IfOk result (λ found. IfSome found (IsPartsPos message.now)) }
+    ensures found { IfOk result (λ found. found ≡ fields_found part.now message.now) }
     ensures first { IfOk result (FindsFirstPart message.now part.now) }
     ensures listed { (parts : Parts) → StandsFor message.now parts
         → IfOk result (λ found. ArePartsFields message.now part.now parts found) }
@@ -99,6 +108,8 @@ fn pos_of_part(message: &[u8], part: &str) -> Result<Option<u64>, VerifyError>
 pub fn number_of(message: &[u8], part: &str, field: &str) -> Result<Option<u32>, VerifyError>
     ensures checked { MatchResult result (λ _. IsMessage message.now) (IsRefused message.now) }
     ensures accepts { IsMessage message.now → IsOk result }
+    ensures found { IfOk result (λ number. number
+        ≡ option_map (number_at w32 message.now) (number_found part.now field.now message.now)) }
     ensures listed { (parts : Parts) → StandsFor message.now parts
         → IfOk result (λ found. found ≡ first_number part.now field.now parts) }
 {
@@ -120,9 +131,11 @@ pub fn set_number(
     field: &str,
     number: u32,
 ) -> Result<bool, VerifyError>
-    ensures refused { IfErr result (λ e. IsRefused message.old e × (message.new ≡ message.old)) }
+    ensures checked { MatchResult result (λ _. IsMessage message.old)
+        (λ e. IsRefused message.old e × (message.new ≡ message.old)) }
     ensures accepts { IsMessage message.old → IsOk result }
-    ensures missed { IfOk result (λ found. found ≡ false → message.new ≡ message.old) }
+    ensures written { IfOk result
+        (WritesNumber part.now field.now number message.old message.new) }
     ensures kept { IfOk result (λ _. IsMessage message.new) }
     ensures listed { (parts : Parts) → StandsFor message.old parts
         → IfOk result (SetsNumber part.now field.now number parts message.new) }

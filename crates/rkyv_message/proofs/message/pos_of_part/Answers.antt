@@ -4,7 +4,7 @@ use Rattle.std.specs.Option.{option_map}
 use Rattle.rkyv_base.specs.Sealing.{value_pos}
 use Rattle.rkyv_keys.specs.OfTexts.{same_bytes}
 use Rattle.rkyv_collections.specs.Map.{FindsFirstKeyAt, IsKeyPosAt}
-use Rattle.rkyv_message.specs.Message.{IsFields, IsMessage, IsRefused, PartsStand, StandsFor, fields_shape, is_named, is_named_at, name_hash, name_shape}
+use Rattle.rkyv_message.specs.Message.{IsFields, IsMessage, IsRefused, PartsStand, StandsFor, fields_shape, is_named, is_named_at, name_hash, name_shape, value_found}
 use Rattle.rkyv_table.proofs.Moved.{moved}
 use Rattle.rkyv_collections.proofs.FoundValues.{read_at}
 use Rattle.rkyv_message.proofs.Found.{no_part_found, part_found}
@@ -65,3 +65,15 @@ returns-in-None-clause-first c =
     let none : Option ℕ = None in
     moved (λ b p. FindsFirstKeyAt w32 name_shape fields_shape b p name_hash (is_named_at c.args.part.now b) (λ place. none ≡ option_map (value_pos name_shape fields_shape) place)) _ _ _ _
     at.0 at.1 c.in-None.ensures.first
+
+pub returns-in-Some-clause-found : goal.returns-in-Some-clause-found
+returns-in-Some-clause-found c =
+    let at = read_at c.of-map.result _ _ _ c.of-map.ensures.view c.in-Ok.ensures.root.1 in
+    let found : ℕ = c.in-Some.fields.pos in
+    ap Some c.pos.ensures ∙ moved (λ b p. Some found ≡ value_found fields_shape c.args.part.now b p) _ _ _ _ at.0 at.1 c.in-Some.ensures.answer
+
+pub returns-in-None-clause-found : goal.returns-in-None-clause-found
+returns-in-None-clause-found c =
+    let at = read_at c.of-map.result _ _ _ c.of-map.ensures.view c.in-Ok.ensures.root.1 in
+    let none : Option ℕ = None in
+    moved (λ b p. none ≡ value_found fields_shape c.args.part.now b p) _ _ _ _ at.0 at.1 c.in-None.ensures.answer

@@ -1,13 +1,24 @@
-use Rattle.std.proofs.Common.{◌≡◌, ◌-◌, ◌%◌, IfSome, Some, None, ap, arith, subst, sym}
+use Rattle.std.proofs.Common.{◌≡◌, ◌-◌, ◌%◌, IfSome, Some, None, ap, arith, false, refl, subst, sym, ◌∙◌}
 use Rattle.rkyv_base.specs.Access.{root_viewed}
 use Rattle.rkyv_base.specs.Shape.{Standing}
 use Rattle.rkyv_collections.specs.NestedWrites.{WritesParts}
-use Rattle.rkyv_message.specs.Message.{ArePartsFields, FindsFirstPart, IsFields, IsMessage, IsPartsPos, PartsStand, StandsFor, fields_shape, header_shape, root, with_number}
-use Rattle.rkyv_message.proofs.Found.{none_set, number_set, unfound_kept}
+use Rattle.rkyv_message.specs.Message.{ArePartsFields, FindsFirstPart, IsFields, IsMessage, IsPartsPos, PartsStand, StandsFor, WritesIfFound, fields_shape, header_shape, number_in_fields, root, with_number}
+use Rattle.rkyv_message.proofs.Found.{none_set, number_set, only_written}
 use Rattle.rkyv_message.proofs.message.set_number.Goals as goal
 
-pub returns-in-Ok-Some-clause-missed : goal.returns-in-Ok-Some-clause-missed
-returns-in-Ok-Some-clause-missed c = λ missed. unfound_kept _ _ _ _ _ _ c.set_value_of.ensures.answer missed
+pub returns-in-Ok-Some-clause-written : goal.returns-in-Ok-Some-clause-written
+returns-in-Ok-Some-clause-written c =
+    let same : c.in-Ok-Some.field-0 ≡ Some c.in-Ok-Some.pos = cc in
+    let b = c.args.message.now in
+    let d = c.set_value_of.new.archive in
+    let found = c.set_value_of.result in
+    subst (λ p. WritesIfFound (number_in_fields c.args.field.now b p) c.args.number b d found) (sym same ∙ c.in-Ok-Some.ensures.found) (only_written _ _ _ _ _ _ c.set_value_of.ensures.answer)
+
+pub returns-in-Ok-None-clause-written : goal.returns-in-Ok-None-clause-written
+returns-in-Ok-None-clause-written c =
+    let same : c.in-Ok-None.field-0 ≡ None = cc in
+    let b = c.args.message.now in
+    subst (λ p. WritesIfFound (number_in_fields c.args.field.now b p) c.args.number b b false) (sym same ∙ c.in-Ok-None.ensures.found) (refl, refl)
 
 pub returns-in-Ok-Some-clause-kept : goal.returns-in-Ok-Some-clause-kept
 unfolding IsMessage
