@@ -1,17 +1,19 @@
 -- Indexes of symbols: the symbols by ascending address, and the archive of them.
-use Rattle.std.specs.Prelude.{◌≡◌, ◌⊎◌, ℕ, List, MatchResult, Result, map}
+use Rattle.std.specs.Prelude.{◌≡◌, ◌⊎◌, ◌-◌, ℕ, List, MatchResult, Result, length, map}
 use Rattle.std.specs.Borrow.{Bor}
 use Rattle.std.specs.Int.{w32, w64}
 use Rattle.std.specs.declared.vec.Vec.{Vec}
 use Rattle.std.proofs.Common.{nat_cmp}
 use Rattle.std.specs.List.Sorted.{IsNonDecreasingBy, IsPermutation, IsStableByKey}
+use Rattle.rkyv_base.specs.Access.{Accepted, AccessFails}
 use Rattle.rkyv_base.specs.Format.{Format}
 use Rattle.rkyv_base.specs.Numbers.{unsigned}
 use Rattle.rkyv_base.specs.Root.{ArchiveOf, ArchiveRefused}
 use Rattle.rkyv_base.specs.Scalar.{ScalarStands}
 use Rattle.rkyv_base.specs.Shape.{Shape}
 use Rattle.rkyv_base.specs.Text.{text_at}
-use Rattle.rkyv_base.specs.View.{StandsAt, bytes_of, pos_of}
+use Rattle.rkyv_base.specs.View.{IsAt, StandsAt, bytes_of, pos_of}
+use Rattle.rkyv_base.specs.declared.errors.VerifyError.{VerifyError}
 use Rattle.rkyv_base.specs.declared.errors.WriteError.{WriteError}
 use Rattle.rkyv_base.specs.declared.errors.WriteError.TheVariants.{Memory}
 use Rattle.rkyv_base.specs.declared.view.View.{View}
@@ -58,6 +60,15 @@ abbrev pub IndexResult : {F R Z : Type 0} → Shape
 IndexResult shape stands format symbols result =
     MatchResult result (λ index. IsIndexOf shape stands format symbols index.items)
     (NoIndexOf shape format symbols)
+
+-- Any bytes are opened exactly where they are the archive of an index, and the index map that is
+-- read is the one at their root; else the first point at which they are none is told.
+abbrev pub OpensIndex : {K V H W : Type 0} → Shape → Bor (List ℕ)
+    → Result (ArchivedIndexMap K V H W) VerifyError → Type 0
+OpensIndex s index result = MatchResult result
+    (λ map. Accepted 4_294_967_295 s index.now
+    × IsAt map.view index (length index.now - s.size))
+    (AccessFails 4_294_967_295 s index.now)
 
 -- the address and the name are those of a place of an index
 abbrev pub IsEntryOf : {K V H W : Type 0} → ArchivedIndexMap K V H W → ℕ → ℕ × Bor (List ℕ)

@@ -1,12 +1,13 @@
 //! Indexes of symbols: archives of index maps of addresses to names, in ascending order of address.
 ghost use Rattle.std.specs.Int.{w32, w64};
-ghost use Rattle.std.specs.Prelude.{IfErr, IfOk, IsOk, MatchOption, ◌≡◌, ◌≤◌};
-ghost use Rattle.rkyv_base.specs.Access.{AccessFails, Accepted};
+ghost use Rattle.std.specs.Prelude.{IfOk, IsOk, MatchOption, ◌≡◌, ◌≤◌};
+ghost use Rattle.rkyv_base.specs.Access.{Accepted};
 ghost use Rattle.rkyv_base.specs.Numbers.{unsigned};
 ghost use Rattle.rkyv_base.specs.Scalar.{scalar_shape};
 ghost use Rattle.rkyv_base.specs.Text.{text_shape};
 ghost use Rattle.rkyv_index.specs.Index.{IsIndexMap, index_len};
-ghost use Rattle.rkyv_symbols_program.specs.ByAddress.{IndexResult, IsAscending, IsEntryOf, turned};
+ghost use Rattle.rkyv_symbols_program.specs.ByAddress.{IndexResult, IsAscending, IsEntryOf};
+ghost use Rattle.rkyv_symbols_program.specs.ByAddress.{OpensIndex, turned};
 
 use rkyv_base::access::access;
 use rkyv_base::archive::Archive;
@@ -71,8 +72,8 @@ pub fn archive(alloc: Global, symbols: &[(&str, u64)]) -> Result<Vec<u8>, WriteE
 /// # Errors
 /// The first point at which the bytes are no index.
 pub fn open(index: &[u8]) -> Result<ArchivedIndexMap<'_, u64, Text>, VerifyError>
+    ensures root { OpensIndex ⟦<Index as Element>⟧.shape index.entry result }
     ensures map { IfOk result (IsIndexMap w32 (scalar_shape (unsigned w64)) (text_shape w32)) }
-    ensures refused { IfErr result (AccessFails 4294967295 ⟦<Index as Element>⟧.shape index.now) }
     ensures accepts { Accepted 4294967295 ⟦<Index as Element>⟧.shape index.now → IsOk result }
 {
     match access::<IndexMapOf<u64, Text>>(index) {
