@@ -1,11 +1,14 @@
 -- The archive that was made of a list, and the scalar of a value that was found in one.
-use Rattle.std.proofs.Common.{◌≡◌, ℕ, List, Option, None, Some, ap, refl, subst}
+use Rattle.std.proofs.Common.{◌≡◌, ℕ, Err, List, MatchResult, None, Ok, Option, Result, Some, ap, refl, subst}
 use Rattle.std.specs.Int.{Width}
+use Rattle.std.specs.declared.vec.Vec.{Vec}
 use Rattle.rkyv_base.specs.Access.{Accepted}
+use Rattle.rkyv_base.specs.Root.{ArchiveOf, ArchiveRefused}
 use Rattle.rkyv_base.specs.Scalar.{Encoding, ScalarStands}
 use Rattle.rkyv_base.specs.Shape.{Shape}
+use Rattle.rkyv_base.specs.declared.errors.WriteError.{WriteError}
 use Rattle.rkyv_base.specs.declared.view.View.{View}
-use Rattle.rkyv_collections.specs.ListArchives.{IsListArchive, map_root, scalar_found}
+use Rattle.rkyv_collections.specs.ListArchives.{IsListArchive, NoTextMap, TextMapResult, TextMapStands, TextPairs, map_root, scalar_found, text_map_format, text_map_shape}
 use Rattle.rkyv_collections.specs.ListedLookups.{IsFoundValue}
 use Rattle.rkyv_collections.specs.Map.{map_shape}
 use Rattle.rkyv_collections.specs.MapFormat.{MapStands}
@@ -16,6 +19,15 @@ pub list_archive : {A B : Type 0} {limit : ℕ} {w : Width} {k v : Shape} {key :
     → IsListArchive limit w k v key value hash b pairs
 list_archive {limit = limit} {w = w} {k = k} {v = v} {key = key} {value = value} {hash = hash} {factor = factor} {b = b} accepted stands e =
     subst (λ x. IsListArchive limit w k v key value hash b x) e (record { accepted = accepted; load_factor = factor; stands = stands })
+
+-- what `to_bytes` answers of a list of texts that has these pairs
+pub text_map_result : {F N Z : Type 0} (e : Encoding N) {factor : ℕ × ℕ} {pairs pairs' : TextPairs N} (result : Result (Vec ℕ Z) (WriteError F)) → factor ≡ (7, 8) → pairs' ≡ pairs
+    → MatchResult result (λ archive. ArchiveOf 4_294_967_295 (text_map_shape e) (TextMapStands e factor) (text_map_format e factor) pairs' archive.items)
+    (ArchiveRefused 4_294_967_295 (text_map_shape e) (text_map_format e factor) pairs')
+    → TextMapResult e pairs result
+text_map_result e (Ok archive) is_factor is_pairs made = list_archive made.0 made.1 is_pairs
+text_map_result e {factor = factor} {pairs' = pairs'} (Err why) is_factor is_pairs refused =
+    subst (λ x. NoTextMap e x why) is_pairs (subst (λ x. ArchiveRefused 4_294_967_295 (text_map_shape e) (text_map_format e x) pairs' why) is_factor refused)
 
 -- where a value that was found stands, its scalar stands
 pub scalar_listed : {N : Type 0} (e : Encoding N) (found : Option (View N)) (o : Option N) → IsFoundValue (ScalarStands e) found o → scalar_found e found ≡ o

@@ -1,22 +1,32 @@
 -- Archives whose root is a map that stands for a list of pairs, and the scalars that are found in
 -- one.
-use Rattle.std.specs.Prelude.{◌≡◌, ℕ, ◌-◌, Bool, IfSome, List, Option, length}
+use Rattle.std.specs.Prelude.{◌≡◌, ℕ, ◌-◌, Bool, IfSome, List, MatchResult, Option, Result, length}
 use Rattle.std.specs.Borrow.{Bor}
 use Rattle.std.specs.Int.{Width, w32}
 use Rattle.std.specs.Option.{option_map}
+use Rattle.std.specs.declared.vec.Vec.{Vec}
 use Rattle.rkyv_scan.specs.Hash.{fx_hasher, low_halves}
-use Rattle.rkyv_base.specs.Access.{Accepted}
-use Rattle.rkyv_base.specs.Scalar.{Encoding, ScalarStands, scalar_shape}
+use Rattle.rkyv_base.specs.Access.{Accepted, AccessFails}
+use Rattle.rkyv_base.specs.Format.{Format}
+use Rattle.rkyv_base.specs.Pairs.{written_as}
+use Rattle.rkyv_base.specs.Root.{ArchiveRefused}
+use Rattle.rkyv_base.specs.Scalar.{Encoding, ScalarStands, scalar_format, scalar_shape}
 use Rattle.rkyv_base.specs.Sealing.{value_at}
 use Rattle.rkyv_base.specs.Shape.{Shape}
 use Rattle.rkyv_base.specs.Text.{text_shape}
+use Rattle.rkyv_base.specs.TextWriting.{text_format}
 use Rattle.rkyv_base.specs.View.{IsAt, bytes_of, pos_of}
+use Rattle.rkyv_base.specs.declared.errors.VerifyError.{VerifyError}
+use Rattle.rkyv_base.specs.declared.errors.WriteError.{WriteError}
 use Rattle.rkyv_base.specs.declared.view.View.{View}
+use Rattle.rkyv_keys.specs.Calls.{text_calls}
 use Rattle.rkyv_keys.specs.OfTexts.{IsTextOf, same_bytes, text_key_calls}
+use Rattle.rkyv_table.specs.Table.Listed.{listed}
+use Rattle.rkyv_table.specs.Table.TableFormat.{TableResolver}
 use Rattle.rkyv_collections.specs.ListedLookups.{first_value}
 use Rattle.rkyv_collections.specs.Map.{FindsFirstKey, IsValueAt, IsValueIn, hash_at, map_bytes}
 use Rattle.rkyv_collections.specs.Map.{map_shape}
-use Rattle.rkyv_collections.specs.MapFormat.{MapStands}
+use Rattle.rkyv_collections.specs.MapFormat.{MapStands, hash_of, map_format}
 use Rattle.rkyv_collections.specs.declared.map.ArchivedHashMap.{ArchivedHashMap}
 use Rattle.rkyv_collections.specs.declared.map.HashMapOf.{HashMapOf}
 
@@ -37,12 +47,47 @@ pub record IsListArchive {A B : Type 0} (limit : ℕ) (w : Width) (k v : Shape) 
 abbrev pub TextPairs : Type 0 → Type 0
 TextPairs N = List (Bor (List ℕ) × N)
 
+-- the fixed bytes of a narrow map of texts to scalars
+abbrev pub text_map_shape : {N : Type 0} → Encoding N → Shape
+text_map_shape e = map_shape w32 (text_shape w32) (scalar_shape e)
+
+-- a narrow map of texts to scalars under FxHasher64 and a load factor stands for the pairs
+abbrev pub TextMapStands : {N : Type 0} → Encoding N → ℕ × ℕ → List ℕ → ℕ → TextPairs N → Type 0
+TextMapStands e factor b p pairs = MapStands w32 (text_shape w32) (scalar_shape e)
+    (IsTextOf w32 (λ text. text.now)) (ScalarStands e)
+    (hash_at (fx_hasher low_halves) (text_key_calls w32)) factor b p pairs
+
 -- The bytes are a narrow archive whose root is a map of texts to scalars under FxHasher64, and the
 -- map stands for the pairs.
 abbrev pub IsTextMap : {N : Type 0} → Encoding N → List ℕ → TextPairs N → Type 0
 IsTextMap e b pairs = IsListArchive 4_294_967_295 w32 (text_shape w32) (scalar_shape e)
     (IsTextOf w32 (λ text. text.now)) (ScalarStands e)
     (hash_at (fx_hasher low_halves) (text_key_calls w32)) b pairs
+
+-- how the pairs are written under a load factor
+abbrev pub text_map_format : {N : Type 0} → Encoding N → ℕ × ℕ → Format (TextPairs N) TableResolver
+text_map_format e factor = listed 4_294_967_295 factor
+    (map_format w32 (text_shape w32) (scalar_shape e)
+    (written_as (λ text. text.now) (text_format w32)) (scalar_format e)
+    (hash_of (fx_hasher low_halves) (λ text. text_calls text.now)) factor)
+
+-- no such archive was made of the pairs, under the load factor 7 / 8, and this is why
+abbrev pub NoTextMap : {F N : Type 0} → Encoding N → TextPairs N → WriteError F → Type 0
+NoTextMap e pairs why =
+    ArchiveRefused 4_294_967_295 (text_map_shape e) (text_map_format e (7, 8)) pairs why
+
+-- what writing such an archive answers: its bytes, or why there is none
+abbrev pub TextMapResult : {F N Z : Type 0} → Encoding N → TextPairs N
+    → Result (Vec ℕ Z) (WriteError F) → Type 0
+TextMapResult e pairs result =
+    MatchResult result (λ archive. IsTextMap e archive.items pairs) (NoTextMap e pairs)
+
+-- Any bytes are opened exactly where they are a narrow archive whose root is a map of texts to
+-- scalars, and else the first point at which they are none is told.
+abbrev pub OpensTextMap : {N R : Type 0} → Encoding N → List ℕ → Result R VerifyError → Type 0
+OpensTextMap e b result = MatchResult result
+    (λ _. Accepted 4_294_967_295 (text_map_shape e) b)
+    (AccessFails 4_294_967_295 (text_map_shape e) b)
 
 -- the value of the first pair whose key is the text
 abbrev pub first_of_text : {N : Type 0} → List ℕ → TextPairs N → Option N

@@ -2,9 +2,15 @@
 #![tactic(auto)]
 
 ghost use Rattle.std.specs.Int.{w64};
-ghost use Rattle.std.specs.Prelude.{IfOk, ℕ, ◌≡◌};
+ghost use Rattle.std.specs.Prelude.{ℕ, ◌≡◌};
 ghost use Rattle.rkyv_base.specs.Numbers.{unsigned};
-ghost use Rattle.rkyv_collections.specs.ListArchives.{IsTextMap, TextPairs, first_of_text};
+ghost use Rattle.rkyv_collections.specs.ListArchives.{
+  IsTextMap,
+  OpensTextMap,
+  TextMapResult,
+  TextPairs,
+  first_of_text,
+};
 
 use rkyv_base::access::access;
 use rkyv_base::errors::{VerifyError, WriteError};
@@ -18,17 +24,23 @@ use rkyv_collections::{FxHasher64, MapPairs};
 use std::alloc::Global;
 
 /// The archive of the symbols, each a name with its address.
+///
+/// # Errors
+/// Those of `to_bytes` of a map, as where a growth is refused.
 pub fn write(alloc: Global, symbols: &[(&str, u64)]) -> Result<Vec<u8>, WriteError<NoMemory>>
-    ensures { IfOk result (λ table. IsTextMap (unsigned w64) table.items symbols.now) }
+    ensures { TextMapResult (unsigned w64) symbols.now result }
 {
     let list: MapPairs<'_, &str, u64> = MapPairs::new(symbols);
-    let table = to_bytes(alloc, &list)?;
-    Ok(table)
+    to_bytes(alloc, &list)
 }
 
 /// The address of the first symbol of the name, and none where there is none.
+///
+/// # Errors
+/// The first point at which the bytes are no archive of such a map.
 pub fn look_up(table: &[u8], name: &str) -> Result<Option<u64>, VerifyError>
-    ensures { (symbols : TextPairs ℕ) → IsTextMap (unsigned w64) table.now symbols
+    ensures opened { OpensTextMap (unsigned w64) table.now result }
+    ensures found { (symbols : TextPairs ℕ) → IsTextMap (unsigned w64) table.now symbols
         → result ≡ Ok (first_of_text name.now symbols) }
 {
     scalars_found_are_listed::<&str, u64, Text, FxHasher64, Narrow>();

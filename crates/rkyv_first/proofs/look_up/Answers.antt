@@ -1,17 +1,17 @@
 use Rattle.std.proofs.Common.{Ok, Some, None, ap, sym, ◌∙◌}
 use Rattle.rkyv_first.proofs.look_up.Goals as goal
 
-pub returns-in_err-access : goal.returns-in_err-access
-returns-in_err-access c = λ symbols is.
+pub returns-in_err-access-clause-found : goal.returns-in_err-access-clause-found
+returns-in_err-access-clause-found c = λ symbols is.
     let accepted = c.in_err-access.ensures.accepts is.accepted in absurd cc
 
-pub returns-in-Some : goal.returns-in-Some
-returns-in-Some c = λ symbols is. let found = c.in-Some.ensures in
+pub returns-in-Some-clause-found : goal.returns-in-Some-clause-found
+returns-in-Some-clause-found c = λ symbols is. let found = c.in-Some.ensures in
     ap Ok (ap Some (sym c.to_native.ensures)
     ∙ c.scalars_found_are_listed.ensures _ _ _ _ symbols c.args.name (Some c.in-Some.address)
     c.of-symbols.ensures.view c.in_ok-access.ensures.root.1 is found.walked found.first)
 
-pub returns-in-None : goal.returns-in-None
-returns-in-None c = λ symbols is. let found = c.in-None.ensures in
+pub returns-in-None-clause-found : goal.returns-in-None-clause-found
+returns-in-None-clause-found c = λ symbols is. let found = c.in-None.ensures in
     ap Ok (c.scalars_found_are_listed.ensures _ _ _ _ symbols c.args.name None
     c.of-symbols.ensures.view c.in_ok-access.ensures.root.1 is found.walked found.first)

@@ -1,5 +1,7 @@
-use Rattle.rkyv_collections.proofs.ListArchives.{list_archive}
+use Rattle.std.specs.Int.{w64}
+use Rattle.rkyv_base.specs.Numbers.{unsigned}
+use Rattle.rkyv_collections.proofs.ListArchives.{text_map_result}
 use Rattle.rkyv_first.proofs.write.Goals as goal
 
 pub returns : goal.returns
-returns c = let made = c.in_ok-table.ensures in list_archive made.0 made.1 c.new-list.ensures.pairs
+returns c = text_map_result (unsigned w64) c.to_bytes.result c.new-list.ensures.load_factor c.new-list.ensures.pairs c.to_bytes.ensures
