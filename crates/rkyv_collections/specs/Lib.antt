@@ -22,5 +22,6 @@ pub mod ListedWalks
 pub mod BothHashers
 pub mod InPlace
 pub mod ListArchives
+pub mod RoundTrips
 pub mod NestedWrites
 pub mod InPlaceText

@@ -1,6 +1,7 @@
 //! A value written, read in place, compared and read back.
 
 ghost use Rattle.std.specs.Prelude.{◌≡◌, IfOk, true};
+ghost use Rattle.rkyv_collections.specs.RoundTrips.{ArchivesComeBack};
 
 use crate::map::{ArchivedHashMap, HashMapOf};
 use crate::std_maps::hashed::Hashed;
@@ -21,12 +22,26 @@ use std::hash::{BuildHasher, Hash};
 /// Why a value didn't come back.
 #[derive(Debug, Drop)]
 pub enum Lost {
+    /// It wasn't written.
     Write(WriteError<NoMemory>),
+    /// It wasn't read back.
     Read(ReadError),
 }
 
+/// At the root of the archive of a value, as `to_bytes` makes it, stands what equals the value in
+/// place, and what is read back there equals it by `==`.
+pub fn archives_come_back<W: Width, M: EqualsWritten<W> + PartialEq>()
+where
+    M::Archived: MatchesNative<M> + StandsAlone<M>,
+    ensures { ArchivesComeBack W.LIMIT M.Archived.shape M.Archived.stands M.Archived.equals
+        M.format M.eq }
+{}
+
 /// Whether the archive of a value is accepted, equals the value, and is read back as an equal one:
 /// wherever it can be written and read back.
+///
+/// # Errors
+/// Those of `to_bytes_in` and of `deserialize`.
 pub fn comes_back<W: Width, M: Serialize<VecWriter, W> + EqualsWritten<W> + PartialEq + Drop>(
     alloc: Global,
     value: &M,
@@ -54,6 +69,9 @@ where
 
 /// Whether a lookup of the key in the archive of a map of std's answers as that map does: with a
 /// value that equals the map's, and none where the map has none: wherever it can be written.
+///
+/// # Errors
+/// Those of `to_bytes_in`.
 pub fn lookups_agree<
     W: Width,
     H: KeyHasher,
