@@ -11,7 +11,7 @@ use Rattle.std.specs.Str.Parse.{digits_value}
 abbrev pub seen : Bor (List ℕ) × ℕ → List ℕ × ℕ
 seen symbol = (symbol.0.now, symbol.1)
 
--- sixteen hexadecimal digits, a space, the letter of a type, a space, and a name
+-- sixteen hexadecimal digits, a space, a byte, as the letter of a type, a space, and a name
 abbrev pub tells_symbol : List ℕ → Bool
 tells_symbol line = nat_lt 19 (length line)
     && ((slice_index line 16 == 32)

@@ -48,8 +48,8 @@ fn push_symbol<'a>(line: &'a str, symbols: &mut Vec<(&'a str, u64)>) -> Result<(
 /// The symbols of a text, in the order of its lines, each a name with its address.
 ///
 /// A line tells a symbol as `nm` prints one that has an address: sixteen hexadecimal digits, a
-/// space, the letter of its type, a space, and the name, which has a byte or more. All other lines
-/// are skipped, as those of undefined symbols.
+/// space, a byte, as the letter of its type, a space, and the name, which has a byte or more. All
+/// other lines are skipped, as those of undefined symbols.
 ///
 /// # Errors
 /// Where a growth is refused.
