@@ -217,7 +217,8 @@ impl<'a> Dict<'a> {
 
     /// Does a line, and appends what it answers.
     ///
-    /// Fails only by want of memory; the state is then unknown.
+    /// # Errors
+    /// Where a growth is refused; the state is then unknown.
     pub fn answer(
         &mut self,
         alloc: Global,

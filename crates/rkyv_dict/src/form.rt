@@ -28,13 +28,17 @@ pub struct Form {
 /// A key that is asked for.
 #[derive(Clone, Copy, Debug, PartialEq, Eq)]
 pub enum Key<'a> {
+    /// Of a map of numbers.
     Number(u32),
+    /// Of a map of texts.
     Text(&'a str),
 }
 
 /// Pairs of keys and values in their order, all of one kind.
 #[derive(Drop)]
 pub enum PairList<'a> {
+    /// Of a map of numbers.
     Numbers(Vec<(u32, u32)>),
+    /// Of a map of texts.
     Texts(Vec<(&'a str, &'a str)>),
 }

@@ -17,7 +17,8 @@ fn push_byte(text: &mut String, byte: u8) -> Result<(), AllocError>
 
 /// Appends each byte as two lower case digits.
 ///
-/// Fails only by want of memory.
+/// # Errors
+/// Where a growth is refused.
 pub fn push_hex(text: &mut String, bytes: &[u8]) -> Result<(), AllocError>
     ensures { OnOk result (string_bytes text.new ≡ string_bytes text.old ++ hex_of bytes.now) }
 {
@@ -53,7 +54,8 @@ fn byte_of(high: u8, low: u8) -> Option<u8>
 
 /// The bytes that pairs of digits of either case say; `None` where they aren't such pairs.
 ///
-/// Fails only by want of memory.
+/// # Errors
+/// Where a growth is refused.
 pub fn read_hex(alloc: Global, digits: &[u8]) -> Result<Option<Vec<u8>>, AllocError>
     ensures { IfOk result (λ bytes. option_map (λ v. v.items) bytes ≡ bytes_said digits.now) }
 {

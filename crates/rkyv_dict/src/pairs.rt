@@ -40,7 +40,8 @@ pub fn count_of(list: &PairList<'_>) -> usize
 
 /// Adds a pair of numbers at the end of a list of numbers.
 ///
-/// Fails only by want of memory; the pairs that were there stay.
+/// # Errors
+/// Where a growth is refused; the pairs that were there stay.
 pub fn put_numbers(list: &mut PairList<'_>, key: u32, value: u32) -> Result<(), AllocError>
     ensures added { OnOk result
         (pairs_seen list.new ≡ with_numbers (pairs_seen list.old) key value) }
@@ -59,7 +60,8 @@ pub fn put_numbers(list: &mut PairList<'_>, key: u32, value: u32) -> Result<(), 
 
 /// Adds a pair of texts at the end of a list of texts.
 ///
-/// Fails only by want of memory; the pairs that were there stay.
+/// # Errors
+/// Where a growth is refused; the pairs that were there stay.
 pub fn put_texts<'a>(
     list: &mut PairList<'a>,
     key: &'a str,

@@ -173,6 +173,10 @@ fn write_answers<W: Write>(alloc: Global, script: &[u8], writer: &mut W) -> Resu
 /// Reads a script to its end, and writes its answers and nothing else.
 ///
 /// Lines end with LF; the last may lack it. Empty lines are skipped.
+///
+/// # Errors
+/// `Read` where reading fails, and nothing is written; `Write` where writing fails and `Memory`
+/// where a growth is refused, after a beginning of what the script's first lines answer.
 pub fn run<R: Read, W: Write>(alloc: Global, reader: &mut R, writer: &mut W) -> Result<(), RunError>
     // What is written answers the script that is read, and all of it is read.
     ensures ok { OnOk result (IfSome (R.remaining reader.old) (λ script.

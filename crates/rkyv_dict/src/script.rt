@@ -163,7 +163,8 @@ fn by_verb<'a>(
 /// One space stands between two words. A number is `0` or digits without a leading zero, a text is
 /// a word of one byte or more, and bytes are pairs of digits of either case.
 ///
-/// Fails only by want of memory for the bytes of `check`.
+/// # Errors
+/// Where a growth is refused for the bytes of `check`.
 #[tactic(auto, unfolding(crate::specs::Script::request_of), using(crate::proofs::Texts::utf8_yes, crate::proofs::Texts::utf8_no))]
 pub fn read_command(
     alloc: Global,

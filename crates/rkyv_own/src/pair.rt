@@ -15,8 +15,10 @@ use std::alloc::Global;
 
 /// A type that is seen as a pair of parts, which it lends.
 pub trait AsPair {
+    /// The type of the first part.
     type First;
 
+    /// The type of the second part.
     type Second;
 
     // Its parts.

@@ -14,8 +14,10 @@ use std::alloc::Global;
 
 /// A type that is seen as a tuple of copies of its parts: of three as `(A, (B, C))`.
 pub trait AsTuple {
+    /// The type of the first part.
     type First;
 
+    /// The type of the second part, or of the pair of the parts behind the first.
     type Second;
 
     // Its parts.
