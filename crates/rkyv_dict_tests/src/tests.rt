@@ -1,6 +1,7 @@
 //! The tests, by what they call.
 
 mod archives;
+mod errors;
 mod lines;
 mod numbers;
 mod scripts;

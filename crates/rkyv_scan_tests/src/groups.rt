@@ -1,6 +1,6 @@
 //! Groups: the places that they mark.
 
-use rkyv_scan::simd::{bytewise, generic, lanes};
+use rkyv_scan::simd::{bytewise, generic, halves, lanes};
 use rkyv_scan::{GroupKind, MAX_GROUP_WIDTH, Marks, laws};
 
 // Whether the iterator has ended, and ends again when it is asked again.
@@ -63,8 +63,9 @@ struct Marked<'a> {
     full: &'a [usize],
 }
 
-// Whether each kind marks these places.
-fn each_kind_matches(eight: [u8; 8], byte: u8, marked: &Marked) -> [bool; 3] {
+// Whether each kind marks these places: the word, each byte by itself, sixteen lanes, and sixteen
+// lanes that mark as two words.
+fn each_kind_matches(eight: [u8; 8], byte: u8, marked: &Marked) -> [bool; 4] {
     let controls = padded(eight);
     let exact = Places {
         byte: marked.byte,
@@ -79,10 +80,15 @@ fn each_kind_matches(eight: [u8; 8], byte: u8, marked: &Marked) -> [bool; 3] {
         empty: marked.empty,
         ..exact
     };
+    let both_words = Places {
+        empty: marked.empty,
+        ..word
+    };
     [
         matches::<generic::Group>(&controls, byte, &word),
         matches::<bytewise::Group>(&controls, byte, &exact),
         matches::<lanes::Group>(&controls, byte, &wide),
+        matches::<halves::Group>(&controls, byte, &both_words),
     ]
 }
 
@@ -96,7 +102,7 @@ fn marks_a_byte(rt: HostRuntime) {
         empty: &[2, 3, 4, 5, 6, 7, 8, 9, 10, 11, 12, 13, 14, 15],
         full: &[0, 1],
     };
-    assert_eq!(rt; each_kind_matches(controls, 0x28, &marked), [true; 3]);
+    assert_eq!(rt; each_kind_matches(controls, 0x28, &marked), [true; 4]);
 }
 
 #[test]
@@ -109,7 +115,7 @@ fn marks_above_a_mark(rt: HostRuntime) {
         empty: &[5, 6, 8, 9, 10, 11, 12, 13, 14, 15],
         full: &[0, 1, 2, 3, 4, 7],
     };
-    assert_eq!(rt; each_kind_matches(controls, 0x28, &marked), [true; 3]);
+    assert_eq!(rt; each_kind_matches(controls, 0x28, &marked), [true; 4]);
 }
 
 #[test]
@@ -122,7 +128,7 @@ fn marks_zero(rt: HostRuntime) {
         empty: &[3, 4, 5, 6, 7, 8, 9, 10, 11, 12, 13, 14, 15],
         full: &[0, 1, 2],
     };
-    assert_eq!(rt; each_kind_matches(controls, 0x00, &marked), [true; 3]);
+    assert_eq!(rt; each_kind_matches(controls, 0x00, &marked), [true; 4]);
 }
 
 #[test]
@@ -145,13 +151,55 @@ fn marks_any_high_bit_as_empty(rt: HostRuntime) {
     let rest = [0, 1, 2, 3, 4, 5, 6];
     let right = [
         matches::<lanes::Group>(&controls, 0x28, &wide),
+        matches::<halves::Group>(&controls, 0x28, &wide),
         matches::<generic::Group>(&controls, 0x28, &eight),
         matches::<bytewise::Group>(&controls, 0x28, &eight),
         marks(generic::Group::read(&controls, 8).match_empty(), &rest),
         marks(bytewise::Group::read(&controls, 8).match_empty(), &rest),
         marks(lanes::Group::read(&controls, 0).match_byte(0), &[3, 15]),
     ];
-    assert_eq!(rt; right, [true; 6]);
+    assert_eq!(rt; right, [true; 7]);
+}
+
+// The places that the sixteen lanes mark for a byte as two words would, and those of each word.
+fn halves_match(
+    controls: &[u8; 16],
+    byte: u8,
+    places: &[usize],
+    words: [&[usize]; 2],
+) -> [bool; 3] {
+    [
+        marks(halves::Group::read(controls, 0).match_byte(byte), places),
+        marks(generic::Group::read(controls, 0).match_byte(byte), words[0]),
+        marks(generic::Group::read(controls, 8).match_byte(byte), words[1]),
+    ]
+}
+
+// In each half the equal bytes are marked, and above a marked one each that differs in the lowest
+// bit alone. Place 7 is marked, and place 8, which is the first of the other half, is not for it.
+#[test]
+fn halves_are_marked_apart(rt: HostRuntime) {
+    let mixed = [
+        0x28, 0x29, 0x29, 0xff, 0x29, 0x28, 0x00, 0x28, 0x29, 0x29, 0x28, 0x29, 0x28, 0x29, 0x29,
+        0x29,
+    ];
+    let of_even: [usize; 11] = [0, 1, 2, 5, 7, 10, 11, 12, 13, 14, 15];
+    let of_odd: [usize; 12] = [1, 2, 4, 5, 8, 9, 10, 11, 12, 13, 14, 15];
+    let mut one = [0x29u8; 16];
+    one[0] = 0x28;
+    let first: [usize; 8] = [0, 1, 2, 3, 4, 5, 6, 7];
+    let right = [
+        halves_match(
+            &mixed,
+            0x28,
+            &of_even,
+            [&[0, 1, 2, 5, 7], &[2, 3, 4, 5, 6, 7]],
+        ),
+        halves_match(&mixed, 0x29, &of_odd, [&[1, 2, 4, 5], &first]),
+        halves_match(&one, 0x28, &first, [&first, &[]]),
+        halves_match(&[0x29; 16], 0x28, &[], [&[], &[]]),
+    ];
+    assert_eq!(rt; right, [[true; 3]; 4]);
 }
 
 #[test]
@@ -170,11 +218,52 @@ fn root_names_are_the_word_kind(rt: HostRuntime) {
         rkyv_scan::Group::WIDTH,
         bytewise::Group::WIDTH,
         lanes::Group::WIDTH,
+        halves::Group::WIDTH,
         MAX_GROUP_WIDTH,
     ];
     let word: generic::Word = 5;
     assert_eq!(rt;
         (empty, widths, generic::NonZeroWord::new(word).is_some()),
-        ([true; 2], [8, 8, 16, 16], true)
+        ([true; 2], [8, 8, 16, 16, 16], true)
     );
+}
+
+#[test]
+fn root_group_marks_as_the_word_kind(rt: HostRuntime) {
+    laws::widest_group();
+    let controls = [0x28, 0xff, 0x29, 0x28, 0x29, 0x29, 0x00, 0x80, 0x28, 0x29];
+    let right = [
+        marks(laws::root_group_marks(&controls, 0, 0x28), &[0, 3, 4, 5]),
+        marks(laws::root_group_marks(&controls, 2, 0x28), &[1, 2, 3, 6, 7]),
+        marks(laws::root_group_marks(&controls, 2, 0x80), &[5]),
+    ];
+    assert_eq!(rt; right, [true; 3]);
+}
+
+// Whether the group's clone marks the places for the byte, and the clone of its mask has them.
+fn clones_match<G: GroupKind>(controls: &[u8; 16], byte: u8, places: &[usize]) -> bool {
+    if G::WIDTH > 16 {
+        return false;
+    }
+    let Ok(group) = G::read(controls, 0).clone() else {
+        return false;
+    };
+    match group.match_byte(byte).clone() {
+        Ok(mask) => marks(mask, places),
+        Err(_) => false,
+    }
+}
+
+#[test]
+fn clones_are_the_same(rt: HostRuntime) {
+    let mut controls = [0xffu8; 16];
+    controls[3] = 0x28;
+    controls[6] = 0x28;
+    let right = [
+        clones_match::<bytewise::Group>(&controls, 0x28, &[3, 6]),
+        clones_match::<generic::Group>(&controls, 0x28, &[3, 6]),
+        clones_match::<lanes::Group>(&controls, 0x28, &[3, 6]),
+        clones_match::<halves::Group>(&controls, 0x28, &[3, 6]),
+    ];
+    assert_eq!(rt; right, [true; 4]);
 }

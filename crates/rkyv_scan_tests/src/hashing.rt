@@ -124,6 +124,7 @@ fn fed_bits<H: KeyHasher>() -> ([u64; 5], u64) {
 #[test]
 fn words_are_fed(rt: HostRuntime) {
     laws::calls_hash_their_words();
+    laws::fx_hashers();
     laws::fixed_calls_agree();
     laws::fixed_calls_hash_alike();
     assert_eq!(rt;

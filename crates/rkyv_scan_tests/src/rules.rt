@@ -1,23 +1,54 @@
 //! Rules for a `usize` and an `isize`, and the hashers of each.
 
-use rkyv_scan::{AllBits, FxHasher, FxHasher64, FxHasher64Wide, KeyHasher, LowHalves, SizeRule};
+use rkyv_scan::{AllBits, FxHasher, KeyHasher, LowHalves, SizeRule};
 
-// The number after both calls whose words a rule makes.
-fn after_sizes<H: KeyHasher>() -> u64 {
-    let mut state = H::default();
-    state.write_usize(4_294_967_297);
-    state.write_isize(4_294_967_295);
-    state.finish()
+// The words that a rule feeds for a `usize`, for minus one, and for an `isize` whose low half
+// alone holds bits.
+fn words<S: SizeRule>() -> [u64; 3] {
+    [
+        S::usize_word(4_294_967_297),
+        S::isize_word(-1),
+        S::isize_word(4_294_967_295),
+    ]
 }
 
-// The same of the hasher of a rule.
-fn under_rule<S: SizeRule>() -> u64 {
-    after_sizes::<FxHasher<S>>()
+// The numbers that the hasher of a rule answers after each of these by itself.
+fn numbers<S: SizeRule>() -> [u64; 3] {
+    let mut large = FxHasher::<S>::default();
+    large.write_usize(4_294_967_297);
+    let mut minus_one = FxHasher::<S>::default();
+    minus_one.write_isize(-1);
+    let mut low = FxHasher::<S>::default();
+    low.write_isize(4_294_967_295);
+    [large.finish(), minus_one.finish(), low.finish()]
 }
 
 #[test]
-fn hashers_go_by_their_rules(rt: HostRuntime) {
-    let named = [after_sizes::<FxHasher64>(), after_sizes::<FxHasher64Wide>()];
-    let ruled = [under_rule::<LowHalves>(), under_rule::<AllBits>()];
-    assert_eq!(rt; ruled, named);
+fn low_halves_are_the_word(rt: HostRuntime) {
+    assert_eq!(rt;
+        (words::<LowHalves>(), numbers::<LowHalves>()),
+        (
+            [1, 0xffff_ffff_ffff_ffff, 0xffff_ffff_ffff_ffff],
+            [
+                0x517c_c1b7_2722_0a95,
+                0xae83_3e48_d8dd_f56b,
+                0xae83_3e48_d8dd_f56b
+            ]
+        )
+    );
+}
+
+#[test]
+fn all_bits_are_the_word(rt: HostRuntime) {
+    assert_eq!(rt;
+        (words::<AllBits>(), numbers::<AllBits>()),
+        (
+            [0x1_0000_0001, 0xffff_ffff_ffff_ffff, 0xffff_ffff],
+            [
+                0x789e_cc4c_2722_0a95,
+                0xae83_3e48_d8dd_f56b,
+                0xd5a5_48dd_d8dd_f56b
+            ]
+        )
+    );
 }

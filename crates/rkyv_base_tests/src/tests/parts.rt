@@ -47,3 +47,18 @@ fn entries_are_resolved(rt: HostRuntime) {
         ([1, 0, 0, 0, 2, 0, 0, 0], true, Some(7))
     );
 }
+
+// The position and the number of a clone of the view of a number at the end.
+fn cloned_number(bytes: &[u8]) -> Option<(u64, u32)> {
+    let view = access_in::<Narrow, u32>(bytes).ok()?;
+    let same = view.clone().ok()?;
+    Some((same.pos(), same.to_native()))
+}
+
+#[test]
+fn clones_are_the_same(rt: HostRuntime) {
+    let range = PartRange { lo: 4, hi: 16 };
+    let same = range.clone().ok();
+    let number = cloned_number(&[0, 0, 0, 0, 7, 0, 0, 0]);
+    assert_eq!(rt; (same, number), (Some(range), Some((4, 7))));
+}

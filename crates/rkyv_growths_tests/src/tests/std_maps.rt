@@ -1,32 +1,50 @@
 //! Maps of std's that are archived, and read back.
 
 use rkyv_base::access::access;
+use rkyv_base::entry::Entry;
 use rkyv_base::errors::{ReadError, VerifyError, WriteError};
 use rkyv_base::root::to_bytes;
 use rkyv_base::writer::NoMemory;
 use rkyv_collections::map::{ArchivedHashMap, HashMapOf};
 use rkyv_collections::std_maps::hashed::Hashed;
-use rkyv_testing::archives::{four_pairs, nested};
+use rkyv_testing::archives::four_pairs;
 use std::alloc::{AllocError, Global};
 use std::collections::HashMap;
 use std::hash::BuildHasherDefault;
 
-type Nested = Hashed<HashMap<i8, Hashed<HashMap<i8, i8>>>>;
+type Pairs = Hashed<HashMap<(u8, u8), Hashed<HashMap<u16, u16>>>>;
 
-// The map of 1 to the map of 1 to 2.
-fn map_in_a_map(alloc: Global) -> Result<Nested, AllocError> {
-    let mut inner = HashMap::new(alloc);
-    inner.insert(1, 2)?;
-    let mut outer = HashMap::new(alloc);
-    outer.insert(1, Hashed::new(inner))?;
-    Ok(Hashed::new(outer))
+// The map of 1337 to 42.
+fn one_number(alloc: Global) -> Result<Hashed<HashMap<u16, u16>>, AllocError> {
+    let mut map = HashMap::new(alloc);
+    map.insert(1337, 42)?;
+    Ok(Hashed::new(map))
+}
+
+// The map of (1, 2) and (3, 4), each to the map of 1337 to 42.
+fn two_maps(alloc: Global) -> Result<Pairs, AllocError> {
+    let mut pairs = HashMap::new(alloc);
+    pairs.insert((1, 2), one_number(alloc)?)?;
+    pairs.insert((3, 4), one_number(alloc)?)?;
+    Ok(Hashed::new(pairs))
+}
+
+// Whether the archive is accepted, and its map equals the one that it was written of.
+fn is_the_same(bytes: &[u8], map: &Pairs) -> bool {
+    match access::<HashMapOf<Entry<u8, u8>, HashMapOf<u16, u16>>>(bytes) {
+        Ok(root) => {
+            let root = ArchivedHashMap::of(root);
+            root.eq_std::<(u8, u8), Hashed<HashMap<u16, u16>>, _>(map.get())
+        }
+        Err(_) => false,
+    }
 }
 
 // Whether its archive is written as it should be, or why it isn't, if there is memory for the map.
 fn written(alloc: Global) -> Option<Result<bool, WriteError<NoMemory>>> {
-    let map = map_in_a_map(alloc).ok()?;
+    let map = two_maps(alloc).ok()?;
     match to_bytes(alloc, &map) {
-        Ok(bytes) => Some(Ok(bytes.as_slice() == nested().as_slice())),
+        Ok(bytes) => Some(Ok(bytes.len() == 172 && is_the_same(bytes.as_slice(), &map))),
         Err(e) => Some(Err(e)),
     }
 }
