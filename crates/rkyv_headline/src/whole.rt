@@ -30,7 +30,7 @@ pub enum Lost {
     /// It can't be written.
     #[error("{0}")]
     Write(WriteError<NoMemory>),
-    /// It was written, and nothing was seen of it; never since the check refuses it.
+    /// It was written, and wasn't looked over: never because its bytes are refused.
     #[error("{0}")]
     Look(Unseen),
 }
