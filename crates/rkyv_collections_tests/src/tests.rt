@@ -4,6 +4,8 @@ mod answers;
 mod asks;
 mod finders;
 mod first;
+mod in_place;
+mod lists;
 mod nested;
 mod reading;
 mod sealed;

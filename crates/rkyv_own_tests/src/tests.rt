@@ -1,4 +1,7 @@
 //! Types of one's own as values and as keys.
+
+mod as_keys;
+
 use crate::color::Color;
 use crate::pixel::Pixel;
 use crate::point::Point;

@@ -4,14 +4,16 @@ ghost use Rattle.rkyv_base.specs.Scalar.{scalar_shape};
 ghost use Rattle.rkyv_base.specs.Seal.{LiesIn, SealStays, bytes_in, seal_pos};
 ghost use Rattle.rkyv_base.specs.Sealing.{Keeps, Sealed};
 ghost use Rattle.rkyv_base.specs.Shape.{Viewed};
+ghost use Rattle.rkyv_table.specs.Table.Bare.{MayAskOf};
 ghost use Rattle.rkyv_table.specs.Table.Layout.{table_shape};
 ghost use Rattle.std.specs.Int.{byte_len};
 
 use crate::tests::archives::two_archived;
-use rkyv_base::access::access;
+use rkyv_base::access::{access, access_mut};
 use rkyv_base::errors::VerifyError;
 use rkyv_base::scalars::Scalar;
 use rkyv_base::seal::Seal;
+use rkyv_base::view::View;
 use rkyv_base::width::{Narrow, Width};
 use rkyv_table::table::{ArchivedHashTable, TableOf};
 
@@ -68,4 +70,91 @@ fn each_item_is_set(rt: HostRuntime) {
     nines[0] = 9;
     nines[2] = 9;
     assert_eq!(rt; written, Some((sevens, nines)));
+}
+
+// Writes a number over the item that is found under a hash, of a table of numbers: what it is told
+// to read back.
+fn set_found<N: Scalar, W: Width, F: Fn(View<'_, N>) -> bool>(
+    archive: &mut [u8],
+    pos: u64,
+    hash: u64,
+    accepts: F,
+    value: N,
+) -> Option<N>
+    requires table { Viewed (table_shape W.word (scalar_shape N.encoding)) archive.old pos }
+    requires callable { MayAskOf (F.pre accepts) W.word (scalar_shape N.encoding) archive.old pos }
+{
+    ArchivedHashTable::<N, W>::found_with(
+        archive,
+        pos,
+        hash,
+        accepts,
+        |seal: &mut Seal<'_, N>|
+            requires { LiesIn (scalar_shape N.encoding) seal.old }
+        {
+            seal.set(value);
+            seal.to_native()
+        },
+    )
+}
+
+// Writes a number over another one, where that is found under a hash.
+fn set_number(
+    bytes: &mut [u8],
+    hash: u64,
+    wanted: u8,
+    number: u8,
+) -> Result<Option<u8>, VerifyError> {
+    let pos = access::<TableOf<u8>>(&*bytes)?.pos();
+    Ok(set_found::<u8, Narrow, _>(bytes, pos, hash, |item| item.to_native() == wanted, number))
+}
+
+#[test]
+fn a_found_item_is_lent_over_the_bare_bytes(rt: HostRuntime) {
+    let mut bytes = two_archived();
+    let found = set_number(&mut bytes, 2, 20, 30).ok();
+    let mut wanted = two_archived();
+    wanted[2] = 30;
+    assert_eq!(rt; (found, bytes), (Some(Some(30)), wanted));
+}
+
+#[test]
+fn where_no_item_fits_the_bare_bytes_stay(rt: HostRuntime) {
+    let mut bytes = two_archived();
+    let found = set_number(&mut bytes, 2, 30, 40).ok();
+    assert_eq!(rt; (found, bytes), (Some(None), two_archived()));
+}
+
+// Writes this byte over a byte of an archive.
+fn change(archive: &mut [u8], pos: u64, byte: u8) {
+    match archive.get_mut(pos as usize) {
+        Some(old) => *old = byte,
+        None => {}
+    }
+}
+
+// Writes 7 and 9 over the items of a table of two while the cursor steps: where they stand, and
+// what is answered and left behind the last.
+fn write_stepping(bytes: &mut [u8]) -> Result<([Option<u64>; 3], usize), VerifyError> {
+    let whole = access_mut::<TableOf<u8>>(bytes)?;
+    let mut rest = ArchivedHashTable::raw_iter_seal(whole);
+    let places = [
+        rest.next_with(|archive: &mut [u8], pos: u64| change(archive, pos, 7)),
+        rest.next_with(|archive: &mut [u8], pos: u64| change(archive, pos, 9)),
+        rest.next_with(|archive: &mut [u8], pos: u64| change(archive, pos, 11)),
+    ];
+    Ok((places, rest.len()))
+}
+
+#[test]
+fn items_are_written_while_the_cursor_steps(rt: HostRuntime) {
+    let mut bytes = two_archived();
+    let stepped = write_stepping(&mut bytes).ok();
+    let mut wanted = two_archived();
+    wanted[2] = 7;
+    wanted[0] = 9;
+    assert_eq!(rt;
+        (stepped, bytes),
+        (Some(([Some(2), Some(0), None], 0)), wanted)
+    );
 }

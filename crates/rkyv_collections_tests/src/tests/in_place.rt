@@ -1,0 +1,122 @@
+//! Values of maps that are written over the bare bytes, by a call that is handed the archive and a
+//! place.
+
+use rkyv_base::access::{access_in, access_mut};
+use rkyv_base::element::Element;
+use rkyv_base::errors::VerifyError;
+use rkyv_base::scalars::Scalar;
+use rkyv_base::width::{Narrow, Width};
+use rkyv_collections::map::{ArchivedHashMap, HashMapOf};
+use rkyv_keys::keys::{KeyElement, Query};
+use rkyv_scan::hash::{FxHasher64, KeyHasher};
+use rkyv_testing::archives::four_pairs;
+
+type Small = HashMapOf<i8, i8>;
+
+// Writes this byte over a byte of an archive: where.
+fn change(archive: &mut [u8], pos: u64, byte: u8) -> u64 {
+    match archive.get_mut(pos as usize) {
+        Some(old) => *old = byte,
+        None => {}
+    }
+    pos
+}
+
+// The archive of the four pairs with other buckets.
+fn four_with(buckets: [u8; 10]) -> [u8; 56] {
+    let mut bytes = four_pairs();
+    bytes[..10].copy_from_slice(&buckets);
+    bytes
+}
+
+// Writes a byte over the value of a key: where that stands.
+fn change_found<K: KeyElement, N: Scalar, H: KeyHasher, W: Width, Q: Query<K>>(
+    bytes: &mut [u8],
+    key: &Q,
+    byte: u8,
+) -> Result<Option<u64>, VerifyError>
+    requires { Q.can_read key.now }
+{
+    let root = match access_in::<W, HashMapOf<K, N, H, W>>(&*bytes) {
+        Ok(map) => map.pos(),
+        Err(e) => return Err(e),
+    };
+    Ok(ArchivedHashMap::<K, N, H, W>::found_with(
+        bytes,
+        root,
+        key,
+        |archive: &mut [u8], pos: u64| change(archive, pos, byte),
+    ))
+}
+
+// The same of numbers of eight bits.
+fn change_small(bytes: &mut [u8], key: i8, byte: u8) -> Option<Option<u64>> {
+    change_found::<i8, i8, FxHasher64, Narrow, i8>(bytes, &key, byte).ok()
+}
+
+#[test]
+fn a_found_value_is_written_over_the_bare_bytes(rt: HostRuntime) {
+    let mut bytes = four_pairs();
+    let place = change_small(&mut bytes, 7, 70);
+    let same = bytes == four_with([3, 4, 1, 2, 0, 0, 7, 70, 5, 6]);
+    assert_eq!(rt; (place, same), (Some(Some(7)), true));
+}
+
+#[test]
+fn where_no_key_fits_the_bare_bytes_stay(rt: HostRuntime) {
+    let mut bytes = four_pairs();
+    let place = change_small(&mut bytes, 9, 70);
+    assert_eq!(rt; (place, bytes == four_pairs()), (Some(None), true));
+}
+
+// Writes a byte behind the key of each pair while the cursor steps: where the keys stand, what is
+// answered behind the last, and how many pairs are left.
+fn change_stepping(bytes: &mut [u8], byte: u8) -> Result<([Option<u64>; 5], usize), VerifyError> {
+    let whole = access_mut::<Small>(bytes)?;
+    let mut rest = ArchivedHashMap::iter_seal(whole);
+    let mut places = [None; 5];
+    for place in &mut places {
+        *place = rest.next_with(|archive: &mut [u8], pos: u64| {
+            let _value = change(archive, pos.wrapping_add(1), byte);
+        });
+    }
+    Ok((places, rest.len()))
+}
+
+#[test]
+fn pairs_are_written_while_the_cursor_steps(rt: HostRuntime) {
+    let mut bytes = four_pairs();
+    let stepped = change_stepping(&mut bytes, 20).ok();
+    let same = bytes == four_with([3, 20, 1, 20, 0, 0, 7, 20, 5, 20]);
+    assert_eq!(rt;
+        (stepped, same),
+        (Some(([Some(8), Some(6), Some(2), Some(0), None], 0)), true)
+    );
+}
+
+// Writes these numbers over the values of the map that stands in the bare bytes, one after the
+// other: how many values are left.
+fn write_over<K: Element, N: Scalar, H, W: Width>(
+    bytes: &mut [u8],
+    values: &[N],
+) -> Result<usize, VerifyError> {
+    let root = match access_in::<W, HashMapOf<K, N, H, W>>(&*bytes) {
+        Ok(map) => map.pos(),
+        Err(e) => return Err(e),
+    };
+    let mut rest = ArchivedHashMap::<K, N, H, W>::values_over(bytes, root);
+    for value in values {
+        if let Some(pos) = rest.next_pos() {
+            rest.set_at(pos, *value);
+        }
+    }
+    Ok(rest.len())
+}
+
+#[test]
+fn values_are_written_over_the_bare_bytes(rt: HostRuntime) {
+    let mut bytes = four_pairs();
+    let left = write_over::<i8, i8, FxHasher64, Narrow>(&mut bytes, &[10, 11, 12]).ok();
+    let same = bytes == four_with([3, 4, 1, 12, 0, 0, 7, 11, 5, 10]);
+    assert_eq!(rt; (left, same), (Some(1), true));
+}
