@@ -498,6 +498,15 @@ fn sets_of_texts(rt: HostRuntime) {
     );
 }
 
+#[test]
+fn a_set_of_five_short_texts(rt: HostRuntime) {
+    let words = ["hello", "world", "foo", "bar", "baz"];
+    assert_eq!(rt;
+        of_words(rt.alloc(), &words),
+        Some((Some((5, 5, (true, true))), [Some(true); 2]))
+    );
+}
+
 type Sets = Hashed<HashMap<i8, Hashed<HashSet<i8>>>>;
 
 // The map of 1 to the set of 2.
