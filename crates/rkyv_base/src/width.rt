@@ -22,7 +22,7 @@ ghost use Rattle.std.specs.Prelude.{
   slice_range,
 };
 ghost use Rattle.std.specs.Int.{
-  Width as Word,
+  Width as IntWidth,
   w32,
   w64,
   byte_len,
@@ -38,13 +38,16 @@ ghost use Rattle.std.proofs.Common.{refl};
 
 use crate::scalars::Scalar;
 
+/// The word of an archive: the bytes of one count or one distance.
+pub trait Word {
+    // The width of the word.
+    ghost word: { IntWidth };
+}
+
 /// How wide the positions and counts of an archive are, and what follows from it.
-pub trait Width {
+pub trait Width: Word {
     /// The element of a place in an index map: a number of one word.
     type Place: Scalar;
-
-    // A word: the bytes of a count or a distance.
-    ghost word: { Word };
 
     /// The greatest position, and the greatest length of an archive, in bytes.
     const LIMIT: u64;
@@ -83,35 +86,35 @@ pub trait Width {
 
     /// The count at position `at`.
     fn read_count(bytes: &[u8], at: usize) -> u64
-        requires { at + byte_len word ≤ length bytes.now }
-        ensures { result ≡ number_at word bytes.now at };
+        requires { at + byte_len Self.word ≤ length bytes.now }
+        ensures { result ≡ number_at Self.word bytes.now at };
 
     /// Writes a count over the whole of `out`.
     fn write_count(out: &mut [u8], count: u64)
-        requires room { length out.old ≡ byte_len word }
-        requires fits { count < 2 ^ bits word }
-        ensures { out.new ≡ to_le_bytes word count };
+        requires room { length out.old ≡ byte_len Self.word }
+        requires fits { count < 2 ^ bits Self.word }
+        ensures { out.new ≡ to_le_bytes Self.word count };
 
     /// The distance at position `at`.
     fn read_distance(bytes: &[u8], at: usize) -> i64
-        requires { at + byte_len word ≤ length bytes.now }
-        ensures { result ≡ signed_at word bytes.now at };
+        requires { at + byte_len Self.word ≤ length bytes.now }
+        ensures { result ≡ signed_at Self.word bytes.now at };
 
     /// Writes a distance over the whole of `out`.
     fn write_distance(out: &mut [u8], distance: i64)
-        requires room { length out.old ≡ byte_len word }
-        requires fits { FitsSigned word distance }
-        ensures { out.new ≡ to_le_bytes word (cast_unsigned word distance) };
+        requires room { length out.old ≡ byte_len Self.word }
+        requires fits { FitsSigned Self.word distance }
+        ensures { out.new ≡ to_le_bytes Self.word (cast_unsigned Self.word distance) };
 
     /// The distance from `from` to `target`, where it fits.
     fn distance(target: u64, from: u64) -> Option<i64>
-        ensures { MatchOption result (FitsSigned word (pos target -ℤ pos from) → ⊥)
-            (λ d. (d ≡ pos target -ℤ pos from) × FitsSigned word d) };
+        ensures { MatchOption result (FitsSigned Self.word (pos target -ℤ pos from) → ⊥)
+            (λ d. (d ≡ pos target -ℤ pos from) × FitsSigned Self.word d) };
 
-    ghost layout: { IsLayout word LIMIT MAX_CAPACITY TABLE_SIZE INDEX_SIZE ALIGN TEXT_SIZE
+    ghost layout: { IsLayout Self.word LIMIT MAX_CAPACITY TABLE_SIZE INDEX_SIZE ALIGN TEXT_SIZE
         TEXT_LIMIT };
 
-    ghost place: { IsPlace word Self.Place.encoding };
+    ghost place: { IsPlace Self.word Self.Place.encoding };
 }
 
 /// Archives of up to 4,294,967,295 bytes, whose positions and counts have 32 bits.
@@ -122,10 +125,16 @@ pub struct Narrow;
 #[derive(Clone, Copy, Debug)]
 pub struct Wide;
 
+impl Word for Narrow {
+    ghost word = { w32 };
+}
+
+impl Word for Wide {
+    ghost word = { w64 };
+}
+
 impl Width for Narrow {
     type Place = u32;
-
-    ghost word = { w32 };
 
     ghost LIMIT = { 4294967295 };
 
@@ -185,8 +194,6 @@ impl Width for Narrow {
 
 impl Width for Wide {
     type Place = u64;
-
-    ghost word = { w64 };
 
     ghost LIMIT = { 9223372036854775807 };
 

@@ -6,7 +6,7 @@ use Rattle.rkyv_base.proofs.text.far_part.Goals as goal
 
 pub pos_of_begin-at-requires : goal.pos_of_begin-at-requires
 pos_of_begin-at-requires g c =
-    let w = g.W.Width.word in
+    let w = g.W.Word.word in
     let fits : FitsSigned w128 c.far_start.result = search rules in
     let v = viewed_far w c.args.bytes.now c.args.pos c.requires.viewed c.requires.far in
     let begins = to_z-of_z w128 c.far_start.result fits ∙ c.far_start.ensures ∙ ap (λ (s : List ℕ). far_begin w s c.args.pos) c.fixed_at-fixed.ensures in
@@ -14,7 +14,7 @@ pos_of_begin-at-requires g c =
 
 pub returns : goal.returns
 returns g c =
-    let w = g.W.Width.word in
+    let w = g.W.Word.word in
     let b = c.args.bytes.now in
     let at = c.pos_of_begin-at.result in
     let fits : FitsSigned w128 c.far_start.result = search rules in

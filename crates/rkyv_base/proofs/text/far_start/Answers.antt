@@ -6,7 +6,7 @@ use Rattle.rkyv_base.proofs.text.far_start.Goals as goal
 
 pub returns : goal.returns
 returns g c =
-    let w = g.W.Width.word in
+    let w = g.W.Word.word in
     let s = c.args.fixed.now in
     let fits : FitsSigned w64 c.read_distance.result = search rules in
     let begin : FitsSigned w128 c.moved.result = search rules in

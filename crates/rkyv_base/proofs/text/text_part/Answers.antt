@@ -6,4 +6,4 @@ pub returns : goal.returns
 returns g c =
     let near = sym (ap is_far c.fixed_at-fixed.ensures) ∙ sym c.is_elsewhere.ensures ∙ c.if-is_elsewhere.false in
     c.inline_part.ensures ∙ ap inline_text c.fixed_at-fixed.ensures
-    ∙ sym (inline_reads g.W.Width.word (fixed_bytes g.W.Width.word c.args.bytes.now c.args.pos) c.args.bytes.now c.args.pos near)
+    ∙ sym (inline_reads g.W.Word.word (fixed_bytes g.W.Word.word c.args.bytes.now c.args.pos) c.args.bytes.now c.args.pos near)

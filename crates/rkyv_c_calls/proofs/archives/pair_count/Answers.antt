@@ -6,9 +6,9 @@ use Rattle.rkyv_c_calls.proofs.First.{view_stands}
 use Rattle.rkyv_c_calls.proofs.archives.pair_count.Goals as goal
 
 pub of-requires : goal.of-requires
-of-requires g c = view_stands (map_shape g.W.Width.word g.K.Element.shape (scalar_shape g.V.Scalar.encoding)) c.new.result c.args.archive c.root_of-root.result c.new.ensures.0 c.new.ensures.1 c.root_of-root.ensures.viewed
+of-requires g c = view_stands (map_shape g.W.Word.word g.K.Element.shape (scalar_shape g.V.Scalar.encoding)) c.new.result c.args.archive c.root_of-root.result c.new.ensures.0 c.new.ensures.1 c.root_of-root.ensures.viewed
 
 pub returns : goal.returns
 returns g c =
-    let len = len_at g.W.Width.word in
+    let len = len_at g.W.Word.word in
     c.len.ensures ∙ ap (λ v. len v.archive.now v.pos) c.of.ensures.view ∙ ap (λ a. len a.now c.new.result.pos) c.new.ensures.0 ∙ ap (len c.args.archive.now) (c.new.ensures.1 ∙ c.root_of-root.ensures.at)

@@ -16,13 +16,13 @@ pub returns-clause-kept : goal.returns-clause-kept
 returns-clause-kept g c =
     let set = c.set_value_of-found in
     let same : length set.new.archive ≡ length c.args.archive.now = omega (arith, set.auto.archive) in
-    set_kept g.W.Width.word g.K.Element.shape g.V.Scalar.encoding (hash_at (fx_hasher low_halves) g.K.KeyElement.key_calls) c.args.archive.now c.root_of-root.result (g.A.KeyHash.calls c.args.key.now)
+    set_kept g.W.Word.word g.K.Element.shape g.V.Scalar.encoding (hash_at (fx_hasher low_halves) g.K.KeyElement.key_calls) c.args.archive.now c.root_of-root.result (g.A.KeyHash.calls c.args.key.now)
     (g.A.Query.fits c.args.key.now c.args.archive.now) c.in-Some.number set.result set.new.archive c.root_of-root.ensures.at set.ensures.answer g.W.Width.LIMIT c.requires.archive c.root_of-root.ensures.viewed same
 
 pub returns-clause-sets : goal.returns-clause-sets
 returns-clause-sets g c =
     let set = c.set_value_of-found in
-    let told = set_told g.W.Width.word g.K.Element.shape g.V.Scalar.encoding (hash_at (fx_hasher low_halves) g.K.KeyElement.key_calls) c.args.archive.now c.root_of-root.result (g.A.KeyHash.calls c.args.key.now)
+    let told = set_told g.W.Word.word g.K.Element.shape g.V.Scalar.encoding (hash_at (fx_hasher low_halves) g.K.KeyElement.key_calls) c.args.archive.now c.root_of-root.result (g.A.KeyHash.calls c.args.key.now)
     (g.A.Query.fits c.args.key.now c.args.archive.now) c.in-Some.number set.result set.new.archive c.root_of-root.ensures.at set.ensures.answer c.status_of.result c.status_of.ensures.yes c.status_of.ensures.no in
     inr (c.in-Some.number, c.in-Some.ensures.told, told)
 
@@ -35,11 +35,11 @@ returns-clause-listed g c = λ factor pairs stands.
     let b = c.args.archive.now in
     let set = c.set_value_of-found in
     let asks = g.A.PartialEq.eq c.args.key.now in
-    let Stands : List ℕ → ℕ → List (g.row.A.Denot × g.row.V.Denot) → Type 0 = λ d r ps. PairsStandAt g.W.Width.word g.K.Element.shape g.K.StandsFor.stands g.K.KeyElement.key_calls e factor d r ps in
+    let Stands : List ℕ → ℕ → List (g.row.A.Denot × g.row.V.Denot) → Type 0 = λ d r ps. PairsStandAt g.W.Word.word g.K.Element.shape g.K.StandsFor.stands g.K.KeyElement.key_calls e factor d r ps in
     let at = c.root_of-root.ensures.at in
     let same : length set.new.archive ≡ length b = omega (arith, set.auto.archive) in
     let after = set.ensures.listed factor pairs (subst (λ p. Stands b p pairs) (sym at) stands) in
-    let root_after = at ∙ ap (λ n. n - (map_shape g.W.Width.word g.K.Element.shape (scalar_shape e)).size) (sym same) in
+    let root_after = at ∙ ap (λ n. n - (map_shape g.W.Word.word g.K.Element.shape (scalar_shape e)).size) (sym same) in
     inr (
       c.in-Some.number,
       c.in-Some.ensures.told,

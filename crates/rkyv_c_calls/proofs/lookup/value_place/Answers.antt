@@ -15,12 +15,12 @@ use Rattle.rkyv_c_calls.proofs.First.{found_placed, found_viewed, view_stands}
 use Rattle.rkyv_c_calls.proofs.lookup.value_place.Goals as goal
 
 pub of-map-requires : goal.of-map-requires
-of-map-requires g c = view_stands (map_shape g.W.Width.word g.K.Element.shape (scalar_shape g.V.Scalar.encoding)) c.new.result c.args.archive c.root_of-root.result c.new.ensures.0 c.new.ensures.1 c.root_of-root.ensures.viewed
+of-map-requires g c = view_stands (map_shape g.W.Word.word g.K.Element.shape (scalar_shape g.V.Scalar.encoding)) c.new.result c.args.archive c.root_of-root.result c.new.ensures.0 c.new.ensures.1 c.root_of-root.ensures.viewed
 
 pub returns-clause-viewed : goal.returns-clause-viewed
 returns-clause-viewed g c =
     let bytes = ap (λ v. v.archive.now) c.of-map.ensures.view ∙ ap (λ a. a.now) c.new.ensures.0 in
-    found_viewed g.W.Width.word g.K.Element.shape (scalar_shape g.V.Scalar.encoding) c.of-map.result c.args.archive.now bytes c.get.result c.found_pos.result c.found_pos.ensures c.get.ensures.walked
+    found_viewed g.W.Word.word g.K.Element.shape (scalar_shape g.V.Scalar.encoding) c.of-map.result c.args.archive.now bytes c.get.result c.found_pos.result c.found_pos.ensures c.get.ensures.walked
 
 pub returns-clause-found : goal.returns-clause-found
 returns-clause-found g c =
@@ -29,8 +29,8 @@ returns-clause-found g c =
     let k = g.K.Element.shape in
     let v = scalar_shape g.V.Scalar.encoding in
     c.found_pos.ensures
-    ∙ as_read c.of-map.result c.args.archive.now (root g.W.Width.word k v c.args.archive.now) bytes place
-    (λ d r. pos_of_found c.get.result ≡ option_map (value_pos k v) (pos_found generic_kind g.W.Width.word (entry_shape k v).size d r (hash_by (g.A.KeyHash.calls c.args.key.now)) (g.A.Query.fits c.args.key.now d)))
+    ∙ as_read c.of-map.result c.args.archive.now (root g.W.Word.word k v c.args.archive.now) bytes place
+    (λ d r. pos_of_found c.get.result ≡ option_map (value_pos k v) (pos_found generic_kind g.W.Word.word (entry_shape k v).size d r (hash_by (g.A.KeyHash.calls c.args.key.now)) (g.A.Query.fits c.args.key.now d)))
     c.get.ensures.answer
 
 pub returns-clause-listed : goal.returns-clause-listed
@@ -40,8 +40,8 @@ returns-clause-listed g c = λ factor pairs stands.
     let m = c.of-map.result in
     let e = g.V.Scalar.encoding in
     let asks = g.A.PartialEq.eq c.args.key.now in
-    let Stands : List ℕ → ℕ → Type 0 = λ d r. PairsStandAt g.W.Width.word g.K.Element.shape g.K.StandsFor.stands g.K.KeyElement.key_calls e factor d r pairs in
-    let here = moved Stands c.args.archive.now (map_bytes m) (root g.W.Width.word g.K.Element.shape (scalar_shape e) c.args.archive.now) (map_pos m) (sym bytes) (sym place) stands in
+    let Stands : List ℕ → ℕ → Type 0 = λ d r. PairsStandAt g.W.Word.word g.K.Element.shape g.K.StandsFor.stands g.K.KeyElement.key_calls e factor d r pairs in
+    let here = moved Stands c.args.archive.now (map_bytes m) (root g.W.Word.word g.K.Element.shape (scalar_shape e) c.args.archive.now) (map_pos m) (sym bytes) (sym place) stands in
     let listed = c.lookups_find_listed.ensures m (g.A.Query.fits c.args.key.now (map_bytes m)) asks factor pairs c.of-map.ensures.map (λ a q s there. g.met.A.NativeKey.native c.args.key.now a (map_bytes m) q s there) here in
-    found_placed g.W.Width.word g.K.Element.shape (scalar_shape e) m c.args.archive.now bytes (ScalarStands e) c.get.result c.found_pos.result (first_value asks pairs) c.found_pos.ensures c.get.ensures.walked
+    found_placed g.W.Word.word g.K.Element.shape (scalar_shape e) m c.args.archive.now bytes (ScalarStands e) c.get.result c.found_pos.result (first_value asks pairs) c.found_pos.ensures c.get.ensures.walked
     (listed.gives_value c.get.result c.get.ensures.walked c.get.ensures.first)

@@ -20,14 +20,14 @@ inside w k v kl vl b p cap map same some =
 
 pub controls_begin-requires : goal.controls_begin-requires
 controls_begin-requires g c =
-    let u = inside g.W.Width.word g.K.Element.shape g.V.Element.shape g.met.K.Element.laws g.met.V.Element.laws c.args.archive.now c.args.root c.args.cap c.requires.map c.requires.cap c.requires.some in
-    (controls_pos g.W.Width.word c.args.archive.now c.args.root, rw c.distance_at.ensures u.1, omega (arith, u.0))
+    let u = inside g.W.Word.word g.K.Element.shape g.V.Element.shape g.met.K.Element.laws g.met.V.Element.laws c.args.archive.now c.args.root c.args.cap c.requires.map c.requires.cap c.requires.some in
+    (controls_pos g.W.Word.word c.args.archive.now c.args.root, rw c.distance_at.ensures u.1, omega (arith, u.0))
 
 pub returns-clause-at : goal.returns-clause-at
 returns-clause-at g c = rw c.distance_at.ensures at c.controls_begin.ensures
 
 pub returns-clause-inside : goal.returns-clause-inside
 returns-clause-inside g c =
-    let u = inside g.W.Width.word g.K.Element.shape g.V.Element.shape g.met.K.Element.laws g.met.V.Element.laws c.args.archive.now c.args.root c.args.cap c.requires.map c.requires.cap c.requires.some in
-    let at : c.controls_begin.result ≡ controls_pos g.W.Width.word c.args.archive.now c.args.root = rw c.distance_at.ensures at c.controls_begin.ensures in
+    let u = inside g.W.Word.word g.K.Element.shape g.V.Element.shape g.met.K.Element.laws g.met.V.Element.laws c.args.archive.now c.args.root c.args.cap c.requires.map c.requires.cap c.requires.some in
+    let at : c.controls_begin.result ≡ controls_pos g.W.Word.word c.args.archive.now c.args.root = rw c.distance_at.ensures at c.controls_begin.ensures in
     rw at u.0

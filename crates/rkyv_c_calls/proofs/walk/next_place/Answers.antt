@@ -10,7 +10,7 @@ use Rattle.rkyv_c_calls.proofs.walk.next_place.Goals as goal
 
 pub returns-then-from-cap-clause-next : goal.returns-then-from-cap-clause-next
 returns-then-from-cap-clause-next g c =
-    let w = g.W.Width.word in
+    let w = g.W.Word.word in
     let b = c.args.archive.now in
     let p = c.args.root in
     let cap = c.bucket_count-cap.ensures in
@@ -18,7 +18,7 @@ returns-then-from-cap-clause-next g c =
 
 pub pos_before-requires : goal.pos_before-requires
 pos_before-requires g c =
-    let w = g.W.Width.word in
+    let w = g.W.Word.word in
     let k = g.K.Element.shape in
     let v = g.V.Element.shape in
     let b = c.args.archive.now in
@@ -35,7 +35,7 @@ pos_before-requires g c =
 
 pub returns-in-Some-clause-next : goal.returns-in-Some-clause-next
 returns-in-Some-clause-next g c =
-    let w = g.W.Width.word in
+    let w = g.W.Word.word in
     let s = entry_shape g.K.Element.shape g.V.Element.shape in
     let b = c.args.archive.now in
     let p = c.args.root in
@@ -51,7 +51,7 @@ returns-in-Some-clause-next g c =
 
 pub returns-in-Some-clause-viewed : goal.returns-in-Some-clause-viewed
 returns-in-Some-clause-viewed g c =
-    let w = g.W.Width.word in
+    let w = g.W.Word.word in
     let k = g.K.Element.shape in
     let v = g.V.Element.shape in
     let s = entry_shape k v in
@@ -69,7 +69,7 @@ returns-in-Some-clause-viewed g c =
 
 pub returns-in-None-clause-next : goal.returns-in-None-clause-next
 returns-in-None-clause-next g c =
-    let w = g.W.Width.word in
+    let w = g.W.Word.word in
     let b = c.args.archive.now in
     let p = c.args.root in
     let cap = c.bucket_count-cap.ensures in

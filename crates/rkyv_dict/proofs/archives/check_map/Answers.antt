@@ -7,7 +7,7 @@ use Rattle.rkyv_dict.proofs.archives.check_map.Goals as goal
 pub returns-in-Ok : goal.returns-in-Ok
 unfolding IsMapArchive pair_count
 returns-in-Ok g c =
-    let len = len_at g.W.Width.word in
+    let len = len_at g.W.Word.word in
     (c.in-Ok.ensures.root.0, c.len.ensures ∙ ap (λ v. len v.archive.now v.pos) c.of.ensures.view ∙ read_at len c.in-Ok.root _ _ c.in-Ok.ensures.root.1)
 
 pub returns-in-Err : goal.returns-in-Err

@@ -9,4 +9,4 @@ unfolding keys_misplaced
 returns g c =
     let s = g.P.Element.shape in
     c.misplaced.ensures
-    ∙ read_at (map_misplaced g.W.Width.word s s (λ b q. hash (g.P.KeyElement.key_calls b q)) g.P.ElementEq.same) c.map_of.result.view _ _ c.map_of.ensures.at
+    ∙ read_at (map_misplaced g.W.Word.word s s (λ b q. hash (g.P.KeyElement.key_calls b q)) g.P.ElementEq.same) c.map_of.result.view _ _ c.map_of.ensures.at

@@ -15,7 +15,7 @@ returns-clause-found g c =
     let s = g.P.Element.shape in
     let m = c.map_of.result in
     let fits : List ℕ → ℕ → Bool = g.Q.Query.fits c.args.key.now in
-    let place : List ℕ → ℕ → Option ℕ = λ b p. pos_found generic_kind g.W.Width.word (entry_shape s s).size b p (hash (g.Q.KeyHash.calls c.args.key.now)) (fits b) in
+    let place : List ℕ → ℕ → Option ℕ = λ b p. pos_found generic_kind g.W.Word.word (entry_shape s s).size b p (hash (g.Q.KeyHash.calls c.args.key.now)) (fits b) in
     let same : IfSome c.get.result (λ v. v.archive ≡ map_archive m) = some_map c.get.result (λ v is. is.at.0) c.get.ensures.walked in
     let text = text_read g.P.Part.text (value_offset s s) m.view _ _ c.map_of.ensures.at c.get.result same place c.get.ensures.answer in
     subst (λ t. OnOk c.push_text.result (string_bytes c.push_text.new.out ≡ string_bytes c.args.out.now ++ value_line t)) text c.push_text.ensures
@@ -24,7 +24,7 @@ pub returns-clause-first : goal.returns-clause-first
 unfolding HasHomes first_under
 returns-clause-first g c homes written =
     let s = g.P.Element.shape in
-    let w = g.W.Width.word in
+    let w = g.W.Word.word in
     let m = c.map_of.result in
     let fits : List ℕ → ℕ → Bool = g.Q.Query.fits c.args.key.now in
     let place : List ℕ → ℕ → Option ℕ = λ b p. find (fits b) (home_positions w (entry_shape s s).size b p homes) in

@@ -29,7 +29,7 @@ loop-key-preserved g c =
     let value = c.in-Some.value in
     let steps = c.in-Some.ensures.steps in
     let left = c.loop-key.invariant in
-    let all : List ℕ = string_bytes c.args.out.now ++ flat_map (line_at s text archive.now) (key_positions g.W.Width.word s s c.args.map) in (
+    let all : List ℕ = string_bytes c.args.out.now ++ flat_map (line_at s text archive.now) (key_positions g.W.Word.word s s c.args.map) in (
       stand_after s text archive before after key value left.1 steps.0 steps.1 steps.2 left.0,
       steps.0.archive ∙ left.1,
       lines_after s text archive before after key value left.1 steps.0 steps.1 steps.2 all (string_bytes c.loop-key.out) (string_bytes c.push_pair.new.out) left.2 c.in_ok-push_pair.ensures,

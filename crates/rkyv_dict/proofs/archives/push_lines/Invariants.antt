@@ -13,4 +13,4 @@ invariant-loop-key g l =
     let line = line_at s g.P.Part.text (map_bytes l.map) in
     AllStand (entry_shape s s) l.key-iterator
     × (l.key-iterator.archive ≡ map_archive l.map)
-    × (string_bytes l.initial.out ++ flat_map line (key_positions g.W.Width.word s s l.map) ≡ string_bytes l.out ++ flat_map line l.key-iterator.places)
+    × (string_bytes l.initial.out ++ flat_map line (key_positions g.W.Word.word s s l.map) ≡ string_bytes l.out ++ flat_map line l.key-iterator.places)

@@ -13,7 +13,7 @@ pub returns : goal.returns
 unfolding pair_count pair_lines pair_positions
 returns g c =
     let s = g.P.Element.shape in
-    let w = g.W.Width.word in
+    let w = g.W.Word.word in
     let m = c.map_of-map.result in
     let old = string_bytes c.args.out.now in
     let head : ℕ → List ℕ = λ n. line (codes "entries " ++ decimal n) in

@@ -8,7 +8,7 @@ use Rattle.rkyv_headline.proofs.looking.look_up.Goals as goal
 
 pub returns-clause-looks : goal.returns-clause-looks
 returns-clause-looks g c =
-    let w = g.W.Width.word in
+    let w = g.W.Word.word in
     let s = g.T.Element.shape in
     let bytes = ap (λ v. v.archive.now) c.of-table.ensures.view ∙ ap (λ v. v.now) c.new.ensures.0 in
     let place = ap (λ v. v.pos) c.of-table.ensures.view ∙ c.new.ensures.1 in
@@ -21,13 +21,13 @@ pub returns-clause-reads : goal.returns-clause-reads
 returns-clause-reads g c =
     let bytes = ap (λ v. v.archive.now) c.of-table.ensures.view ∙ ap (λ v. v.now) c.new.ensures.0 in
     let place = ap (λ v. v.pos) c.of-table.ensures.view ∙ c.new.ensures.1 in
-    subst (ReadsFew g.W.Width.word c.args.bytes.now c.args.pos) (sym c.count.ensures)
-    (few_read g.W.Width.word c.args.bytes.now c.args.pos c.of-table.result bytes place c.new-strides.result c.get_counted.new.strides c.new-strides.ensures c.get_counted.ensures.counts.bounded)
+    subst (ReadsFew g.W.Word.word c.args.bytes.now c.args.pos) (sym c.count.ensures)
+    (few_read g.W.Word.word c.args.bytes.now c.args.pos c.of-table.result bytes place c.new-strides.result c.get_counted.new.strides c.new-strides.ensures c.get_counted.ensures.counts.bounded)
 
 pub returns-clause-exact : goal.returns-clause-exact
 returns-clause-exact g c =
     let bytes = ap (λ v. v.archive.now) c.of-table.ensures.view ∙ ap (λ v. v.now) c.new.ensures.0 in
     let place = ap (λ v. v.pos) c.of-table.ensures.view ∙ c.new.ensures.1 in
     let post = goal.F-post g c.args.cmp in
-    subst (ReadsExactly post generic_kind g.W.Width.word g.T.Element.shape c.args.bytes.now c.args.pos c.args.hash) (sym c.count.ensures)
-    (reads_exactly g.W.Width.word g.T.Element.shape c.args.bytes.now c.args.pos c.of-table.result bytes place post generic_kind c.args.hash c.new-strides.result c.get_counted.new.strides c.new-strides.ensures c.get_counted.ensures.counts.counted)
+    subst (ReadsExactly post generic_kind g.W.Word.word g.T.Element.shape c.args.bytes.now c.args.pos c.args.hash) (sym c.count.ensures)
+    (reads_exactly g.W.Word.word g.T.Element.shape c.args.bytes.now c.args.pos c.of-table.result bytes place post generic_kind c.args.hash c.new-strides.result c.get_counted.new.strides c.new-strides.ensures c.get_counted.ensures.counts.counted)

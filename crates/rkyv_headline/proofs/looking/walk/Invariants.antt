@@ -4,4 +4,4 @@ use Rattle.rkyv_headline.proofs.looking.walk.Given as goal
 
 -- what was walked, and what is left, are all positions
 abbrev pub invariant-loop-item : goal.invariant-loop-item
-invariant-loop-item g l = l.walked.items ++ l.item-iterator.places ≡ item_positions g.W.Width.word g.T.Element.shape.size l.bytes l.pos
+invariant-loop-item g l = l.walked.items ++ l.item-iterator.places ≡ item_positions g.W.Word.word g.T.Element.shape.size l.bytes l.pos

@@ -11,7 +11,7 @@ use Rattle.rkyv_headline.proofs.whole.write_and_look_over.Goals as goal
 
 pub returns-in-Ok-look_over-clause-seen : goal.returns-in-Ok-look_over-clause-seen
 returns-in-Ok-look_over-clause-seen g c =
-    let w = g.W.Width.word in
+    let w = g.W.Word.word in
     let s = g.U.Archived.Element.shape in
     let stands = lent_stands g.X.Lend.lent g.U.Archived.StandsFor.stands in
     let o = held c.args.serializer.now in
@@ -28,7 +28,7 @@ returns-in-Ok-look_over-clause-seen g c =
 
 pub returns-in-Err-look_over-clause-lost : goal.returns-in-Err-look_over-clause-lost
 returns-in-Err-look_over-clause-lost g c =
-    let w = g.W.Width.word in
+    let w = g.W.Word.word in
     let s = g.U.Archived.Element.shape in
     let f = table_format w s (written_as g.X.Lend.lent g.U.Archive.format) c.args.load_factor in
     let o = held c.args.serializer.now in

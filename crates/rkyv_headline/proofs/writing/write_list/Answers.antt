@@ -10,50 +10,50 @@ use Rattle.rkyv_headline.proofs.writing.write_list.Goals as goal
 
 pub returns-in-Err : goal.returns-in-Err
 returns-in-Err g c =
-    let f = table_format g.W.Width.word g.U.Archived.Element.shape (written_as g.X.Lend.lent g.U.Archive.format) c.args.load_factor in
-    no_list (GaveBoth g.I.Iterator.next_gives g.J.Iterator.next_gives c.args.items c.args.hashes) c.args.len c.args.load_factor g.W.Width.MAX_CAPACITY g.W.Width.LIMIT (byte_len g.W.Width.word) f
+    let f = table_format g.W.Word.word g.U.Archived.Element.shape (written_as g.X.Lend.lent g.U.Archive.format) c.args.load_factor in
+    no_list (GaveBoth g.I.Iterator.next_gives g.J.Iterator.next_gives c.args.items c.args.hashes) c.args.len c.args.load_factor g.W.Width.MAX_CAPACITY g.W.Width.LIMIT (byte_len g.W.Word.word) f
     (g.S.Writer.output c.args.serializer.now) (g.S.Writer.output c.serialize_from_iter.new.serializer) (Uneven g.I.Iterator.next_gives g.J.Iterator.next_gives c.args.len c.args.items c.args.hashes) c.in-Err.e c.in-Err.ensures
 
 pub returns-in-Err-align_for_in : goal.returns-in-Err-align_for_in
 returns-in-Err-align_for_in g c =
-    let f = table_format g.W.Width.word g.U.Archived.Element.shape (written_as g.X.Lend.lent g.U.Archive.format) c.args.load_factor in
+    let f = table_format g.W.Word.word g.U.Archived.Element.shape (written_as g.X.Lend.lent g.U.Archive.format) c.args.load_factor in
     let h = c.in-Ok.ensures in
-    let told = root_told_align g.row.S-Fault.Denot g.W.Width.LIMIT (byte_len g.W.Width.word) f h.1 (g.S.Writer.output c.args.serializer.now) (g.S.Writer.output c.serialize_from_iter.new.serializer) (g.S.Writer.output c.align_for_in.new.serializer) (g.S.Writer.output c.align_for_in.new.serializer)
+    let told = root_told_align g.row.S-Fault.Denot g.W.Width.LIMIT (byte_len g.W.Word.word) f h.1 (g.S.Writer.output c.args.serializer.now) (g.S.Writer.output c.serialize_from_iter.new.serializer) (g.S.Writer.output c.align_for_in.new.serializer) (g.S.Writer.output c.align_for_in.new.serializer)
     h.3.0 c.in-Ok.resolver h.3.1 h.3.2 h.3.3 c.in-Err-align_for_in.e c.in-Err-align_for_in.ensures in
     inr (h.0, h.1, h.2, told)
 
 pub resolve_from_len-requires-clause-room : goal.resolve_from_len-requires-clause-room
 resolve_from_len-requires-clause-room g c =
     let layout = g.met.W.Width.layout in
-    room_of c.TABLE_SIZE.result g.W.Width.TABLE_SIZE _ c.TABLE_SIZE.ensures (header_small g.W.Width.word layout.kind g.W.Width.TABLE_SIZE g.W.Width.ALIGN layout.align_is layout.table_is)
+    room_of c.TABLE_SIZE.result g.W.Width.TABLE_SIZE _ c.TABLE_SIZE.ensures (header_small g.W.Word.word layout.kind g.W.Width.TABLE_SIZE g.W.Width.ALIGN layout.align_is layout.table_is)
 
 pub returns-in-Err-resolve_from_len : goal.returns-in-Err-resolve_from_len
 returns-in-Err-resolve_from_len g c =
-    let f = table_format g.W.Width.word g.U.Archived.Element.shape (written_as g.X.Lend.lent g.U.Archive.format) c.args.load_factor in
+    let f = table_format g.W.Word.word g.U.Archived.Element.shape (written_as g.X.Lend.lent g.U.Archive.format) c.args.load_factor in
     let h = c.in-Ok.ensures in
     let a = c.in-Ok-align_for_in.ensures in
-    let far = subst (λ (n : ℕ). HeaderFar g.W.Width.word n c.in-Ok.resolver.pos c.in-Ok-align_for_in.pos) (sym (h.3.2.len ∙ h.2.1)) c.in-Err-resolve_from_len.ensures.0 in
-    let told = root_told_far g.row.S-Fault.Denot g.W.Width.LIMIT (byte_len g.W.Width.word) f h.1 (g.S.Writer.output c.args.serializer.now) (g.S.Writer.output c.serialize_from_iter.new.serializer) (g.S.Writer.output c.align_for_in.new.serializer) (g.S.Writer.output c.align_for_in.new.serializer)
-    h.3.0 c.in-Ok.resolver h.3.1 h.3.2 h.3.3 (a.0, rw a.1 at a.2) (subst (λ (n : ℕ). HeaderFar g.W.Width.word c.in-Ok.resolver.len c.in-Ok.resolver.pos n) a.1 far) in
+    let far = subst (λ (n : ℕ). HeaderFar g.W.Word.word n c.in-Ok.resolver.pos c.in-Ok-align_for_in.pos) (sym (h.3.2.len ∙ h.2.1)) c.in-Err-resolve_from_len.ensures.0 in
+    let told = root_told_far g.row.S-Fault.Denot g.W.Width.LIMIT (byte_len g.W.Word.word) f h.1 (g.S.Writer.output c.args.serializer.now) (g.S.Writer.output c.serialize_from_iter.new.serializer) (g.S.Writer.output c.align_for_in.new.serializer) (g.S.Writer.output c.align_for_in.new.serializer)
+    h.3.0 c.in-Ok.resolver h.3.1 h.3.2 h.3.3 (a.0, rw a.1 at a.2) (subst (λ (n : ℕ). HeaderFar g.W.Word.word c.in-Ok.resolver.len c.in-Ok.resolver.pos n) a.1 far) in
     inr (h.0, h.1, h.2, told)
 
 pub returns-in-Ok-append_in : goal.returns-in-Ok-append_in
 returns-in-Ok-append_in g c =
-    let f = table_format g.W.Width.word g.U.Archived.Element.shape (written_as g.X.Lend.lent g.U.Archive.format) c.args.load_factor in
+    let f = table_format g.W.Word.word g.U.Archived.Element.shape (written_as g.X.Lend.lent g.U.Archive.format) c.args.load_factor in
     let h = c.in-Ok.ensures in
     let a = c.in-Ok-align_for_in.ensures in
     let d = c.in-Ok-append_in.ensures in
-    let image = image_of g.W.Width.word c.in-Ok.resolver c.args.len c.args.load_factor c.in-Ok-align_for_in.pos _ c.resolve_from_len.new.out (h.3.2.len ∙ h.2.1) h.3.2.factor a.1 c.in-Ok-resolve_from_len.ensures in
-    let wrote = list_wrote (byte_len g.W.Width.word) f h.1 (g.S.Writer.output c.args.serializer.now) (g.S.Writer.output c.serialize_from_iter.new.serializer) (g.S.Writer.output c.align_for_in.new.serializer) (g.S.Writer.output c.append_in.new.serializer)
+    let image = image_of g.W.Word.word c.in-Ok.resolver c.args.len c.args.load_factor c.in-Ok-align_for_in.pos _ c.resolve_from_len.new.out (h.3.2.len ∙ h.2.1) h.3.2.factor a.1 c.in-Ok-resolve_from_len.ensures in
+    let wrote = list_wrote (byte_len g.W.Word.word) f h.1 (g.S.Writer.output c.args.serializer.now) (g.S.Writer.output c.serialize_from_iter.new.serializer) (g.S.Writer.output c.align_for_in.new.serializer) (g.S.Writer.output c.append_in.new.serializer)
     h.3.0 c.in-Ok.resolver c.resolve_from_len.new.out c.pos-end.result c.in-Ok-align_for_in.pos h.3.1 h.3.2 a.0 image d.0 c.pos-end.ensures a.1 in
     (h.0, h.1, h.2, wrote.0, (wrote.1, d.1), wrote.2)
 
 pub returns-in-Err-append_in : goal.returns-in-Err-append_in
 returns-in-Err-append_in g c =
-    let f = table_format g.W.Width.word g.U.Archived.Element.shape (written_as g.X.Lend.lent g.U.Archive.format) c.args.load_factor in
+    let f = table_format g.W.Word.word g.U.Archived.Element.shape (written_as g.X.Lend.lent g.U.Archive.format) c.args.load_factor in
     let h = c.in-Ok.ensures in
     let a = c.in-Ok-align_for_in.ensures in
-    let image = image_of g.W.Width.word c.in-Ok.resolver c.args.len c.args.load_factor c.in-Ok-align_for_in.pos _ c.resolve_from_len.new.out (h.3.2.len ∙ h.2.1) h.3.2.factor a.1 c.in-Ok-resolve_from_len.ensures in
-    let told = root_told_append g.row.S-Fault.Denot g.W.Width.LIMIT (byte_len g.W.Width.word) f h.1 (g.S.Writer.output c.args.serializer.now) (g.S.Writer.output c.serialize_from_iter.new.serializer) (g.S.Writer.output c.align_for_in.new.serializer) (g.S.Writer.output c.append_in.new.serializer)
+    let image = image_of g.W.Word.word c.in-Ok.resolver c.args.len c.args.load_factor c.in-Ok-align_for_in.pos _ c.resolve_from_len.new.out (h.3.2.len ∙ h.2.1) h.3.2.factor a.1 c.in-Ok-resolve_from_len.ensures in
+    let told = root_told_append g.row.S-Fault.Denot g.W.Width.LIMIT (byte_len g.W.Word.word) f h.1 (g.S.Writer.output c.args.serializer.now) (g.S.Writer.output c.serialize_from_iter.new.serializer) (g.S.Writer.output c.align_for_in.new.serializer) (g.S.Writer.output c.append_in.new.serializer)
     h.3.0 c.in-Ok.resolver h.3.1 h.3.2 h.3.3 c.resolve_from_len.new.out c.in-Err-append_in.e (a.0, rw a.1 at a.2) image c.in-Err-append_in.ensures in
     inr (h.0, h.1, h.2, told)

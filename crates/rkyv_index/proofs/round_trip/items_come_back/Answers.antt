@@ -8,7 +8,7 @@ use Rattle.rkyv_index.proofs.round_trip.items_come_back.Goals as goal
 
 pub returns-in-Ok-deserialize_items : goal.returns-in-Ok-deserialize_items
 returns-in-Ok-deserialize_items g c =
-    let w = g.W.Width.word in
+    let w = g.W.Word.word in
     let k = g.A.Archived.Element.shape in
     let s = index_set_shape w k in
     let listed = c.args.items.now.0.items in

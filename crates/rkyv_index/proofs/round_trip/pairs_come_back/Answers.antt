@@ -10,7 +10,7 @@ use Rattle.rkyv_index.proofs.round_trip.pairs_come_back.Goals as goal
 
 pub returns-in-Ok-deserialize_pairs : goal.returns-in-Ok-deserialize_pairs
 returns-in-Ok-deserialize_pairs g c =
-    let w = g.W.Width.word in
+    let w = g.W.Word.word in
     let k = g.A.Archived.Element.shape in
     let v = g.B.Archived.Element.shape in
     let s = index_shape w (entry_shape k v) in

@@ -4,7 +4,7 @@ use Rattle.rkyv_base.proofs.seal_text.Seal+Text+W.as_str.Goals as goal
 
 pub returns-in-Some : goal.returns-in-Some
 returns-in-Some g c =
-    let w = g.W.Width.word in
+    let w = g.W.Word.word in
     let bytes = c.args.self.now.bytes.now in
     let place = c.args.self.now.pos in
     let h = c.in-Some.ensures in

@@ -12,7 +12,7 @@ loop-key-init g c =
     let v = g.V.Element.shape in
     let other = c.args.other in
     let key_hash = hash_at g.H.KeyHasher.hasher g.K.KeyElement.key_calls in
-    let matches : ℕ → Bool = λ q. pair_matches g.W.Width.word k v key_hash g.K.ElementEq.same g.V.ElementEq.same (map_bytes c.args.self) q (map_bytes other) (map_pos other) in
+    let matches : ℕ → Bool = λ q. pair_matches g.W.Word.word k v key_hash g.K.ElementEq.same g.V.ElementEq.same (map_bytes c.args.self) q (map_bytes other) (map_pos other) in
     let walk : ItemsLeft = c.iter-key-items.result in
     let same : c.into_iter-key-iterator.result ≡ walk = cc in (
       subst (AllStand (entry_shape k v)) (sym same) c.iter-key-items.ensures.stand,

@@ -9,7 +9,7 @@ use Rattle.rkyv_collections.proofs.map.ArchivedHashMap.eq_map.Given as goal
 -- the pairs that are left stand in the first map; and all pairs match if those that are left do
 abbrev pub invariant-loop-key : goal.invariant-loop-key
 invariant-loop-key g l =
-    let w = g.W.Width.word in
+    let w = g.W.Word.word in
     let k = g.K.Element.shape in
     let v = g.V.Element.shape in
     let key_hash = hash_at g.H.KeyHasher.hasher g.K.KeyElement.key_calls in

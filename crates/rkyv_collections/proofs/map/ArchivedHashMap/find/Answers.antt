@@ -5,7 +5,7 @@ use Rattle.rkyv_collections.proofs.map.ArchivedHashMap.find.Goals as goal
 pub returns-clause-found : goal.returns-clause-found
 returns-clause-found g c =
     let post = goal.F-post g c.args.cmp c.args.key in
-    let w = g.W.Width.word in
+    let w = g.W.Word.word in
     let k = g.K.Element.shape in
     let v = g.V.Element.shape in
     let t = c.table.result in

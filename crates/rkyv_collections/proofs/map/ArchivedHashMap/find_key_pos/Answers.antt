@@ -7,12 +7,12 @@ use Rattle.rkyv_collections.proofs.map.ArchivedHashMap.find_key_pos.Goals as goa
 
 pub returns-clause-walked : goal.returns-clause-walked
 returns-clause-walked g c =
-    entry_read c.map_in.result (archive_in c.args.this.now) (pos_in c.args.this.now) c.map_in.ensures.bytes c.map_in.ensures.pos g.W.Width.word g.K.Element.shape g.V.Element.shape c.find_key.result c.found_pos.result c.found_pos.ensures c.find_key.ensures.walked
+    entry_read c.map_in.result (archive_in c.args.this.now) (pos_in c.args.this.now) c.map_in.ensures.bytes c.map_in.ensures.pos g.W.Word.word g.K.Element.shape g.V.Element.shape c.find_key.result c.found_pos.result c.found_pos.ensures c.find_key.ensures.walked
 
 pub returns-clause-answer : goal.returns-clause-answer
 returns-clause-answer g c =
-    key_read c.map_in.result (archive_in c.args.this.now) (pos_in c.args.this.now) c.map_in.ensures.bytes c.map_in.ensures.pos g.W.Width.word g.K.Element.shape g.V.Element.shape (IsEntryAt c.find_key.result) (λ place. c.found_pos.result ≡ place) (λ place at. sym c.found_pos.ensures ∙ at) (hash_of g.H.KeyHasher.hasher g.Q.KeyHash.calls c.args.key.now) (g.Q.Query.fits c.args.key.now) c.find_key.ensures.answer
+    key_read c.map_in.result (archive_in c.args.this.now) (pos_in c.args.this.now) c.map_in.ensures.bytes c.map_in.ensures.pos g.W.Word.word g.K.Element.shape g.V.Element.shape (IsEntryAt c.find_key.result) (λ place. c.found_pos.result ≡ place) (λ place at. sym c.found_pos.ensures ∙ at) (hash_of g.H.KeyHasher.hasher g.Q.KeyHash.calls c.args.key.now) (g.Q.Query.fits c.args.key.now) c.find_key.ensures.answer
 
 pub returns-clause-first : goal.returns-clause-first
 returns-clause-first g c =
-    first_key_read c.map_in.result (archive_in c.args.this.now) (pos_in c.args.this.now) c.map_in.ensures.bytes c.map_in.ensures.pos g.W.Width.word g.K.Element.shape g.V.Element.shape (IsEntryAt c.find_key.result) (λ place. c.found_pos.result ≡ place) (λ place at. sym c.found_pos.ensures ∙ at) (hash_at g.H.KeyHasher.hasher g.K.KeyElement.key_calls) (g.Q.Query.fits c.args.key.now) c.find_key.ensures.first
+    first_key_read c.map_in.result (archive_in c.args.this.now) (pos_in c.args.this.now) c.map_in.ensures.bytes c.map_in.ensures.pos g.W.Word.word g.K.Element.shape g.V.Element.shape (IsEntryAt c.find_key.result) (λ place. c.found_pos.result ≡ place) (λ place at. sym c.found_pos.ensures ∙ at) (hash_at g.H.KeyHasher.hasher g.K.KeyElement.key_calls) (g.Q.Query.fits c.args.key.now) c.find_key.ensures.first

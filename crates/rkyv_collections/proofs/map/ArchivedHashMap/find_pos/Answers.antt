@@ -7,12 +7,12 @@ use Rattle.rkyv_collections.proofs.map.ArchivedHashMap.find_pos.Goals as goal
 
 pub returns-clause-walked : goal.returns-clause-walked
 returns-clause-walked g c =
-    entry_read c.map_in.result (archive_in c.args.this.now) (pos_in c.args.this.now) c.map_in.ensures.bytes c.map_in.ensures.pos g.W.Width.word g.K.Element.shape g.V.Element.shape c.find.result c.found_pos.result c.found_pos.ensures c.find.ensures.found.walked
+    entry_read c.map_in.result (archive_in c.args.this.now) (pos_in c.args.this.now) c.map_in.ensures.bytes c.map_in.ensures.pos g.W.Word.word g.K.Element.shape g.V.Element.shape c.find.result c.found_pos.result c.found_pos.ensures c.find.ensures.found.walked
 
 pub returns-clause-answer : goal.returns-clause-answer
 returns-clause-answer g c =
-    by_read c.map_in.result (archive_in c.args.this.now) (pos_in c.args.this.now) c.map_in.ensures.bytes c.map_in.ensures.pos g.W.Width.word g.K.Element.shape g.V.Element.shape (IsEntryAt c.find.result) (λ place. c.found_pos.result ≡ place) (λ place at. sym c.found_pos.ensures ∙ at) _ (hash_of g.H.KeyHasher.hasher g.Q.KeyHash.calls c.args.key.now) c.find.ensures.found.answer
+    by_read c.map_in.result (archive_in c.args.this.now) (pos_in c.args.this.now) c.map_in.ensures.bytes c.map_in.ensures.pos g.W.Word.word g.K.Element.shape g.V.Element.shape (IsEntryAt c.find.result) (λ place. c.found_pos.result ≡ place) (λ place at. sym c.found_pos.ensures ∙ at) _ (hash_of g.H.KeyHasher.hasher g.Q.KeyHash.calls c.args.key.now) c.find.ensures.found.answer
 
 pub returns-clause-first : goal.returns-clause-first
 returns-clause-first g c =
-    first_by_read c.map_in.result (archive_in c.args.this.now) (pos_in c.args.this.now) c.map_in.ensures.bytes c.map_in.ensures.pos g.W.Width.word g.K.Element.shape g.V.Element.shape (IsEntryAt c.find.result) (λ place. c.found_pos.result ≡ place) (λ place at. sym c.found_pos.ensures ∙ at) _ (hash_of g.H.KeyHasher.hasher g.Q.KeyHash.calls c.args.key.now) (hash_at g.H.KeyHasher.hasher g.K.KeyElement.key_calls) c.find.ensures.found.first
+    first_by_read c.map_in.result (archive_in c.args.this.now) (pos_in c.args.this.now) c.map_in.ensures.bytes c.map_in.ensures.pos g.W.Word.word g.K.Element.shape g.V.Element.shape (IsEntryAt c.find.result) (λ place. c.found_pos.result ≡ place) (λ place at. sym c.found_pos.ensures ∙ at) _ (hash_of g.H.KeyHasher.hasher g.Q.KeyHash.calls c.args.key.now) (hash_at g.H.KeyHasher.hasher g.K.KeyElement.key_calls) c.find.ensures.found.first

@@ -13,7 +13,7 @@ use Rattle.rkyv_collections.proofs.map.ArchivedHashMap.misplaced.Goals as goal
 
 pub returns : goal.returns
 returns g c =
-    let w = g.W.Width.word in
+    let w = g.W.Word.word in
     let s = entry_shape g.K.Element.shape g.V.Element.shape in
     let t = c.table.result in
     let b : List ℕ = map_bytes c.args.self in

@@ -12,7 +12,7 @@ pub returns : goal.returns
 returns g c =
     let hash = hash_of g.H.KeyHasher.hasher g.A.KeyHash.calls in
     let steps = g.I.Iterator.next_gives in
-    let w = g.W.Width.word in
+    let w = g.W.Word.word in
     let k = g.K.Element.shape in
     let v = g.V.Element.shape in
     let len = c.args.len in

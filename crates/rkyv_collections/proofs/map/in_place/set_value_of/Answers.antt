@@ -16,10 +16,10 @@ returns-in-Some-clause-answer g c =
     let e = g.N.Scalar.encoding in
     let key_hash = hash_at g.H.KeyHasher.hasher g.K.KeyElement.key_calls in
     let t = c.in-Some.ensures.walked in
-    let kept = map_kept_at g.K.Element.shape (scalar_shape e) g.met.K.Element.laws (scalar_element e g.met.N.Scalar.word) g.W.Width.word key_hash
+    let kept = map_kept_at g.K.Element.shape (scalar_shape e) g.met.K.Element.laws (scalar_element e g.met.N.Scalar.word) g.W.Word.word key_hash
     (λ x y q lo hi l o holds fixed part. ap (hash_of_calls g.H.KeyHasher.hasher) (g.met.K.KeyElement.key.near x y q lo hi l o holds fixed part))
     c.args.archive.now c.set_at.new.bytes c.args.root t.0 c.in-Some.pos c.requires.map t.1 t.2 c.set_at.ensures.sealed c.set_at.ensures.holds in
-    subst (SetsFound g.W.Width.word g.K.Element.shape e key_hash c.args.archive.now c.args.root c.args.value true c.set_at.new.bytes) c.in-Some.ensures.answer (refl, c.set_at.ensures.written, (t.1.0, kept))
+    subst (SetsFound g.W.Word.word g.K.Element.shape e key_hash c.args.archive.now c.args.root c.args.value true c.set_at.new.bytes) c.in-Some.ensures.answer (refl, c.set_at.ensures.written, (t.1.0, kept))
 
 pub returns-in-Some-clause-listed : goal.returns-in-Some-clause-listed
 returns-in-Some-clause-listed g c = λ factor pairs st.
@@ -29,7 +29,7 @@ returns-in-Some-clause-listed g c = λ factor pairs st.
     let b = c.args.archive.now in
     let fits = g.A.Query.fits c.args.key.now b in
     let set = c.set_at.ensures in
-    first_behind g.W.Width.word k (scalar_shape e) g.met.K.Element.laws (scalar_element e g.met.N.Scalar.word) g.K.StandsFor.stands (ScalarStands e)
+    first_behind g.W.Word.word k (scalar_shape e) g.met.K.Element.laws (scalar_element e g.met.N.Scalar.word) g.K.StandsFor.stands (ScalarStands e)
     (hash_at h.hasher g.K.KeyElement.key_calls) factor b c.args.root pairs c.args.value fits (g.A.PartialEq.eq c.args.key.now) c.requires.map
     (λ a q s there. g.met.A.NativeKey.native c.args.key.now a b q s there) st g.met.K.StandsFor.near (scalar_near e g.met.N.Scalar.word)
     (λ x y q lo hi l o holds fixed part. ap (hash_of_calls h.hasher) (g.met.K.KeyElement.key.near x y q lo hi l o holds fixed part))
@@ -39,7 +39,7 @@ pub returns-in-None-clause-answer : goal.returns-in-None-clause-answer
 returns-in-None-clause-answer g c =
     let h = g.H.KeyHasher in
     let b = c.args.archive.now in
-    subst (SetsFound g.W.Width.word g.K.Element.shape g.N.Scalar.encoding (hash_at h.hasher g.K.KeyElement.key_calls) b c.args.root c.args.value false b)
+    subst (SetsFound g.W.Word.word g.K.Element.shape g.N.Scalar.encoding (hash_at h.hasher g.K.KeyElement.key_calls) b c.args.root c.args.value false b)
     c.in-None.ensures.answer (refl, refl)
 
 pub returns-in-None-clause-listed : goal.returns-in-None-clause-listed
@@ -47,7 +47,7 @@ returns-in-None-clause-listed g c = λ factor pairs st.
     let e = g.N.Scalar.encoding in
     let h = g.H.KeyHasher in
     let b = c.args.archive.now in
-    none_behind g.W.Width.word g.K.Element.shape (scalar_shape e) g.met.K.Element.laws (scalar_element e g.met.N.Scalar.word) g.K.StandsFor.stands (ScalarStands e)
+    none_behind g.W.Word.word g.K.Element.shape (scalar_shape e) g.met.K.Element.laws (scalar_element e g.met.N.Scalar.word) g.K.StandsFor.stands (ScalarStands e)
     (hash_at h.hasher g.K.KeyElement.key_calls) factor b c.args.root pairs c.args.value (g.A.Query.fits c.args.key.now b) (g.A.PartialEq.eq c.args.key.now) c.requires.map
     (λ a q s there. g.met.A.NativeKey.native c.args.key.now a b q s there) st (c.in-None.ensures.first st.homes st.written)
 
@@ -55,8 +55,8 @@ pub returns-in-Some-clause-parts : goal.returns-in-Some-clause-parts
 returns-in-Some-clause-parts g c =
     let e = g.N.Scalar.encoding in
     let t = c.in-Some.ensures.walked in
-    value_nested_at g.W.Width.word g.K.Element.shape (scalar_shape e) g.met.K.Element.laws (scalar_element e g.met.N.Scalar.word)
+    value_nested_at g.W.Word.word g.K.Element.shape (scalar_shape e) g.met.K.Element.laws (scalar_element e g.met.N.Scalar.word)
     c.args.archive.now c.set_at.new.bytes c.args.root t.0 c.in-Some.pos c.requires.map t.1 t.2 c.set_at.ensures.sealed c.set_at.ensures.holds
 
 pub returns-in-None-clause-parts : goal.returns-in-None-clause-parts
-returns-in-None-clause-parts g c = unwritten (map_shape g.W.Width.word g.K.Element.shape (scalar_shape g.N.Scalar.encoding)) c.args.archive.now c.args.root
+returns-in-None-clause-parts g c = unwritten (map_shape g.W.Word.word g.K.Element.shape (scalar_shape g.N.Scalar.encoding)) c.args.archive.now c.args.root

@@ -11,7 +11,7 @@ use Rattle.rkyv_collections.proofs.map.in_place_text.make_ascii_uppercase_of.Goa
 
 pub returns-in-Some-clause-answer : goal.returns-in-Some-clause-answer
 returns-in-Some-clause-answer g c =
-    let w = g.W.Width.word in
+    let w = g.W.Word.word in
     let key_hash = hash_at g.H.KeyHasher.hasher g.K.KeyElement.key_calls in
     let t = c.in-Some.ensures.walked in
     let raised = c.uppercase_at.ensures in
@@ -25,14 +25,14 @@ returns-in-Some-clause-answer g c =
 pub returns-in-Some-clause-listed : goal.returns-in-Some-clause-listed
 returns-in-Some-clause-listed g c = λ factor pairs st.
     let b = c.args.archive.now in
-    first_raised g.W.Width.word g.K.Element.shape g.met.K.Element.laws (text_element g.W.Width.word g.met.W.Width.layout.kind) g.K.StandsFor.stands (hash_at g.H.KeyHasher.hasher g.K.KeyElement.key_calls) factor b c.args.root pairs
+    first_raised g.W.Word.word g.K.Element.shape g.met.K.Element.laws (text_element g.W.Word.word g.met.W.Width.layout.kind) g.K.StandsFor.stands (hash_at g.H.KeyHasher.hasher g.K.KeyElement.key_calls) factor b c.args.root pairs
     (g.A.Query.fits c.args.key.now b) (g.A.PartialEq.eq c.args.key.now) c.requires.map (λ a q s there. g.met.A.NativeKey.native c.args.key.now a b q s there) st g.met.K.StandsFor.near
     (λ x y q lo hi l o holds fixed part. ap (hash_of_calls g.H.KeyHasher.hasher) (g.met.K.KeyElement.key.near x y q lo hi l o holds fixed part))
     c.uppercase_at.new.bytes c.in-Some.pos c.uppercase_at.result c.in-Some.ensures.inside (c.in-Some.ensures.first st.homes st.written) c.uppercase_at.ensures
 
 pub returns-in-Some-clause-parts : goal.returns-in-Some-clause-parts
 returns-in-Some-clause-parts g c =
-    let w = g.W.Width.word in
+    let w = g.W.Word.word in
     let b = c.args.archive.now in
     let t = c.in-Some.ensures.walked in
     let inside = c.in-Some.ensures.inside in
@@ -43,5 +43,5 @@ returns-in-Some-clause-parts g c =
 pub returns-in-None-clause-listed : goal.returns-in-None-clause-listed
 returns-in-None-clause-listed g c = λ factor pairs st.
     let b = c.args.archive.now in
-    none_raised g.W.Width.word g.K.Element.shape g.met.K.Element.laws (text_element g.W.Width.word g.met.W.Width.layout.kind) g.K.StandsFor.stands (hash_at g.H.KeyHasher.hasher g.K.KeyElement.key_calls) factor b c.args.root pairs
+    none_raised g.W.Word.word g.K.Element.shape g.met.K.Element.laws (text_element g.W.Word.word g.met.W.Width.layout.kind) g.K.StandsFor.stands (hash_at g.H.KeyHasher.hasher g.K.KeyElement.key_calls) factor b c.args.root pairs
     (g.A.Query.fits c.args.key.now b) (g.A.PartialEq.eq c.args.key.now) c.requires.map (λ a q s there. g.met.A.NativeKey.native c.args.key.now a b q s there) st (c.in-None.ensures.first st.homes st.written)

@@ -8,13 +8,13 @@ use Rattle.rkyv_collections.proofs.map.laws.both_hashers_look_up_alike.Goals as 
 
 pub returns-clause-written : goal.returns-clause-written
 returns-clause-written g c =
-    written_alike g.W.Width.word g.K.Element.shape g.V.Element.shape g.met.K.Element.laws g.met.V.Element.laws g.K.KeyElement.key_calls g.met.K.FixedKey.fixed
+    written_alike g.W.Word.word g.K.Element.shape g.V.Element.shape g.met.K.Element.laws g.met.V.Element.laws g.K.KeyElement.key_calls g.met.K.FixedKey.fixed
 
 pub returns-clause-compared : goal.returns-clause-compared
 returns-clause-compared g c = λ one other calls fixed b p accept.
-    ap (λ hash. pos_found generic_kind g.W.Width.word (entry_shape g.K.Element.shape g.V.Element.shape).size b p hash accept) (fixed_alike one other calls fixed)
+    ap (λ hash. pos_found generic_kind g.W.Word.word (entry_shape g.K.Element.shape g.V.Element.shape).size b p hash accept) (fixed_alike one other calls fixed)
 
 pub returns-clause-queried : goal.returns-clause-queried
 returns-clause-queried g c =
-    queried_alike g.W.Width.word g.K.Element.shape g.V.Element.shape g.met.K.Element.laws g.met.V.Element.laws g.K.ElementEq.same g.K.KeyElement.key_calls
+    queried_alike g.W.Word.word g.K.Element.shape g.V.Element.shape g.met.K.Element.laws g.met.V.Element.laws g.K.ElementEq.same g.K.KeyElement.key_calls
     g.Q.KeyHash.can_read g.Q.KeyHash.calls g.Q.Query.fits g.met.Q.Query.query g.met.K.FixedKey.fixed

@@ -12,7 +12,7 @@ returns g c = λ m accept asks factor pairs is alike h.
     let value = g.V.StandsFor.stands in
     let b = map_bytes m in
     let hash = hash_at g.H.KeyHasher.hasher g.K.KeyElement.key_calls in
-    let first = first_listed g.W.Width.word k v g.met.K.Element.laws g.met.V.Element.laws key value hash factor b (map_pos m) pairs is accept asks alike h in
+    let first = first_listed g.W.Word.word k v g.met.K.Element.laws g.met.V.Element.laws key value hash factor b (map_pos m) pairs is accept asks alike h in
     record {
       gives_pair = λ result walked told. pair_listed k v key value b _ _ result (IfSome_then result walked (λ x i. (ap (λ a. a.now) i.key.archive, ap (λ a. a.now) i.at.0, i.at.1))) first (told h.homes h.written);
       gives_key = λ result walked told. key_listed k v key value b _ _ result (IfSome_then result walked (λ x i. ap (λ a. a.now) i.archive)) first (told h.homes h.written);

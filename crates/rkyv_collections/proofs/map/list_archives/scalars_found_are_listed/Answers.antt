@@ -13,7 +13,7 @@ use Rattle.rkyv_collections.proofs.map.list_archives.scalars_found_are_listed.Go
 
 pub returns : goal.returns
 returns g c = λ m root archive limit pairs asked found view at is walked told.
-    let w = g.W.Width.word in
+    let w = g.W.Word.word in
     let k = g.K.Element.shape in
     let e = g.N.Scalar.encoding in
     let v = scalar_shape e in

@@ -10,7 +10,7 @@ pub returns : goal.returns
 returns g c = λ b d p i view walked writes q can.
     let h = g.H.KeyHasher in
     let s = g.K.Element.shape in
-    let kept = map_kept s g.V.Element.shape g.met.K.Element.laws g.met.V.Element.laws g.W.Width.word (hash_at h.hasher g.K.KeyElement.key_calls)
+    let kept = map_kept s g.V.Element.shape g.met.K.Element.laws g.met.V.Element.laws g.W.Word.word (hash_at h.hasher g.K.KeyElement.key_calls)
     (λ x y r lo hi l o holds fixed part. ap (hash_of_calls h.hasher) (g.met.K.KeyElement.key.near x y r lo hi l o holds fixed part))
     b d p i view walked writes in
     let rests = rests_on_keys g.met.K.Element.laws g.met.K.ElementEquiv.equivalence g.met.K.KeyElement.key g.met.Q.Query.query in

@@ -10,7 +10,7 @@ use Rattle.rkyv_collections.proofs.set.ArchivedHashSet.deserialize_std.Goals as 
 pub loop-key-init : goal.loop-key-init
 loop-key-init g c =
     let keys = c.iter-key-items.ensures in (
-      walks_first g.W.Width.word g.K.Element.shape unit_shape g.K.StandsFor.stands unit_stands g.A.PartialEq.eq (set_archive c.args.self) (set_pos c.args.self) g.met.K.Element.laws unit_element
+      walks_first g.W.Word.word g.K.Element.shape unit_shape g.K.StandsFor.stands unit_stands g.A.PartialEq.eq (set_archive c.args.self) (set_pos c.args.self) g.met.K.Element.laws unit_element
           c.into_iter-key-iterator.result c.iter-key-items.result c.into_iter-key-iterator.ensures.into_iter_gives keys.stand keys.archive keys.places
           (found_units g.A.PartialEq.eq c.with_hasher-set.result.keys) (λ q. ap (λ (xs : List g.row.A.Denot). found_units g.A.PartialEq.eq xs q) c.with_hasher-set.ensures.empty),
       c.with_hasher-set.ensures.unique,
@@ -22,7 +22,7 @@ loop-key-preserved g c =
     let on = c.loop-key.invariant in
     let taken = c.in-Some.ensures.steps in
     let made = c.in-Ok.ensures in (
-      walks_next g.W.Width.word g.K.Element.shape unit_shape g.K.StandsFor.stands unit_stands g.A.PartialEq.eq (set_archive c.args.self) (set_pos c.args.self)
+      walks_next g.W.Word.word g.K.Element.shape unit_shape g.K.StandsFor.stands unit_stands g.A.PartialEq.eq (set_archive c.args.self) (set_pos c.args.self)
           c.loop-key.key-iterator c.next.new.self c.in-Some.key.pos (found_units g.A.PartialEq.eq c.loop-key.set.keys) taken.0 on.0
           (found_units g.A.PartialEq.eq c.insert_read.new.set.keys) made.0 tt
           (subst (λ (a : Bor (List ℕ)). g.K.StandsFor.stands a.now c.in-Some.key.pos made.0) (taken.1.at.0 ∙ on.0.1) made.1, tt)
@@ -35,7 +35,7 @@ pub returns-in-Err : goal.returns-in-Err
 returns-in-Err g c =
     let on = c.loop-key.invariant in
     let taken = c.in-Some.ensures.steps in
-    let member = walks_key g.W.Width.word g.K.Element.shape unit_shape g.K.StandsFor.stands unit_stands g.A.PartialEq.eq (set_archive c.args.self) (set_pos c.args.self)
+    let member = walks_key g.W.Word.word g.K.Element.shape unit_shape g.K.StandsFor.stands unit_stands g.A.PartialEq.eq (set_archive c.args.self) (set_pos c.args.self)
     c.loop-key.key-iterator c.next.new.self c.in-Some.key.pos (found_units g.A.PartialEq.eq c.loop-key.set.keys) taken.0 on.0 in
     elim c.in-Err.ensures [
       | inl memory ↦ inl memory
@@ -49,7 +49,7 @@ returns-in-Err g c =
 pub returns : goal.returns
 returns g c =
     let on = c.loop-key.invariant in
-    let last = walks_last g.W.Width.word g.K.Element.shape unit_shape g.K.StandsFor.stands unit_stands g.A.PartialEq.eq (set_archive c.args.self) (set_pos c.args.self)
+    let last = walks_last g.W.Word.word g.K.Element.shape unit_shape g.K.StandsFor.stands unit_stands g.A.PartialEq.eq (set_archive c.args.self) (set_pos c.args.self)
     c.loop-key.key-iterator (found_units g.A.PartialEq.eq c.loop-key.set.keys) on.0 c.in-None.ensures.steps.none in
     let unique = subst (λ (ks : List g.row.A.Denot). IsDistinct g.A.PartialEq.eq ks) (sym (keys_with_units c.loop-key.set.keys)) on.1 in
     (record { pairs = last.0; read = last.1; inserted = (last.2, unique) }, on.2 ∙ c.with_hasher-set.ensures.hasher)

@@ -7,7 +7,7 @@ use Rattle.rkyv_collections.proofs.std_maps.laws.written_sets_are_looked_up.Goal
 
 pub returns : goal.returns
 returns g c =
-    let w = g.W.Width.word in
+    let w = g.W.Word.word in
     let k = g.A.Archived.Element.shape in
     let own = g.met.A in
     members_looked_up w k (set_shape w k) g.A.Archived.StandsFor.stands g.Q.KeyHash.can_read (hash_of g.H.KeyHasher.hasher g.Q.KeyHash.calls) g.Q.Query.fits (λ x. x.map.keys) _

@@ -15,7 +15,7 @@ pub returns : goal.returns
 returns g c =
     let key = c.args.key.now in
     let met = g.met.A in
-    let w = g.W.Width.word in
+    let w = g.W.Word.word in
     let s = map_shape w g.A.Archived.Element.shape g.B.Archived.Element.shape in
     let kl = met.Archived.Element.laws in
     let vl = g.met.B.Archived.Element.laws in
@@ -36,5 +36,5 @@ returns g c =
 -- what was written is accepted
 pub returns-in-Err-access_in : goal.returns-in-Err-access_in
 returns-in-Err-access_in g c =
-    let s = map_shape g.W.Width.word g.A.Archived.Element.shape g.B.Archived.Element.shape in
+    let s = map_shape g.W.Word.word g.A.Archived.Element.shape g.B.Archived.Element.shape in
     c.in-Err-access_in.ensures.accepts (subst (Accepted g.W.Width.LIMIT s) (sym c.as_slice.ensures.value) c.in-Ok.ensures.0)

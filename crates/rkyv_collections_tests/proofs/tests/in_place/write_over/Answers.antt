@@ -6,6 +6,6 @@ use Rattle.rkyv_collections_tests.proofs.tests.in_place.write_over.Goals as goal
 
 pub values_over-rest-requires : goal.values_over-rest-requires
 values_over-rest-requires g c =
-    let s = map_shape g.W.Width.word g.K.Element.shape (scalar_shape g.N.Scalar.encoding) in
+    let s = map_shape g.W.Word.word g.K.Element.shape (scalar_shape g.N.Scalar.encoding) in
     let at = c.in-Ok.ensures.root.1 in
     record { map = subst (Viewed s c.args.bytes.now) (sym c.pos-root.ensures) (subst (λ b. Viewed s b c.in-Ok.map.pos) (ap (λ a. a.now) at.0) c.in-Ok.ensures.viewed) }

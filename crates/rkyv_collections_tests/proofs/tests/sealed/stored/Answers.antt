@@ -22,14 +22,14 @@ pub new-requires : goal.new-requires
 new-requires g c =
     let v = scalar_shape g.N.Scalar.encoding in
     let t = c.in-Some-value_found.ensures.walked in
-    let at = pair_place g.W.Width.word g.K.Element.shape v g.met.K.Element.laws (scalar_element g.N.Scalar.encoding g.met.N.Scalar.word) c.write_value.new.bytes c.args.root c.write_value.ensures.kept.1.stands t.0 t.1 in
+    let at = pair_place g.W.Word.word g.K.Element.shape v g.met.K.Element.laws (scalar_element g.N.Scalar.encoding g.met.N.Scalar.word) c.write_value.new.bytes c.args.root c.write_value.ensures.kept.1.stands t.0 t.1 in
     subst (Viewed v c.write_value.new.bytes) (sym t.2) at.value
 
 pub to_native-requires : goal.to_native-requires
 to_native-requires g c =
     let v = scalar_shape g.N.Scalar.encoding in
     let t = c.in-Some-value_found.ensures.walked in
-    let at = pair_place g.W.Width.word g.K.Element.shape v g.met.K.Element.laws (scalar_element g.N.Scalar.encoding g.met.N.Scalar.word) c.write_value.new.bytes c.args.root c.write_value.ensures.kept.1.stands t.0 t.1 in
+    let at = pair_place g.W.Word.word g.K.Element.shape v g.met.K.Element.laws (scalar_element g.N.Scalar.encoding g.met.N.Scalar.word) c.write_value.new.bytes c.args.root c.write_value.ensures.kept.1.stands t.0 t.1 in
     rw (c.new.ensures.0, c.new.ensures.1) (subst (Viewed v c.write_value.new.bytes) (sym t.2) at.value)
 
 pub returns-in-Some-value_found : goal.returns-in-Some-value_found

@@ -13,7 +13,7 @@ new_value (Some x) y result e = rw e refl
 
 pub stored-requires-clause-map : goal.stored-requires-clause-map
 stored-requires-clause-map g c =
-    let s = map_shape g.W.Width.word g.K.Element.shape (scalar_shape g.N.Scalar.encoding) in
+    let s = map_shape g.W.Word.word g.K.Element.shape (scalar_shape g.N.Scalar.encoding) in
     let at = c.in-Ok.ensures.root.1 in
     subst (Viewed s c.args.bytes.now) (sym c.pos-root.ensures) (subst (λ b. Viewed s b c.in-Ok.map.pos) (ap (λ a. a.now) at.0) c.in-Ok.ensures.viewed)
 

@@ -13,7 +13,7 @@ pub returns-in-Some-clause-walked : goal.returns-in-Some-clause-walked
 returns-in-Some-clause-walked g c =
     let is = c.in-Some.ensures.walked in
     let told = told_of_view c.of-map.result c.new.result c.args.bytes c.args.root c.of-map.ensures.view c.new.ensures.0 c.new.ensures.1 in
-    (is.key, told (λ d r. IsKeyPosAt g.W.Width.word g.K.Element.shape g.V.Element.shape d r is.key) is.walked, c.pos.ensures ∙ is.at.1)
+    (is.key, told (λ d r. IsKeyPosAt g.W.Word.word g.K.Element.shape g.V.Element.shape d r is.key) is.walked, c.pos.ensures ∙ is.at.1)
 
 pub returns-in-Some-clause-answer : goal.returns-in-Some-clause-answer
 returns-in-Some-clause-answer g c =
@@ -22,7 +22,7 @@ returns-in-Some-clause-answer g c =
     let hash = hash_of_calls g.H.KeyHasher.hasher (g.Q.KeyHash.calls c.args.key.now) in
     ap Some c.pos.ensures
     ∙ told_of_view c.of-map.result c.new.result c.args.bytes c.args.root c.of-map.ensures.view c.new.ensures.0 c.new.ensures.1
-    (λ d r. Some c.in-Some.value.pos ≡ option_map (value_pos k v) (pos_found generic_kind g.W.Width.word (entry_shape k v).size d r hash (g.Q.Query.fits c.args.key.now d))) c.in-Some.ensures.answer
+    (λ d r. Some c.in-Some.value.pos ≡ option_map (value_pos k v) (pos_found generic_kind g.W.Word.word (entry_shape k v).size d r hash (g.Q.Query.fits c.args.key.now d))) c.in-Some.ensures.answer
 
 pub returns-in-None-clause-answer : goal.returns-in-None-clause-answer
 returns-in-None-clause-answer g c =
@@ -31,4 +31,4 @@ returns-in-None-clause-answer g c =
     let hash = hash_of_calls g.H.KeyHasher.hasher (g.Q.KeyHash.calls c.args.key.now) in
     let none : Option ℕ = None in
     told_of_view c.of-map.result c.new.result c.args.bytes c.args.root c.of-map.ensures.view c.new.ensures.0 c.new.ensures.1
-    (λ d r. none ≡ option_map (value_pos k v) (pos_found generic_kind g.W.Width.word (entry_shape k v).size d r hash (g.Q.Query.fits c.args.key.now d))) c.in-None.ensures.answer
+    (λ d r. none ≡ option_map (value_pos k v) (pos_found generic_kind g.W.Word.word (entry_shape k v).size d r hash (g.Q.Query.fits c.args.key.now d))) c.in-None.ensures.answer

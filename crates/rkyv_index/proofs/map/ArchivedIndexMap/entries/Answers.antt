@@ -10,14 +10,14 @@ use Rattle.rkyv_index.proofs.map.ArchivedIndexMap.entries.Goals as goal
 
 pub begin_told-told-requires : goal.begin_told-told-requires
 begin_told-told-requires g c = record {
-  inside = subst (λ (x : Bor (List ℕ)). c.pos.result + 4 * byte_len g.W.Width.word ≤ length x.now) (sym c.bytes.ensures)
-      (subst (λ q. q + 4 * byte_len g.W.Width.word ≤ length (index_bytes c.args.self)) (sym c.pos.ensures) c.requires.inside);
+  inside = subst (λ (x : Bor (List ℕ)). c.pos.result + 4 * byte_len g.W.Word.word ≤ length x.now) (sym c.bytes.ensures)
+      (subst (λ q. q + 4 * byte_len g.W.Word.word ≤ length (index_bytes c.args.self)) (sym c.pos.ensures) c.requires.inside);
 }
 
 -- the header tells where the entries begin
 pub pos_told-requires : goal.pos_told-requires
 pos_told-requires g c =
-    let w = g.W.Width.word in
+    let w = g.W.Word.word in
     let b = index_bytes c.args.self in
     let p = index_pos c.args.self in
     let s = entry_shape g.K.Element.shape g.V.Element.shape in
@@ -32,7 +32,7 @@ pos_told-requires g c =
 
 pub returns-clause-entries : goal.returns-clause-entries
 returns-clause-entries g c =
-    let w = g.W.Width.word in
+    let w = g.W.Word.word in
     let b = index_bytes c.args.self in
     let fits : FitsSigned w128 c.begin_told-told.result = search rules in
     let told = told_is c.begin_told-told.result (entries_told w b (index_pos c.args.self)) fits

@@ -9,7 +9,7 @@ use Rattle.rkyv_index.proofs.map.ArchivedIndexMap.find.Goals as goal
 
 pub returns-clause-found : goal.returns-clause-found
 returns-clause-found g c =
-    let w = g.W.Width.word in
+    let w = g.W.Word.word in
     let held = c.get_counted-held.result in
     let same = c.entries-entries.ensures.map in
     gets_place w g.met.W.Width.layout.kind g.K.Element.shape g.V.Element.shape g.met.K.Element.laws g.met.V.Element.laws c.args.self c.requires.map g.W.Place.Scalar.encoding g.met.W.Width.place c.table-table.result c.table-table.ensures.at
@@ -19,5 +19,5 @@ returns-clause-found g c =
 
 pub returns-clause-bounded : goal.returns-clause-bounded
 returns-clause-bounded g c =
-    reads_few g.W.Width.word g.met.W.Width.layout.kind g.K.Element.shape g.V.Element.shape g.met.K.Element.laws g.met.V.Element.laws c.args.self c.requires.map g.W.Place.Scalar.encoding g.met.W.Width.place
+    reads_few g.W.Word.word g.met.W.Width.layout.kind g.K.Element.shape g.V.Element.shape g.met.K.Element.laws g.met.V.Element.laws c.args.self c.requires.map g.W.Place.Scalar.encoding g.met.W.Width.place
     c.table-table.result c.table-table.ensures.at _ _ c.get_counted-held.ensures.counts.bounded

@@ -8,14 +8,14 @@ use Rattle.rkyv_index.proofs.SealedIndex.{answers_read, as_read, finds_first_rea
 use Rattle.rkyv_index.proofs.map.ArchivedIndexMap.find_in.Goals as goal
 
 pub returns-clause-held : goal.returns-clause-held
-returns-clause-held g c = as_read c.read.result _ _ c.read.ensures.bytes c.read.ensures.pos (λ d r. IfSome c.find.result (IsHeldAt g.W.Width.word d r)) (IfSome_then c.find.result c.find.ensures.found.walked (λ i there. there.0))
+returns-clause-held g c = as_read c.read.result _ _ c.read.ensures.bytes c.read.ensures.pos (λ d r. IfSome c.find.result (IsHeldAt g.W.Word.word d r)) (IfSome_then c.find.result c.find.ensures.found.walked (λ i there. there.0))
 
 pub returns-clause-below : goal.returns-clause-below
-returns-clause-below g c = as_read c.read.result _ _ c.read.ensures.bytes c.read.ensures.pos (λ d r. IfSome c.find.result (λ i. i < len_at g.W.Width.word d r)) (IfSome_then c.find.result c.find.ensures.found.walked (λ i there. there.1))
+returns-clause-below g c = as_read c.read.result _ _ c.read.ensures.bytes c.read.ensures.pos (λ d r. IfSome c.find.result (λ i. i < len_at g.W.Word.word d r)) (IfSome_then c.find.result c.find.ensures.found.walked (λ i there. there.1))
 
 pub returns-clause-answer : goal.returns-clause-answer
 returns-clause-answer g c = λ accept answers.
-    let w = g.W.Width.word in
+    let w = g.W.Word.word in
     let k = g.K.Element.shape in
     let v = g.V.Element.shape in
     let m = c.read.result in
@@ -26,7 +26,7 @@ returns-clause-answer g c = λ accept answers.
 
 pub returns-clause-first : goal.returns-clause-first
 returns-clause-first g c = λ accept answers under.
-    let w = g.W.Width.word in
+    let w = g.W.Word.word in
     let k = g.K.Element.shape in
     let v = g.V.Element.shape in
     let m = c.read.result in

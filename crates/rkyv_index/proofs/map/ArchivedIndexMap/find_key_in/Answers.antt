@@ -7,17 +7,17 @@ use Rattle.rkyv_index.proofs.SealedIndex.{as_read, finds_first_key_read, finds_k
 use Rattle.rkyv_index.proofs.map.ArchivedIndexMap.find_key_in.Goals as goal
 
 pub returns-clause-held : goal.returns-clause-held
-returns-clause-held g c = as_read c.read.result _ _ c.read.ensures.bytes c.read.ensures.pos (λ d r. IfSome c.find_key.result (IsHeldAt g.W.Width.word d r)) (IfSome_then c.find_key.result c.find_key.ensures.walked (λ i there. there.0))
+returns-clause-held g c = as_read c.read.result _ _ c.read.ensures.bytes c.read.ensures.pos (λ d r. IfSome c.find_key.result (IsHeldAt g.W.Word.word d r)) (IfSome_then c.find_key.result c.find_key.ensures.walked (λ i there. there.0))
 
 pub returns-clause-below : goal.returns-clause-below
-returns-clause-below g c = as_read c.read.result _ _ c.read.ensures.bytes c.read.ensures.pos (λ d r. IfSome c.find_key.result (λ i. i < len_at g.W.Width.word d r)) (IfSome_then c.find_key.result c.find_key.ensures.walked (λ i there. there.1))
+returns-clause-below g c = as_read c.read.result _ _ c.read.ensures.bytes c.read.ensures.pos (λ d r. IfSome c.find_key.result (λ i. i < len_at g.W.Word.word d r)) (IfSome_then c.find_key.result c.find_key.ensures.walked (λ i there. there.1))
 
 pub returns-clause-answer : goal.returns-clause-answer
 returns-clause-answer g c =
-    finds_key_read c.read.result _ _ c.read.ensures.bytes c.read.ensures.pos g.W.Width.word g.K.Element.shape g.V.Element.shape
+    finds_key_read c.read.result _ _ c.read.ensures.bytes c.read.ensures.pos g.W.Word.word g.K.Element.shape g.V.Element.shape
     g.H.KeyHasher.hasher (g.Q.Query.fits c.args.key.now) (IsPlace c.find_key.result) (g.Q.KeyHash.calls c.args.key.now) c.find_key.ensures.answer
 
 pub returns-clause-first : goal.returns-clause-first
 returns-clause-first g c =
-    finds_first_key_read c.read.result _ _ c.read.ensures.bytes c.read.ensures.pos g.W.Width.word g.K.Element.shape g.V.Element.shape
+    finds_first_key_read c.read.result _ _ c.read.ensures.bytes c.read.ensures.pos g.W.Word.word g.K.Element.shape g.V.Element.shape
     g.H.KeyHasher.hasher (g.Q.Query.fits c.args.key.now) (IsPlace c.find_key.result) g.K.KeyElement.key_calls c.find_key.ensures.first

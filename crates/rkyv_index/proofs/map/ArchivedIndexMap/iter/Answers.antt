@@ -14,7 +14,7 @@ returns-clause-count g c = row_length c.size.result c.entries.result.begin c.len
 
 pub returns-clause-stand : goal.returns-clause-stand
 returns-clause-stand g c =
-    let w = g.W.Width.word in
+    let w = g.W.Word.word in
     let k = g.K.Element.shape in
     let v = g.V.Element.shape in
     let s = entry_shape k v in

@@ -13,12 +13,12 @@ use Rattle.rkyv_index.proofs.map.ArchivedIndexMap.pair_pos_in.Goals as goal
 
 pub entry-requires-clause-below : goal.entry-requires-clause-below
 entry-requires-clause-below g c =
-    subst (λ m. c.args.place < index_len g.W.Width.word m) (sym c.entries.ensures.map)
-    (moved (λ d r. c.args.place < len_at g.W.Width.word d r) _ _ _ _ (sym c.read.ensures.bytes) (sym c.read.ensures.pos) c.requires.below)
+    subst (λ m. c.args.place < index_len g.W.Word.word m) (sym c.entries.ensures.map)
+    (moved (λ d r. c.args.place < len_at g.W.Word.word d r) _ _ _ _ (sym c.read.ensures.bytes) (sym c.read.ensures.pos) c.requires.below)
 
 pub returns-clause-at : goal.returns-clause-at
 returns-clause-at g c =
-    let w = g.W.Width.word in
+    let w = g.W.Word.word in
     let k = g.K.Element.shape in
     let v = g.V.Element.shape in
     let there : (b : List ℕ) → ℕ → ℕ = λ b p. pair_at w k v b p c.args.place in
@@ -33,4 +33,4 @@ returns-clause-entry g c =
     let v = g.V.Element.shape in
     let at = returns-clause-at g c in
     subst (Viewed (entry_shape k v) _) (sym at.place)
-    (entry_viewed g.W.Width.word g.met.W.Width.layout.kind (entry_shape k v) (entry_element k v g.met.K.Element.laws g.met.V.Element.laws) _ _ c.requires.map c.args.place c.requires.below)
+    (entry_viewed g.W.Word.word g.met.W.Width.layout.kind (entry_shape k v) (entry_element k v g.met.K.Element.laws g.met.V.Element.laws) _ _ c.requires.map c.args.place c.requires.below)

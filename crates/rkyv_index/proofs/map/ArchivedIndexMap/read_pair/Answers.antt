@@ -8,7 +8,7 @@ use Rattle.rkyv_index.proofs.map.ArchivedIndexMap.read_pair.Goals as goal
 
 pub returns : goal.returns
 returns g c =
-    let w = g.W.Width.word in
+    let w = g.W.Word.word in
     let k = g.K.Element.shape in
     let v = g.V.Element.shape in
     let i = c.args.place in

@@ -10,7 +10,7 @@ at-requires g c =
     let m = c.args.self.view in
     let k = g.K.Element.shape in
     let v = g.V.Element.shape in
-    let there = table_of_places g.W.Width.word g.met.W.Width.layout.kind (entry_shape k v) (entry_element k v g.met.K.Element.laws g.met.V.Element.laws) m.archive.now m.pos c.requires
+    let there = table_of_places g.W.Word.word g.met.W.Width.layout.kind (entry_shape k v) (entry_element k v g.met.K.Element.laws g.met.V.Element.laws) m.archive.now m.pos c.requires
     g.W.Place.Scalar.encoding g.met.W.Width.place in
     rw c.pos.ensures there
 
@@ -19,6 +19,6 @@ returns-clause-table g c =
     let m = c.args.self.view in
     let k = g.K.Element.shape in
     let v = g.V.Element.shape in
-    let there = table_of_places g.W.Width.word g.met.W.Width.layout.kind (entry_shape k v) (entry_element k v g.met.K.Element.laws g.met.V.Element.laws) m.archive.now m.pos c.requires
+    let there = table_of_places g.W.Word.word g.met.W.Width.layout.kind (entry_shape k v) (entry_element k v g.met.K.Element.laws g.met.V.Element.laws) m.archive.now m.pos c.requires
     g.W.Place.Scalar.encoding g.met.W.Width.place in
-    c.of.ensures.table (view_there (table_shape g.W.Width.word (scalar_shape g.W.Place.Scalar.encoding)) c.at.result m.archive c.pos.result c.at.ensures (rw c.pos.ensures there))
+    c.of.ensures.table (view_there (table_shape g.W.Word.word (scalar_shape g.W.Place.Scalar.encoding)) c.at.result m.archive c.pos.result c.at.ensures (rw c.pos.ensures there))

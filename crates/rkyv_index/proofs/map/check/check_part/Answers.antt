@@ -7,13 +7,13 @@ use Rattle.rkyv_index.proofs.map.check.check_part.Goals as goal
 pub returns-in-Err : goal.returns-in-Err
 returns-in-Err g c =
     let fits : FitsSigned w128 c.begin_told-told.result = search rules in
-    let told = told_is c.begin_told-told.result (entries_told g.W.Width.word c.args.bytes.now c.args.pos) fits c.begin_told-told.ensures.told in
+    let told = told_is c.begin_told-told.result (entries_told g.W.Word.word c.args.bytes.now c.args.pos) fits c.begin_told-told.ensures.told in
     inl (rw (told, c.entries_size.ensures, c.size-size.ensures, c.align.ensures) at c.in-Err.ensures)
 
 pub returns-in-Ok-check_entries : goal.returns-in-Ok-check_entries
 returns-in-Ok-check_entries g c =
     let fits : FitsSigned w128 c.begin_told-told.result = search rules in
-    let told = told_is c.begin_told-told.result (entries_told g.W.Width.word c.args.bytes.now c.args.pos) fits c.begin_told-told.ensures.told in
+    let told = told_is c.begin_told-told.result (entries_told g.W.Word.word c.args.bytes.now c.args.pos) fits c.begin_told-told.ensures.told in
     record {
       begin = c.in-Ok.begin;
       part = rw (told, c.entries_size.ensures, c.size-size.ensures, c.align.ensures) at c.in-Ok.ensures;
@@ -25,5 +25,5 @@ returns-in-Ok-check_entries g c =
 pub returns-in-Err-check_entries : goal.returns-in-Err-check_entries
 returns-in-Err-check_entries g c =
     let fits : FitsSigned w128 c.begin_told-told.result = search rules in
-    let told = told_is c.begin_told-told.result (entries_told g.W.Width.word c.args.bytes.now c.args.pos) fits c.begin_told-told.ensures.told in
+    let told = told_is c.begin_told-told.result (entries_told g.W.Word.word c.args.bytes.now c.args.pos) fits c.begin_told-told.ensures.told in
     inr (c.in-Ok.begin, rw (told, c.entries_size.ensures, c.size-size.ensures, c.align.ensures) at c.in-Ok.ensures, c.in-Err-check_entries.ensures.fails)

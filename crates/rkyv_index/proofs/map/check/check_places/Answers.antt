@@ -13,19 +13,19 @@ use Rattle.rkyv_index.proofs.Checking.{view_there}
 use Rattle.rkyv_index.proofs.map.check.check_places.Goals as goal
 
 pub new-requires : goal.new-requires
-new-requires g c = places_viewed g.W.Width.word g.W.Place.Scalar.encoding g.met.W.Width.place c.args.bytes.now c.args.pos c.requires
+new-requires g c = places_viewed g.W.Word.word g.W.Place.Scalar.encoding g.met.W.Width.place c.args.bytes.now c.args.pos c.requires
 
 pub len-len-requires : goal.len-len-requires
 len-len-requires g c =
-    let s = table_shape g.W.Width.word (scalar_shape g.W.Place.Scalar.encoding) in
+    let s = table_shape g.W.Word.word (scalar_shape g.W.Place.Scalar.encoding) in
     c.of-table.ensures.table (view_there s c.new.result c.args.bytes c.args.pos c.new.ensures
-    (places_viewed g.W.Width.word g.W.Place.Scalar.encoding g.met.W.Width.place c.args.bytes.now c.args.pos c.requires))
+    (places_viewed g.W.Word.word g.W.Place.Scalar.encoding g.met.W.Width.place c.args.bytes.now c.args.pos c.requires))
 
 pub raw_iter-at-items-requires : goal.raw_iter-at-items-requires
 raw_iter-at-items-requires g c =
-    let s = table_shape g.W.Width.word (scalar_shape g.W.Place.Scalar.encoding) in
+    let s = table_shape g.W.Word.word (scalar_shape g.W.Place.Scalar.encoding) in
     c.of-table.ensures.table (view_there s c.new.result c.args.bytes c.args.pos c.new.ensures
-    (places_viewed g.W.Width.word g.W.Place.Scalar.encoding g.met.W.Width.place c.args.bytes.now c.args.pos c.requires))
+    (places_viewed g.W.Word.word g.W.Place.Scalar.encoding g.met.W.Width.place c.args.bytes.now c.args.pos c.requires))
 
 pub read_count-place-requires : goal.read_count-place-requires
 read_count-place-requires g c =
@@ -41,7 +41,7 @@ read_count-place-requires g c =
 
 pub loop-at-preserved : goal.loop-at-preserved
 loop-at-preserved g c =
-    let w = g.W.Width.word in
+    let w = g.W.Word.word in
     let s = scalar_shape g.W.Place.Scalar.encoding in
     let b : List ℕ = c.args.bytes.now in
     let n : ℕ = c.len-len.result in

@@ -11,7 +11,7 @@ use Rattle.rkyv_index.proofs.map.check.check_places.Given as goal
 -- the places that are left stand in the archive; and if they are below the length, or one of them isn't, so it is with all
 abbrev pub invariant-loop-at : goal.invariant-loop-at
 invariant-loop-at g l =
-    let w = g.W.Width.word in
+    let w = g.W.Word.word in
     let all = item_positions w (byte_len w) l.bytes l.pos in
     record {
       stand : AllStand (scalar_shape g.W.Place.Scalar.encoding) l.at-iterator;

@@ -13,16 +13,16 @@ pub returns-clause-kept : goal.returns-clause-kept
 returns-clause-kept g c =
     let e = g.N.Scalar.encoding in
     let v = scalar_shape e in
-    index_kept g.W.Width.word g.met.W.Width.layout.kind g.K.Element.shape v g.met.K.Element.laws (scalar_element e g.met.N.Scalar.word) c.args.archive.now c.args.root c.requires.map c.set_at.new.bytes c.args.place c.requires.below
-    (value_written g.W.Width.word g.K.Element.shape v _ _ _ _ c.value_pos_at-pos.ensures.at c.set_at.ensures.sealed c.set_at.ensures.holds)
+    index_kept g.W.Word.word g.met.W.Width.layout.kind g.K.Element.shape v g.met.K.Element.laws (scalar_element e g.met.N.Scalar.word) c.args.archive.now c.args.root c.requires.map c.set_at.new.bytes c.args.place c.requires.below
+    (value_written g.W.Word.word g.K.Element.shape v _ _ _ _ c.value_pos_at-pos.ensures.at c.set_at.ensures.sealed c.set_at.ensures.holds)
     (hash_at g.H.KeyHasher.hasher g.K.KeyElement.key_calls) (hash_near g.H.KeyHasher.hasher g.met.K.KeyElement.key)
 
 pub returns-clause-listed : goal.returns-clause-listed
 returns-clause-listed g c = λ factor pairs pair st there.
     let e = g.N.Scalar.encoding in
     let v = scalar_shape e in
-    written_value_stands g.W.Width.word g.met.W.Width.layout.kind g.K.Element.shape v g.met.K.Element.laws (scalar_element e g.met.N.Scalar.word) c.args.archive.now c.args.root c.requires.map c.set_at.new.bytes c.args.place c.requires.below
-    (value_written g.W.Width.word g.K.Element.shape v _ _ _ _ c.value_pos_at-pos.ensures.at c.set_at.ensures.sealed c.set_at.ensures.holds)
+    written_value_stands g.W.Word.word g.met.W.Width.layout.kind g.K.Element.shape v g.met.K.Element.laws (scalar_element e g.met.N.Scalar.word) c.args.archive.now c.args.root c.requires.map c.set_at.new.bytes c.args.place c.requires.below
+    (value_written g.W.Word.word g.K.Element.shape v _ _ _ _ c.value_pos_at-pos.ensures.at c.set_at.ensures.sealed c.set_at.ensures.holds)
     (hash_at g.H.KeyHasher.hasher g.K.KeyElement.key_calls) (hash_near g.H.KeyHasher.hasher g.met.K.KeyElement.key)
     g.K.StandsFor.stands (ScalarStands e) g.met.K.StandsFor.near (scalar_near e g.met.N.Scalar.word) factor pairs pair c.args.value st there
     (subst (λ q. ScalarStands e c.set_at.new.bytes q c.args.value) c.value_pos_at-pos.ensures.at c.set_at.ensures.reads)

@@ -12,14 +12,14 @@ pub entry-requires-clause-below : goal.entry-requires-clause-below
 entry-requires-clause-below g c =
     let bytes = ap (λ v. v.archive.now) c.of-map.ensures.view ∙ ap (λ a. a.now) c.new.ensures.0 in
     let place = ap (λ v. v.pos) c.of-map.ensures.view ∙ c.new.ensures.1 in
-    subst (λ m. c.args.place < index_len g.W.Width.word m) (sym c.entries.ensures.map)
-    (moved (λ d r. c.args.place < len_at g.W.Width.word d r) _ _ _ _ (sym bytes) (sym place) c.requires.below)
+    subst (λ m. c.args.place < index_len g.W.Word.word m) (sym c.entries.ensures.map)
+    (moved (λ d r. c.args.place < len_at g.W.Word.word d r) _ _ _ _ (sym bytes) (sym place) c.requires.below)
 
 pub returns-clause-at : goal.returns-clause-at
 returns-clause-at g c =
     let bytes = ap (λ v. v.archive.now) c.of-map.ensures.view ∙ ap (λ a. a.now) c.new.ensures.0 in
     let place = ap (λ v. v.pos) c.of-map.ensures.view ∙ c.new.ensures.1 in
-    let w = g.W.Width.word in
+    let w = g.W.Word.word in
     let k = g.K.Element.shape in
     let v = g.V.Element.shape in
     let i = c.args.place in
@@ -30,5 +30,5 @@ returns-clause-at g c =
 pub returns-clause-inside : goal.returns-clause-inside
 returns-clause-inside g c =
     let v = g.V.Element.shape in
-    let pair = pair_place g.W.Width.word g.met.W.Width.layout.kind g.K.Element.shape v g.met.K.Element.laws g.met.V.Element.laws c.args.archive.now c.args.root c.requires.map c.args.place c.requires.below in
+    let pair = pair_place g.W.Word.word g.met.W.Width.layout.kind g.K.Element.shape v g.met.K.Element.laws g.met.V.Element.laws c.args.archive.now c.args.root c.requires.map c.args.place c.requires.below in
     subst (λ n. n + v.size ≤ length c.args.archive.now) (sym (returns-clause-at g c)) pair.value.inside

@@ -10,7 +10,7 @@ use Rattle.rkyv_index.proofs.map.laws.pairs_read_back_are_listed.Goals as goal
 
 pub returns : goal.returns
 returns g c = λ m factor listed read view st reads.
-    let w = g.W.Width.word in
+    let w = g.W.Word.word in
     let k = g.K.Element.shape in
     let v = g.V.Element.shape in
     let kl = g.met.K.Element.laws in

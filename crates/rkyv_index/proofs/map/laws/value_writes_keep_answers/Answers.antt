@@ -8,7 +8,7 @@ pub returns : goal.returns
 returns g c = λ b d p i view below writes q can.
     let h = g.H.KeyHasher in
     let k = g.K.Element.shape in
-    let kept = index_kept g.W.Width.word g.met.W.Width.layout.kind k g.V.Element.shape g.met.K.Element.laws g.met.V.Element.laws b p view d i below writes
+    let kept = index_kept g.W.Word.word g.met.W.Width.layout.kind k g.V.Element.shape g.met.K.Element.laws g.met.V.Element.laws b p view d i below writes
     (hash_at h.hasher g.K.KeyElement.key_calls)
     (hash_near h.hasher g.met.K.KeyElement.key) in
     let rests = rests_on_keys g.met.K.Element.laws g.met.K.ElementEquiv.equivalence g.met.K.KeyElement.key g.met.Q.Query.query in

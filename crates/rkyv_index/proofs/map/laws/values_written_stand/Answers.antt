@@ -8,7 +8,7 @@ use Rattle.rkyv_index.proofs.map.laws.values_written_stand.Goals as goal
 pub returns : goal.returns
 returns g c = λ b d p n factor pairs pair new view st there writes stands.
     let h = g.H.KeyHasher in
-    let w = g.W.Width.word in
+    let w = g.W.Word.word in
     let count = st.len in
     let within = slice_get_within pairs n pair there in
     let below : n < len_at w b p = omega (arith, count, within) in

@@ -7,7 +7,7 @@ use Rattle.rkyv_index.proofs.set.ArchivedIndexSet.read_item.Goals as goal
 
 pub returns : goal.returns
 returns g c =
-    let w = g.W.Width.word in
+    let w = g.W.Word.word in
     let k = g.K.Element.shape in
     let i = c.args.place in
     let there = c.entries.result.map in

@@ -15,7 +15,7 @@ use Rattle.rkyv_index.proofs.set.laws.items_read_back_are_listed.Goals as goal
 
 pub returns : goal.returns
 returns g c = λ s factor listed read view st reads.
-    let w = g.W.Width.word in
+    let w = g.W.Word.word in
     let k = g.K.Element.shape in
     let kl = g.met.K.Element.laws in
     let paired : g.row.A.Denot → g.row.A.Denot × Unit {0} = λ x. (x, tt) in

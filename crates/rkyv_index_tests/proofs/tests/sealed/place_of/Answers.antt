@@ -14,6 +14,6 @@ pub returns : goal.returns
 returns g c =
     let bytes = ap (λ v. v.archive.now) c.of.ensures.view ∙ ap (λ a. a.now) c.new.ensures.0 in
     let place = ap (λ v. v.pos) c.of.ensures.view ∙ c.new.ensures.1 in
-    let w = g.W.Width.word in
+    let w = g.W.Word.word in
     as_read c.of.result c.args.bytes.now c.args.root bytes place (λ d r. IfSome c.get_index_of.result (λ i. i < len_at w d r))
     (second (IsHeld w c.of.result) (λ i. i < index_len w c.of.result) c.get_index_of.result c.get_index_of.ensures.walked)

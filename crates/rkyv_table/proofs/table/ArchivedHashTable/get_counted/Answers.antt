@@ -6,7 +6,7 @@ pub find-requires : goal.find-requires
 find-requires g c κs = ((refl, tt), (c.of-items.ensures.items, (c.start.ensures, (c.requires.room, rw c.of-items.ensures.table c.requires.callable))))
 
 pub returns-clause-found : goal.returns-clause-found
-returns-clause-found g c = found_by_halves _ g.W.Width.word g.T.Element.shape c.args.self c.args.hash c.find.result (rw c.of-items.ensures.table at c.find.ensures.found)
+returns-clause-found g c = found_by_halves _ g.W.Word.word g.T.Element.shape c.args.self c.args.hash c.find.result (rw c.of-items.ensures.table at c.find.ensures.found)
 
 pub returns-clause-counts : goal.returns-clause-counts
-returns-clause-counts g c = counted_by_halves _ g.W.Width.word g.T.Element.shape c.args.self c.args.hash _ _ (rw c.of-items.ensures.table at c.find.ensures.counts)
+returns-clause-counts g c = counted_by_halves _ g.W.Word.word g.T.Element.shape c.args.self c.args.hash _ _ (rw c.of-items.ensures.table at c.find.ensures.counts)

@@ -14,7 +14,7 @@ use Rattle.rkyv_table.proofs.table.ArchivedHashTable.misplaced_by.Goals.{After-i
 
 pub loop-bucket-init : goal.loop-bucket-init
 loop-bucket-init g c =
-    let w = g.W.Width.word in
+    let w = g.W.Word.word in
     let s = g.T.Element.shape in
     let b = table_bytes c.args.self in
     let p = table_pos c.args.self in
@@ -32,21 +32,21 @@ loop-bucket-init g c =
 
 -- the bucket that is looked up, and those that are left, are walked
 module _ (g : _) (c : In-Some g) where
-  walked : All (IsWalked g.W.Width.word (table_bytes c.args.self) (table_pos c.args.self)) (c.in-Some.bucket ∷ c.next.new.self)
-  walked = subst (All (IsWalked g.W.Width.word (table_bytes c.args.self) (table_pos c.args.self))) c.in-Some.ensures.steps c.loop-bucket.invariant.walked
+  walked : All (IsWalked g.W.Word.word (table_bytes c.args.self) (table_pos c.args.self)) (c.in-Some.bucket ∷ c.next.new.self)
+  walked = subst (All (IsWalked g.W.Word.word (table_bytes c.args.self) (table_pos c.args.self))) c.in-Some.ensures.steps c.loop-bucket.invariant.walked
 
-  here : IsWalked g.W.Width.word (table_bytes c.of-items.result.table) (table_pos c.of-items.result.table) c.in-Some.bucket
-  here = subst (λ t. IsWalked g.W.Width.word (table_bytes t) (table_pos t) c.in-Some.bucket) (sym c.of-items.ensures.table)
-      (All-head (IsWalked g.W.Width.word (table_bytes c.args.self) (table_pos c.args.self)) c.in-Some.bucket c.next.new.self walked)
+  here : IsWalked g.W.Word.word (table_bytes c.of-items.result.table) (table_pos c.of-items.result.table) c.in-Some.bucket
+  here = subst (λ t. IsWalked g.W.Word.word (table_bytes t) (table_pos t) c.in-Some.bucket) (sym c.of-items.ensures.table)
+      (All-head (IsWalked g.W.Word.word (table_bytes c.args.self) (table_pos c.args.self)) c.in-Some.bucket c.next.new.self walked)
 
-  rest : All (IsWalked g.W.Width.word (table_bytes c.args.self) (table_pos c.args.self)) c.next.new.self
-  rest = All-rest (IsWalked g.W.Width.word (table_bytes c.args.self) (table_pos c.args.self)) c.in-Some.bucket c.next.new.self c.loop-bucket.bucket-iterator c.in-Some.ensures.steps c.loop-bucket.invariant.walked
+  rest : All (IsWalked g.W.Word.word (table_bytes c.args.self) (table_pos c.args.self)) c.next.new.self
+  rest = All-rest (IsWalked g.W.Word.word (table_bytes c.args.self) (table_pos c.args.self)) c.in-Some.bucket c.next.new.self c.loop-bucket.bucket-iterator c.in-Some.ensures.steps c.loop-bucket.invariant.walked
 
 -- its lookup tells whether its item is misplaced
 module _ (g : _) (c : After-is_elsewhere g) where
-  tells : TellsMisplaced generic_kind g.W.Width.word g.T.Element.shape c.args.self (goal.H-post g c.args.hash_of) (goal.S-post g c.args.same) c.in-Some.bucket c.is_elsewhere.result
+  tells : TellsMisplaced generic_kind g.W.Word.word g.T.Element.shape c.args.self (goal.H-post g c.args.hash_of) (goal.S-post g c.args.same) c.in-Some.bucket c.is_elsewhere.result
   tells = λ hash_of same hash_as same_as.
-      c.is_elsewhere.ensures ∙ bucket_told generic_kind g.W.Width.word g.T.Element.shape c.of-items.result.table c.args.self c.of-items.ensures.table _ _ c.in-Some.bucket c.hash_of-hash.result c.item.result c.item.ensures c.hash_of-hash.ensures
+      c.is_elsewhere.ensures ∙ bucket_told generic_kind g.W.Word.word g.T.Element.shape c.of-items.result.table c.args.self c.of-items.ensures.table _ _ c.in-Some.bucket c.hash_of-hash.result c.item.result c.item.ensures c.hash_of-hash.ensures
       c.own_lookup.result c.own_lookup.ensures hash_of same hash_as same_as
 
 pub item-requires-clause-walked : goal.item-requires-clause-walked
@@ -60,7 +60,7 @@ own_lookup-requires g c κs =
         c.of-items.ensures.items,
         (
           here g (goal.at.own_lookup-requires g c).In-Some,
-          λ x y hx hy. c.requires.comparable x y (subst (λ t. IsItem g.W.Width.word g.T.Element.shape t x) same hx) (subst (λ t. IsItem g.W.Width.word g.T.Element.shape t y) same hy),
+          λ x y hx hy. c.requires.comparable x y (subst (λ t. IsItem g.W.Word.word g.T.Element.shape t x) same hx) (subst (λ t. IsItem g.W.Word.word g.T.Element.shape t y) same hy),
         ),
       ),
     )
@@ -73,7 +73,7 @@ loop-bucket-preserved-then-is_elsewhere g c =
     record {
       walked = rest g at.In-Some;
       counted = omega arith;
-      told = counted_one generic_kind g.W.Width.word g.T.Element.shape c.args.self _ _ c.loop-bucket.count c.in-Some.bucket c.loop-bucket.bucket-iterator c.next.new.self c.in-Some.ensures.steps c.is_elsewhere.result
+      told = counted_one generic_kind g.W.Word.word g.T.Element.shape c.args.self _ _ c.loop-bucket.count c.in-Some.bucket c.loop-bucket.bucket-iterator c.next.new.self c.in-Some.ensures.steps c.is_elsewhere.result
           (tells g at.After-is_elsewhere) c.loop-bucket.invariant.told c.if-is_elsewhere.true;
     }
 
@@ -85,13 +85,13 @@ loop-bucket-preserved g c =
     record {
       walked = rest g at.In-Some;
       counted = omega arith;
-      told = counted_none generic_kind g.W.Width.word g.T.Element.shape c.args.self _ _ c.loop-bucket.count c.in-Some.bucket c.loop-bucket.bucket-iterator c.next.new.self c.in-Some.ensures.steps c.is_elsewhere.result
+      told = counted_none generic_kind g.W.Word.word g.T.Element.shape c.args.self _ _ c.loop-bucket.count c.in-Some.bucket c.loop-bucket.bucket-iterator c.next.new.self c.in-Some.ensures.steps c.is_elsewhere.result
           (tells g at.After-is_elsewhere) c.loop-bucket.invariant.told c.if-is_elsewhere.false;
     }
 
 pub returns : goal.returns
 returns g c = λ hash_of same hash_as same_as.
-    let Q = bucket_misplaced generic_kind g.W.Width.word g.T.Element.shape c.args.self hash_of same in
+    let Q = bucket_misplaced generic_kind g.W.Word.word g.T.Element.shape c.args.self hash_of same in
     let n = ap (λ xs. length (filter Q xs)) c.in-None.ensures.steps.0 in
     let told = c.loop-bucket.invariant.told hash_of same hash_as same_as in
     omega (arith, n, told)

@@ -8,7 +8,7 @@ use Rattle.rkyv_table.proofs.table.ArchivedHashTable.misplaced_by.Given as goal
 
 abbrev pub invariant-loop-bucket : goal.invariant-loop-bucket
 invariant-loop-bucket g l = record {
-  walked : All (IsWalked g.W.Width.word (table_bytes l.fn.self) (table_pos l.fn.self)) l.bucket-iterator;
-  counted : l.count + length l.bucket-iterator ≤ cap_at g.W.Width.word (table_bytes l.fn.self) (table_pos l.fn.self);
-  told : Counting generic_kind g.W.Width.word g.T.Element.shape l.fn.self (goal.H-post g l.fn.hash_of) (goal.S-post g l.fn.same) l.count l.bucket-iterator;
+  walked : All (IsWalked g.W.Word.word (table_bytes l.fn.self) (table_pos l.fn.self)) l.bucket-iterator;
+  counted : l.count + length l.bucket-iterator ≤ cap_at g.W.Word.word (table_bytes l.fn.self) (table_pos l.fn.self);
+  told : Counting generic_kind g.W.Word.word g.T.Element.shape l.fn.self (goal.H-post g l.fn.hash_of) (goal.S-post g l.fn.same) l.count l.bucket-iterator;
 }

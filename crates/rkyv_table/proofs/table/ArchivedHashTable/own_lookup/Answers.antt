@@ -6,7 +6,7 @@ use Rattle.rkyv_table.proofs.table.ArchivedHashTable.own_lookup.Goals as goal
 
 pub find-requires : goal.find-requires
 find-requires g c κs =
-    let w = g.W.Width.word in
+    let w = g.W.Word.word in
     let s = g.T.Element.shape in
     let items = c.args.items in
     let are = c.requires.items in
@@ -19,7 +19,7 @@ find-requires g c κs =
 
 pub returns : goal.returns
 returns g c = λ same alone.
-    let w = g.W.Width.word in
+    let w = g.W.Word.word in
     let s = g.T.Element.shape in
     let items = c.args.items in
     let at : ℕ → ℕ = item_at w s.size (table_bytes items.table) (table_pos items.table) in

@@ -14,7 +14,7 @@ use Rattle.rkyv_table.proofs.table.ArchivedHashTable.raw_iter.Goals.{After-first
 
 pub first_marks-requires : goal.first_marks-requires
 first_marks-requires g c = λ some.
-    let w = g.W.Width.word in
+    let w = g.W.Word.word in
     let s = g.T.Element.shape in
     let items = c.of-items.result in
     let are = c.of-items.ensures.items in
@@ -29,16 +29,16 @@ first_marks-requires g c = λ some.
 -- the buckets that are left are those that are walked
 module _ (g : _) (c : After-first_marks g) where
   abbrev walked : List ℕ
-  walked = walk (table_controls g.W.Width.word (table_bytes c.of-items.result.table) (table_pos c.of-items.result.table)) (cap_at g.W.Width.word (table_bytes c.of-items.result.table) (table_pos c.of-items.result.table))
+  walked = walk (table_controls g.W.Word.word (table_bytes c.of-items.result.table) (table_pos c.of-items.result.table)) (cap_at g.W.Word.word (table_bytes c.of-items.result.table) (table_pos c.of-items.result.table))
 
   count : c.of-items.result.len ≡ length walked
   count =
       let are = c.of-items.ensures.items in
-      are.len ∙ sym (walk_count g.W.Width.word g.T.Element.shape g.met.T.Element.laws (table_bytes c.of-items.result.table) (table_pos c.of-items.result.table) are.table)
+      are.len ∙ sym (walk_count g.W.Word.word g.T.Element.shape g.met.T.Element.laws (table_bytes c.of-items.result.table) (table_pos c.of-items.result.table) are.table)
 
   left : buckets_left c.of-items.result.len c.of-items.result.controls.now 0 (mask_places 8 7 8 c.first_marks.result.bits) ≡ walked
   left =
-      let w = g.W.Width.word in
+      let w = g.W.Word.word in
       let items = c.of-items.result in
       let are = c.of-items.ensures.items in
       let b : List ℕ = table_bytes items.table in
@@ -55,7 +55,7 @@ invariant_of-result g c =
     let are = c.of-items.ensures.items in
     let after = (goal.at.invariant_of-result g c).After-first_marks in
     let marks : List ℕ = mask_places 8 7 8 c.first_marks.result.bits in
-    let ahead = read_ahead g.W.Width.word s g.met.T.Element.laws (table_bytes items.table) (table_pos items.table) are.table items.place (λ h. are.place (rw are.cap h)) items.controls.now (λ h. are.controls (rw are.cap h)) in
+    let ahead = read_ahead g.W.Word.word s g.met.T.Element.laws (table_bytes items.table) (table_pos items.table) are.table items.place (λ h. are.place (rw are.cap h)) items.controls.now (λ h. are.controls (rw are.cap h)) in
     let z : items.place + 0 * s.size ≡ items.place = omega arith in
     record {
       counted = count g after ∙ ap length (sym (left g after));
@@ -64,7 +64,7 @@ invariant_of-result g c =
 
 pub returns-clause-places : goal.returns-clause-places
 returns-clause-places g c =
-    let w = g.W.Width.word in
+    let w = g.W.Word.word in
     let s = g.T.Element.shape in
     let items = c.of-items.result in
     let are = c.of-items.ensures.items in
@@ -79,14 +79,14 @@ returns-clause-places g c =
 
 pub returns-clause-count : goal.returns-clause-count
 returns-clause-count g c =
-    let w = g.W.Width.word in
+    let w = g.W.Word.word in
     let s = g.T.Element.shape in
     let t = c.args.self in
     ap length (returns-clause-places g c) ∙ places_count w s g.met.T.Element.laws (table_bytes t) (table_pos t) c.requires
 
 pub returns-clause-stand : goal.returns-clause-stand
 returns-clause-stand g c =
-    let w = g.W.Width.word in
+    let w = g.W.Word.word in
     let s = g.T.Element.shape in
     let t = c.args.self in
     let items = c.of-items.result in

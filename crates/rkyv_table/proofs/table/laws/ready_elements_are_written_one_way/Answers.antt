@@ -4,7 +4,7 @@ use Rattle.rkyv_table.proofs.table.laws.ready_elements_are_written_one_way.Goals
 pub returns : goal.returns
 returns g c = record {
   scalars = scalars_one_way g.N.Scalar.encoding;
-  texts = texts_one_way g.W.Width.word g.met.W.Width.layout.kind;
+  texts = texts_one_way g.W.Word.word g.met.W.Width.layout.kind;
   units = units_one_way;
   pairs = λ a b. pairs_one_way g.A.Archived.Element.shape g.B.Archived.Element.shape g.A.Archive.format g.B.Archive.format a b;
 }

@@ -6,7 +6,7 @@ use Rattle.rkyv_table.proofs.table.verify.verify_by.Goals as goal
 
 pub returns-in-Err : goal.returns-in-Err
 returns-in-Err g c =
-    let w = g.W.Width.word in
+    let w = g.W.Word.word in
     let s = g.T.Element.shape in
     let b = c.args.bytes.now in
     let h = c.read_header-header.ensures in
@@ -21,7 +21,7 @@ returns-in-Err-check_part g c =
     let s = g.T.Element.shape in
     let b = c.args.bytes.now in
     let h = c.read_header-header.ensures in
-    let told = begin_is g.W.Width.word s.size b c.args.pos c.read_header-header.result.distance c.begin_told-told.result c.read_header-header.result.cap c.size-size.result (search rules)
+    let told = begin_is g.W.Word.word s.size b c.args.pos c.read_header-header.result.distance c.begin_told-told.result c.read_header-header.result.cap c.size-size.result (search rules)
     h.distance h.cap c.size-size.ensures c.begin_told-told.ensures in
     let part = rw (c.part_size.ensures, c.size-size.ensures, c.align-align.ensures) at c.in-Ok.ensures in
     fails_of_numbers s b told h.cap h.len (inr (inr (c.if-len-cap.false, c.in-Ok.begin, part, c.in-Err-check_part.ensures.fails)))

@@ -26,10 +26,10 @@ step_keeps w s p before after result h is good = step_kept w s p _ good before a
 pub loop-preserved : goal.loop-preserved
 loop-preserved g c = (
   c.next_seal_with.ensures.reference ∙ c.loop.invariant.0,
-  step_keeps g.W.Width.word (scalar_shape g.N.Scalar.encoding) c.args.pos _ _ _ c.next_seal_with.ensures.steps c.loop.invariant.1 (λ b d q h. rw (sym h.bytes, sym h.place, sym (h.leaves h.met.0.same_reference)) h.met.1),
+  step_keeps g.W.Word.word (scalar_shape g.N.Scalar.encoding) c.args.pos _ _ _ c.next_seal_with.ensures.steps c.loop.invariant.1 (λ b d q h. rw (sym h.bytes, sym h.place, sym (h.leaves h.met.0.same_reference)) h.met.1),
 )
 
 pub returns : goal.returns
 returns g c =
     let same : c.loop.rest.archive.now ≡ c.archive-1.given.0 = search rules in
-    subst (λ (b : List ℕ). Viewed (table_shape g.W.Width.word (scalar_shape g.N.Scalar.encoding)) b c.args.pos) same c.loop.invariant.1.table
+    subst (λ (b : List ℕ). Viewed (table_shape g.W.Word.word (scalar_shape g.N.Scalar.encoding)) b c.args.pos) same c.loop.invariant.1.table

@@ -12,17 +12,17 @@ both F n n' hi hi' e f x = subst (F n') f (subst (λ k. F k hi) e x)
 pub returns-in-Err : goal.returns-in-Err
 returns-in-Err g c =
     let e = g.W.Place.Scalar.encoding in
-    inl (words_fail g.W.Width.word e g.met.W.Width.place c.args.bytes.now c.args.pos c.args.range.lo c.args.range.hi c.in-Err.e c.in-Err.ensures)
+    inl (words_fail g.W.Word.word e g.met.W.Width.place c.args.bytes.now c.args.pos c.args.range.lo c.args.range.hi c.in-Err.e c.in-Err.ensures)
 
 pub check_places-requires : goal.check_places-requires
 check_places-requires g c =
-    let w = g.W.Width.word in
+    let w = g.W.Word.word in
     table_viewed w g.met.W.Width.layout.kind g.W.Place.Scalar.encoding g.met.W.Width.place c.args.bytes.now c.args.pos c.args.range.lo c.args.range.hi c.in-Ok.rest.lo
     c.requires.inside c.requires.aligned c.requires.ordered.0 c.requires.ordered.1 c.in-Ok.ensures.1
 
 pub returns-in-Err-check_places : goal.returns-in-Err-check_places
 returns-in-Err-check_places g c =
-    let w = g.W.Width.word in
+    let w = g.W.Word.word in
     let b : List ℕ = c.args.bytes.now in
     let table = words_hold w g.W.Place.Scalar.encoding g.met.W.Width.place b c.args.pos c.args.range.lo c.args.range.hi c.in-Ok.rest.lo c.in-Ok.ensures.1 in
     inr (c.in-Ok.rest.lo, table, inl c.in-Err-check_places.ensures.fails)
@@ -30,7 +30,7 @@ returns-in-Err-check_places g c =
 -- the entries fail where the length is that of the header, and the range that of the call
 pub returns-in-Err-check_part : goal.returns-in-Err-check_part
 returns-in-Err-check_part g c =
-    let w = g.W.Width.word in
+    let w = g.W.Word.word in
     let b = c.args.bytes.now in
     let m = c.in-Ok.rest.lo in
     let table = words_hold w g.W.Place.Scalar.encoding g.met.W.Width.place b c.args.pos c.args.range.lo c.args.range.hi m c.in-Ok.ensures.1 in
@@ -45,7 +45,7 @@ returns-in-Err-check_part g c =
 
 pub returns-in-Ok-check_part : goal.returns-in-Ok-check_part
 returns-in-Ok-check_part g c =
-    let w = g.W.Width.word in
+    let w = g.W.Word.word in
     let b = c.args.bytes.now in
     let m = c.in-Ok.rest.lo in (
       refl,

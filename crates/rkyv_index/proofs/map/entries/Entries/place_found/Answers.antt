@@ -8,7 +8,7 @@ use Rattle.rkyv_index.proofs.map.entries.Entries.place_found.Goals as goal
 
 pub returns-in-Some-clause-place : goal.returns-in-Some-clause-place
 returns-in-Some-clause-place g c =
-    let w = g.W.Width.word in
+    let w = g.W.Word.word in
     let e = g.W.Place.Scalar.encoding in
     let h = c.in-Some.held in
     let item = subst (λ o. IfSome o (IsItem w (scalar_shape e) c.args.table)) c.in-Some.is c.requires.held in

@@ -5,7 +5,7 @@ use Rattle.rkyv_index.proofs.map.finder.IndexMapFinder.get_full.Goals as goal
 
 pub returns-in-Some : goal.returns-in-Some
 returns-in-Some g c =
-    let there : IsPairOf g.W.Width.word g.K.Element.shape g.V.Element.shape c.args.self.entries.map c.in-Some.place (c.key.result, c.value.result) = search rules in
+    let there : IsPairOf g.W.Word.word g.K.Element.shape g.V.Element.shape c.args.self.entries.map c.in-Some.place (c.key.result, c.value.result) = search rules in
     place_full c.in-Some.ensures (c.in-Some.ensures.walked.0, there)
 
 pub returns-in-None : goal.returns-in-None

@@ -8,7 +8,7 @@ find-requires g c κs =
     ((refl, tt), (c.requires.finder.items, (start, (c.requires.room, c.requires.callable))))
 
 pub returns-clause-found : goal.returns-clause-found
-returns-clause-found g c = found_by_halves _ g.W.Width.word g.T.Element.shape c.args.self.items.table c.args.hash c.find.result c.find.ensures.found
+returns-clause-found g c = found_by_halves _ g.W.Word.word g.T.Element.shape c.args.self.items.table c.args.hash c.find.result c.find.ensures.found
 
 pub returns-clause-counts : goal.returns-clause-counts
-returns-clause-counts g c = counted_by_halves _ g.W.Width.word g.T.Element.shape c.args.self.items.table c.args.hash _ _ c.find.ensures.counts
+returns-clause-counts g c = counted_by_halves _ g.W.Word.word g.T.Element.shape c.args.self.items.table c.args.hash _ _ c.find.ensures.counts

@@ -7,5 +7,5 @@ use Rattle.rkyv_table.proofs.table.items.Items.walk.Goals as goal
 pub returns-then-self-eq0 : goal.returns-then-self-eq0
 returns-then-self-eq0 g c =
     let t = c.args.self.table in
-    let controls = table_controls g.W.Width.word (table_bytes t) (table_pos t) in
+    let controls = table_controls g.W.Word.word (table_bytes t) (table_pos t) in
     c.empty.ensures ∙ sym (ap (walk controls) (sym c.requires.cap ∙ c.if-self-eq0.true) ∙ walk_none controls)
