@@ -15,10 +15,10 @@ use Rattle.rkyv_table.specs.Lemmas.ItemPositions.{HeldPart, HoldsWithin, bucket_
 use Rattle.rkyv_table.specs.Lemmas.PlaceLaws.{all_between}
 use Rattle.rkyv_table.specs.Lemmas.SameHeader.{begin_same, cap_same, len_same, pos_same}
 use Rattle.rkyv_table.specs.Lemmas.TableLaws.{of_numbers}
-use Rattle.rkyv_table.specs.Table.Header.{begin_told, cap_at, len_at}
+use Rattle.rkyv_table.specs.Table.Header.{begin_told, cap_at, controls_pos, len_at}
 use Rattle.rkyv_table.specs.Table.Layout.{IsPart, ItemsHold, TableAt, bucket_at, controls_at, table_shape}
 use Rattle.rkyv_table.specs.Table.Places.{AllHold}
-use Rattle.rkyv_table.specs.Table.Reading.{IsWalked, controls_pos, item_at, table_controls}
+use Rattle.rkyv_table.specs.Table.Reading.{IsWalked, item_at, table_controls}
 use Rattle.rkyv_table.proofs.Items.{part_of}
 use Rattle.rkyv_collections.specs.NestedWrites.{HoldsBefore, StaysAt, WritesParts}
 

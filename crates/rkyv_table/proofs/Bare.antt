@@ -1,4 +1,5 @@
 -- What is asked of a table that is read is asked of its bytes.
+use Rattle.rkyv_base.specs.declared.width.Word.{Ghosts as Words}
 use Rattle.std.proofs.Common.{◌≡◌, ℕ, ◌+◌, zero-add, sym, ap, subst, ◌∙◌, Bool, List, Option, None, Some}
 use Rattle.std.specs.Int.{Width}
 use Rattle.std.specs.List.{find}
@@ -14,7 +15,7 @@ use Rattle.rkyv_table.proofs.Items.{item_viewed}
 use Rattle.rkyv_table.proofs.SealedTable.{table_kept}
 use Rattle.rkyv_table.specs.declared.table.ArchivedHashTable.{ArchivedHashTable}
 
-module _ {T W : Type 0} (w : Width) (s : Shape) (b : List ℕ) (p : ℕ) (t : ArchivedHashTable T W) (bytes : t.view.archive.now ≡ b) (place : t.view.pos ≡ p) where
+module _ {T W : Type 0} {wt : Words W} (w : Width) (s : Shape) (b : List ℕ) (p : ℕ) (t : ArchivedHashTable T W wt) (bytes : t.view.archive.now ≡ b) (place : t.view.pos ≡ p) where
   -- what stands in the bytes stands in the table
   pub table_of : Viewed (table_shape w s) b p → IsTable w s t
   table_of stands = subst (λ (c : List ℕ). Viewed (table_shape w s) c t.view.pos) (sym bytes) (subst (Viewed (table_shape w s) b) (sym place) stands)

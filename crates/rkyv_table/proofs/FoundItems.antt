@@ -1,5 +1,6 @@
 -- What a lookup says of the item that it answers, from what it says of the bucket.
-use Rattle.std.proofs.Common.{◌≡◌, ℕ, ◌+◌, ◌<◌, ◌^◌, ◌∙◌, Bool, List, None, Option, Some, ap, refl, subst, sym, true}
+use Rattle.rkyv_base.specs.declared.width.Word.{Ghosts as Words}
+use Rattle.std.proofs.Common.{◌≡◌, ℕ, ◌+◌, ◌%◌, ◌<◌, ◌^◌, ◌∙◌, Bool, List, None, Option, Some, ap, refl, subst, sym, true}
 use Rattle.std.specs.Int.{Width}
 use Rattle.std.specs.Option.{option_map}
 use Rattle.rkyv_scan.specs.Groups.{IsKind, Kind, generic_kind}
@@ -15,7 +16,14 @@ use Rattle.rkyv_table.proofs.FirstFound.{first_found}
 use Rattle.rkyv_table.proofs.HalvesFound.{end_halves, found_halves}
 use Rattle.rkyv_table.proofs.Items.{read_end, read_found, view_is}
 
-module _ {T W : Type 0} (post : View T → Bool → Type 0) (w : Width) (s : Shape) (t : ArchivedHashTable T W) (hash : ℕ) where
+-- the start of the probe sequence in the table is that in its items
+pub start_read : {T W : Type 0} {wt : Words W} (s : Shape) (t : ArchivedHashTable T W wt) (items : Items T W wt) → AreItems wt.word s items → items.table ≡ t
+    → (hash start : ℕ) → (0 < t.header.cap → start ≡ hash % t.header.cap) → 0 < items.cap → start ≡ hash % items.cap
+start_read {wt = wt} s t items are same hash start begins =
+    let e : items.cap ≡ t.header.cap = are.cap ∙ ap (λ x. cap_at wt.word (table_bytes x) (table_pos x)) same ∙ sym t.decoded.cap in
+    subst (λ n. 0 < n → start ≡ hash % n) (sym e) begins
+
+module _ {T W : Type 0} {wt : Words W} (post : View T → Bool → Type 0) (w : Width) (s : Shape) (t : ArchivedHashTable T W wt) (hash : ℕ) where
   -- what the controls lead to is the first accepted item of a written table
   pub finds_first : (kind : Kind) → IsKind kind → hash < 2 ^ 64 → (found : Option ℕ) → FindsFound post kind w s t hash found → FindsFirst post w s t hash found
   finds_first kind law fits found finds = λ hashes homes accept written alone under.
@@ -49,7 +57,7 @@ module _ {T W : Type 0} (post : View T → Bool → Type 0) (w : Width) (s : Sha
   pos_of_item kind None h = record { walked = tt; accepted = tt; answer = h.answer; first = h.first }
 
 -- a lookup in the controls that were read, of which each answer is one of the comparison for the bucket's item
-module _ {T W : Type 0} (post : View T → Bool → Type 0) (kind : Kind) (law : IsKind kind) (w : Width) (s : Shape) (element : IsElement s) (items : Items T W) (are : AreItems w s items)
+module _ {T W : Type 0} {wt : Words W} (post : View T → Bool → Type 0) (kind : Kind) (law : IsKind kind) (w : Width) (s : Shape) (element : IsElement s) (items : Items T W wt) (are : AreItems w s items)
     (hash : ℕ) (fits : hash < 2 ^ 64) (before after : ℕ)
     (asked : ℕ → Bool → Type 0) (meets : (i : ℕ) (r : Bool) → asked i r → (v : View T) × IsItemIn w s items.table i v × post v r) (found : Option ℕ)
     (finds : FindsBucket kind asked items.controls.now items.cap items.len hash before after found) where

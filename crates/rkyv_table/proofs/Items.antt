@@ -1,23 +1,28 @@
 -- What an accepted table gives to its readers.
-use Rattle.std.proofs.Common.{◌≡◌, ℕ, ◌+◌, ◌*◌, ◌%◌, ◌<◌, ◌≤◌, inl, inr, refl, sym, ap, subst, ◌∙◌, arith, List, Bool, length, pos, ◌+ℤ◌}
+use Rattle.rkyv_base.specs.declared.width.Word.{Ghosts as Words}
+use Rattle.std.proofs.Common.{◌≡◌, ℕ, ◌+◌, ◌*◌, ◌%◌, ◌<◌, ◌≤◌, inl, inr, refl, sym, ap, subst, ◌∙◌, arith, List, Bool, length, slice_range, pos, ◌+ℤ◌}
 use Rattle.std.specs.Int.{Width}
 use Rattle.std.proofs.lemmas.Int.{ints}
 use Rattle.std.proofs.lemmas.Bool.{cases_eq}
 use Rattle.std.proofs.Math.Nat.{mul-le-mul_right}
+use Rattle.std.proofs.lemmas.Grind.{common_steps}
 use Rattle.rkyv_scan.specs.Groups.{Kind}
 use Rattle.rkyv_base.specs.Bytes.{signed_at}
 use Rattle.rkyv_base.specs.declared.view.View.{View}
 use Rattle.rkyv_base.specs.Shape.{Shape, IsElement, Viewed, standing}
 use Rattle.rkyv_table.specs.Controls.Shown.{IsFullBucket}
 use Rattle.rkyv_table.specs.Controls.Finding.{end, found}
-use Rattle.rkyv_table.specs.Table.Header.{len_at, cap_at}
+use Rattle.rkyv_table.specs.Table.Header.{cap_at, controls_pos, len_at}
 use Rattle.rkyv_table.specs.Lemmas.ItemPositions.{HeldPart, holds_at, item_holds, told_controls, told_item, told_pos}
 use Rattle.rkyv_table.specs.Controls.Numbers.{control_count}
 use Rattle.rkyv_table.specs.Controls.Placing.{Accepted}
-use Rattle.rkyv_table.specs.Table.Reading.{AreItems, IsWalked, controls_pos, item_at, table_bytes, table_controls, table_pos}
+use Rattle.rkyv_table.specs.Table.Reading.{AreItems, IsWalked, item_at, table_bytes, table_controls, table_pos}
 use Rattle.rkyv_table.specs.declared.table.items.Items.{Items}
 use Rattle.rkyv_table.specs.Table.Layout.{table_shape}
 use Rattle.rkyv_table.specs.Lemmas.TableLaws.{bucket_aligned}
+
+range_count : (b : List ℕ) (at n : ℕ) → at + n ≤ length b → length (slice_range b at (at + n)) ≡ n
+range_count b at n inside = grind (arith, common_steps)
 
 module _ (w : Width) (s : Shape) (law : IsElement s) (b : List ℕ) (p : ℕ) (v : Viewed (table_shape w s) b p) where
   -- the part of a table with buckets
@@ -39,6 +44,14 @@ module _ (w : Width) (s : Shape) (law : IsElement s) (b : List ℕ) (p : ℕ) (v
       let below = t.part.below in
       let inside = v.inside in
       (omega arith, omega (arith, ints, begins, e))
+
+  -- a table with buckets has at least sixteen control bytes
+  pub controls_count : 0 < cap_at w b p → 16 ≤ length (table_controls w b p)
+  controls_count h =
+      let u = controls_inside h in
+      let n = control_count (cap_at w b p) in
+      let e : length (table_controls w b p) ≡ n = range_count b (controls_pos w b p) n u.0 in
+      omega (arith, e)
 
   -- a bucket stands before them
   pub item_before : (i : ℕ) → i < cap_at w b p → (i + 1) * s.size ≤ controls_pos w b p
@@ -78,7 +91,7 @@ module _ (w : Width) (s : Shape) (law : IsElement s) (b : List ℕ) (p : ℕ) (v
   ]
 
 -- what was read of a header serves as what the header tells
-module _ {T W : Type 0} (w : Width) (s : Shape) (law : IsElement s) (items : Items T W) (are : AreItems w s items) where
+module _ {T W : Type 0} {wt : Words W} (w : Width) (s : Shape) (law : IsElement s) (items : Items T W wt) (are : AreItems w s items) where
   pub read_accepted : 0 < items.len → Accepted items.cap items.len items.controls.now
   read_accepted some =
       let v = are.table in

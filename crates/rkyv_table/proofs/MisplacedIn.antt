@@ -1,4 +1,5 @@
 -- The steps of counting misplaced items.
+use Rattle.rkyv_base.specs.declared.width.Word.{Ghosts as Words}
 use Rattle.std.proofs.Common.{◌≡◌, ℕ, suc, ◌+◌, refl, sym, ap, subst, ◌∙◌, arith, List, ◌∷◌, Bool, true, false, not, length, filter, Option}
 use Rattle.std.specs.Int.{Width}
 use Rattle.rkyv_base.specs.Shape.{Shape}
@@ -16,7 +17,7 @@ pub count_passed : (P : ℕ → Bool) (x : ℕ) (xs rest : List ℕ) → xs ≡ 
 count_passed P x xs rest e f = ap (λ ys. length (filter P ys)) e ∙ rw f refl
 
 -- what one lookup tells of its bucket
-module _ {T W : Type 0} (kind : Kind) (w : Width) (s : Shape) (read self : ArchivedHashTable T W) (one : read ≡ self) (hashes : View T → ℕ → Type 0) (compares : View T → View T → Bool → Type 0)
+module _ {T W : Type 0} {wt : Words W} (kind : Kind) (w : Width) (s : Shape) (read self : ArchivedHashTable T W wt) (one : read ≡ self) (hashes : View T → ℕ → Type 0) (compares : View T → View T → Bool → Type 0)
     (bucket hash : ℕ) (item : View T) (is : IsItemIn w s read bucket item) (hashed : hashes item hash) (result : Option ℕ) (finds : FindsOwn compares kind w s read hash bucket result) where
   pub bucket_told : (hash_of : ℕ → ℕ) (same : ℕ → ℕ → Bool) → HashesAs hashes w s self hash_of → ComparesAs compares w s self same
       → not (is_answer bucket result) ≡ bucket_misplaced kind w s self hash_of same bucket
@@ -28,7 +29,7 @@ module _ {T W : Type 0} (kind : Kind) (w : Width) (s : Shape) (read self : Archi
       ap (λ o. not (is_answer bucket o)) (found ∙ ap (λ z. bucket_found kind w s.size (table_bytes self) (table_pos self) z (same (at bucket))) under)
 
 -- what is counted and what is left make up all misplaced items
-module _ {T W : Type 0} (kind : Kind) (w : Width) (s : Shape) (t : ArchivedHashTable T W) (hashes : View T → ℕ → Type 0) (compares : View T → View T → Bool → Type 0) where
+module _ {T W : Type 0} {wt : Words W} (kind : Kind) (w : Width) (s : Shape) (t : ArchivedHashTable T W wt) (hashes : View T → ℕ → Type 0) (compares : View T → View T → Bool → Type 0) where
   abbrev pub Counting : ℕ → List ℕ → Type 0
   Counting count left = (hash_of : ℕ → ℕ) (same : ℕ → ℕ → Bool) → HashesAs hashes w s t hash_of → ComparesAs compares w s t same
       → count + length (filter (bucket_misplaced kind w s t hash_of same) left) ≡ table_misplaced kind w s t hash_of same

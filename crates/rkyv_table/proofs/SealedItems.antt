@@ -1,13 +1,14 @@
 -- The steps of a cursor that lends items to be written.
+use Rattle.rkyv_base.specs.declared.width.Word.{Ghosts as Words}
 use Rattle.std.proofs.Common.{◌≡◌, ℕ, ◌+◌, ◌-◌, ◌*◌, ◌<◌, ◌≤◌, suc, inl, inr, refl, sym, ap, subst, ◌∙◌, arith, List, [], ◌∷◌, length, slice_index, slice_range, take, drop, get_or-take}
 use Rattle.std.specs.Int.{Width}
 use Rattle.std.proofs.lemmas.Bool.{cases_eq, le-ltb, lt-ltb}
 use Rattle.rkyv_base.specs.Shape.{IsElement, Shape, Viewed}
 use Rattle.rkyv_scan.specs.Groups.{is_full}
-use Rattle.rkyv_table.specs.Table.Header.{cap_at, len_at}
+use Rattle.rkyv_table.specs.Table.Header.{cap_at, controls_pos, len_at}
 use Rattle.rkyv_table.specs.Controls.Numbers.{control_count}
 use Rattle.rkyv_table.specs.Table.RawItems.{pos_before}
-use Rattle.rkyv_table.specs.Table.Reading.{AreItems, IsWalked, controls_pos, item_at, table_bytes, table_controls, table_pos}
+use Rattle.rkyv_table.specs.Table.Reading.{AreItems, IsWalked, item_at, table_bytes, table_controls, table_pos}
 use Rattle.rkyv_table.specs.Table.SealedLookup.{IsReadAt, IsTableSeal}
 use Rattle.rkyv_table.specs.declared.table.TableOf.{TableOf}
 use Rattle.rkyv_table.specs.declared.table.items.Items.{Items}
@@ -140,7 +141,7 @@ module _ {T : Type 0} (w : Width) (s : Shape) (law : IsElement s) (p : ℕ) (r :
   begun left place = record { table = view; cap = cap; place = place; left = left ∙ sym (walk_count w s law r.archive.now p view) ∙ ap length (sym all_left) }
 
 -- a cursor with the numbers that were read of a header
-module _ {T W : Type 0} (w : Width) (s : Shape) (law : IsElement s) (a : ArchiveSeal (TableOf T W)) (stands : IsTableSeal w s a) (items : Items T W) (are : AreItems w s items)
+module _ {T W : Type 0} {wt : Words W} (w : Width) (s : Shape) (law : IsElement s) (a : ArchiveSeal (TableOf T W)) (stands : IsTableSeal w s a) (items : Items T W wt) (are : AreItems w s items)
     (read : IsReadAt a items.table) (r : RawIterSeal T) (bytes : r.archive.now ≡ archive_in a) (place : r.place ≡ items.place) (cap : r.cap ≡ items.cap) (left : r.left ≡ items.len) (next : r.next ≡ 0) where
   as_read : (F : List ℕ → ℕ → ℕ) → F (table_bytes items.table) (table_pos items.table) ≡ F r.archive.now (pos_in a)
   as_read F = ap (λ b. F b (table_pos items.table)) (read.0 ∙ sym bytes) ∙ ap (F r.archive.now) read.1

@@ -1,4 +1,5 @@
 -- What a lookup tells of the table that is read tells of the seal.
+use Rattle.rkyv_base.specs.declared.width.Word.{Ghosts as Words}
 use Rattle.std.proofs.Common.{◌≡◌, ℕ, sym, subst, Bool, List, Option}
 use Rattle.std.specs.Int.{Width}
 use Rattle.std.specs.List.{find}
@@ -14,10 +15,11 @@ use Rattle.rkyv_table.specs.Table.SealedLookup.{IsItemSeal, IsReadAt, IsTableSea
 use Rattle.rkyv_table.specs.Table.Layout.{table_shape}
 use Rattle.rkyv_table.specs.declared.table.ArchivedHashTable.{ArchivedHashTable}
 use Rattle.rkyv_table.specs.declared.table.TableOf.{TableOf}
+use Rattle.rkyv_table.proofs.Bare.{answers_of}
 use Rattle.rkyv_table.proofs.Items.{item_viewed}
 use Rattle.rkyv_table.proofs.SealedTable.{table_kept}
 
-module _ {T W : Type 0} (w : Width) (s : Shape) (law : IsElement s) (a : ArchiveSeal (TableOf T W)) (t : ArchivedHashTable T W) (read : IsReadAt a t) (stands : IsTableSeal w s a) where
+module _ {T W : Type 0} {wt : Words W} (w : Width) (s : Shape) (law : IsElement s) (a : ArchiveSeal (TableOf T W)) (t : ArchivedHashTable T W wt) (read : IsReadAt a t) (stands : IsTableSeal w s a) where
   pub table_stands : IsTable w s t
   table_stands = subst (λ b. Viewed (table_shape w s) b t.view.pos) (sym read.0) (subst (Viewed (table_shape w s) (archive_in a)) (sym read.1) stands)
 
@@ -45,9 +47,9 @@ module _ {T W : Type 0} (w : Width) (s : Shape) (law : IsElement s) (a : Archive
     pub seals_found : (kind : Kind) → FindsFound post kind w s t hash result → SealsFound post kind w s a hash result
     seals_found kind found accept answers =
         let P = λ (b : List ℕ) (p : ℕ). result ≡ pos_found kind w s.size b p hash accept in
-        subst (P (archive_in a)) read.1 (subst (λ b. P b t.view.pos) read.0 (found accept (answers t read)))
+        subst (P (archive_in a)) read.1 (subst (λ b. P b t.view.pos) read.0 (found accept (answers_of w s (archive_in a) (pos_in a) t read.0 read.1 post accept answers)))
 
     pub seals_first : FindsFirst post w s t hash result → SealsFirst post w s a hash result
     seals_first first hashes homes accept written answers under =
         let P = λ (b : List ℕ) (p : ℕ). WrittenAt w b p hashes homes → IsUnderHash hash hashes (home_positions w s.size b p homes) accept → result ≡ find accept (home_positions w s.size b p homes) in
-        subst (P (archive_in a)) read.1 (subst (λ b. P b t.view.pos) read.0 (λ x y. first hashes homes accept x (answers t read) y)) written under
+        subst (P (archive_in a)) read.1 (subst (λ b. P b t.view.pos) read.0 (λ x y. first hashes homes accept x (answers_of w s (archive_in a) (pos_in a) t read.0 read.1 post accept answers) y)) written under

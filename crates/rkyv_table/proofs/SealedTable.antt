@@ -12,11 +12,11 @@ use Rattle.rkyv_base.specs.Shape.{IsElement, Shape, Viewed}
 use Rattle.rkyv_base.proofs.Sealing.{entry_kept, holds_elsewhere, same_outside, sealed_wider}
 use Rattle.rkyv_table.proofs.SameTable.{written_there}
 use Rattle.rkyv_table.proofs.Items.{item_viewed, part_of}
-use Rattle.rkyv_table.specs.Table.Reading.{IsWalked, WrittenAt, bucket_found, controls_pos, item_at, table_controls}
+use Rattle.rkyv_table.specs.Table.Reading.{IsWalked, WrittenAt, bucket_found, item_at, table_controls}
+use Rattle.rkyv_table.specs.Table.Header.{begin_told, cap_at, controls_pos, len_at}
 use Rattle.rkyv_table.specs.Table.SealedTable.{KeepsTable, SameValue}
 use Rattle.rkyv_scan.specs.Groups.{Kind, is_full}
 use Rattle.rkyv_table.specs.Controls.Finding.{found}
-use Rattle.rkyv_table.specs.Table.Header.{begin_told, cap_at, len_at}
 use Rattle.rkyv_table.specs.Lemmas.ItemPositions.{HeldPart, bucket_holds_within, told_controls, told_item, told_pos}
 use Rattle.rkyv_table.specs.Controls.Numbers.{control_count}
 use Rattle.rkyv_table.specs.Table.Places.{AllHold}

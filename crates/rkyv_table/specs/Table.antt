@@ -3,7 +3,7 @@ pub mod Header
 pub mod Places
 pub mod Layout
 pub mod Reading
-pub mod Finder
+pub mod Decoded
 pub mod Lending
 pub mod Slots
 pub mod Taking

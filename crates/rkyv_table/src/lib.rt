@@ -5,7 +5,6 @@ pub mod controls;
 pub mod table;
 
 pub use controls::find::Strides;
-pub use table::finder::TableFinder;
 pub use table::raw_iter::RawIter;
 pub use table::raw_iter_seal::RawIterSeal;
 pub use table::resolve::HashTableResolver;

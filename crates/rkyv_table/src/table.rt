@@ -1,9 +1,10 @@
 //! Tables of items.
+ghost use Rattle.rkyv_table.specs.Table.Decoded.{IsDecoded, decoded_prop};
 
 mod buckets;
 mod bytes;
+pub mod decoded;
 mod element;
-pub mod finder;
 mod hands_in;
 mod header;
 pub(crate) mod items;
@@ -23,8 +24,10 @@ mod take_two;
 mod verify;
 pub mod written;
 
+use crate::table::decoded::Decoded;
 use rkyv_base::view::View;
-use rkyv_base::width::Narrow;
+use rkyv_base::width::{Narrow, Word};
+use std::alloc::AllocError;
 use std::marker::PhantomData;
 
 /// The header of a table of T, in an archive of the width W.
@@ -34,7 +37,19 @@ pub struct TableOf<T, W = Narrow> {
 }
 
 /// A table of T that is read in place, in an archive of the width W.
-#[derive_where(Clone, Copy)]
-pub struct ArchivedHashTable<'a, T, W = Narrow> {
+///
+/// It holds its decoded header, and takes 56 bytes.
+pub struct ArchivedHashTable<'a, T, W: Word = Narrow> {
     view: View<'a, TableOf<T, W>>,
+    header: Decoded,
+    ghost decoded: { IsDecoded W.word view.archive.now view.pos header } by { decoded_prop W.word view.archive.now view.pos header },
 }
+
+impl<'a, T, W: Word> Clone for ArchivedHashTable<'a, T, W> {
+    #[inline]
+    fn clone(&self) -> Result<ArchivedHashTable<'a, T, W>, AllocError> {
+        Ok(*self)
+    }
+}
+
+impl<'a, T, W: Word> Copy for ArchivedHashTable<'a, T, W> {}

@@ -12,7 +12,7 @@ use Rattle.rkyv_base.specs.Bytes.{Same, number_at, same_part}
 use Rattle.rkyv_base.specs.Parts.{part_clear, part_one, part_one_failure, part_wider}
 use Rattle.rkyv_base.specs.Shape.{Shape, IsElement, IsAlign}
 use Rattle.rkyv_base.specs.Text.{IsArchiveWord, by_archive_word}
-use Rattle.rkyv_table.specs.Table.Header.{cap_at, len_at}
+use Rattle.rkyv_table.specs.Table.Header.{cap_at, controls_pos, len_at}
 use Rattle.rkyv_table.specs.Controls.Numbers.{control_count}
 use Rattle.rkyv_table.specs.Lemmas.ItemPositions.{HoldsWithin, holds_at, item_holds}
 use Rattle.rkyv_table.specs.Lemmas.ItemPositions.{within_lower}
@@ -21,7 +21,7 @@ use Rattle.rkyv_table.specs.Lemmas.PlaceLaws.{AllBelow, all_between, all_clear, 
 use Rattle.rkyv_table.specs.Lemmas.PlaceLaws.{all_one_failure}
 use Rattle.rkyv_table.specs.Table.Places.{AllHold, FirstFails}
 use Rattle.rkyv_table.specs.Controls.Placing.{walk}
-use Rattle.rkyv_table.specs.Table.Reading.{IsWalked, controls_pos, item_at, item_positions}
+use Rattle.rkyv_table.specs.Table.Reading.{IsWalked, item_at, item_positions}
 use Rattle.rkyv_table.specs.Table.Reading.{table_controls}
 use Rattle.rkyv_table.specs.Lemmas.SameHeader.{cap_same, item_same, len_same, pos_same}
 use Rattle.rkyv_table.specs.Table.Layout.{TableHolds, table_shape}

@@ -12,12 +12,12 @@ use Rattle.rkyv_base.specs.Bytes.{signed_at}
 use Rattle.rkyv_base.specs.Parts.{PartIn}
 use Rattle.rkyv_base.specs.Shape.{IsElement, Shape}
 use Rattle.rkyv_scan.specs.Groups.{is_full}
-use Rattle.rkyv_table.specs.Table.Header.{begin_told, cap_at, len_at}
+use Rattle.rkyv_table.specs.Table.Header.{begin_told, cap_at, controls_pos, len_at}
 use Rattle.rkyv_table.specs.Controls.Numbers.{control_count}
 use Rattle.rkyv_table.specs.Lemmas.PlaceLaws.{all_between}
 use Rattle.rkyv_table.specs.Table.Places.{AllHold}
 use Rattle.rkyv_table.specs.Controls.Placing.{walk}
-use Rattle.rkyv_table.specs.Table.Reading.{IsWalked, controls_pos, item_at, table_controls}
+use Rattle.rkyv_table.specs.Table.Reading.{IsWalked, item_at, table_controls}
 use Rattle.rkyv_table.specs.Table.Layout.{IsPart, ItemsHold, TableHolds, bucket_at, controls_at}
 use Rattle.rkyv_table.specs.Table.Layout.{part_size}
 use Rattle.rkyv_table.specs.Lemmas.TableLaws.{bucket_inside}

@@ -1,5 +1,5 @@
 -- The header of a table: a distance, the length and the capacity, each of one word.
-use Rattle.std.specs.Prelude.{◌≡◌, ℕ, ◌+◌, ◌*◌, ◌<◌, ◌⊎◌, ℤ, pos, ◌+ℤ◌, ◌-ℤ◌, FitsSigned, List}
+use Rattle.std.specs.Prelude.{◌≡◌, ℕ, ◌+◌, ◌*◌, ◌<◌, ◌⊎◌, ℤ, pos, unsigned_abs, ◌+ℤ◌, ◌-ℤ◌, FitsSigned, List}
 use Rattle.std.specs.Prelude.{◌++◌, MatchResult, Result}
 use Rattle.std.specs.Int.{Width, byte_len, to_le_bytes, cast_unsigned}
 use Rattle.rkyv_base.specs.Bytes.{number_at, signed_at}
@@ -12,6 +12,10 @@ len_at w b p = number_at w b (p + byte_len w)
 -- how many buckets the header at p tells
 abbrev pub cap_at : Width → List ℕ → ℕ → ℕ
 cap_at w b p = number_at w b (p + 2 * byte_len w)
+
+-- the position of the first control byte, of the header at position `p` of the bytes `b`
+abbrev pub controls_pos : Width → List ℕ → ℕ → ℕ
+controls_pos w b p = unsigned_abs (pos p +ℤ signed_at w b p)
 
 -- where it tells that the buckets begin, of items of this size
 abbrev pub begin_told : Width → ℕ → List ℕ → ℕ → ℤ

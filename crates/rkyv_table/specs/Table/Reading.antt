@@ -1,28 +1,24 @@
 -- What an accepted table shows: where its controls and items stand, and what a lookup in it
 -- answers.
 use Rattle.std.specs.Prelude.{◌≡◌, ℕ, ◌+◌, ◌-◌, ◌*◌, ◌/◌, ◌<◌, ◌^◌, ◌⊎◌, List, [], Bool, true}
-use Rattle.std.specs.Prelude.{Option, IfSome, pos, ◌+ℤ◌, unsigned_abs, slice_range, length, map}
+use Rattle.std.specs.Prelude.{Option, IfSome, slice_range, length, map}
 use Rattle.std.specs.Int.{Width}
 use Rattle.std.specs.List.{find}
 use Rattle.std.specs.Option.{option_map}
-use Rattle.rkyv_base.specs.Bytes.{signed_at}
 use Rattle.rkyv_base.specs.Shape.{Shape}
 use Rattle.rkyv_base.specs.View.{IsView, bytes_of, pos_of}
 use Rattle.rkyv_base.specs.declared.view.View.{View}
+use Rattle.rkyv_base.specs.declared.width.Word.{Ghosts as Words}
 use Rattle.rkyv_scan.specs.Groups.{Kind}
 use Rattle.rkyv_table.specs.Controls.Shown.{IsFullBucket}
 use Rattle.rkyv_table.specs.Controls.Finding.{ReadsWithin, end, found}
-use Rattle.rkyv_table.specs.Table.Header.{cap_at, len_at}
+use Rattle.rkyv_table.specs.Table.Header.{cap_at, controls_pos, len_at}
 use Rattle.rkyv_table.specs.Controls.Laws.{AreHashes, IsUnderHash}
 use Rattle.rkyv_table.specs.Controls.Numbers.{control_count, probe_capacity}
 use Rattle.rkyv_table.specs.Controls.Placing.{Written, walk}
 use Rattle.rkyv_table.specs.Table.Layout.{table_shape}
 use Rattle.rkyv_table.specs.declared.table.ArchivedHashTable.{ArchivedHashTable}
 use Rattle.rkyv_table.specs.declared.table.items.Items.{Items}
-
--- where the first control stands
-abbrev pub controls_pos : Width → List ℕ → ℕ → ℕ
-controls_pos w b p = unsigned_abs (pos p +ℤ signed_at w b p)
 
 -- the controls of the table whose header stands at p
 abbrev pub table_controls : Width → List ℕ → ℕ → List ℕ
@@ -72,19 +68,19 @@ abbrev pub home_positions : Width → ℕ → List ℕ → ℕ → List ℕ → 
 home_positions w size b p homes = map (item_at w size b p) homes
 
 -- the header of a table of such items stands where the table is
-abbrev pub IsTable : {T W : Type 0} → Width → Shape → ArchivedHashTable T W → Type 0
+abbrev pub IsTable : {T W : Type 0} {wt : Words W} → Width → Shape → ArchivedHashTable T W wt → Type 0
 IsTable w s t = IsView (table_shape w s) t.view
 
 -- the archive of the table, and the position of its header
-abbrev pub table_bytes : {T W : Type 0} → ArchivedHashTable T W → List ℕ
+abbrev pub table_bytes : {T W : Type 0} {wt : Words W} → ArchivedHashTable T W wt → List ℕ
 table_bytes t = bytes_of t.view
 
 -- the position of the table's header
-abbrev pub table_pos : {T W : Type 0} → ArchivedHashTable T W → ℕ
+abbrev pub table_pos : {T W : Type 0} {wt : Words W} → ArchivedHashTable T W wt → ℕ
 table_pos t = pos_of t.view
 
 -- the view is that of the item in bucket i of the table
-pub record IsItemIn {T W : Type 0} (w : Width) (s : Shape) (t : ArchivedHashTable T W) (i : ℕ)
+pub record IsItemIn {T W : Type 0} {wt : Words W} (w : Width) (s : Shape) (t : ArchivedHashTable T W wt) (i : ℕ)
     (v : View T) : Type 0 where
   pub archive : v.archive ≡ t.view.archive
   pub viewed : IsView s v
@@ -92,41 +88,41 @@ pub record IsItemIn {T W : Type 0} (w : Width) (s : Shape) (t : ArchivedHashTabl
   pub place : v.pos ≡ item_at w s.size (table_bytes t) (table_pos t) i
 
 -- the view is that of an item of the table
-abbrev pub IsItem : {T W : Type 0} → Width → Shape → ArchivedHashTable T W → View T → Type 0
+abbrev pub IsItem : {T W : Type 0} {wt : Words W} → Width → Shape → ArchivedHashTable T W wt → View T → Type 0
 IsItem w s t v = (i : ℕ) × IsItemIn w s t i v
 
 -- position q is that of an item of the table
-abbrev pub IsItemPos : {T W : Type 0} → Width → Shape → ArchivedHashTable T W → ℕ → Type 0
+abbrev pub IsItemPos : {T W : Type 0} {wt : Words W} → Width → Shape → ArchivedHashTable T W wt → ℕ → Type 0
 IsItemPos w s t q = (i : ℕ) × IsWalked w (table_bytes t) (table_pos t) i
     × (q ≡ item_at w s.size (table_bytes t) (table_pos t) i)
 
 -- the comparison may be asked of each item
-abbrev pub MayAsk : {T W : Type 0} → (View T → Type 0) → Width → Shape → ArchivedHashTable T W
+abbrev pub MayAsk : {T W : Type 0} {wt : Words W} → (View T → Type 0) → Width → Shape → ArchivedHashTable T W wt
     → Type 0
 MayAsk {T} pre w s t = (v : View T) → IsItem w s t v → pre v
 
 -- at position q an item of the table stands of which the comparison answered true
-abbrev pub IsAcceptedAt : {T W : Type 0} → (View T → Bool → Type 0) → Width → Shape
-    → ArchivedHashTable T W → ℕ → Type 0
+abbrev pub IsAcceptedAt : {T W : Type 0} {wt : Words W} → (View T → Bool → Type 0) → Width → Shape
+    → ArchivedHashTable T W wt → ℕ → Type 0
 IsAcceptedAt {T} post w s t q = (v : View T) × IsItem w s t v × (v.pos ≡ q) × post v true
 
 -- of each item the comparison answers what accept tells of its position
-abbrev pub Answers : {T W : Type 0} → (View T → Bool → Type 0) → Width → Shape
-    → ArchivedHashTable T W → (ℕ → Bool) → Type 0
+abbrev pub Answers : {T W : Type 0} {wt : Words W} → (View T → Bool → Type 0) → Width → Shape
+    → ArchivedHashTable T W wt → (ℕ → Bool) → Type 0
 Answers {T} post w s t accept = (v : View T) (r : Bool) → IsItem w s t v → post v r
     → r ≡ accept v.pos
 
 -- what a lookup answers by position, on any accepted table
-abbrev pub FindsFound : {T W : Type 0} → (View T → Bool → Type 0) → Kind → Width → Shape
-    → ArchivedHashTable T W → ℕ → Option ℕ → Type 0
+abbrev pub FindsFound : {T W : Type 0} {wt : Words W} → (View T → Bool → Type 0) → Kind → Width → Shape
+    → ArchivedHashTable T W wt → ℕ → Option ℕ → Type 0
 FindsFound post kind w s t hash result =
     (accept : ℕ → Bool) → Answers post w s t accept
     → result ≡ pos_found kind w s.size (table_bytes t) (table_pos t) hash accept
 
 -- and on a written one, where only items under the asked hash are accepted: the first accepted one
 -- in the order handed in
-abbrev pub FindsFirst : {T W : Type 0} → (View T → Bool → Type 0) → Width → Shape
-    → ArchivedHashTable T W → ℕ → Option ℕ → Type 0
+abbrev pub FindsFirst : {T W : Type 0} {wt : Words W} → (View T → Bool → Type 0) → Width → Shape
+    → ArchivedHashTable T W wt → ℕ → Option ℕ → Type 0
 FindsFirst post w s t hash result =
     (hashes homes : List ℕ) (accept : ℕ → Bool)
     → WrittenAt w (table_bytes t) (table_pos t) hashes homes → Answers post w s t accept
@@ -134,14 +130,14 @@ FindsFirst post w s t hash result =
     → result ≡ find accept (home_positions w s.size (table_bytes t) (table_pos t) homes)
 
 -- a lookup raises the count of strides by exactly the number of the one at which it ends
-abbrev pub CountsEnd : {T W : Type 0} → (View T → Bool → Type 0) → Kind → Width → Shape
-    → ArchivedHashTable T W → ℕ → ℕ → ℕ → Type 0
+abbrev pub CountsEnd : {T W : Type 0} {wt : Words W} → (View T → Bool → Type 0) → Kind → Width → Shape
+    → ArchivedHashTable T W wt → ℕ → ℕ → ℕ → Type 0
 CountsEnd post kind w s t hash before after =
     (accept : ℕ → Bool) → Answers post w s t accept
     → after ≡ before + lookup_end kind w s.size (table_bytes t) (table_pos t) hash accept
 
 -- by at most one stride for each sixteen buckets, rounded up, whatever the comparison answers
-abbrev pub CountsWithin : {T W : Type 0} → Width → ArchivedHashTable T W → ℕ → ℕ → Type 0
+abbrev pub CountsWithin : {T W : Type 0} {wt : Words W} → Width → ArchivedHashTable T W wt → ℕ → ℕ → Type 0
 CountsWithin w t before after =
     ReadsWithin (len_at w (table_bytes t) (table_pos t))
     (probe_capacity (cap_at w (table_bytes t) (table_pos t)) / 16) before after
@@ -151,7 +147,7 @@ abbrev pub pos_of_found : {T : Type 0} → Option (View T) → Option ℕ
 pos_of_found found = option_map pos_of found
 
 -- what was read of the header of a table that stands
-pub record AreItems {T W : Type 0} (w : Width) (s : Shape) (items : Items T W) : Type 0 where
+pub record AreItems {T W : Type 0} {wt : Words W} (w : Width) (s : Shape) (items : Items T W wt) : Type 0 where
   pub table : IsTable w s items.table
   pub len : items.len ≡ len_at w (table_bytes items.table) (table_pos items.table)
   pub cap : items.cap ≡ cap_at w (table_bytes items.table) (table_pos items.table)
@@ -163,23 +159,23 @@ pub record AreItems {T W : Type 0} (w : Width) (s : Shape) (items : Items T W) :
 
 -- What a lookup by a comparison answers: an item of the table of which it answered true, on any
 -- accepted table the one to which the controls lead, and on a written one the first.
-pub record FindsItem {T W : Type 0} (post : View T → Bool → Type 0) (kind : Kind) (w : Width)
-    (s : Shape) (t : ArchivedHashTable T W) (hash : ℕ) (result : Option (View T)) : Type 0 where
+pub record FindsItem {T W : Type 0} {wt : Words W} (post : View T → Bool → Type 0) (kind : Kind) (w : Width)
+    (s : Shape) (t : ArchivedHashTable T W wt) (hash : ℕ) (result : Option (View T)) : Type 0 where
   pub walked : IfSome result (IsItem w s t)
   pub accepted : IfSome result (λ v. post v true)
   pub answer : FindsFound post kind w s t hash (pos_of_found result)
   pub first : FindsFirst post w s t hash (pos_of_found result)
 
 -- the same of the position of the item
-pub record FindsItemPos {T W : Type 0} (post : View T → Bool → Type 0) (kind : Kind) (w : Width)
-    (s : Shape) (t : ArchivedHashTable T W) (hash : ℕ) (result : Option ℕ) : Type 0 where
+pub record FindsItemPos {T W : Type 0} {wt : Words W} (post : View T → Bool → Type 0) (kind : Kind) (w : Width)
+    (s : Shape) (t : ArchivedHashTable T W wt) (hash : ℕ) (result : Option ℕ) : Type 0 where
   pub walked : IfSome result (IsItemPos w s t)
   pub accepted : IfSome result (IsAcceptedAt post w s t)
   pub answer : FindsFound post kind w s t hash result
   pub first : FindsFirst post w s t hash result
 
 -- how many strides such a lookup reads
-pub record CountsStrides {T W : Type 0} (post : View T → Bool → Type 0) (kind : Kind) (w : Width)
-    (s : Shape) (t : ArchivedHashTable T W) (hash before after : ℕ) : Type 0 where
+pub record CountsStrides {T W : Type 0} {wt : Words W} (post : View T → Bool → Type 0) (kind : Kind) (w : Width)
+    (s : Shape) (t : ArchivedHashTable T W wt) (hash before after : ℕ) : Type 0 where
   pub bounded : CountsWithin w t before after
   pub counted : CountsEnd post kind w s t hash before after

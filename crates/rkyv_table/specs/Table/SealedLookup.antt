@@ -1,4 +1,5 @@
 -- What a lookup answers that lends its item to be written.
+use Rattle.rkyv_base.specs.declared.width.Word.{Ghosts as Words}
 use Rattle.std.specs.Prelude.{◌≡◌, ℕ, Bool, List, Option}
 use Rattle.std.specs.Int.{Width}
 use Rattle.std.specs.List.{find}
@@ -10,7 +11,8 @@ use Rattle.rkyv_base.specs.declared.seal.Seal.{Seal}
 use Rattle.rkyv_base.specs.declared.view.View.{View}
 use Rattle.rkyv_scan.specs.Groups.{Kind}
 use Rattle.rkyv_table.specs.Controls.Laws.{IsUnderHash}
-use Rattle.rkyv_table.specs.Table.Reading.{Answers, IsWalked, MayAsk, WrittenAt, home_positions}
+use Rattle.rkyv_table.specs.Table.Reading.{IsWalked, WrittenAt, home_positions}
+use Rattle.rkyv_table.specs.Table.Bare.{AnswersOf, MayAskOf}
 use Rattle.rkyv_table.specs.Table.Reading.{item_at, pos_found, table_bytes, table_pos}
 use Rattle.rkyv_table.specs.Table.SealedTable.{KeptByWrites}
 use Rattle.rkyv_table.specs.Table.Layout.{table_shape}
@@ -22,19 +24,19 @@ abbrev pub IsTableSeal : {T W : Type 0} → Width → Shape → ArchiveSeal (Tab
 IsTableSeal w s a = Viewed (table_shape w s) (archive_in a) (pos_in a)
 
 -- the table is read where the seal is
-abbrev pub IsReadAt : {T W : Type 0} → ArchiveSeal (TableOf T W) → ArchivedHashTable T W → Type 0
+abbrev pub IsReadAt : {T W : Type 0} {wt : Words W} → ArchiveSeal (TableOf T W)
+    → ArchivedHashTable T W wt → Type 0
 IsReadAt a t = (table_bytes t ≡ archive_in a) × (table_pos t ≡ pos_in a)
 
 -- the comparison may be asked of each item
 abbrev pub MayAskAt : {T W : Type 0} → (View T → Type 0) → Width → Shape → ArchiveSeal (TableOf T W)
     → Type 0
-MayAskAt {T} {W} pre w s a = (t : ArchivedHashTable T W) → IsReadAt a t → MayAsk pre w s t
+MayAskAt pre w s a = MayAskOf pre w s (archive_in a) (pos_in a)
 
 -- of each item the comparison answers what accept tells of its position
 abbrev pub AnswersAt : {T W : Type 0} → (View T → Bool → Type 0) → Width → Shape
     → ArchiveSeal (TableOf T W) → (ℕ → Bool) → Type 0
-AnswersAt {T} {W} post w s a accept = (t : ArchivedHashTable T W) → IsReadAt a t
-    → Answers post w s t accept
+AnswersAt post w s a accept = AnswersOf post w s (archive_in a) (pos_in a) accept
 
 -- the seal is at an item of the table, and each write through it alone that keeps the item keeps
 -- the table

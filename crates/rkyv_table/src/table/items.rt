@@ -10,15 +10,15 @@ ghost use Rattle.rkyv_base.specs.declared.view.View.{View};
 use crate::controls::find::{Strides, find_from};
 use crate::controls::walk::Walk;
 use crate::table::ArchivedHashTable;
-use crate::table::header::{controls_from, controls_pos, read_header};
+use crate::table::header::controls_from;
 use rkyv_base::element::Element;
 use rkyv_base::view::View;
-use rkyv_base::width::Width;
+use rkyv_base::width::{Width, Word};
 use rkyv_scan::simd::GroupKind;
+use std::alloc::AllocError;
 
-/// A table and what its header tells.
-#[derive_where(Clone, Copy)]
-pub(crate) struct Items<'a, T, W> {
+/// A table with its control bytes.
+pub(crate) struct Items<'a, T, W: Word> {
     pub(crate) table: ArchivedHashTable<'a, T, W>,
     /// Where the first control stands; of no meaning where there are no buckets.
     pub(crate) place: usize,
@@ -28,34 +28,39 @@ pub(crate) struct Items<'a, T, W> {
     pub(crate) cap: usize,
 }
 
+impl<'a, T, W: Word> Clone for Items<'a, T, W> {
+    #[inline]
+    fn clone(&self) -> Result<Items<'a, T, W>, AllocError> {
+        Ok(*self)
+    }
+}
+
+impl<'a, T, W: Word> Copy for Items<'a, T, W> {}
+
 impl<'a, T: Element, W: Width> Items<'a, T, W> {
-    /// Those of a table, whose header is read once.
+    /// Returns a table with its control bytes.
     #[inline]
     pub(crate) fn of(table: ArchivedHashTable<'a, T, W>) -> Items<'a, T, W>
         requires { IsTable W.word T.shape table }
         ensures items { AreItems W.word T.shape result }
         ensures table { result.table ≡ table.entry }
     {
-        let archive = table.view.bytes();
-        let pos = table.view.pos();
-        let header = read_header::<W>(archive, pos);
-        let (len, cap) = (header.len as usize, header.cap as usize);
-        if cap == 0 {
+        let header = table.header;
+        if header.cap == 0 {
             return Items {
                 table,
                 place: 0,
                 controls: &[],
-                len,
-                cap,
+                len: header.len,
+                cap: header.cap,
             };
         }
-        let place = controls_pos(pos, header);
         Items {
             table,
-            place,
-            controls: controls_from(archive, place, cap),
-            len,
-            cap,
+            place: header.controls_pos,
+            controls: controls_from(table.view.bytes(), header.controls_pos, header.cap),
+            len: header.len,
+            cap: header.cap,
         }
     }
 

@@ -5,7 +5,6 @@ ghost use Rattle.rkyv_table.specs.Table.Reading.{CountsStrides, FindsItem, Finds
 ghost use Rattle.rkyv_table.specs.Table.Reading.{MayAsk, pos_of_found};
 
 use crate::controls::find::Strides;
-use crate::controls::numbers::start;
 use crate::table::ArchivedHashTable;
 use crate::table::items::Items;
 use rkyv_base::element::Element;
@@ -54,7 +53,7 @@ impl<'a, T: Element, W: Width> ArchivedHashTable<'a, T, W> {
         ensures { FindsItem (F.post cmp) G.kind W.word T.shape self.entry hash result }
     {
         let items = Items::of(self);
-        items.find::<G, F>(start(hash, items.cap), hash, cmp, &mut Strides::new())
+        items.find::<G, F>(self.start(hash), hash, cmp, &mut Strides::new())
     }
 
     /// As `get_with`, but answers where the item stands.
@@ -83,6 +82,6 @@ impl<'a, T: Element, W: Width> ArchivedHashTable<'a, T, W> {
             strides.old strides.new }
     {
         let items = Items::of(self);
-        items.find::<Group, F>(start(hash, items.cap), hash, cmp, strides)
+        items.find::<Group, F>(self.start(hash), hash, cmp, strides)
     }
 }

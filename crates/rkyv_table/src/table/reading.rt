@@ -1,13 +1,17 @@
 //! Reading a table in place.
-ghost use Rattle.std.specs.Prelude.{IsTrue, MatchResult, length, ◌%◌, ◌*◌, ◌+◌, ◌↔◌, ◌≡◌, ◌≤◌};
+ghost use Rattle.std.specs.Prelude.{IsTrue, MatchResult, length, ◌%◌, ◌*◌, ◌+◌, ◌<◌, ◌↔◌, ◌≡◌};
+ghost use Rattle.std.specs.Prelude.{◌≤◌};
 ghost use Rattle.std.specs.Int.{byte_len};
 ghost use Rattle.rkyv_base.specs.Checking.{Fails, Passes};
-ghost use Rattle.rkyv_base.specs.View.{IsView};
+ghost use Rattle.rkyv_base.specs.View.{IsView, bytes_of, pos_of};
+ghost use Rattle.rkyv_table.specs.Table.Decoded.{IsDecoded};
 ghost use Rattle.rkyv_table.specs.Table.Header.{cap_at, len_at};
 ghost use Rattle.rkyv_table.specs.Table.Reading.{IsTable, table_bytes, table_pos};
 ghost use Rattle.rkyv_table.specs.Table.Layout.{table_shape};
 
-use crate::table::header::read_header;
+use crate::controls::reciprocal::Reciprocal;
+use crate::table::decoded::Decoded;
+use crate::table::header::{controls_pos, read_header};
 use crate::table::verify::verify_by;
 use crate::table::{ArchivedHashTable, TableOf};
 use rkyv_base::element::{Element, PartRange};
@@ -40,41 +44,106 @@ impl<'a, T: Element, W: Width> ArchivedHashTable<'a, T, W> {
         verify_by::<Group, W, T>(bytes, pos, range)
     }
 
-    /// The table whose header is viewed.
+    /// Returns the table at a view of its header, which is decoded here, once.
     #[inline]
     pub fn of(view: View<'a, TableOf<T, W>>) -> ArchivedHashTable<'a, T, W>
+        requires { IsView (table_shape W.word T.shape) view }
         ensures view { result.view ≡ view.entry }
-        ensures table { IsView (table_shape W.word T.shape) view.entry
-            → IsTable W.word T.shape result }
+        ensures table { IsTable W.word T.shape result }
     {
-        ArchivedHashTable { view }
+        ArchivedHashTable {
+            view,
+            header: decode::<T, W>(view),
+        }
     }
 
-    /// Whether it has no items.
+    /// Returns the table at a view of its header, which was decoded before.
+    #[inline]
+    pub fn with_header(
+        view: View<'a, TableOf<T, W>>,
+        header: Decoded,
+    ) -> ArchivedHashTable<'a, T, W>
+        requires view { IsView (table_shape W.word T.shape) view }
+        requires header { IsDecoded W.word (bytes_of view) (pos_of view) header }
+        ensures view { result.view ≡ view.entry }
+        ensures table { IsTable W.word T.shape result }
+    {
+        ArchivedHashTable { view, header }
+    }
+
+    /// Returns its decoded header.
+    #[inline]
+    pub fn header(self) -> Decoded
+        ensures { IsDecoded W.word (table_bytes self.entry) (table_pos self.entry) result }
+    {
+        self.header
+    }
+
+    /// Returns true if it has no items.
     #[inline]
     pub fn is_empty(self) -> bool
-        requires { IsTable W.word T.shape self }
         ensures { IsTrue result ↔ (len_at W.word (table_bytes self.entry) (table_pos self.entry)
             ≡ 0) }
     {
-        self.len() == 0
+        self.header.len == 0
     }
 
-    /// How many items it has.
+    /// Returns the number of its items.
     #[inline]
     pub fn len(self) -> usize
-        requires { IsTable W.word T.shape self }
         ensures { result ≡ len_at W.word (table_bytes self.entry) (table_pos self.entry) }
     {
-        read_header::<W>(self.view.bytes(), self.view.pos()).len as usize
+        self.header.len
     }
 
-    /// How many buckets it has.
+    /// Returns the number of its buckets.
     #[inline]
     pub fn capacity(self) -> usize
-        requires { IsTable W.word T.shape self }
         ensures { result ≡ cap_at W.word (table_bytes self.entry) (table_pos self.entry) }
     {
-        read_header::<W>(self.view.bytes(), self.view.pos()).cap as usize
+        self.header.cap
+    }
+
+    /// Returns the bucket at which the probe sequence of a hash begins, if there are buckets.
+    #[inline]
+    pub(crate) fn start(self, hash: u64) -> usize
+        ensures { 0 < self.entry.header.cap → result ≡ hash % self.entry.header.cap }
+    {
+        self.header.reciprocal.rest(hash) as usize
+    }
+}
+
+// The capacity, or 1 if there are no buckets.
+#[inline]
+fn divisor_of(cap: usize) -> u64
+    ensures some { 0 < result }
+    ensures same { 0 < cap → result ≡ cap }
+{
+    if cap == 0 { 1 } else { cap as u64 }
+}
+
+// Decodes the header of a table; takes one division.
+#[inline]
+fn decode<T: Element, W: Width>(view: View<'_, TableOf<T, W>>) -> Decoded
+    requires { IsView (table_shape W.word T.shape) view }
+    ensures { IsDecoded W.word (bytes_of view.entry) (pos_of view.entry) result }
+{
+    let pos = view.pos();
+    let header = read_header::<W>(view.bytes(), pos);
+    let (len, cap) = (header.len as usize, header.cap as usize);
+    let reciprocal = Reciprocal::new(divisor_of(cap));
+    if cap == 0 {
+        return Decoded {
+            controls_pos: 0,
+            len,
+            cap,
+            reciprocal,
+        };
+    }
+    Decoded {
+        controls_pos: controls_pos(pos, header),
+        len,
+        cap,
+        reciprocal,
     }
 }

@@ -5,8 +5,7 @@ use Rattle.rkyv_base.specs.Entry.{entry_element, entry_shape}
 use Rattle.rkyv_base.specs.Shape.{IsElement, Shape, Viewed}
 use Rattle.rkyv_collections.specs.Map.{map_shape}
 use Rattle.rkyv_table.specs.Controls.Numbers.{control_count}
-use Rattle.rkyv_table.specs.Table.Header.{cap_at}
-use Rattle.rkyv_table.specs.Table.Reading.{controls_pos}
+use Rattle.rkyv_table.specs.Table.Header.{cap_at, controls_pos}
 use Rattle.rkyv_table.proofs.Items.{controls_inside}
 use Rattle.rkyv_c_calls.proofs.walk.controls_in.Goals as goal
 

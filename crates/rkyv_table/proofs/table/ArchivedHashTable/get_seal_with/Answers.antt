@@ -1,6 +1,7 @@
 use Rattle.std.proofs.Common.{refl, ap, ◌∙◌, ◌+◌, ◌≤◌, length, Some, None}
 use Rattle.rkyv_scan.specs.Groups.{generic_kind}
 use Rattle.rkyv_table.specs.Table.SealedLookup.{IsReadAt}
+use Rattle.rkyv_table.proofs.Bare.{may_ask}
 use Rattle.rkyv_table.proofs.SealedLookup.{item_seal, place_viewed, seals_first, seals_found, table_stands}
 use Rattle.rkyv_table.proofs.table.ArchivedHashTable.get_seal_with.Goals as goal
 
@@ -8,7 +9,7 @@ pub get_pos_with-requires : goal.get_pos_with-requires
 get_pos_with-requires g c κs =
     let read : IsReadAt c.args.this c.of.result = (ap (λ v. v.archive.now) c.of.ensures.view ∙ c.as_view.ensures.bytes, ap (λ v. v.pos) c.of.ensures.view ∙ c.as_view.ensures.pos) in (
       (refl, tt),
-      (table_stands g.W.Word.word g.T.Element.shape g.met.T.Element.laws c.args.this c.of.result read c.requires.table, c.requires.callable c.of.result read),
+      (table_stands g.W.Word.word g.T.Element.shape g.met.T.Element.laws c.args.this c.of.result read c.requires.table, may_ask g.W.Word.word g.T.Element.shape _ _ c.of.result read.0 read.1 _ c.requires.callable),
     )
 
 pub seal_at-requires : goal.seal_at-requires

@@ -1,0 +1,37 @@
+//! Headers of tables, decoded.
+ghost use Rattle.std.specs.Prelude.{◌≡◌};
+
+use crate::controls::reciprocal::Reciprocal;
+
+/// The decoded header of a table, with the reciprocal of its capacity.
+///
+/// A table, map or set decodes its header once. Its lookups then take no division.
+#[derive(Clone, Copy)]
+pub struct Decoded {
+    // The position of the first control byte; without meaning if there are no buckets.
+    pub(crate) controls_pos: usize,
+    // The number of items.
+    pub(crate) len: usize,
+    // The number of buckets.
+    pub(crate) cap: usize,
+    // Of the capacity; without meaning if there are no buckets.
+    pub(crate) reciprocal: Reciprocal,
+}
+
+impl Decoded {
+    /// Returns the number of items.
+    #[inline]
+    pub fn len(self) -> usize
+        ensures { result ≡ self.len }
+    {
+        self.len
+    }
+
+    /// Returns the number of buckets.
+    #[inline]
+    pub fn capacity(self) -> usize
+        ensures { result ≡ self.cap }
+    {
+        self.cap
+    }
+}
