@@ -1,4 +1,4 @@
--- That bytes are ASCII, by where a byte of 128 or more stands first.
+-- Bytes that are ASCII, by the first byte of 128 or more.
 use Rattle.std.proofs.Common.{◌≡◌, ℕ, ◌<◌, ◌≤◌, true, false, not, eqb, leb, List, length, get_or, take, Some, None, sym, ap, subst, ◌∙◌, arith, inl, inr}
 use Rattle.std.specs.List.{position, position_or_len}
 use Rattle.std.specs.Str.{IsAscii}
@@ -43,6 +43,6 @@ ends_in_ff xs at e ff =
     let first = position-Some (λ x. leb 128 x) xs at 0 (sym e) in
     none_high_before xs (position_or_len (λ x. eqb x 255) xs) (λ k l within. first.2 k (omega (arith, stops_there xs at ff)))
 
--- none is
+-- no byte is 128 or more
 pub ends_nowhere : (xs : List ℕ) → None ≡ position (λ x. leb 128 x) xs → IsAscii (inline_text xs)
 ends_nowhere xs e = none_high_before xs (position_or_len (λ x. eqb x 255) xs) (λ k l within. none_there (λ x. leb 128 x) xs e k within)

@@ -1,4 +1,4 @@
--- The first element of a list that passes, a stretch at a time.
+-- The first element of a list that passes a test, in steps over parts of the list.
 use Rattle.std.proofs.Common.{◌≡◌, ℕ, ◌+◌, ◌%◌, ◌<◌, ◌≤◌, ◌^◌, ◌-◌, Bool, true, false, not, cond, ltb, List, [], ◌∷◌, length, get_or, map, take, drop, replicate, Option, Some, None, refl, sym, ap, subst, ◌∙◌, arith, ⊎_elim, w8}
 use Rattle.std.specs.List.{position, prefix_len}
 use Rattle.std.specs.Option.{is_some}
@@ -14,7 +14,7 @@ use Rattle.std.proofs.lemmas.Simd.{mask_l-lt, mask_l-mod, leading_from_mask_l, t
 use lib.Lanes.{top, zip2}
 use lib.Count.{count_trailing_zeros}
 
--- none of the first n passes
+-- none of the first `n` elements passes
 abbrev pub NoneBelow : (ℕ → Bool) → List ℕ → ℕ → Type 0
 NoneBelow p xs n = (k : ℕ) → k < n → p (get_or xs k 0) ≡ false
 
@@ -28,14 +28,14 @@ splat_compared : (t : ℕ → ℕ → Bool) (y : ℕ) (xs : List ℕ) → zip2 t
 splat_compared t y [] = refl
 splat_compared t y (x ∷ xs) = ap (λ ms. t y x ∷ ms) (splat_compared t y xs)
 
--- `to_bitmask` of the comparison t of a splat with eight
+-- `to_bitmask` of the comparison `t` of a splat with eight bytes
 pub splat_bitmask : (t : ℕ → ℕ → Bool) (y : ℕ) (xs : List ℕ) → length xs ≡ 8
     → mask_l (map (top 7) (zip2 (λ a b. cond (t a b) (2 ^ 8 - 1) 0) (replicate 8 y) xs)) % 2 ^ 64 ≡ mask_l (map (t y) xs)
 splat_bitmask t y xs long =
     ap (λ ms. mask_l ms % 2 ^ 64) (tops_compared w8 t (replicate 8 y) xs ∙ ap (λ n. zip2 t (replicate n y) xs) (sym long) ∙ splat_compared t y xs)
     ∙ mask_l-mod (map (t y) xs) 64 (omega (arith, length-map xs (t y)))
 
--- of eight, by the mask of those that pass
+-- the first of eight that passes, by the mask of those that pass
 pub some_marked : (p : ℕ → Bool) (xs : List ℕ) → length xs ≡ 8 → (mask_l (map p xs) ≡ 0 → ⊥) → Some (count_trailing_zeros 64 (mask_l (map p xs))) ≡ position p xs
 some_marked p xs long some =
     let m = mask_l (map p xs) in
@@ -50,7 +50,7 @@ some_marked p xs long some =
 pub none_marked : (p : ℕ → Bool) (xs : List ℕ) → mask_l (map p xs) ≡ 0 → None ≡ position p xs
 none_marked p xs e = told_none p xs (leading_from_mask_l p xs e)
 
--- the stretch ys of xs from `at` on
+-- `ys`: part of `xs` from `at` on
 pub record IsStretch (xs ys : List ℕ) (at : ℕ) : Type 0 where
   pub inside : at + length ys ≤ length xs
   pub same : (k : ℕ) → k < length ys → get_or ys k 0 ≡ get_or xs (at + k) 0
@@ -74,7 +74,7 @@ both_below p xs ys at n s le before here k l =
     ap p (sym e) ∙ here (k - at) (omega arith))
     (cases_lt k at)
 
--- the first that passes of a stretch, before which none does
+-- the first element that passes is in a part, and none passes before it
 pub stretch_hit : (p : ℕ → Bool) (xs ys : List ℕ) (at n : ℕ) → IsStretch xs ys at → NoneBelow p xs at → Some n ≡ position p ys → Some (at + n) ≡ position p xs
 stretch_hit p xs ys at n s before e =
     let f = position-Some p ys n 0 (sym e) in
@@ -90,7 +90,7 @@ pub none_first : (p : ℕ → Bool) (xs : List ℕ) (n : ℕ) → length xs ≤ 
 none_first p xs n le below =
     told_none p xs (prefix_len_is (λ x. not (p x)) xs (length xs) 0 (omega arith) (λ k m. ap not (below k (omega arith))) (λ m. absurd (omega arith)))
 
--- of what is left from `at` on: eight, and all
+-- the next eight elements from `at` on, and all of them
 pub eight : (xs : List ℕ) (at : ℕ) → at + 8 ≤ length xs → length (take 8 (drop at xs)) ≡ 8
 eight xs at le = grind (arith, common_steps)
 

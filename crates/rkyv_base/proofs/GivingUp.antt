@@ -1,11 +1,11 @@
--- Writes in a row: what is appended, and what a later one tells when it gives up.
+-- Writes in a row: the appended bytes, and the error of a later write.
 use Rattle.std.specs.Prelude.{◌≡◌, ℕ, ◌+◌, ◌^◌, ◌-◌, min, List, [], ◌++◌, length, take}
 use Rattle.std.proofs.Common.{arith, refl, subst, sym, ◌∙◌, ap, inl, inr, append_assoc, append-nil, length-append}
 use Rattle.rkyv_base.specs.declared.errors.WriteError.{WriteError}
 use Rattle.rkyv_base.specs.declared.errors.WriteError.TheVariants.{InvalidLoadFactor, IteratorLengthMismatch, CapacityTooLarge, PositionTooLarge, DistanceTooLarge, TextTooLong, Writer, Memory, Refused}
 use Rattle.rkyv_base.specs.Writing.{Output, end_of, Appends, Grows, Told, CauseStands, FellIn, Reached, Step, Within, piece}
 
--- what was appended stands behind what stood before
+-- the appended bytes follow the earlier bytes
 pub grows : (o o1 : Output) (p : List ℕ) → Appends o o1 p → Grows o o1 p
 grows o o1 p a = record { start = a.start; bytes = a.bytes }
 
@@ -21,7 +21,7 @@ appends_after o o1 o2 p q a b =
     let g = grows_after o o1 o2 p q (grows o o1 p a) (grows o1 o2 q b) in
     record { start = g.start; bytes = g.bytes; failures = b.failures ∙ a.failures }
 
--- the end moves by the part
+-- the end moves by the length of the part
 pub end-grows : (o o1 : Output) (a : List ℕ) → Grows o o1 a → end_of o1 ≡ end_of o + length a
 end-grows o o1 a h = omega (arith, h.start, ap length h.bytes, length-append o.bytes a)
 
@@ -61,7 +61,7 @@ module _ (limit : ℕ) (next next' : List ℕ → Step → Type 0) (o o1 o2 : Ou
   cause_after Memory f g c = reached_after f _ g c
   cause_after (Refused n) f g c = reached_after f _ g c
 
--- what a later part tells stands for the whole
+-- the error of a later part is an error of the whole
 pub told_after : {F : Type 0} (limit : ℕ) (next next' : List ℕ → Step → Type 0) (o o1 o2 : Output) (p : List ℕ) (e : WriteError F)
     → Appends o o1 p → Within limit o1 p → ((f : List ℕ) (step : Step) → next' f step → next (p ++ f) step)
     → Told limit next' o1 o2 e → Told limit next o o2 e
@@ -75,7 +75,7 @@ told_after limit next next' o o1 o2 p e a inside hn t = record {
 pub none_appended : (o : Output) → Appends o o []
 none_appended o = record { start = refl; bytes = sym (append-nil o.bytes); failures = refl }
 
--- what comes next in one way comes next in another
+-- an error under one rule for the next step is an error under a wider one
 pub told_as : {F : Type 0} (limit : ℕ) (next next' : List ℕ → Step → Type 0) (o o' : Output) (e : WriteError F)
     → ((f : List ℕ) (step : Step) → next' f step → next f step) → Told limit next' o o' e → Told limit next o o' e
 told_as limit next next' o o' e hn t = told_after limit next next' o o o' [] e (none_appended o) (inl refl) hn t

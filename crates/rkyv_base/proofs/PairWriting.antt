@@ -1,4 +1,4 @@
--- Writing a pair: what its parts tell stands for the pair.
+-- Writing a pair: an error of its key or its value is an error of the pair.
 use Rattle.std.specs.Prelude.{◌≡◌, ℕ, ◌+◌, List, ◌++◌, length}
 use Rattle.std.proofs.Common.{refl, subst, inr}
 use Rattle.rkyv_base.specs.declared.errors.WriteError.{WriteError}
@@ -10,7 +10,7 @@ use Rattle.rkyv_base.specs.Pairs.{pair_format, PairNext}
 use Rattle.rkyv_base.specs.Writing.{Output, end_of, Appends, Within}
 use Rattle.rkyv_base.proofs.GivingUp.{appends_after, end-appends, grows, told_after, within_after}
 
--- what the value tells
+-- an error of the value
 pub value_gave_up : {F V W R Q : Type 0} (limit : ℕ) (k v : Shape) (kf : Format V R) (vf : Format W Q) (pair : V × W) (o o1 o2 : Output) (a : List ℕ) (r : R) (e : WriteError F)
     → IsSmall k v → Appends o o1 a → kf.parts pair.0 (end_of o) a r → Within limit o1 a → GaveUp limit vf pair.1 o1 o2 e → GaveUp limit (pair_format k v kf vf) pair o o2 e
 value_gave_up limit k v kf vf pair o o1 o2 a r e small h good inside t =

@@ -1,4 +1,4 @@
--- Writing a root, step by step: the parts, the zeros, the value.
+-- Writing a root, step by step: the parts, the zeros and the value.
 use Rattle.std.specs.Prelude.{◌≡◌, ℕ, ◌+◌, ◌-◌, ◌%◌, ◌≤◌, List, [], ◌++◌, length}
 use Rattle.std.proofs.Common.{refl, arith, subst, sym, ◌∙◌, ap, inl, inr, length-append, append_assoc}
 use Rattle.std.proofs.lemmas.List.{length-replicate, take_all, append-nil}
@@ -26,7 +26,7 @@ module _ (F : Type 0) {V R : Type 0} (limit align : ℕ) (f : Format V R) (v : V
   same_zeros : zeros (padding align (end_of o1)) ≡ zeros (padding align (end_of o + length part))
   same_zeros = ap (λ (n : ℕ). zeros (padding align n)) (end-appends o o1 part a)
 
-  -- what was appended before the value
+  -- the bytes appended before the value
   abbrev before : List ℕ
   before = part ++ zeros (padding align (end_of o1))
 
@@ -69,7 +69,7 @@ module _ (F : Type 0) {V R : Type 0} (limit align : ℕ) (f : Format V R) (v : V
       )
 
 module _ {V R : Type 0} (limit : ℕ) (s : Shape) (laws : IsElement s) (stands : List ℕ → ℕ → V → Type 0) (f : Format V R) (format : IsFormat s stands f) where
-  -- a written root holds and stands, wherever its bytes are kept
+  -- a written root is valid and represents the value, in any archive that has its bytes
   pub root_sound : (v : V) (c : List ℕ) (p root : ℕ) (bytes : List ℕ) → RootBytes s.align f v p bytes root → Sits c p bytes
       → (hi l : ℕ) × s.holds c root p hi l × (p ≤ hi) × (hi ≤ root) × (root + s.size ≡ p + length bytes) × (root % s.align ≡ 0) × stands c root v
   root_sound v c p root bytes b sits =
@@ -105,7 +105,7 @@ module _ {V R : Type 0} (limit : ℕ) (s : Shape) (laws : IsElement s) (stands :
         at,
       )
 
-  -- the archive of one value, from nothing
+  -- the archive of one value, written from position 0
   pub archive_made : (v : V) (o' : Output) (b : List ℕ) (root : ℕ) → WroteRoot limit s.align f v fresh o' root → b ≡ o'.bytes → ArchiveOf limit s stands f v b
   archive_made v o' b root w e =
       let same : b ≡ w.0 = e ∙ w.1.bytes in

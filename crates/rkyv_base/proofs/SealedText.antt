@@ -1,4 +1,4 @@
--- Inline text in upper case: nothing else changes, and it still holds.
+-- Inline text in upper case: no other byte changes, and the text stays valid.
 use Rattle.std.specs.Prelude.{◌≡◌, ℕ, suc, ◌+◌, ◌-◌, ◌≤◌, ◌==◌, ◌&&◌, Bool, true, false, nat_le, nat_lt, List, [], ◌∷◌, ◌++◌, length, map, take, drop}
 use Rattle.std.specs.List.{position_or_len}
 use Rattle.std.specs.Char.{to_ascii_uppercase}
@@ -16,7 +16,7 @@ use Rattle.rkyv_base.specs.Text.{fixed_bytes, inline_text, is_far, text_at, text
 use Rattle.rkyv_base.proofs.Uppercase.{utf8_raised}
 use Rattle.rkyv_base.proofs.Sealing.{joined, sealed_wider, with_bytes-rest, with_bytes-sealed}
 
--- the fixed bytes s, with the text before the first ff in upper case
+-- the fixed bytes `s`, with the text before the first ff in upper case
 abbrev raised_front : List ℕ → List ℕ
 raised_front s = map to_ascii_uppercase (inline_text s) ++ drop (length (inline_text s)) s
 
@@ -35,7 +35,7 @@ inline_goes_on x xs h =
     let e : 1 + n ≡ suc n = omega arith in
     rw (h, e) refl
 
--- what is then before the first ff
+-- the text before the first ff, after that
 front_raised : (s : List ℕ) → inline_text (raised_front s) ≡ map to_ascii_uppercase (inline_text s)
 front_raised [] = refl
 front_raised (x ∷ xs) =
@@ -45,7 +45,7 @@ front_raised (x ∷ xs) =
       | inr h ↦ subst P (sym (inline_goes_on x xs h)) (inline_goes_on (to_ascii_uppercase x) (raised_front xs) (not_ff x h) ∙ ap (λ (l : List ℕ). to_ascii_uppercase x ∷ l) (front_raised xs))
     ]
 
--- it stands inline where it did
+-- the text is inline if it was before
 form_raised : (s : List ℕ) → is_far (raised_front s) ≡ is_far s
 form_raised [] = refl
 form_raised (x ∷ xs) =
@@ -102,7 +102,7 @@ module _ (w : Width) (b : List ℕ) (p : ℕ) (inside : p + text_size w ≤ leng
       inline_reads w (fixed_bytes w (with_uppercase w b p) p) (with_uppercase w b p) p (inline_stays near) ∙ inline_raised
       ∙ ap (map to_ascii_uppercase) (sym (inline_reads w (fixed_bytes w b p) b p near))
 
-  -- what a call that raises the text leaves
+  -- the bytes after a call that writes the text in upper case
   module _ (c : List ℕ) where
     pub raised_sealed : (inline : Bool) → Raised w b p c inline → Sealed b p (text_size w) c
     raised_sealed true h = subst (λ x. Sealed b p (text_size w) x) (sym h.1) uppercase_sealed
@@ -120,7 +120,7 @@ module _ (w : Width) (b : List ℕ) (p : ℕ) (inside : p + text_size w ≤ leng
     raised_text true h text = subst (λ x. IsSealedText w x p) (sym h.1) (λ near. text_raised (text h.0))
     raised_text false h text = subst (λ x. IsSealedText w x p) (sym h.1) text
 
--- the fixed bytes of a text that holds are those of a text
+-- the fixed bytes of a valid text
 pub holds_sealed : (w : Width) (b : List ℕ) (p lo hi l : ℕ) → (text_shape w).holds b p lo hi l → IsSealedText w b p
 holds_sealed w b p lo hi l (inl h) near = h.1
 holds_sealed w b p lo hi l (inr h) near = cc (near, h.0)
@@ -128,13 +128,13 @@ holds_sealed w b p lo hi l (inr h) near = cc (near, h.0)
 pub viewed_sealed : (w : Width) (b : List ℕ) (p : ℕ) → Viewed (text_shape w) b p → IsSealedText w b p
 viewed_sealed w b p h = holds_sealed w b p 0 p h.stands.0 h.stands.1
 
--- the fixed bytes behind q are those at the begin of the back
+-- the fixed bytes at `q` are those at the start of the back
 pub fixed_of_back : (w : Width) (b : List ℕ) (q : ℕ) → fixed_bytes w (drop q b) 0 ≡ fixed_bytes w b q
 fixed_of_back w b q =
     let e : (0 + text_size w) - 0 ≡ (q + text_size w) - q = omega arith in
     ap (λ (n : ℕ). take n (drop q b)) e
 
--- text that is raised at the begin of the back is raised in the whole
+-- text that is raised at the start of the back is raised in the whole
 pub raised_joined : (w : Width) (b back : List ℕ) (q : ℕ) (inline : Bool) → Raised w (drop q b) 0 back inline → Raised w b q (take q b ++ back) inline
 raised_joined w b back q true h =
     let t : List ℕ = inline_at w (drop q b) 0 in (

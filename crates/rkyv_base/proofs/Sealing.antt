@@ -1,4 +1,4 @@
--- Writing one value of an archive in place: what is then there, and what stays.
+-- Writing one value of an archive in place: the new bytes, and the unchanged ones.
 use Rattle.std.specs.Prelude.{◌≡◌, ℕ, ◌+◌, ◌-◌, ◌≤◌, List, ◌++◌, length, take, drop, slice_range}
 use Rattle.std.specs.Int.{Width, byte_len, from_le_bytes, to_le_bytes}
 use Rattle.std.proofs.Common.{refl, arith, subst, sym, ◌∙◌, ap, inl, inr, zero-add, length-append, length-drop}
@@ -15,18 +15,18 @@ module _ (b : List ℕ) (p n : ℕ) (w : List ℕ) (inside : p + n ≤ length b)
   front_length : length (take p b) ≡ p
   front_length = length-take-le p b (omega arith)
 
-  -- what is from p on
+  -- the bytes from `p` on
   pub with_bytes-rest : drop p (with_bytes b p n w) ≡ w ++ drop (p + n) b
   with_bytes-rest = rw front_length at (drop-append_seam (take p b) (w ++ drop (p + n) b))
 
-  -- the new bytes are there
+  -- the new bytes are at `p`
   pub with_bytes-there : slice_range (with_bytes b p n w) p (p + n) ≡ w
   with_bytes-there =
       let e : (p + n) - p ≡ n = omega arith in
       let k : take n (w ++ drop (p + n) b) ≡ w = rw size at (take-append_seam w (drop (p + n) b)) in
       rw (e, with_bytes-rest) k
 
-  -- and all others stay
+  -- all other bytes are unchanged
   pub with_bytes-sealed : Sealed b p n (with_bytes b p n w)
   with_bytes-sealed = record {
     same_length = simp (length-append, length-drop) (omega (arith, front_length, size, inside));
@@ -37,7 +37,7 @@ module _ (b : List ℕ) (p n : ℕ) (w : List ℕ) (inside : p + n ≤ length b)
         d ∙ k;
   }
 
--- a part by what lies up to p
+-- a part as a part of the front up to `p`
 part_of_front : (b : List ℕ) (i j p : ℕ) → i ≤ j → j ≤ p → slice_range b i j ≡ drop i (take j (take p b))
 part_of_front b i j p o q =
     let e : i + (j - i) ≡ j = omega arith in
@@ -57,16 +57,16 @@ module _ (b : List ℕ) (p n : ℕ) (c : List ℕ) (s : Sealed b p n c) where
       let kc : drop (i - (p + n)) (drop (p + n) c) ≡ drop i c = rw e at (drop-drop (i - (p + n)) (p + n) c) in
       ap (take (j - i)) (sym kb ∙ ap (drop (i - (p + n))) (sym s.after) ∙ kc)
 
-  -- what lies outside the sealed bytes is the same
+  -- the bytes outside the sealed ones are the same
   pub same_outside : (i j : ℕ) → i ≤ j → Outside p n i j → Same b c i j
   same_outside i j o (inl q) = same_before i j o q
   same_outside i j o (inr q) = same_after i j q
 
-  -- a number that stands outside is the same
+  -- a number outside the sealed bytes is the same
   pub number_outside : (w : Width) (i : ℕ) → Outside p n i (i + byte_len w) → number_at w c i ≡ number_at w b i
   number_outside w i o = ap (from_le_bytes w) (sym (same_outside i (i + byte_len w) (omega arith) o))
 
--- what stays outside some bytes stays outside more of them
+-- bytes that change only in a range change only in a wider range
 pub sealed_wider : (b c : List ℕ) (p n q m : ℕ) → q ≤ p → p + n ≤ q + m → Sealed b p n c → Sealed b q m c
 sealed_wider b c p n q m o h s =
     let e : (p + n) + ((q + m) - (p + n)) ≡ q + m = omega arith in
@@ -78,7 +78,7 @@ sealed_wider b c p n q m o h s =
       after = sym kc ∙ ap (drop ((q + m) - (p + n))) s.after ∙ kb;
     }
 
--- a scalar was written in place: nothing else changes, it is then there, and what held holds
+-- a scalar was written in place: nothing else changes, it reads back, and valid bytes stay valid
 pub record ValueSet {V : Type 0} (e : Encoding V) (b c : List ℕ) (p : ℕ) (v : V) : Type 0 where
   pub sealed : Sealed b p (byte_len e.word) c
   pub reads : value_at e c p ≡ v
@@ -109,7 +109,7 @@ module _ {V : Type 0} (e : Encoding V) (word : IsWord e.word) (b c : List ℕ) (
   pub value_set : ValueSet e b c p v
   value_set = record { sealed = value_sealed; reads = value_there; value = value_good; holds = value_holds }
 
--- a value that stands elsewhere holds after a sealed write, with the same lower end, and is the same
+-- a value outside the sealed bytes stays valid, with the same parts, and is the same
 module _ (s : Shape) (laws : IsElement s) (b c : List ℕ) (q n : ℕ) (sealed : Sealed b q n c) (p lo hi l : ℕ) (o : lo ≤ hi)
     (fixed : Outside q n p (p + s.size)) (parts : Outside q n lo l) (h : s.holds b p lo hi l) where
   pub holds_elsewhere : s.holds c p lo hi l
@@ -124,7 +124,7 @@ module _ (s : Shape) (laws : IsElement s) (b c : List ℕ) (q n : ℕ) (sealed :
 
 -- an entry whose value is written in place
 module _ (k v : Shape) (kl : IsElement k) (vl : IsElement v) where
-  -- it holds, with the same lower end, where the new value does
+  -- the entry stays valid, with the same parts, if the new value is valid
   pub entry_kept : (b c : List ℕ) (p : ℕ) → Sealed b (p + value_offset k v) v.size c → Keeps v b c (p + value_offset k v) → Keeps (entry_shape k v) b c p
   entry_kept b c p s keeps lo hi l o q h =
       let i = parts_inside k v in
@@ -132,7 +132,7 @@ module _ (k v : Shape) (kl : IsElement k) (vl : IsElement v) where
       let hk : k.holds c p lo hi h.1 = holds_elsewhere k kl b c (p + value_offset k v) v.size s p lo hi h.1 o (inl (omega (arith, i.0))) (inl (omega arith)) h.2 in
       (h.0, h.1, hk, keeps h.1 hi l x.1 (omega arith) h.3)
 
--- what stood stands
+-- a valid value stays valid
 pub viewed_kept : (s : Shape) (b c : List ℕ) (p : ℕ) → length c ≡ length b → Keeps s b c p → Viewed s b p → Viewed s c p
 viewed_kept s b c p n keeps h = record {
   inside = omega (arith, n, h.inside);
@@ -140,7 +140,7 @@ viewed_kept s b c p n keeps h = record {
   stands = (h.stands.0, keeps 0 p h.stands.0 (omega arith) (omega arith) h.stands.1);
 }
 
--- the archive is cut at q, behind a value
+-- the archive is cut at `q`, after a value
 module _ (s : Shape) (laws : IsElement s) (b : List ℕ) (q : ℕ) where
   same_in_front : (i j : ℕ) → i ≤ j → j ≤ q → Same b (take q b) i j
   same_in_front i j o h =
@@ -158,18 +158,18 @@ module _ (s : Shape) (laws : IsElement s) (b : List ℕ) (q : ℕ) where
         stands = (d.0, laws.near b (take q b) p 0 p d.0 (omega arith) (same_in_front p (p + s.size) (omega arith) h) (same_in_front 0 d.0 k.0 (omega arith)) d.1);
       }
 
--- the key of an entry stands in the bytes before the value, wherever an entry stands
+-- the key of a valid entry is in the bytes before the value
 pub key_in_front : (k v : Shape) → IsElement k → IsElement v → (b : List ℕ) (p : ℕ) → Viewed (entry_shape k v) b p → Viewed k (take (p + value_offset k v) b) p
 key_in_front k v kl vl b p h =
     let i = parts_inside k v in
     let value : Viewed v b (p + value_offset k v) = viewed_value k v kl vl b p h in
     front_viewed k kl b (p + value_offset k v) p (omega (arith, i.0)) (omega (arith, value.inside)) (viewed_key k v kl vl b p h)
 
--- a write at the begin of what is behind q is one in the whole
+-- a write at the start of the back is one in the whole
 pub joined : (b w : List ℕ) (q n : ℕ) → take q b ++ with_bytes (drop q b) 0 n w ≡ with_bytes b q n w
 joined b w q n = rw (zero-add n, drop-drop n q b) refl
 
--- a front and what was made of the back
+-- a front, followed by the changed back
 module _ (b : List ℕ) (q : ℕ) (inside : q ≤ length b) (back : List ℕ) where
   front_is : length (take q b) ≡ q
   front_is = length-take-le q b inside
@@ -177,7 +177,7 @@ module _ (b : List ℕ) (q : ℕ) (inside : q ≤ length b) (back : List ℕ) wh
   pub back_of_joined : drop q (take q b ++ back) ≡ back
   back_of_joined = rw front_is at (drop-append_seam (take q b) back)
 
-  -- what is sealed at the begin of the back is sealed in the whole
+  -- bytes that change only at the start of the back change only there in the whole
   pub sealed_joined : (n : ℕ) → Sealed (drop q b) 0 n back → Sealed b q n (take q b ++ back)
   sealed_joined n s = record {
     same_length = simp (length-append) (omega (arith, front_is, s.same_length, length-drop q b, inside));
@@ -188,7 +188,7 @@ module _ (b : List ℕ) (q : ℕ) (inside : q ≤ length b) (back : List ℕ) wh
         d ∙ e ∙ drop-drop n q b;
   }
 
--- a number behind q is one of the back
+-- a number at `q` is one of the back
 pub number_of_back : (w : Width) (b : List ℕ) (q : ℕ) → number_at w (drop q b) 0 ≡ number_at w b q
 number_of_back w b q =
     let e : (0 + byte_len w) - 0 ≡ (q + byte_len w) - q = omega arith in

@@ -1,4 +1,4 @@
--- What the checks of text elsewhere find, step by step.
+-- The results of validating out-of-line text, step by step.
 use Rattle.std.specs.Prelude.{◌≡◌, ℕ, ◌+◌, ◌<◌, ◌≤◌, ◌⊎◌, ℤ, true, List, length, slice_range}
 use Rattle.std.specs.Int.{Width, w32, w64}
 use Rattle.std.specs.Str.{IsUtf8}
@@ -13,14 +13,15 @@ eight_fit : (w : Width) → (w ≡ w32) ⊎ (w ≡ w64) → 8 ≤ text_size w
 eight_fit w (inl e) = subst (λ v. 8 ≤ text_size v) (sym e) (omega arith)
 eight_fit w (inr e) = subst (λ v. 8 ≤ text_size v) (sym e) (omega arith)
 
--- text elsewhere has more bytes than fit inline, so eight at least
+-- out-of-line text has more bytes than fit inline, so at least eight
 pub is_long : (w : Width) (b : List ℕ) (at len : ℕ) → (w ≡ w32) ⊎ (w ≡ w64) → text_size w < len → at + len ≤ length b → 8 ≤ length (slice_range b at (at + len))
 is_long w b at len kind large within =
     let eight = eight_fit w kind in
     let all : length (slice_range b at (at + len)) ≡ len = grind (arith, common_steps) in
     omega arith
 
--- the fixed bytes s tell text elsewhere that is too long to stand inline, and its begin and length are as read
+-- the fixed bytes `s` are of out-of-line text that is too long to be inline.
+-- Its start and length are as read
 module _ (w : Width) (s b : List ℕ) (p lo hi : ℕ) (begin : ℤ) (len : ℕ) (far : is_far s ≡ true) (large : text_size w < len)
     (begins : begin ≡ far_begin w s p) (lens : len ≡ far_length w s) where
   told : text_size w < far_length w s

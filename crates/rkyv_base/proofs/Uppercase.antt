@@ -1,4 +1,4 @@
--- Text stays text in ASCII upper case.
+-- UTF-8 text in ASCII upper case is UTF-8.
 use Rattle.std.specs.Prelude.{◌≡◌, ℕ, ◌+◌, ◌/◌, ◌%◌, ◌≤◌, true, List, [], ◌∷◌, map}
 use Rattle.std.specs.Char.{to_ascii_uppercase}
 use Rattle.std.specs.Str.{IsUtf8}
@@ -9,7 +9,7 @@ use Rattle.std.proofs.lemmas.List.{map-append}
 use Rattle.std.proofs.lemmas.Str.{encode_ascii}
 use Rattle.std.proofs.lemmas.Str.Ascii.{uppercase_ascii, uppercase_is}
 
--- the bytes stay
+-- the bytes are unchanged
 abbrev Stay : List ℕ → Type 0
 Stay xs = map to_ascii_uppercase xs ≡ xs
 
@@ -32,7 +32,7 @@ char_stays c h =
     (λ e2. cond_both (ltb c 65536) _ _ Stay (λ e. stay_cons (224 + c / 4096) two (omega arith) two_stay)
     (λ e3. stay_cons (240 + c / 262144) ((128 + c / 4096 % 64) ∷ two) (omega arith) (stay_cons (128 + c / 4096 % 64) two (omega arith) two_stay))))
 
--- a character in upper case is one, and its bytes are those in upper case
+-- a character in upper case is a character, and its bytes are those in upper case
 char_raised : (c : ℕ) → map to_ascii_uppercase (encode c) ≡ encode (to_ascii_uppercase c)
 char_raised c =
     elim (cases_lt c 128) [

@@ -1,4 +1,4 @@
--- What an archive is accepted for, and what it is refused for.
+-- The conditions under which an archive is accepted, and the errors otherwise.
 use Rattle.std.specs.Prelude.{
   MatchResult,
   Result,
@@ -22,15 +22,14 @@ use Rattle.rkyv_base.specs.declared.errors.VerifyError.TheVariants.{OutOfRange, 
 use Rattle.rkyv_base.specs.Lending.{Wrote}
 use Rattle.rkyv_base.specs.Shape.{Shape, Standing, Viewed}
 
--- the archive is within its limit, and the root at its end is aligned and holds
+-- `b`: archive within `limit`, with a valid and aligned root at its end
 pub record Accepted (limit : ℕ) (s : Shape) (b : List ℕ) : Type 0 where
   pub within : length b ≤ limit
   pub inside : s.size ≤ length b
   pub aligned : (length b - s.size) % s.align ≡ 0
   pub stands : Standing s b (length b - s.size)
 
--- the first point at which it isn't: it is too short or too long, or else the root isn't aligned,
--- or else it fails
+-- `e`: first fault of the archive `b`: its length, the alignment of its root, or the root itself
 abbrev pub AccessFails : ℕ → Shape → List ℕ → VerifyError → Type 0
 AccessFails limit s b e =
     (((length b < s.size) ⊎ (limit < length b))
@@ -40,9 +39,8 @@ AccessFails limit s b e =
     ⊎ ((s.size ≤ length b) × (length b ≤ limit) × ((length b - s.size) % s.align ≡ 0)
     × s.fails b (length b - s.size) 0 (length b - s.size) e)
 
--- what a writer of an archive leaves of it: where it is accepted, the writer was given the position
--- of its root, and answered and left what it says; else the error is the first point at which it
--- isn't, and no byte is changed
+-- `result`: result of validating `b` and calling `write` with it,
+-- `c`: bytes after that. On an error `c` is `b`
 abbrev pub AccessWrites : {F R : Type 0} → ℕ → Shape
     → (F → MutBor (List ℕ) → ℕ → R → MutBor (List ℕ) → Type 0) → F → List ℕ → List ℕ
     → Result R VerifyError → Type 0

@@ -1,23 +1,23 @@
--- Numbers in the bytes of an archive, and lists of bytes that stand in one.
+-- Numbers and lists of bytes at a position of an archive.
 use Rattle.std.specs.Prelude.{◌≡◌, ℕ, ◌+◌, ◌-◌, ◌≤◌, ℤ, List, ◌++◌, length, drop, slice_range}
 use Rattle.std.specs.Int.{Width, byte_len, from_le_bytes, cast_signed}
 use Rattle.std.proofs.Common.{refl, arith, sym, ◌∙◌, ap, length-append}
 use Rattle.std.proofs.lemmas.List.{drop-take, take-take, drop-drop, take_all}
 use Rattle.std.proofs.Math.Seq.{take-append_seam, drop-append_seam}
 
--- the little endian number of width w that stands at position p
+-- the little-endian number of width `w` at position `p`
 abbrev pub number_at : Width → List ℕ → ℕ → ℕ
 number_at w b p = from_le_bytes w (slice_range b p (p + byte_len w))
 
--- the signed number of width w that stands at place p
+-- the signed number of width `w` at position `p`
 abbrev pub signed_at : Width → List ℕ → ℕ → ℤ
 signed_at w b p = cast_signed w (number_at w b p)
 
--- the bytes from i to j, j not included, are the same in both
+-- `b` and `c` have the same bytes from `i` on and below `j`
 abbrev pub Same : List ℕ → List ℕ → ℕ → ℕ → Type 0
 Same b c i j = slice_range b i j ≡ slice_range c i j
 
--- part stands in the archive c from position p on
+-- `part`: bytes of the archive `c` from position `p` on
 pub record Sits (c : List ℕ) (p : ℕ) (part : List ℕ) : Type 0 where
   pub inside : p + length part ≤ length c
   pub there : slice_range c p (p + length part) ≡ part
@@ -40,7 +40,7 @@ slice_of_slice b i j i' j' hi hj hij =
       e3,
     ) refl
 
--- what is the same in a range is the same in a part of it
+-- two lists that agree in a range agree in each part of it
 pub same_part : (b c : List ℕ) (i j i' j' : ℕ) → i ≤ i' → j' ≤ j → i' ≤ j' → Same b c i j
     → Same b c i' j'
 same_part b c i j i' j' hi hj hij s =
@@ -48,7 +48,7 @@ same_part b c i j i' j' hi hj hij s =
     ∙ ap (λ (x : List ℕ). slice_range x (i' - i) (j' - i)) s
     ∙ slice_of_slice c i j i' j' hi hj hij
 
--- a front and a back of what stands in an archive
+-- a front and a back of bytes in an archive
 pub sits_front : (c : List ℕ) (p : ℕ) (x y : List ℕ) → Sits c p (x ++ y) → Sits c p x
 sits_front c p x y s =
     let n : length (x ++ y) ≡ length x + length y = length-append x y in
@@ -78,7 +78,7 @@ sits_back c p x y s =
           (take_all (length y) y (omega arith));
     }
 
--- what stands in the middle
+-- a middle part of bytes in an archive
 pub sits_third : (c : List ℕ) (p : ℕ) (x y z w : List ℕ) → Sits c p ((x ++ y) ++ (z ++ w))
     → Sits c (p + length (x ++ y)) z
 sits_third c p x y z w s = sits_front c (p + length (x ++ y)) z w

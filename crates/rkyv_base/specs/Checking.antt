@@ -1,13 +1,13 @@
--- What a check answers.
+-- The results of a validation.
 use Rattle.std.specs.Prelude.{◌≡◌, ℕ, List}
 use Rattle.rkyv_base.specs.declared.element.PartRange.{PartRange}
 use Rattle.rkyv_base.specs.declared.errors.VerifyError.{VerifyError}
 use Rattle.rkyv_base.specs.Shape.{Shape}
 
--- the bytes at p are a value with its parts in the range, and leave the rest of the range
+-- `rest`: rest of the range after the parts of the valid value at `p`
 abbrev pub Passes : Shape → List ℕ → ℕ → PartRange → PartRange → Type 0
 Passes s b p range rest = (rest.hi ≡ range.hi) × s.holds b p range.lo range.hi rest.lo
 
--- the bytes at p are no value, and the error is the first point at which they aren't
+-- `e`: first fault of the bytes at `p`, which are not a valid value
 abbrev pub Fails : Shape → List ℕ → ℕ → PartRange → VerifyError → Type 0
 Fails s b p range e = s.fails b p range.lo range.hi e

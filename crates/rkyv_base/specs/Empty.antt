@@ -1,19 +1,19 @@
--- The value that takes no byte.
+-- The unit value.
 use Rattle.std.specs.Prelude.{◌≡◌, ℕ, List, [], length}
 use Rattle.std.proofs.Common.{refl, arith, inl, ap}
 use Rattle.rkyv_base.specs.Shape.{Shape, IsElement}
 use Rattle.rkyv_base.specs.Lemmas.AnyBytes.{any_bytes, any_bytes-element}
 use Rattle.rkyv_base.specs.Format.{Format, IsFormat, StandsNear, nothing_next, nothing_far}
 
--- the unit value: no bytes, anywhere
+-- the unit value as an element: valid at every position, without bytes
 abbrev pub unit_shape : Shape
 unit_shape = any_bytes 0 1
 
--- a unit value stands everywhere
+-- every position represents the unit value
 abbrev pub unit_stands : List ℕ → ℕ → Unit {0} → Type 0
 unit_stands b p v = Unit {0}
 
--- how a unit value is written: nothing is appended, and it has no bytes of its own
+-- the format of the unit value, which appends nothing and has no bytes
 abbrev pub unit_format : Format (Unit {0}) (Unit {0})
 unit_format = record {
   parts = λ v p part r. part ≡ [];

@@ -1,5 +1,5 @@
--- The entry of a key and a value: the key, zeros up to the value's alignment, the value, zeros up
--- to the greater one.
+-- The entry of a key and a value: the key, zeros up to the value's alignment, the value,
+-- and zeros up to the greater alignment.
 use Rattle.std.specs.Prelude.{
   ◌≡◌,
   ℕ,
@@ -33,40 +33,39 @@ use Rattle.rkyv_base.specs.Shape.{
   sum_multiple,
 }
 
--- the next multiple of an alignment
+-- `n` rounded up to a multiple of `a`
 abbrev pub round_up : ℕ → ℕ → ℕ
 round_up n a = n + padding a n
 
--- where the value of an entry begins
+-- the offset of the value of an entry
 abbrev pub value_offset : Shape → Shape → ℕ
 value_offset k v = round_up k.size v.align
 
--- what an entry takes
+-- the size of an entry in bytes, even if it is too large
 abbrev pub whole_size : Shape → Shape → ℕ
 whole_size k v = round_up (value_offset k v + v.size) (max k.align v.align)
 
--- an entry is small enough to be archived
+-- an entry of this size can be archived
 abbrev pub IsSmall : Shape → Shape → Type 0
 IsSmall k v = whole_size k v ≤ 1073741824
 
--- what is too large takes no byte
+-- the size `whole`, or 0 if it is too large
 abbrev pub size_of_whole : ℕ → ℕ
 size_of_whole whole = if nat_le whole 1073741824 then whole else 0
 
--- the key holds, and the value behind it
+-- the bytes at `p` are a valid entry: a valid key, followed by a valid value
 abbrev pub EntryHolds : Shape → Shape → List ℕ → ℕ → ℕ → ℕ → ℕ → Type 0
 EntryHolds k v b p lo hi l = IsSmall k v × (m : ℕ) × k.holds b p lo hi m
     × v.holds b (p + value_offset k v) m hi l
 
--- the entry is too large, or the key fails, or the value behind a key that holds
+-- `e`: first fault of the entry at `p`. It is too large, or its key or its value is invalid
 abbrev pub EntryFails : Shape → Shape → List ℕ → ℕ → ℕ → ℕ → VerifyError → Type 0
 EntryFails k v b p lo hi e =
     ((1073741824 < whole_size k v) × (e ≡ Refused 0))
     ⊎ (IsSmall k v × (k.fails b p lo hi e
     ⊎ ((m : ℕ) × k.holds b p lo hi m × v.fails b (p + value_offset k v) m hi e)))
 
--- all on which the key and the value of an entry rest is the same in both; the value's parts begin
--- at m
+-- `b` and `c` agree on all bytes of an entry's key and value. The value's parts begin at `m`
 pub record PartsSame (k v : Shape) (b c : List ℕ) (p lo hi m l : ℕ) : Type 0 where
   pub room : m ≤ hi
   pub key : Same b c p (p + k.size)
@@ -74,7 +73,7 @@ pub record PartsSame (k v : Shape) (b c : List ℕ) (p lo hi m l : ℕ) : Type 0
   pub value : Same b c (p + value_offset k v) (p + value_offset k v + v.size)
   pub value_parts : Same b c m l
 
--- the entry of a key and a value of these shapes, as an element
+-- the entry of a key `k` and a value `v`, as an element
 abbrev pub entry_shape : Shape → Shape → Shape
 entry_shape k v = record {
   size = size_of_whole (whole_size k v);
@@ -104,7 +103,7 @@ pub round_up-multiple : (n a : ℕ) → IsAlign a → round_up n a % a ≡ 0
 round_up-multiple n a ha = by_align (λ v. round_up n v % v ≡ 0) (omega arith) (omega arith)
     (omega arith) (omega arith) a ha
 
--- the parts of an entry lie inside it
+-- the key and the value are inside the entry
 pub parts_inside : (k v : Shape) → (k.size ≤ value_offset k v)
     × (value_offset k v + v.size ≤ whole_size k v)
 parts_inside k v = (omega arith, omega arith)
@@ -149,7 +148,7 @@ module _ (k v : Shape) (kl : IsElement k) (vl : IsElement v) where
       vl.one_failure b (p + value_offset k v) f.0 hi e e' f.2
       (subst (λ m. v.fails b (p + value_offset k v) m hi e') q g.2)
 
-  -- what is the same in an entry is the same in its key and its value
+  -- two lists that agree on an entry agree on its key and on its value
   pub same_key : (b c : List ℕ) (p : ℕ) → IsSmall k v
       → Same b c p (p + size_of_whole (whole_size k v)) → Same b c p (p + k.size)
   same_key b c p small fixed =
@@ -170,7 +169,7 @@ module _ (k v : Shape) (kl : IsElement k) (vl : IsElement v) where
       (p + value_offset k v + v.size) (omega arith) (omega (arith, size, i.1)) (omega arith)
       fixed
 
-  -- where what an entry rests on is the same, so is what its key and its value rest on
+  -- two lists that agree on an entry and its parts agree on those of its key and its value
   pub same_parts : (b c : List ℕ) (p lo hi l : ℕ) → lo ≤ hi → (h : EntryHolds k v b p lo hi l)
       → Same b c p (p + size_of_whole (whole_size k v)) → Same b c lo l
       → PartsSame k v b c p lo hi h.1 l
@@ -228,7 +227,7 @@ module _ (k v : Shape) (kl : IsElement k) (vl : IsElement v) where
         near = entry_near;
       }
 
-  -- of an entry that stands both parts lie inside the bytes, aligned
+  -- the key and the value of a valid entry are inside the bytes, and aligned
   parts_lie : (b : List ℕ) (p : ℕ) → Viewed (entry_shape k v) b p
       → (p + value_offset k v + v.size ≤ length b) × (p % k.align ≡ 0) × (p % v.align ≡ 0)
   parts_lie b p h =
@@ -238,7 +237,7 @@ module _ (k v : Shape) (kl : IsElement k) (vl : IsElement v) where
       multiple_of_max p k.align v.align kl.align_is vl.align_is h.aligned in
       (omega (arith, h.inside, size, (parts_inside k v).1), als.0, als.1)
 
-  -- the key and the value of an entry that stands
+  -- the key and the value of a valid entry are valid
   pub viewed_key : (b : List ℕ) (p : ℕ) → Viewed (entry_shape k v) b p → Viewed k b p
   viewed_key b p h =
       let lie = parts_lie b p h in

@@ -1,12 +1,12 @@
--- What a width of archives fixes.
+-- The sizes that the width of an archive fixes.
 use Rattle.std.specs.Prelude.{◌≡◌, ℕ, ◌*◌, ◌^◌, ◌<◌, ◌≤◌, ◌⊎◌}
 use Rattle.std.specs.Int.{Width, w32, w64, byte_len}
 use Rattle.std.proofs.Common.{inl, inr, refl, lit<, lit≤}
 use mir.Val.{bits}
 use Rattle.rkyv_base.specs.Scalar.{Encoding}
 
--- a word is the bytes of a count: the alignment is one word, a table's header three, an index map's
--- four, a text's two
+-- the sizes in words: alignment one, text two, table header three, index map header four.
+-- The text limit is a quarter of the numbers of a word
 pub record IsLayout (word : Width) (limit max_capacity table_size index_size align text_size
     text_limit : ℕ) : Type 0 where
   pub kind : (word ≡ w32) ⊎ (word ≡ w64)
@@ -19,12 +19,12 @@ pub record IsLayout (word : Width) (limit max_capacity table_size index_size ali
   pub text_is : text_size ≡ 2 * align
   pub text_limit_is : text_limit * 4 ≡ 2 ^ bits word
 
--- a place of an index map is any number of one word
+-- an index of an index map is any number of one word
 pub record IsPlace {V : Type 0} (w : Width) (e : Encoding V) : Type 0 where
   pub word : e.word ≡ w
   pub any : (n : ℕ) → e.IsCode n
 
--- the layout of a word, under limits that it can hold
+-- the layout of a word, with limits that fit in it
 word_layout : (w : Width) (limit max_capacity text_limit : ℕ) → (w ≡ w32) ⊎ (w ≡ w64)
     → limit < 2 ^ bits w → limit < 2 ^ 63 → max_capacity ≤ limit → text_limit * 4 ≡ 2 ^ bits w
     → IsLayout w limit max_capacity (3 * byte_len w) (4 * byte_len w) (byte_len w) (2 * byte_len w)

@@ -1,34 +1,33 @@
--- Writing through a limit.
+-- Writing with a limit.
 use Rattle.std.specs.Prelude.{◌≡◌, ℕ, ◌+◌, ◌<◌, ◌⊎◌, List, length, take}
 use Rattle.rkyv_base.specs.declared.limit.LimitFault.{LimitFault}
 use Rattle.rkyv_base.specs.declared.limit.LimitFault.TheVariants.{Full, Inner}
 use Rattle.rkyv_base.specs.declared.limit.LimitWriter.{LimitWriter}
 use Rattle.rkyv_base.specs.Writing.{Output, Appends, Fell}
 
--- what a writer with a limit holds: what the inner one holds, with a count of failures of its own
+-- the output of a writer with a limit: the inner output, with a count of failures of its own
 abbrev pub limited : {W : Type 0} → (W → Output) → LimitWriter W → Output
 limited output w = record (output w.inner) { failures = w.failures }
 
--- what the inner writer took counts against the limit
+-- all bytes that the inner writer appended count against the limit
 abbrev pub Counts : {W : Type 0} → (W → Output) → LimitWriter W → LimitWriter W → Type 0
 Counts output w w' = w'.left + length (output w'.inner).bytes ≡ w.left + length
     (output w.inner).bytes
 
--- the inner writer took the bytes, and neither writer counts a failure
+-- the inner writer appended the bytes, and neither writer counts a failure
 abbrev pub InnerTook : {W : Type 0} → (W → Output) → LimitWriter W → LimitWriter W → List ℕ → Type 0
 InnerTook output w w' bytes =
     Appends (output w.inner) (output w'.inner) bytes × (w'.failures ≡ w.failures)
 
--- the inner writer fell on the bytes, both count it, and it is told
+-- the inner writer failed on the bytes, both writers count it, and the fault is `Inner`
 abbrev pub InnerFell : {W F : Type 0} → (W → Output) → LimitWriter W → LimitWriter W → List ℕ
     → LimitFault F → Type 0
 InnerFell output w w' bytes Full = ⊥
 InnerFell output w w' bytes (Inner fault) = Fell (output w.inner) (output w'.inner) bytes
     × Fell (limited output w) (limited output w') bytes
 
--- full: the piece doesn't fit, and the inner writer took the front that does. inner: the inner
--- writer was asked for the
--- front that fits, and failed.
+-- `Full`: the piece doesn't fit, and the inner writer appended the front that does.
+-- `Inner`: the inner writer failed on the front that fits
 abbrev pub LimitTold : {W F : Type 0} → (W → Output) → LimitWriter W → LimitWriter W → List ℕ
     → LimitFault F → Type 0
 LimitTold output w w' bytes Full =

@@ -1,14 +1,14 @@
--- How numbers, bool and char are written.
+-- The encodings of numbers, `bool` and `char`.
 use Rattle.std.specs.Prelude.{◌==◌, ℕ, ℤ, ◌≤◌, ⊤, Bool, if◌then◌else◌}
 use Rattle.std.specs.Char.{IsScalar}
 use Rattle.std.specs.Int.{Width, w8, w32, cast_signed, cast_unsigned}
 use Rattle.rkyv_base.specs.Scalar.{Encoding}
 
--- an unsigned number is its own code
+-- the encoding of unsigned numbers. Each is its own code
 abbrev pub unsigned : Width → Encoding ℕ
 unsigned w = record { word = w; code = λ n. n; value = λ n. n; IsCode = λ n. ⊤ }
 
--- a signed number has the code of the unsigned number of its width
+-- the encoding of signed numbers, whose code is the unsigned number with the same bits
 abbrev pub signed : Width → Encoding ℤ
 signed w = record {
   word = w;
@@ -17,7 +17,7 @@ signed w = record {
   IsCode = λ n. ⊤;
 }
 
--- false is 0 and true is 1
+-- the encoding of `bool`: `false` is 0 and `true` is 1
 abbrev pub bool_encoding : Encoding Bool
 bool_encoding = record {
   word = w8;
@@ -26,6 +26,6 @@ bool_encoding = record {
   IsCode = λ n. n ≤ 1;
 }
 
--- a char is its number, which is a Unicode scalar value
+-- the encoding of `char`, whose code is its Unicode scalar value
 abbrev pub char_encoding : Encoding ℕ
 char_encoding = record { word = w32; code = λ c. c; value = λ n. n; IsCode = IsScalar }

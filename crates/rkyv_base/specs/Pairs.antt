@@ -1,5 +1,5 @@
--- How pairs are written: the key's parts, the value's parts; then the key's bytes, zeros, the
--- value's bytes, zeros.
+-- The format of pairs: the key's parts and the value's parts, followed by the key,
+-- zeros, the value and zeros.
 use Rattle.std.specs.Prelude.{◌≡◌, ℕ, ◌+◌, ◌-◌, ◌%◌, ◌<◌, ◌≤◌, ◌⊎◌, max, List, [], ◌++◌, length}
 use Rattle.std.proofs.Common.{arith, subst, sym, ◌∙◌, ap, inl, inr, length-append}
 use Rattle.std.proofs.lemmas.List.{length-replicate}
@@ -22,26 +22,28 @@ use Rattle.rkyv_base.specs.Entry.{
 }
 use Rattle.rkyv_base.specs.Format.{Format, IsFormat, StandsNear}
 
--- a value at the front of its bytes, with zeros behind it
+-- a value at the front of its `n` bytes, followed by zeros
 abbrev pub Padded : ℕ → (List ℕ → Type 0) → List ℕ → Type 0
 Padded n good out = (a : List ℕ) × good a × (out ≡ a ++ zeros (n - length a))
 
--- the bytes of a pair, whose value begins at off
+-- the bytes of a pair whose value begins at `off`
 abbrev pub pair_bytes : ℕ → ℕ → List ℕ → List ℕ → List ℕ
 pair_bytes off size key value = (key ++ zeros (off - length key)) ++
     (value ++ zeros ((size - off) - length value))
 
--- the key stands, and the value behind it
+-- the bytes at `p` represent the key, and those at the value's offset represent the value
 abbrev pub PairStands : {V W : Type 0} → Shape → Shape → (List ℕ → ℕ → V → Type 0)
     → (List ℕ → ℕ → W → Type 0) → List ℕ → ℕ → V × W → Type 0
 PairStands k v key value b p pair = key b p pair.0 × value b (p + value_offset k v) pair.1
 
 module _ {V W R Q : Type 0} (k v : Shape) (kf : Format V R) (vf : Format W Q) where
+  -- `part`: parts of the key, followed by those of the value
   abbrev pub PairParts : V × W → ℕ → List ℕ → EntryResolver R Q → Type 0
   PairParts pair p part r =
       IsSmall k v × (a : List ℕ) × (b : List ℕ) × kf.parts pair.0 p a r.key
       × vf.parts pair.1 (p + length a) b r.value × (part ≡ a ++ b)
 
+  -- `step`: refusal of an entry that is too large, or next step of the key or the value
   abbrev pub PairNext : V × W → ℕ → List ℕ → Step → Type 0
   PairNext pair p front step =
       ((1073741824 < whole_size k v) × (front ≡ []) × (step ≡ refusal (refused 0)))
@@ -49,6 +51,7 @@ module _ {V W R Q : Type 0} (k v : Shape) (kf : Format V R) (vf : Format W Q) wh
       ⊎ ((a : List ℕ) × (r : R) × (rest : List ℕ) × kf.parts pair.0 p a r
       × vf.next pair.1 (p + length a) rest step × (front ≡ a ++ rest))))
 
+  -- `out`: bytes of the entry, or none if it is too large
   abbrev pub PairImage : V × W → EntryResolver R Q → ℕ → List ℕ → Type 0
   PairImage pair r p out =
       ((1073741824 < whole_size k v) × (out ≡ []))
@@ -56,15 +59,16 @@ module _ {V W R Q : Type 0} (k v : Shape) (kf : Format V R) (vf : Format W Q) wh
       × vf.image pair.1 r.value (p + value_offset k v) b
       × (out ≡ pair_bytes (value_offset k v) (whole_size k v) a b))
 
+  -- a distance of the key or the value doesn't fit
   abbrev pub PairFar : V × W → EntryResolver R Q → ℕ → Type 0
   PairFar pair r p = IsSmall k v × (kf.far pair.0 r.key p
       ⊎ vf.far pair.1 r.value (p + value_offset k v))
 
-  -- how a pair is written: the parts of both, and then one entry
+  -- the format of a pair: the parts of both, and then one entry
   abbrev pub pair_format : Format (V × W) (EntryResolver R Q)
   pair_format = record { parts = PairParts; next = PairNext; image = PairImage; far = PairFar }
 
--- how values of another type are written that are seen as these
+-- the format `f` for values of another type, which `seen` maps to the values `V`
 abbrev pub written_as : {X V R : Type 0} → (X → V) → Format V R → Format X R
 written_as seen f = record {
   parts = λ x. f.parts (seen x);

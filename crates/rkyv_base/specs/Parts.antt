@@ -1,30 +1,30 @@
--- Where the parts of a value may lie.
+-- The range of bytes for the parts of a value.
 use Rattle.std.specs.Prelude.{◌≡◌, ◌≢◌, ℕ, ◌+◌, ◌%◌, ◌≤◌, ◌⊎◌, ℤ, pos, ◌+ℤ◌, ◌<ℤ◌}
 use Rattle.std.proofs.Common.{arith, ap, inl, inr, subst, sym, ◌∙◌}
 use Rattle.std.proofs.lemmas.Int.{ints}
 use Rattle.rkyv_base.specs.declared.errors.VerifyError.{VerifyError}
 use Rattle.rkyv_base.specs.declared.errors.VerifyError.TheVariants.{OutOfRange, Unaligned}
 
--- a part of this begin and size is one that stands at the position at: from lo to hi, and aligned
+-- `at`: position of an aligned part of `size` bytes between `lo` and `hi`, which begins at `begin`
 pub record PartIn (begin : ℤ) (size align lo hi at : ℕ) : Type 0 where
   pub begins : pos at ≡ begin
   pub above : lo ≤ at
   pub below : at + size ≤ hi
   pub aligned : at % align ≡ 0
 
--- a part of this begin and size doesn't lie from lo to hi, or else it isn't aligned
+-- `e`: fault of a part that isn't between `lo` and `hi`, or else isn't aligned
 abbrev pub PartFails : ℤ → ℕ → ℕ → ℕ → ℕ → VerifyError → Type 0
 PartFails begin size align lo hi e =
     (((begin <ℤ pos lo) ⊎ (pos hi <ℤ (begin +ℤ pos size))) × (e ≡ OutOfRange begin size))
     ⊎ ((at : ℕ) × (pos at ≡ begin) × (lo ≤ at) × (at + size ≤ hi) × (at % align ≢ 0)
     × (e ≡ Unaligned at align))
 
--- a part stands at one position alone
+-- a part has one position alone
 pub part_one : (begin : ℤ) (size align lo hi at at' : ℕ) → PartIn begin size align lo hi at
     → PartIn begin size align lo hi at' → at ≡ at'
 part_one begin size align lo hi at at' p q = omega (arith, ints, p.begins, q.begins)
 
--- no part lies in the range and fails
+-- a part in the range has no fault
 pub part_clear : (begin : ℤ) (size align lo hi at : ℕ) (e : VerifyError)
     → PartIn begin size align lo hi at → PartFails begin size align lo hi e → ⊥
 part_clear begin size align lo hi at e p (inl (inl h, q)) =
@@ -35,7 +35,7 @@ part_clear begin size align lo hi at e p (inr (k, begins, above, below, unaligne
     let same : at ≡ k = omega (arith, ints, p.begins, begins) in
     unaligned (subst (λ n. n % align ≡ 0) same p.aligned)
 
--- a part fails by one error alone
+-- a part has one fault alone
 pub part_one_failure : (begin : ℤ) (size align lo hi : ℕ) (e e' : VerifyError)
     → PartFails begin size align lo hi e → PartFails begin size align lo hi e' → e ≡ e'
 part_one_failure begin size align lo hi e e' (inl h) (inl k) = h.1 ∙ sym k.1
@@ -52,7 +52,7 @@ part_one_failure begin size align lo hi e e' (inr (at, begins, above, below, una
     let same : at ≡ at' = omega (arith, ints, begins, begins') in
     q ∙ ap (λ n. Unaligned n align) same ∙ sym q'
 
--- a wider range keeps a part
+-- a part is also in a wider range
 pub part_wider : (begin : ℤ) (size align lo lo' hi hi' at : ℕ) → lo' ≤ lo → hi ≤ hi'
     → PartIn begin size align lo hi at → PartIn begin size align lo' hi' at
 part_wider begin size align lo lo' hi hi' at low high p =

@@ -1,4 +1,4 @@
--- A value written as the root of an archive: its parts, zeros up to its alignment, the value.
+-- The root of an archive: the parts of a value, zeros up to its alignment, and its fixed bytes.
 use Rattle.std.specs.Prelude.{
   MatchResult,
   Result,
@@ -34,22 +34,21 @@ use Rattle.rkyv_base.specs.Access.{Accepted}
 use Rattle.rkyv_base.specs.Format.{Format}
 
 module _ {V R : Type 0} (align : ℕ) (f : Format V R) (v : V) (p : ℕ) where
-  -- the bytes of a root that is written from position p on, and the root's own position
+  -- `bytes`: bytes of a root that is written from position `p` on, `root`: position of the root
   abbrev pub RootBytes : List ℕ → ℕ → Type 0
   RootBytes bytes root =
       (part : List ℕ) × (r : R) × (out : List ℕ) × f.parts v p part r × f.image v r root out
       × (root ≡ round_up (p + length part) align)
       × (bytes ≡ part ++ (zeros (padding align (p + length part)) ++ out))
 
-  -- the value's bytes, or that a distance from it is too large
+  -- `step`: the fixed bytes of the value, or the error that a distance doesn't fit
   abbrev pub ValueStep : List ℕ → R → Step → Type 0
   ValueStep part r step =
       ((out : List ℕ) × f.image v r (round_up (p + length part) align) out × (step ≡ piece out))
       ⊎ (f.far v r (round_up (p + length part) align) × (step ≡ refusal distance))
 
-  -- after front, step comes next: that there is no memory for the value's bytes; one of its parts,
-  -- or a refusal of it; the
-  -- zeros; the value
+  -- `step`: next step of writing a root after `front`. It is an allocation failure,
+  -- a step of the value, the zeros, or the fixed bytes
   abbrev pub RootNext : List ℕ → Step → Type 0
   RootNext front step =
       Only (refusal no_memory) front step
@@ -58,35 +57,34 @@ module _ {V R : Type 0} (align : ℕ) (f : Format V R) (v : V) (p : ℕ) where
       ⊎ ((part : List ℕ) × (r : R) × f.parts v p part r
       × (front ≡ part ++ zeros (padding align (p + length part))) × ValueStep part r step)
 
--- a root was appended
+-- `root`: position of the root that was appended, within the limit
 abbrev pub WroteRoot : {V R : Type 0} → ℕ → ℕ → Format V R → V → Output → Output → ℕ → Type 0
 WroteRoot limit align f v o o' root =
     (bytes : List ℕ) × Appends o o' bytes × RootBytes align f v (end_of o) bytes root
     × (end_of o' ≤ limit)
 
--- writing a root gave up: what stood before is kept, and the cause stands
+-- writing a root failed with `e`: the earlier bytes are unchanged, and the condition of `e` is met
 abbrev pub RootGaveUp : {F V R : Type 0} → ℕ → ℕ → Format V R → V → Output → Output → WriteError F
     → Type 0
 RootGaveUp limit align f v o o' e = Told limit (RootNext align f v (end_of o)) o o' e
 
--- what writing a root answers: its position, where it was appended, or else why it gave up
+-- `result`: the position of the root that was appended, or the error
 abbrev pub WritesRoot : {F V R : Type 0} → ℕ → ℕ → Format V R → V → Output → Output
     → Result ℕ (WriteError F) → Type 0
 WritesRoot limit align f v o o' result =
     MatchResult result (WroteRoot limit align f v o o') (RootGaveUp limit align f v o o')
 
--- what a new writer into memory holds
+-- the output of a new writer to memory
 abbrev pub fresh : Output
 fresh = record { start = 0; bytes = []; failures = 0 }
 
--- the bytes are the archive of one value: it is accepted, the value stands at its root, and no
--- bytes but its own are there
+-- `b`: archive of the value `v` alone. It is accepted, and its root represents `v`
 abbrev pub ArchiveOf : {V R : Type 0} → ℕ → Shape → (List ℕ → ℕ → V → Type 0) → Format V R → V
     → List ℕ → Type 0
 ArchiveOf limit s stands f v b =
     Accepted limit s b × stands b (length b - s.size) v
     × RootBytes s.align f v 0 b (length b - s.size)
 
--- no archive was made of the value
+-- `e`: error of writing the value `v` to memory
 abbrev pub ArchiveRefused : {F V R : Type 0} → ℕ → Shape → Format V R → V → WriteError F → Type 0
 ArchiveRefused limit s f v e = (o : Output) × RootGaveUp limit s.align f v fresh o e

@@ -1,4 +1,4 @@
--- Values of a few fixed bytes, which are a little endian number: numbers, bool and char.
+-- Scalars, which are one little-endian number: numbers, `bool` and `char`.
 use Rattle.std.specs.Prelude.{◌≡◌, ℕ, ◌+◌, ◌%◌, ◌^◌, ◌<◌, ◌≤◌, ◌⊎◌, List, [], length, slice_range}
 use Rattle.std.specs.Int.{Width, w8, w16, w32, w64, byte_len, from_le_bytes, to_le_bytes}
 use Rattle.std.proofs.Common.{refl, arith, inl, inr, subst, sym, ◌∙◌, ap}
@@ -14,9 +14,8 @@ use Rattle.rkyv_base.specs.Bytes.{Same, Sits, number_at}
 use Rattle.rkyv_base.specs.Shape.{Shape, IsAlign, IsElement}
 use Rattle.rkyv_base.specs.Format.{Format, IsFormat, nothing_next, nothing_far}
 
--- how the values V are written: as many bytes as the word has, the number of a value, the value of
--- a number, and which
--- numbers are those of values
+-- an encoding of the values `V`. `word`: the number's width, `code`: number of a value,
+-- `value`: value of a number, `IsCode`: numbers of values
 pub record Encoding (V : Type 0) : Type 1 where
   pub word : Width
   pub code : V → ℕ
@@ -27,21 +26,22 @@ pub record Encoding (V : Type 0) : Type 1 where
 abbrev pub IsWord : Width → Type 0
 IsWord w = (w ≡ w8) ⊎ (w ≡ w16) ⊎ (w ≡ w32) ⊎ (w ≡ w64)
 
--- these bytes are the value's number, which reads back as the value
+-- `out`: bytes of the number of `v`, which reads back as `v`
 pub record Encodes {V : Type 0} (encoding : Encoding V) (v : V) (out : List ℕ) : Type 0 where
   pub bytes : out ≡ to_le_bytes encoding.word (encoding.code v)
   pub fits : encoding.code v < 2 ^ bits encoding.word
   pub is_code : encoding.IsCode (encoding.code v)
   pub reads_back : encoding.value (encoding.code v) ≡ v
 
--- the bytes at p are a value's number; nothing else is looked at
+-- the number at `p` is that of a value. A scalar has no parts
 abbrev pub ScalarHolds : {V : Type 0} → Encoding V → List ℕ → ℕ → ℕ → ℕ → ℕ → Type 0
 ScalarHolds e b p lo hi l = (l ≡ lo) × e.IsCode (number_at e.word b p)
 
+-- `error`: `InvalidValue` of `p`, whose number is that of no value
 abbrev pub ScalarFails : {V : Type 0} → Encoding V → List ℕ → ℕ → ℕ → ℕ → VerifyError → Type 0
 ScalarFails e b p lo hi error = (error ≡ InvalidValue p) × (e.IsCode (number_at e.word b p) → ⊥)
 
--- a scalar as an element: one word, at a multiple of it, whose number is that of a value
+-- a scalar as an element: one aligned word, whose number is that of a value
 abbrev pub scalar_shape : {V : Type 0} → Encoding V → Shape
 scalar_shape e = record {
   size = byte_len e.word;
@@ -50,11 +50,11 @@ scalar_shape e = record {
   fails = ScalarFails e;
 }
 
--- the value of the number at p
+-- the number at `p` is that of the value `v`
 abbrev pub ScalarStands : {V : Type 0} → Encoding V → List ℕ → ℕ → V → Type 0
 ScalarStands e b p v = e.value (number_at e.word b p) ≡ v
 
--- nothing is written before the value itself
+-- the format of a scalar, which appends nothing before its fixed bytes
 abbrev pub scalar_format : {V : Type 0} → Encoding V → Format V Unit
 scalar_format e = record {
   parts = λ v p part r. part ≡ [];
@@ -63,7 +63,7 @@ scalar_format e = record {
   far = nothing_far;
 }
 
--- what holds of each word holds of any
+-- a property of each word is one of any word
 by_word : (P : Width → Type 0) → P w8 → P w16 → P w32 → P w64 → (w : Width) → IsWord w → P w
 by_word P p8 p16 p32 p64 w (inl e) = subst P (sym e) p8
 by_word P p8 p16 p32 p64 w (inr (inl e)) = subst P (sym e) p16
@@ -77,7 +77,7 @@ word_align w h = by_word (λ v. IsAlign (byte_len v)) (inl refl) (inr (inl refl)
 byte_reads_back : (n : ℕ) → n < 2 ^ bits w8 → from_le_bytes w8 (to_le_bytes w8 n) ≡ n
 byte_reads_back n h = omega arith
 
--- a number that fits its word reads back as written
+-- a number that fits in its word reads back as written
 pub word_reads_back : (w : Width) → IsWord w → (n : ℕ) → n < 2 ^ bits w
     → from_le_bytes w (to_le_bytes w n) ≡ n
 word_reads_back w h = by_word (λ v. (n : ℕ) → n < 2 ^ bits v
@@ -120,7 +120,7 @@ module _ {V : Type 0} (e : Encoding V) (word : IsWord e.word) where
   scalar_near v b c p lo hi l o h same part st =
       subst (λ s. e.value (from_le_bytes e.word s) ≡ v) same st
 
-  -- the number that sits at p
+  -- the number at `p` of bytes in an archive
   number_sits : (v : V) (out c : List ℕ) (p : ℕ) → Encodes e v out → Sits c p out
       → number_at e.word c p ≡ e.code v
   number_sits v out c p i s =

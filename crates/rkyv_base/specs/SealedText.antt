@@ -6,32 +6,32 @@ use Rattle.std.specs.Str.{IsUtf8}
 use Rattle.rkyv_base.specs.Sealing.{with_bytes}
 use Rattle.rkyv_base.specs.Text.{fixed_bytes, inline_text, is_far, text_at}
 
--- the text at p stands elsewhere
+-- the text at `p` is out of line
 abbrev pub IsElsewhere : Width → List ℕ → ℕ → Type 0
 IsElsewhere w b p = is_far (fixed_bytes w b p) ≡ true
 
--- the text at p stands inline
+-- the text at `p` is inline
 abbrev pub IsInline : Width → List ℕ → ℕ → Type 0
 IsInline w b p = is_far (fixed_bytes w b p) ≡ false
 
--- the inline text at p
+-- the inline text at `p`
 abbrev pub inline_at : Width → List ℕ → ℕ → List ℕ
 inline_at w b p = inline_text (fixed_bytes w b p)
 
--- the text at p stands inline, and is this one
+-- the text at `p` is inline, and is `text`
 abbrev pub ReadsInline : Width → List ℕ → ℕ → List ℕ → Type 0
 ReadsInline w b p text = IsInline w b p × (text ≡ text_at w b p)
 
--- the fixed bytes at p are those of an accepted text, as far as it stands in them
+-- the text at `p` is UTF-8 if it is inline
 abbrev pub IsSealedText : Width → List ℕ → ℕ → Type 0
 IsSealedText w b p = IsInline w b p → IsUtf8 (inline_at w b p)
 
--- the bytes b, with the inline text at p in upper case
+-- the bytes `b`, with the inline text at `p` in upper case
 abbrev pub with_uppercase : Width → List ℕ → ℕ → List ℕ
 with_uppercase w b p = with_bytes b p (length (inline_at w b p))
     (map to_ascii_uppercase (inline_at w b p))
 
--- the inline text at p is raised to upper case, or the text stands elsewhere and nothing changes
+-- `c`: bytes `b` with the text at `p` in upper case, if it is inline, and else `b` itself
 abbrev pub Raised : Width → List ℕ → ℕ → List ℕ → Bool → Type 0
 Raised w b p c inline = MatchBool inline (IsInline w b p × (c ≡ with_uppercase w b p))
     (IsElsewhere w b p × (c ≡ b))

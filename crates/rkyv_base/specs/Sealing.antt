@@ -1,4 +1,4 @@
--- What becomes of an archive of which one value is written in place.
+-- An archive after a write of one value in place.
 use Rattle.std.specs.Prelude.{◌≡◌, ℕ, ◌+◌, ◌≤◌, ◌⊎◌, List, ◌++◌, length, take, drop}
 use Rattle.std.specs.Int.{byte_len, to_le_bytes}
 use Rattle.rkyv_base.specs.Bytes.{number_at}
@@ -6,41 +6,42 @@ use Rattle.rkyv_base.specs.Entry.{entry_shape, value_offset}
 use Rattle.rkyv_base.specs.Scalar.{Encoding}
 use Rattle.rkyv_base.specs.Shape.{Shape}
 
--- the bytes b, with the n from position p on replaced by w
+-- the bytes `b`, with the `n` bytes from position `p` on replaced by `w`
 abbrev pub with_bytes : List ℕ → ℕ → ℕ → List ℕ → List ℕ
 with_bytes b p n w = take p b ++ (w ++ drop (p + n) b)
 
--- the bytes b, with the value v at position p
+-- the bytes `b`, with the value `v` at position `p`
 abbrev pub with_value : {V : Type 0} → Encoding V → List ℕ → ℕ → V → List ℕ
 with_value e b p v = with_bytes b p (byte_len e.word) (to_le_bytes e.word (e.code v))
 
--- where the value of the entry at p begins
+-- the position of the value of the entry at `p`
 abbrev pub value_pos : Shape → Shape → ℕ → ℕ
 value_pos k v p = p + value_offset k v
 
--- the number at position p is a value's
+-- the number at position `p` is that of a value
 abbrev pub IsValueAt : {V : Type 0} → Encoding V → List ℕ → ℕ → Type 0
 IsValueAt e b p = e.IsCode (number_at e.word b p)
 
--- the value of the number at position p
+-- the value of the number at position `p`
 abbrev pub value_at : {V : Type 0} → Encoding V → List ℕ → ℕ → V
 value_at e b p = e.value (number_at e.word b p)
 
--- equal lengths, and all bytes outside the n from position p on are the same
+-- `c`: bytes with the length of `b`, and equal to it except in the `n` bytes from `p` on
 pub record Sealed (b : List ℕ) (p n : ℕ) (c : List ℕ) : Type 0 where
   pub same_length : length c ≡ length b
   pub before : take p c ≡ take p b
   pub after : drop (p + n) c ≡ drop (p + n) b
 
--- a value at p in b is one in c, with the same new lower end
+-- a valid value at `p` in `b` is valid in `c`, with the same parts
 abbrev pub Keeps : Shape → List ℕ → List ℕ → ℕ → Type 0
 Keeps s b c p = (lo hi l : ℕ) → lo ≤ hi → hi ≤ p → s.holds b p lo hi l → s.holds c p lo hi l
 
--- the entry at p is kept by every write of its value's bytes alone that keeps the value
+-- the entry at `p` stays valid after each write to its value's bytes alone
+-- that keeps the value valid
 abbrev pub KeepsEntry : Shape → Shape → List ℕ → ℕ → Type 0
 KeepsEntry k v b p = (c : List ℕ) → Sealed b (value_pos k v p) v.size c
     → Keeps v b c (value_pos k v p) → Keeps (entry_shape k v) b c p
 
--- no byte from i to j, j not included, is one of the n from position p on
+-- no byte from `i` on and below `j` is one of the `n` bytes from `p` on
 abbrev pub Outside : ℕ → ℕ → ℕ → ℕ → Type 0
 Outside p n i j = (j ≤ p) ⊎ (p + n ≤ i)

@@ -1,12 +1,12 @@
--- What a type says of the bytes of its values.
+-- The size and the alignment of an element, and the condition for valid bytes.
 use Rattle.std.specs.Prelude.{◌≡◌, ℕ, ◌+◌, ◌%◌, ◌<◌, ◌≤◌, ◌⊎◌, max, List, length}
 use Rattle.std.proofs.Common.{refl, arith, inl, inr, subst, sym}
 use Rattle.rkyv_base.specs.declared.errors.VerifyError.{VerifyError}
 use Rattle.rkyv_base.specs.Bytes.{Same}
 
--- `holds b p lo hi l`: the bytes b are a value at position p, whose parts lie from lo to hi, and
--- the next part may
--- begin at l. `fails b p lo hi e`: e is the first point at which they are none.
+-- `holds b p lo hi l`: the bytes `b` have a valid value at `p`.
+-- Its parts are from `lo` on and below `hi`, and the next part may begin at `l`.
+-- `fails b p lo hi e`: `e` is the first fault of the bytes at `p`.
 pub record Shape : Type 1 where
   pub size : ℕ
   pub align : ℕ
@@ -17,12 +17,11 @@ pub record Shape : Type 1 where
 abbrev pub IsAlign : ℕ → Type 0
 IsAlign a = (a ≡ 1) ⊎ (a ≡ 2) ⊎ (a ≡ 4) ⊎ (a ≡ 8)
 
--- What every element keeps: its size is a multiple of its alignment; the new lower end lies in the
--- range, and there is
--- one alone; no bytes hold and fail, and what fails fails by one error alone; a greater upper end
--- changes nothing, and neither does a lesser lower one but for
--- the new lower end, which isn't greater; what holds rests on the fixed bytes and those up to the
--- new lower end alone.
+-- The laws of an element. Its size is a multiple of its alignment. The new lower end is unique,
+-- and in the range. No bytes are both valid and faulty, and a fault is unique.
+-- A greater upper end keeps a value valid, with the same new lower end.
+-- A lesser lower end keeps it valid, with one that is not greater.
+-- Validity depends only on the fixed bytes, and on the parts up to the new lower end.
 pub record IsElement (s : Shape) : Type 0 where
   pub align_is : IsAlign s.align
   pub size_whole : s.size % s.align ≡ 0
@@ -40,17 +39,17 @@ pub record IsElement (s : Shape) : Type 0 where
   pub near : (b c : List ℕ) (p lo hi l : ℕ) → lo ≤ hi → Same b c p (p + s.size) → Same b c lo l
       → s.holds b p lo hi l → s.holds c p lo hi l
 
--- a value stands at p, wherever its parts are before it
+-- the bytes have a valid value at `p`, whose parts are anywhere before it
 abbrev pub Standing : Shape → List ℕ → ℕ → Type 0
 Standing s b p = (l : ℕ) × s.holds b p 0 p l
 
--- a value stands at p, inside the bytes and aligned
+-- the bytes `b` have a valid value at `p`, which is inside the bytes and aligned
 pub record Viewed (s : Shape) (b : List ℕ) (p : ℕ) : Type 0 where
   pub inside : p + s.size ≤ length b
   pub aligned : p % s.align ≡ 0
   pub stands : Standing s b p
 
--- what holds in some range before the value holds in the widest
+-- a valid value with its parts in some range is valid with the widest range
 pub standing : (s : Shape) → IsElement s → (b : List ℕ) (p lo hi l : ℕ) → lo ≤ hi → hi ≤ p
     → s.holds b p lo hi l → Standing s b p
 standing s laws b p lo hi l o o' h =
@@ -58,21 +57,21 @@ standing s laws b p lo hi l o o' h =
     laws.lower b p lo 0 hi l (omega arith) o h in
     (d.0, laws.higher b p 0 hi p d.0 o' d.1)
 
--- what holds at each alignment holds at any
+-- a property of each alignment is one of any alignment
 pub by_align : (P : ℕ → Type 0) → P 1 → P 2 → P 4 → P 8 → (a : ℕ) → IsAlign a → P a
 by_align P p1 p2 p4 p8 a (inl e) = subst P (sym e) p1
 by_align P p1 p2 p4 p8 a (inr (inl e)) = subst P (sym e) p2
 by_align P p1 p2 p4 p8 a (inr (inr (inl e))) = subst P (sym e) p4
 by_align P p1 p2 p4 p8 a (inr (inr (inr e))) = subst P (sym e) p8
 
--- an alignment lies from 1 to 8
+-- an alignment is from 1 to 8
 pub align_small : (a : ℕ) → IsAlign a → (0 < a) × (a ≤ 8)
 align_small a al = by_align (λ v. (0 < v) × (v ≤ 8)) (omega arith, omega arith) (
   omega arith,
   omega arith,
 ) (omega arith, omega arith) (omega arith, omega arith) a al
 
--- the greater of two alignments is one, and a multiple of it is one of both
+-- the greater of two alignments is one, and its multiples are those of both
 pub max_align : (a b : ℕ) → IsAlign a → IsAlign b → IsAlign (max a b)
 max_align a b ha hb =
     let one : IsAlign 1 = inl refl in

@@ -1,4 +1,4 @@
--- Text in an archive: inline in its fixed bytes, or elsewhere, by a length and a distance.
+-- Text in an archive: inline in its fixed bytes, or out of line, with a length and a distance.
 use Rattle.std.specs.Prelude.{
   ◌≡◌,
   ℕ,
@@ -43,67 +43,68 @@ use Rattle.rkyv_base.specs.Parts.{
   part_wider,
 }
 
--- how many fixed bytes a text has, with words of this width
+-- the number of fixed bytes of a text, with words of width `w`
 abbrev pub text_size : Width → ℕ
 text_size w = 2 * byte_len w
 
--- the fixed bytes of the text at p
+-- the fixed bytes of the text at `p`
 abbrev pub fixed_bytes : Width → List ℕ → ℕ → List ℕ
 fixed_bytes w b p = slice_range b p (p + text_size w)
 
--- the fixed bytes tell text elsewhere: the first has the form 10xxxxxx
+-- the fixed bytes are of out-of-line text: the first has the form 10xxxxxx
 abbrev pub is_far : List ℕ → Bool
 is_far s = nat_le 128 (slice_index s 0) && nat_lt (slice_index s 0) 192
 
--- the text that stands inline: what is before the first ff
+-- the inline text: the fixed bytes before the first ff
 abbrev pub inline_text : List ℕ → List ℕ
 inline_text s = before_first (λ x. x == 255) s
 
--- the length that a first word tells
+-- the length that the first word `u` encodes
 abbrev pub told_length : ℕ → ℕ
 told_length u = u % 64 + u / 256 * 64
 
--- the length of text elsewhere
+-- the length of out-of-line text
 abbrev pub far_length : Width → List ℕ → ℕ
 far_length w s = told_length (number_at w s 0)
 
--- where text elsewhere begins: the second word is the distance to it
+-- the start of out-of-line text. Its distance is in the second word
 abbrev pub far_begin : Width → List ℕ → ℕ → ℤ
 far_begin w s p = pos p +ℤ signed_at w s (byte_len w)
 
--- the text elsewhere whose fixed bytes s stand at p
+-- the out-of-line text whose fixed bytes `s` are at `p`
 abbrev pub far_text : Width → List ℕ → List ℕ → ℕ → List ℕ
 far_text w s b p = slice_range b (unsigned_abs (far_begin w s p))
     (unsigned_abs (far_begin w s p) + far_length w s)
 
--- the text whose fixed bytes s stand at p
+-- the text whose fixed bytes `s` are at `p`
 unfoldable pub text_of : Width → List ℕ → List ℕ → ℕ → List ℕ
 text_of w s b p = if is_far s then far_text w s b p else inline_text s
 
--- the text that stands at p
+-- the text at `p`
 abbrev pub text_at : Width → List ℕ → ℕ → List ℕ
 text_at w b p = text_of w (fixed_bytes w b p) b p
 
--- this text reads back at p
+-- the text at `p` is `t`
 abbrev pub TextReads : Width → List ℕ → ℕ → List ℕ → Type 0
 TextReads w b p t = text_at w b p ≡ t
 
--- inline: what is before the first ff is text, and no part stands elsewhere
+-- the fixed bytes `s` are a valid inline text, without parts
 abbrev pub InlineHolds : List ℕ → ℕ → ℕ → Type 0
 InlineHolds s lo l = (is_far s ≡ false) × IsUtf8 (inline_text s) × (l ≡ lo)
 
--- elsewhere: the text is too long to stand inline, lies in the range and is text
+-- the fixed bytes `s` are of a valid out-of-line text: it is too long
+-- to be inline, in the range, and UTF-8
 abbrev pub FarHolds : Width → List ℕ → List ℕ → ℕ → ℕ → ℕ → ℕ → Type 0
 FarHolds w s b p lo hi l =
     (is_far s ≡ true) × (text_size w < far_length w s)
     × (at : ℕ) × PartIn (far_begin w s p) (far_length w s) 1 lo hi at
     × IsUtf8 (slice_range b at (at + far_length w s)) × (l ≡ at + far_length w s)
 
--- the fixed bytes s, which stand at p, are a text
+-- the fixed bytes `s` at `p` are a valid text
 abbrev pub FixedHolds : Width → List ℕ → List ℕ → ℕ → ℕ → ℕ → ℕ → Type 0
 FixedHolds w s b p lo hi l = InlineHolds s lo l ⊎ FarHolds w s b p lo hi l
 
--- text elsewhere: it could stand inline, or its part fails, or it isn't text
+-- `e`: fault of out-of-line text. It could be inline, or its part has a fault, or it isn't UTF-8
 abbrev pub FarFails : Width → List ℕ → List ℕ → ℕ → ℕ → ℕ → VerifyError → Type 0
 FarFails w s b p lo hi e =
     ((far_length w s ≤ text_size w) × (e ≡ InvalidValue p))
@@ -112,13 +113,13 @@ FarFails w s b p lo hi e =
     × (at : ℕ) × PartIn (far_begin w s p) (far_length w s) 1 lo hi at
     × (IsUtf8 (slice_range b at (at + far_length w s)) → ⊥) × (e ≡ InvalidValue p))
 
--- the fixed bytes s, which stand at p, are none
+-- `e`: fault of the fixed bytes `s` at `p`
 abbrev pub FixedFails : Width → List ℕ → List ℕ → ℕ → ℕ → ℕ → VerifyError → Type 0
 FixedFails w s b p lo hi e =
     ((is_far s ≡ false) × (IsUtf8 (inline_text s) → ⊥) × (e ≡ InvalidValue p))
     ⊎ ((is_far s ≡ true) × FarFails w s b p lo hi e)
 
--- text as an element: two words, at a multiple of one
+-- text as an element: two words, aligned to one
 abbrev pub text_shape : Width → Shape
 text_shape w = record {
   size = text_size w;
@@ -131,7 +132,7 @@ text_shape w = record {
 abbrev pub IsArchiveWord : Width → Type 0
 IsArchiveWord w = (w ≡ w32) ⊎ (w ≡ w64)
 
--- what holds of both words holds of either
+-- a property of both words is one of either
 pub by_archive_word : (P : Width → Type 0) → P w32 → P w64 → (w : Width) → IsArchiveWord w → P w
 by_archive_word P p32 p64 w (inl e) = subst P (sym e) p32
 by_archive_word P p32 p64 w (inr e) = subst P (sym e) p64
@@ -210,7 +211,7 @@ module _ (w : Width) where
   holds_lower s b p lo lo' hi l o (inr h) =
       (l, inr (holds_wider s b p lo lo' hi hi l o (omega arith) h), omega arith)
 
-  -- the text elsewhere lies below the new lower end, and is the same where those bytes are
+  -- the out-of-line text is below the new lower end, so it is the same if those bytes are
   same_text : (s b c : List ℕ) (p lo hi l : ℕ) → Same b c lo l → (h : FarHolds w s b p lo hi l)
       → slice_range b h.2 (h.2 + far_length w s) ≡ slice_range c h.2 (h.2 + far_length w s)
   same_text s b c p lo hi l part (f, n, at, at_part, u, q) =
@@ -223,7 +224,7 @@ module _ (w : Width) where
   holds_near s b c p lo hi l part (inr h) =
       inr (h.0, h.1, h.2, h.3, subst IsUtf8 (same_text s b c p lo hi l part h) h.4, h.5)
 
-  -- what reads inline, and what reads elsewhere
+  -- inline text, and out-of-line text, as read
   pub inline_reads : (s b : List ℕ) (p : ℕ) → is_far s ≡ false → text_of w s b p ≡ inline_text s
   unfolding text_of
   inline_reads s b p near = rw near refl
@@ -243,17 +244,17 @@ module _ (w : Width) where
       far_reads s c p h.2 h.0 h.3.begins ∙ sym (same_text s b c p lo hi l part h)
       ∙ sym (far_reads s b p h.2 h.0 h.3.begins) ∙ e
 
-  -- what holds reads as text
+  -- a valid text is UTF-8
   holds_text : (s b : List ℕ) (p lo hi l : ℕ) → FixedHolds w s b p lo hi l
       → IsUtf8 (text_of w s b p)
   holds_text s b p lo hi l (inl h) = subst IsUtf8 (sym (inline_reads s b p h.0)) h.1
   holds_text s b p lo hi l (inr h) = subst IsUtf8 (sym (far_reads s b p h.2 h.0 h.3.begins)) h.4
 
-  -- what a view of text shows is text
+  -- the text of a view is UTF-8
   pub viewed_text : (b : List ℕ) (p : ℕ) → Viewed (text_shape w) b p → IsUtf8 (text_at w b p)
   viewed_text b p v = holds_text (fixed_bytes w b p) b p 0 p v.stands.0 v.stands.1
 
-  -- a view of text elsewhere shows bytes before it
+  -- the out-of-line text of a view is before the view's position
   pub viewed_far : (b : List ℕ) (p : ℕ) → Viewed (text_shape w) b p
       → is_far (fixed_bytes w b p) ≡ true
       → (at : ℕ) × (pos at ≡ far_begin w (fixed_bytes w b p) p)
@@ -264,7 +265,7 @@ module _ (w : Width) where
         | inr h ↦ (h.2, h.3.begins, h.3.below)
       ]
 
-  -- what reads rests on the bytes on which it rests that it holds
+  -- the text depends only on the bytes on which validity depends
   pub text_near : StandsNear (text_shape w) (TextReads w)
   text_near t b c p lo hi l o h fixed part reads =
       reads_near (fixed_bytes w c p) b c p lo hi l t

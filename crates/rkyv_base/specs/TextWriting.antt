@@ -1,5 +1,5 @@
--- How text is written: up to as many bytes as its fixed bytes inline, filled up with ff; else in
--- one piece elsewhere.
+-- The format of text: inline, filled up with ff, if it fits in the fixed bytes,
+-- and else in one piece out of line.
 use Rattle.std.specs.Prelude.{
   FitsSigned,
   List,
@@ -71,23 +71,23 @@ use Rattle.std.proofs.lemmas.List.Sums.{position_or_len_is}
 use Rattle.rkyv_base.specs.Parts.{PartIn}
 use Rattle.rkyv_base.specs.Scalar.{IsWord, word_bytes, word_reads_back}
 
--- text of this many bytes or more is refused
+-- the least length of a text that is refused
 abbrev pub text_limit : Width → ℕ
 text_limit w = 2 ^ bits w / 4
 
--- the text stands inline
+-- the text `t` is inline
 abbrev pub IsShort : Width → List ℕ → Type 0
 IsShort w t = length t ≤ text_size w
 
--- the text stands elsewhere
+-- the text `t` is out of line
 abbrev pub IsLong : Width → List ℕ → Type 0
 IsLong w t = (text_size w < length t) × (length t < text_limit w)
 
--- the text is refused
+-- the text `t` is refused
 abbrev pub IsTooLong : Width → List ℕ → Type 0
 IsTooLong w t = text_limit w ≤ length t
 
--- the first word of text of n bytes that stands elsewhere
+-- the first word of an out-of-line text of `n` bytes
 abbrev pub length_word : ℕ → ℕ
 length_word n = n % 64 + 128 + n / 64 * 256
 
@@ -95,20 +95,22 @@ length_word n = n % 64 + 128 + n / 64 * 256
 abbrev pub inline_bytes : ℕ → List ℕ → List ℕ
 inline_bytes size t = t ++ replicate (size - length t) 255
 
--- the fixed bytes of text of n bytes that stands at a distance
+-- the fixed bytes of an out-of-line text of `n` bytes at a distance
 abbrev pub far_bytes : Width → ℕ → ℤ → List ℕ
 far_bytes w n distance = to_le_bytes w (length_word n) ++ to_le_bytes w (cast_unsigned w distance)
 
--- nothing is written of text that stands inline, and of other text the text itself
+-- `part`: the text itself if it is out of line, and else no bytes
 abbrev pub TextParts : Width → List ℕ → ℕ → List ℕ → TextResolver → Type 0
 TextParts w t p part r =
     IsUtf8 t × ((IsShort w t × (part ≡ []) × (r.pos ≡ 0)) ⊎ (IsLong w t × (part ≡ t) × (r.pos ≡ p)))
 
+-- `step`: the text in one piece if it is out of line, or the error for a text that is too long
 abbrev pub TextNext : Width → List ℕ → ℕ → List ℕ → Step → Type 0
 TextNext w t p front step = (IsLong w t × Only (piece t) front step)
     ⊎ (IsTooLong w t × Only (refusal long_text) front step)
 
--- text that is too long is never serialized: then the bytes may be any
+-- `out`: fixed bytes of the text `t`. They may be any if it is too long,
+-- since such a text is never serialized
 abbrev pub TextImage : Width → List ℕ → TextResolver → ℕ → List ℕ → Type 0
 TextImage w t r p out =
     (IsShort w t × (out ≡ inline_bytes (text_size w) t))
@@ -116,10 +118,12 @@ TextImage w t r p out =
     × (out ≡ far_bytes w (length t) (pos r.pos -ℤ pos p)))
     ⊎ (IsTooLong w t × (length out ≡ text_size w))
 
+-- the distance to the out-of-line text doesn't fit
 abbrev pub TextFar : Width → List ℕ → TextResolver → ℕ → Type 0
 TextFar w t r p = IsLong w t × (FitsSigned w (pos r.pos -ℤ pos p) → ⊥)
 
--- how a text is written: inline, or its bytes in one piece and then two words that tell of them
+-- the format of a text: inline, or its bytes in one piece and two words
+-- with its length and distance
 abbrev pub text_format : Width → Format (List ℕ) TextResolver
 text_format w = record {
   parts = TextParts w;
@@ -128,7 +132,7 @@ text_format w = record {
   far = TextFar w;
 }
 
--- the bytes that sit at a text's position are its fixed bytes
+-- the bytes in an archive at a text's position are its fixed bytes
 fixed_sits : (w : Width) (c out : List ℕ) (p : ℕ) → length out ≡ text_size w → Sits c p out
     → fixed_bytes w c p ≡ out
 fixed_sits w c out p n sits = subst (λ k. slice_range c p (p + k) ≡ out) n sits.there
@@ -136,12 +140,12 @@ fixed_sits w c out p n sits = subst (λ k. slice_range c p (p + k) ≡ out) n si
 length_inline : (size : ℕ) (t : List ℕ) → length t ≤ size → length (inline_bytes size t) ≡ size
 length_inline size t h = simp (length-append, length-replicate) (omega arith)
 
--- text that stands inline doesn't tell text elsewhere
+-- inline text doesn't have the form of out-of-line text
 inline_near : (size : ℕ) (t : List ℕ) → 0 < size → IsUtf8 t → is_far (inline_bytes size t) ≡ false
 inline_near size [] h u = rw (get_or-replicate {A = ℕ} (size - 0) 0 255 0 (omega arith)) refl
 inline_near size (x ∷ t) h u = text_begins x t u
 
--- text that stands inline ends before the first ff
+-- inline text ends before the first ff
 inline_ends : (size : ℕ) (t : List ℕ) → IsUtf8 t → inline_text (inline_bytes size t) ≡ t
 inline_ends size t u =
     let fill : List ℕ = replicate (size - length t) 255 in
@@ -188,7 +192,7 @@ second_part x y k n m =
 length_told : (n : ℕ) → told_length (length_word n) ≡ n
 length_told n = omega arith
 
--- text elsewhere is told by its fixed bytes: its form, its length and its distance
+-- the fixed bytes of out-of-line text encode its form, its length and its distance
 module _ (w : Width) (kind : IsArchiveWord w) (n : ℕ) (d : ℤ) where
   pub length_far : length (far_bytes w n d) ≡ text_size w
   length_far = by_archive_word (λ v. length (far_bytes v n d) ≡ text_size v) refl refl w kind
@@ -220,7 +224,7 @@ module _ (w : Width) (kind : IsArchiveWord w) (n : ℕ) (d : ℤ) where
       (word_bytes w word (length_word n)) (word_bytes w word u))
       ∙ ap (cast_signed w) (word_reads_back w word u (Fits-of_z fits).fits) ∙ to_z-of_z w d fits
 
--- a distance leads back to where it was taken
+-- a distance leads back to the position from which it was taken
 there_and_back : (p q : ℕ) → pos q ≡ pos p +ℤ (pos q -ℤ pos p)
 there_and_back p q = omega (arith, ints)
 
@@ -309,7 +313,7 @@ module _ (w : Width) (kind : IsArchiveWord w) where
       × TextReads w c p t) (sym h.1)
       (far_sound t c p p0 u h.0 fits (subst (Sits c p0) h.1 s) same)
 
-  -- what is written of a text holds, and the text stands
+  -- a written text is valid, and represents the text
   pub text_is_format : IsFormat (text_shape w) (TextReads w) (text_format w)
   text_is_format = record {
     whole = text_whole;
@@ -318,7 +322,7 @@ module _ (w : Width) (kind : IsArchiveWord w) where
         (fixed_sits w c out p (text_whole t r p out i) q);
   }
 
-  -- and of any type that is written as the text that is seen of it
+  -- the same for any type that is written as a text
   pub seen_text_is_format : {X : Type 0} (seen : X → List ℕ)
       → IsFormat (text_shape w) (λ b p x. TextReads w b p (seen x))
       (written_as seen (text_format w))

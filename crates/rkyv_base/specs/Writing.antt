@@ -1,4 +1,4 @@
--- What writers hold, what one write leaves, and what a failed one tells.
+-- The output of a writer, and the results of one write.
 use Rattle.std.specs.Prelude.{
   ◌≡◌,
   ℕ,
@@ -32,42 +32,43 @@ use Rattle.rkyv_base.specs.declared.errors.WriteError.TheVariants.{
   Refused,
 }
 
--- what a writer holds: the position of its first byte, its bytes, and its count of failures
+-- the output of a writer. `start`: position of its first byte, `bytes`: its bytes,
+-- `failures`: count of failed writes
 pub record Output : Type 0 where
   pub start : ℕ
   pub bytes : List ℕ
   pub failures : ℕ
 
--- the position behind what a writer holds
+-- the position after the last byte of the output `o`
 abbrev pub end_of : Output → ℕ
 end_of o = o.start + length o.bytes
 
--- what a writer into memory holds, of its bytes and its count of failures
+-- the output of a writer to memory, from its bytes and its count of failures
 abbrev pub held : List ℕ × ℕ → Output
 held w = record { start = 0; bytes = w.0; failures = w.1 }
 
--- part stands behind what stood before
+-- `o'`: output `o`, followed by `part`
 pub record Grows (o o' : Output) (part : List ℕ) : Type 0 where
   pub start : o'.start ≡ o.start
   pub bytes : o'.bytes ≡ o.bytes ++ part
 
--- part was appended, and no write failed
+-- `part` was appended to `o`, and no write failed
 pub record Appends (o o' : Output) (part : List ℕ) : Type 0 where
   pub start : o'.start ≡ o.start
   pub bytes : o'.bytes ≡ o.bytes ++ part
   pub failures : o'.failures ≡ o.failures
 
--- one failure more is counted, up to the greatest count
+-- one more failure is counted, up to the greatest count
 abbrev pub FailedOnce : Output → Output → Type 0
 FailedOnce o o' = o'.failures ≡ min (o.failures + 1) (2 ^ 64 - 1)
 
--- after a fault: a front of the bytes was appended, and one more failure is counted
+-- a failed write: a front of the bytes was appended, and one more failure is counted
 pub record Fell (o o' : Output) (bytes : List ℕ) : Type 0 where
   pub front : ℕ
   pub appended : Grows o o' (take front bytes)
   pub counted : FailedOnce o o'
 
--- why a value can't be written where it is; for want of memory where writing it takes some
+-- the reason for which a value can't be written, or an allocation failure
 pub data Refusal : Type 0 where
   load_factor : ℕ → ℕ → Refusal
   mismatch : ℕ → ℕ → Refusal
@@ -77,23 +78,22 @@ pub data Refusal : Type 0 where
   no_memory : Refusal
   refused : ℕ → Refusal
 
--- what comes next in a write: a piece to be appended, or a refusal
+-- the next step of a write: a piece to be appended, or a refusal
 pub data Step : Type 0 where
   piece : List ℕ → Step
   refusal : Refusal → Step
 
--- nothing was appended, or it ends within the limit
+-- `part` is empty, or it ends within the limit
 abbrev pub Within : ℕ → Output → List ℕ → Type 0
 Within limit o' part = (part ≡ []) ⊎ (end_of o' ≤ limit)
 
--- front was appended within the limit, no write failed, and step comes next
+-- `front` was appended within the limit, no write failed, and `step` is next
 abbrev pub Reached : ℕ → (List ℕ → Step → Type 0) → Output → Output → List ℕ → Step → Type 0
 Reached limit next o o' front step = Within limit o' front × (o'.failures ≡ o.failures)
     × next front step
 
--- one write failed, of a piece that comes next after a front and fits in the limit behind it; and
--- front ends in a front of
--- that piece
+-- one write failed, of the next piece `bytes` after `before`, which fits within the limit.
+-- `front`: `before`, followed by a front of that piece
 pub record FellIn (limit : ℕ) (next : List ℕ → Step → Type 0) (o o' : Output)
     (front : List ℕ) : Type 0 where
   pub before : List ℕ
@@ -104,8 +104,7 @@ pub record FellIn (limit : ℕ) (next : List ℕ → Step → Type 0) (o o' : Ou
   pub is : front ≡ before ++ take taken bytes
   pub counted : FailedOnce o o'
 
--- the cause that an error names stands, after front was appended. `next front step` says that step
--- comes next after front.
+-- the condition of an error after `front` was appended. `next front step`: `step` follows `front`
 abbrev pub CauseStands : {F : Type 0} → ℕ → (List ℕ → Step → Type 0) → Output → Output → List ℕ
     → WriteError F → Type 0
 CauseStands limit next o o' front (InvalidLoadFactor n d) =
@@ -123,47 +122,46 @@ CauseStands limit next o o' front (Writer f) = FellIn limit next o o' front
 CauseStands limit next o o' front Memory = Reached limit next o o' front (refusal no_memory)
 CauseStands limit next o o' front (Refused n) = Reached limit next o o' front (refusal (refused n))
 
--- a write that gave up kept what stood before and appended front, and tells the cause that stands
--- there
+-- a write failed with `e`: `front` was appended to the unchanged earlier bytes,
+-- and the condition of `e` is met
 pub record Told {F : Type 0} (limit : ℕ) (next : List ℕ → Step → Type 0) (o o' : Output)
     (e : WriteError F) : Type 0 where
   pub front : List ℕ
   pub kept : Grows o o' front
   pub cause : CauseStands limit next o o' front e
 
--- the step alone comes next
+-- `one` is the only step
 abbrev pub Only : Step → List ℕ → Step → Type 0
 Only one front step = (front ≡ []) × (step ≡ one)
 
--- one piece was appended within the limit
+-- one piece was appended, within the limit
 abbrev pub Appended : ℕ → List ℕ → Output → Output → Type 0
 Appended limit bytes o o' = Appends o o' bytes × (end_of o' ≤ limit)
 
--- appending one piece gave up
+-- appending one piece failed with `e`
 abbrev pub PieceGaveUp : {F : Type 0} → ℕ → List ℕ → Output → Output → WriteError F → Type 0
 PieceGaveUp limit bytes o o' e = Told limit (Only (piece bytes)) o o' e
 
--- what appending one piece answers: nothing, where it was appended, or else why it gave up
+-- `result`: result of appending one piece
 abbrev pub AppendsPiece : {F : Type 0} → ℕ → List ℕ → Output → Output
     → Result (Unit {0}) (WriteError F) → Type 0
 AppendsPiece limit bytes o o' result =
     MatchResult result (λ _. Appended limit bytes o o') (PieceGaveUp limit bytes o o')
 
--- how many zeros lie from position p to the next multiple of a
+-- the number of zeros from position `p` to the next multiple of `a`
 abbrev pub padding : ℕ → ℕ → ℕ
 padding a p = (a - p % a) % a
 
--- n bytes that are 0
+-- `n` bytes that are 0
 abbrev pub zeros : ℕ → List ℕ
 zeros n = replicate n 0
 
--- zeros were appended up to the next multiple of a, which is the position p
+-- zeros were appended up to the position `p`, which is the next multiple of `a`
 abbrev pub Aligned : ℕ → ℕ → Output → Output → ℕ → Type 0
 Aligned limit a o o' p = Appends o o' (zeros (padding a (end_of o))) × (p ≡ end_of o') × (p ≤ limit)
     × (p % a ≡ 0)
 
--- what aligning to a answers: the position behind the zeros that were appended, or else why it gave
--- up
+-- `result`: the position after the zeros up to a multiple of `a`, or the error
 abbrev pub Aligns : {F : Type 0} → ℕ → ℕ → Output → Output → Result ℕ (WriteError F) → Type 0
 Aligns limit a o o' result = MatchResult result (Aligned limit a o o')
     (PieceGaveUp limit (zeros (padding a (end_of o))) o o')

@@ -1,4 +1,12 @@
-//! Reading an archive of a stranger.
+//! Access to the root of an archive.
+//!
+//! - `access` validates untrusted bytes and returns a view of the root.
+//! - `access_mut` does the same and returns a seal, for writes in place.
+//! - `access_mut_with` validates them and calls a closure with the bytes and the root's position.
+//! - `access_unchecked` requires valid bytes and validates nothing.
+//!
+//! The functions whose names end in `_in` take the width of the archive.
+//! The others are for narrow archives.
 
 ghost use Rattle.std.specs.Prelude.{◌-◌, length, IfOk, IsOk, MatchResult};
 ghost use Rattle.rkyv_base.specs.Access.{AccessFails, AccessWrites, Accepted};
@@ -13,11 +21,13 @@ use crate::seal::ArchiveSeal;
 use crate::view::View;
 use crate::width::{Narrow, Width};
 
-/// The root of an archive of the width W, which stands at its end, where the archive is accepted.
+/// Validates an archive of the width `W`, and returns a view of the root at its end.
 ///
 /// # Errors
-/// `OutOfRange` where the archive is shorter than a root or longer than the width's limit, then
-/// `Unaligned`, then the first point of the root's check that fails.
+///
+/// - `OutOfRange`: the archive is shorter than a root, or longer than the width's limit.
+/// - `Unaligned`: the position of the root is not a multiple of its alignment.
+/// - The error of the root's own validation.
 #[inline]
 pub fn access_in<'a, W: Width, T: Element>(bytes: &'a [u8]) -> Result<View<'a, T>, VerifyError>
     ensures root { MatchResult result
@@ -46,10 +56,11 @@ pub fn access_in<'a, W: Width, T: Element>(bytes: &'a [u8]) -> Result<View<'a, T
     }
 }
 
-/// The root of a narrow archive, where the archive is accepted.
+/// Validates a narrow archive, and returns a view of the root at its end.
 ///
 /// # Errors
-/// As `access_in`, with the limit of 4,294,967,295 bytes.
+///
+/// The same as for `access_in`, with a limit of 4,294,967,295 bytes.
 #[inline]
 pub fn access<'a, T: Element>(bytes: &'a [u8]) -> Result<View<'a, T>, VerifyError>
     ensures root { MatchResult result
@@ -62,7 +73,11 @@ pub fn access<'a, T: Element>(bytes: &'a [u8]) -> Result<View<'a, T>, VerifyErro
     access_in::<Narrow, T>(bytes)
 }
 
-/// The root of bytes that are known to be an archive of it.
+/// Returns a view of the root at the end of an archive, without validation.
+///
+/// # Requires
+///
+/// - The archive has a valid `T` at its end.
 #[inline]
 pub fn access_unchecked<'a, T: Element>(bytes: &'a [u8]) -> View<'a, T>
     requires { Viewed T.shape bytes.now (length bytes.now - T.shape.size) }
@@ -72,11 +87,13 @@ pub fn access_unchecked<'a, T: Element>(bytes: &'a [u8]) -> View<'a, T>
     View::new(bytes, (bytes.len() - T::size()) as u64)
 }
 
-/// The root of an archive of the width W, to be written in place, where the archive is accepted.
-/// No byte is changed.
+/// Validates an archive of the width `W`, and returns a seal of the root at its end.
+///
+/// The seal borrows the bytes unchanged, for writes in place.
 ///
 /// # Errors
-/// As `access_in`.
+///
+/// The same as for `access_in`.
 #[inline]
 pub fn access_mut_in<'a, W: Width, T: Element>(
     bytes: &'a mut [u8],
@@ -95,11 +112,13 @@ pub fn access_mut_in<'a, W: Width, T: Element>(
     Ok(ArchiveSeal::new(bytes, pos))
 }
 
-/// The root of a narrow archive, to be written in place, where the archive is accepted.
-/// No byte is changed.
+/// Validates a narrow archive, and returns a seal of the root at its end.
+///
+/// The seal borrows the bytes unchanged, for writes in place.
 ///
 /// # Errors
-/// As `access`.
+///
+/// The same as for `access`.
 #[inline]
 pub fn access_mut<'a, T: Element>(bytes: &'a mut [u8]) -> Result<ArchiveSeal<'a, T>, VerifyError>
     ensures root { MatchResult result
@@ -112,11 +131,17 @@ pub fn access_mut<'a, T: Element>(bytes: &'a mut [u8]) -> Result<ArchiveSeal<'a,
     access_mut_in::<Narrow, T>(bytes)
 }
 
-/// Gives the bytes of an archive of the width W and the position of its root to `write`, where the
-/// archive is accepted.
+/// Validates an archive of the width `W`, and calls `write` with its bytes and the root's position.
+///
+/// Returns the result of `write`.
+///
+/// # Requires
+///
+/// - `write` can be called with the bytes and the root's position, if the archive is valid.
 ///
 /// # Errors
-/// As `access_in`; `write` isn't called then, and no byte is changed.
+///
+/// The same as for `access_in`. On an error no byte is changed.
 #[inline]
 pub fn access_mut_with_in<W: Width, T: Element, R, F: FnOnce(&mut [u8], u64) -> R>(
     bytes: &mut [u8],
@@ -136,11 +161,17 @@ pub fn access_mut_with_in<W: Width, T: Element, R, F: FnOnce(&mut [u8], u64) -> 
     }
 }
 
-/// Gives the bytes of a narrow archive and the position of its root to `write`, where the archive
-/// is accepted.
+/// Validates a narrow archive, and calls `write` with its bytes and the root's position.
+///
+/// Returns the result of `write`.
+///
+/// # Requires
+///
+/// - `write` can be called with the bytes and the root's position, if the archive is valid.
 ///
 /// # Errors
-/// As `access_mut_with_in`.
+///
+/// The same as for `access_mut_with_in`, with a limit of 4,294,967,295 bytes.
 #[inline]
 pub fn access_mut_with<T: Element, R, F: FnOnce(&mut [u8], u64) -> R>(
     bytes: &mut [u8],

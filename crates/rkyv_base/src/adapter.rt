@@ -1,4 +1,4 @@
-//! Pairs of lent parts, which are archived as entries.
+//! Pairs of a key and a value by reference or by value, which are archived as entries.
 
 ghost use Rattle.std.specs.Prelude.{◌≡◌};
 ghost use Rattle.rkyv_base.specs.Adapter.{pair_of};
@@ -22,16 +22,18 @@ use crate::writer::Writer;
 use std::alloc::Global;
 use std::marker::PhantomData;
 
-/// A key and a value, each as itself or by reference, which are archived as an entry.
+/// A key and a value, each by value or by reference, which are archived as an entry.
 #[derive(Drop)]
 pub struct EntryAdapter<BK, BV, K, V> {
+    /// The key, or a reference to it.
     pub key: BK,
+    /// The value, or a reference to it.
     pub value: BV,
     kinds: PhantomData<(K, V)>,
 }
 
 impl<BK: Lend<K>, BV: Lend<V>, K, V> EntryAdapter<BK, BV, K, V> {
-    /// The pair of a key and a value.
+    /// Returns the pair of a key and a value.
     #[inline]
     pub fn new(key: BK, value: BV) -> EntryAdapter<BK, BV, K, V>
         ensures key { result.key ≡ key }

@@ -1,4 +1,7 @@
-//! Archiving values.
+//! The traits of types whose values can be archived.
+//!
+//! `Archive` names the element of a type and writes the fixed bytes of a value.
+//! `Serialize` writes the parts of a value before that.
 
 ghost use Rattle.std.specs.Prelude.{◌≡◌, ◌+◌, ◌^◌, ◌<◌, length, MatchResult};
 ghost use Rattle.rkyv_base.specs.Format.{Format, IsFormat, Serializes};
@@ -9,27 +12,34 @@ use crate::width::Width;
 use crate::writer::Writer;
 use std::alloc::Global;
 
-/// What resolving answers.
+/// The result of resolving a value.
 pub type ResolveResult = Result<(), DistanceTooLarge>;
 
-/// What writing an R into a writer S answers.
+/// The result of writing to a writer `S`, with an `R` on success.
 pub type WriteResult<R, S> = Result<R, WriteError<<S as Writer>::Fault>>;
 
-/// A type whose values are archived as values of an element, in archives of the width W.
+/// A type whose values are archived as values of an element, in archives of the width `W`.
 pub trait Archive<W: Width> {
-    /// What its values are in an archive.
+    /// The element as which the values are archived.
     type Archived: StandsFor<Self>;
 
-    /// What serializing a value leaves for resolving it: where its parts were written.
+    /// The positions of a value's parts. Serializing returns it, and resolving takes it.
     type Resolver: Drop;
 
-    // How its values are written.
+    // The format of its values.
     ghost format: { Format Self Self.Resolver };
 
-    /// Writes the fixed bytes of the value, which are to stand at `pos`, over the whole of `out`.
+    /// Writes the fixed bytes of a value at `pos` over the whole of `out`.
+    ///
+    /// # Requires
+    ///
+    /// - `out` has the size of the element.
+    /// - The fixed bytes at `pos` end below 2^64.
     ///
     /// # Errors
-    /// Where a distance to a part doesn't fit the width; `out` may then hold any bytes.
+    ///
+    /// - `DistanceTooLarge`: a distance to a part doesn't fit in the width.
+    ///   `out` may then have any bytes.
     fn resolve(&self, resolver: Self::Resolver, pos: u64, out: &mut [u8]) -> ResolveResult
         requires room { length out.old ≡ Self.Archived.shape.size }
         requires fits { pos + Self.Archived.shape.size < 2 ^ 64 }
@@ -40,13 +50,14 @@ pub trait Archive<W: Width> {
     ghost laws: { IsFormat Self.Archived.shape Self.Archived.stands format };
 }
 
-/// A type whose values can be written into a writer.
+/// A type whose values can be written to a writer.
 pub trait Serialize<S: Writer, W: Width>: Archive<W> {
-    /// Writes the parts of the value that stand before it, and answers what resolves it.
+    /// Writes the parts of the value, which precede it in the archive, and returns its resolver.
     ///
     /// # Errors
-    /// The cause is that of the first piece or value that fails. What the writer held before is
-    /// kept.
+    ///
+    /// The error of the first piece or value that fails.
+    /// The bytes written before the call are unchanged.
     fn serialize(&self, alloc: Global, serializer: &mut S) -> WriteResult<Self::Resolver, S>
         ensures { Serializes W.LIMIT Self.format self.now
             (S.output serializer.old) (S.output serializer.new) result };

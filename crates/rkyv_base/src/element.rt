@@ -1,4 +1,4 @@
-//! Elements: the types whose values stand in an archive.
+//! Elements: the types whose values are in the bytes of an archive.
 
 ghost use Rattle.std.specs.Prelude.{◌≡◌, ℕ, ◌+◌, ◌%◌, ◌≤◌, List, length, MatchResult};
 ghost use Rattle.rkyv_base.specs.Checking.{Fails, Passes};
@@ -7,33 +7,44 @@ ghost use Rattle.rkyv_base.specs.Shape.{IsElement, Shape};
 
 use crate::errors::VerifyError;
 
-/// The bytes in which the parts of a value may lie: from `lo` to `hi`, `hi` not included.
+/// The range of bytes for the parts of a value: from `lo` on and below `hi`.
 #[derive(Clone, Copy, Debug, PartialEq, Eq)]
 pub struct PartRange {
+    /// The position of the first byte.
     pub lo: u64,
+    /// The position after the last byte.
     pub hi: u64,
 }
 
-/// A type whose values stand in the bytes of an archive.
+/// A type whose values are in the bytes of an archive.
 ///
-/// A value takes `size` bytes at a multiple of `align`, and may have parts elsewhere, before it.
+/// A value has `size` fixed bytes at a multiple of `align`.
+/// It may also have parts out of line, before it.
 pub trait Element {
-    // What the type says of the bytes of its values.
+    // The size and the alignment of its values, and the condition for valid bytes.
     ghost shape: { Shape };
 
-    /// How many bytes a value takes: a multiple of the alignment, at most 1,073,741,824.
+    /// Returns the size of a value in bytes: a multiple of the alignment, at most 1,073,741,824.
     fn size() -> usize
         ensures { result ≡ shape.size };
 
-    /// 1, 2, 4 or 8: a value stands at a multiple of it.
+    /// Returns the alignment of a value in bytes: 1, 2, 4 or 8.
     fn align() -> usize
         ensures { result ≡ shape.align };
 
-    /// Looks whether the bytes at `pos` are a value whose parts lie in the range, and answers the
-    /// rest of the range, in which the parts of the next value may lie.
+    /// Validates the value at `pos`, whose parts must be in the range.
+    ///
+    /// Returns the rest of the range, for the parts of the next value.
+    ///
+    /// # Requires
+    ///
+    /// - The fixed bytes at `pos` end inside `bytes`.
+    /// - `pos` is a multiple of the alignment.
+    /// - The range ends at or after its start, and at or before `pos`.
     ///
     /// # Errors
-    /// The first point that fails.
+    ///
+    /// The first fault that the validation finds.
     fn check(bytes: &[u8], pos: u64, range: PartRange) -> Result<PartRange, VerifyError>
         requires inside { pos + shape.size ≤ length bytes.now }
         requires aligned { pos % shape.align ≡ 0 }
@@ -44,9 +55,9 @@ pub trait Element {
     ghost laws: { IsElement shape };
 }
 
-/// An element as which the values of the type V stand.
+/// An element whose values represent values of the type `V`.
 pub trait StandsFor<V>: Element {
-    // The value stands at a position of some bytes.
+    // The bytes at a position represent the value.
     ghost stands: { List ℕ → ℕ → V → Type 0 };
 
     ghost near: { StandsNear Self.shape stands };

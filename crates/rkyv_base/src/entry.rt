@@ -1,4 +1,4 @@
-//! Entries: a key and a value.
+//! Entries: a key followed by a value.
 
 ghost use Rattle.std.specs.Prelude.{◌≡◌, ◌+◌, ◌<◌, ◌≤◌, ◌^◌};
 ghost use Rattle.rkyv_base.specs.Entry.{
@@ -16,11 +16,13 @@ use std::marker::PhantomData;
 /// The greatest size of an element, in bytes.
 pub const LARGEST: usize = 1_073_741_824;
 
-/// A key and a value behind it, as they stand in an archive.
+/// A key followed by a value, as in an archive.
 ///
-/// The value begins at the key's size rounded up to the value's alignment; the whole is rounded up
-/// to the greater of both. An entry that would take more than 1,073,741,824 bytes can't be
-/// archived: its size is 0, and its check answers `Refused(0)`.
+/// The value begins at the key's size, rounded up to the value's alignment.
+/// The size of the whole is rounded up to the greater alignment.
+///
+/// An entry of more than 1,073,741,824 bytes can't be archived. Its size is 0,
+/// and its validation fails with `Refused(0)`.
 pub struct Entry<K, V> {
     key: PhantomData<K>,
     value: PhantomData<V>,
@@ -35,7 +37,7 @@ fn rounded_up(n: usize, align: usize) -> usize
     n + (align - n % align) % align
 }
 
-/// Where the value of an entry begins, counted from the entry's own position.
+/// Returns the offset of the value of an entry from the position of the entry.
 #[inline]
 pub fn value_offset<K: Element, V: Element>() -> usize
     ensures value { result ≡ value_offset K.shape V.shape }
@@ -44,7 +46,7 @@ pub fn value_offset<K: Element, V: Element>() -> usize
     rounded_up(K::size(), V::align())
 }
 
-/// What an entry takes, also where that is too much.
+/// Returns the size of an entry in bytes, even if it is greater than `LARGEST`.
 #[inline]
 pub fn whole_size<K: Element, V: Element>() -> usize
     ensures { result ≡ whole_size K.shape V.shape }

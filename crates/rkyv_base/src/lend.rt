@@ -1,13 +1,13 @@
-//! Items that are handed in as themselves or by reference.
+//! Items that are passed by value or by reference.
 
 ghost use Rattle.std.specs.Prelude.{◌≡◌};
 
-/// What lends a K: a K itself, or a reference to one.
+/// A value of the type `K`, or a reference to one.
 pub trait Lend<K> {
-    // What it lends.
+    // The value of the type `K`.
     ghost lent: { Self → K };
 
-    /// The K that it lends.
+    /// Returns a reference to the value.
     fn lend(&self) -> &K
         ensures { result.now ≡ lent self.now };
 }

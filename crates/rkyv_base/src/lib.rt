@@ -1,7 +1,17 @@
-//! The archive core: writers, elements, text, entries, checking, views.
+//! The core of an archive: elements and their validation, views, seals and writers.
 //!
-//! What callers name stands at the root too, but for the function `access`: a root can't have it
-//! beside the module of its name.
+//! - To write, `to_bytes` returns the archive of a value,
+//!   and `write_root` appends one to a `Writer`.
+//! - To read, `access` validates untrusted bytes and returns a `View` of the root.
+//! - To write in place, `access_mut` validates the bytes
+//!   and returns an `ArchiveSeal` of the root.
+//!
+//! An `Element` is a type of archived values. `Archive` and `Serialize` are the traits of types
+//! that are archived as an element. The names that end in `_in` take the width of the archive,
+//! and the others are for `Narrow`.
+//!
+//! The root re-exports all names except the function `access`, since the root
+//! has a module of that name.
 #![tactic(auto)]
 
 pub mod access;

@@ -1,4 +1,4 @@
-//! A writer with a limit.
+//! A writer with a limit on its bytes.
 
 ghost use Rattle.std.specs.Prelude.{
   IfErr,
@@ -19,19 +19,19 @@ ghost use Rattle.rkyv_base.specs.Writing.{Appends, Fell, end_of};
 
 use crate::writer::Writer;
 
-/// Why a writer with a limit didn't write a piece.
+/// The fault of a writer with a limit.
 #[derive(Debug, Drop)]
 pub enum LimitFault<F> {
-    /// The piece doesn't fit in what is left of the limit; the front that fits was written.
+    /// The piece doesn't fit in the rest of the limit. The front that fits was written.
     Full,
     /// The inner writer failed.
     Inner(F),
 }
 
-/// Hands pieces on to an inner writer, up to a limit of bytes.
+/// A writer that passes pieces to an inner writer, up to a limit of bytes.
 ///
-/// Its position is that of the inner writer, and its count of failures is its own. What the inner
-/// writer appends counts against the limit, also where it then fails.
+/// Its position is the inner writer's. It has a count of failures of its own. All bytes
+/// that the inner writer appends count against the limit, even those of a piece on which it fails.
 #[derive(Drop)]
 pub struct LimitWriter<W> {
     inner: W,
@@ -40,7 +40,7 @@ pub struct LimitWriter<W> {
 }
 
 impl<W: Writer> LimitWriter<W> {
-    /// A writer that hands at most `limit` bytes on.
+    /// Returns a writer that passes at most `limit` bytes to the inner writer.
     pub fn new(inner: W, limit: u64) -> LimitWriter<W>
         ensures inner { result.inner ≡ inner }
         ensures limit { result.left ≡ limit }
@@ -53,7 +53,7 @@ impl<W: Writer> LimitWriter<W> {
         }
     }
 
-    /// The inner writer.
+    /// Returns the inner writer.
     pub fn into_inner(self) -> W
         ensures { result ≡ self.inner }
     {
@@ -73,7 +73,7 @@ impl<W: Writer> LimitWriter<W> {
         }
     }
 
-    // Hands a piece on that fits in what is left.
+    // Passes a piece that fits in the rest of the limit to the inner writer.
     fn hand_on(&mut self, bytes: &[u8]) -> Result<(), LimitFault<W::Fault>>
         requires end { end_of (limited W.output self.old) + length bytes.now < 2 ^ 64 }
         requires fits { length bytes.now ≤ self.old.left }
@@ -112,11 +112,19 @@ impl<W: Writer> Writer for LimitWriter<W> {
         self.failures
     }
 
-    /// Hands on as much of the piece as fits in what is left of the limit. Where no byte of it
-    /// does, the inner writer isn't asked; an empty piece fits always.
+    /// Passes the front of the piece that fits in the rest of the limit to the inner writer.
+    ///
+    /// An empty piece always fits. The inner writer is not called if the piece is not empty
+    /// and nothing is left of the limit.
+    ///
+    /// # Requires
+    ///
+    /// - The piece ends below 2^64.
     ///
     /// # Errors
-    /// `Inner` where the inner writer fails, else `Full` where the piece doesn't fit.
+    ///
+    /// - `Inner`: the inner writer failed on the front.
+    /// - `Full`: the piece doesn't fit.
     fn write(&mut self, bytes: &[u8]) -> Result<(), LimitFault<W::Fault>>
         requires { end_of (limited W.output self.old) + length bytes.now < 2 ^ 64 }
         ensures appends { let o = limited W.output self.old in let o' = limited W.output self.new in

@@ -1,4 +1,4 @@
-//! The scalars: numbers, bool and char.
+//! The implementations of `Scalar` for numbers, `bool` and `char`.
 
 ghost use Rattle.std.specs.Prelude.{◌≡◌};
 ghost use Rattle.std.specs.Int.{w8, w16, w32, w64};

@@ -13,10 +13,12 @@ use crate::width::Width;
 use crate::writer::Writer;
 use std::alloc::Global;
 
-/// What resolves an entry: what resolves its key, and what resolves its value.
+/// The resolver of an entry: those of its key and of its value.
 #[derive(Drop)]
 pub struct EntryResolver<K, V> {
+    /// The resolver of the key.
     pub key: K,
+    /// The resolver of the value.
     pub value: V,
 }
 
@@ -66,7 +68,7 @@ pub(crate) fn resolve_entry<W: Width, A: Archive<W>, B: Archive<W>>(
     Ok(())
 }
 
-/// Writes the parts of a key and of a value.
+/// Writes the parts of a key and a value.
 #[inline]
 pub(crate) fn serialize_entry<S: Writer, W: Width, A: Serialize<S, W>, B: Serialize<S, W>>(
     key: &A,

@@ -1,4 +1,4 @@
-//! Parts: what a value has elsewhere, before itself.
+//! The parts of a value, which are out of line, before it.
 
 ghost use Rattle.std.specs.Prelude.{◌<◌, MatchResult};
 ghost use Rattle.rkyv_base.specs.Parts.{PartFails, PartIn};
@@ -6,11 +6,16 @@ ghost use Rattle.rkyv_base.specs.Parts.{PartFails, PartIn};
 use crate::element::PartRange;
 use crate::errors::VerifyError;
 
-/// The position of a part of `size` bytes that is told to begin at `begin`.
+/// Returns the position of a part of `size` bytes that begins at `begin`.
+///
+/// # Requires
+///
+/// - `align` is greater than 0.
 ///
 /// # Errors
-/// `OutOfRange` where it doesn't lie in the range, then `Unaligned` where it is no multiple
-/// of `align`.
+///
+/// - `OutOfRange`: the part isn't inside the range.
+/// - `Unaligned`: `begin` is not a multiple of `align`.
 #[inline]
 pub fn part_in(begin: i128, size: u128, align: u64, range: PartRange) -> Result<u64, VerifyError>
     requires { 0 < align }

@@ -1,4 +1,7 @@
 //! Writing a whole archive.
+//!
+//! `to_bytes` returns the archive of a value in a vector, and `write_root` appends it to a writer.
+//! The functions whose names end in `_in` take the width of the archive.
 
 ghost use Rattle.std.specs.Prelude.{MatchResult};
 ghost use Rattle.rkyv_base.specs.Root.{ArchiveOf, ArchiveRefused, WritesRoot};
@@ -10,12 +13,17 @@ use crate::width::{Narrow, Width};
 use crate::writer::{NoMemory, VecWriter, Writer, align_for_in, append_in};
 use std::alloc::Global;
 
-/// Writes a value as the root of an archive of the width W, and answers its position.
+/// Writes a value as the root of an archive of the width `W`, and returns its position.
 ///
 /// # Errors
-/// `Memory` where the scratch for the root's fixed bytes is refused; then the causes of serializing
-/// the value, of the zeros up to its alignment, `DistanceTooLarge` where a distance from the root
-/// doesn't fit, and the causes of the root's own piece. What the writer held before is kept.
+///
+/// - `Memory`: the buffer for the root's fixed bytes could not be allocated.
+/// - The error of serializing the value.
+/// - The error of appending zeros up to the root's alignment.
+/// - `DistanceTooLarge`: a distance from the root doesn't fit in the width.
+/// - The error of appending the root's fixed bytes.
+///
+/// The bytes written before the call are unchanged.
 pub fn write_root_in<W: Width, S: Writer, V: Serialize<S, W>>(
     alloc: Global,
     value: &V,
@@ -48,10 +56,11 @@ pub fn write_root_in<W: Width, S: Writer, V: Serialize<S, W>>(
     }
 }
 
-/// The archive of a value, in the width W.
+/// Returns the archive of a value, in the width `W`.
 ///
 /// # Errors
-/// Those of `write_root_in` into a new `VecWriter`.
+///
+/// The same as for `write_root_in` with a new `VecWriter`.
 pub fn to_bytes_in<W: Width, V: Serialize<VecWriter, W>>(
     alloc: Global,
     value: &V,
@@ -67,10 +76,11 @@ pub fn to_bytes_in<W: Width, V: Serialize<VecWriter, W>>(
     }
 }
 
-/// Writes a value as the root of a narrow archive, and answers its position.
+/// Writes a value as the root of a narrow archive, and returns its position.
 ///
 /// # Errors
-/// As `write_root_in`.
+///
+/// The same as for `write_root_in`.
 pub fn write_root<S: Writer, V: Serialize<S, Narrow>>(
     alloc: Global,
     value: &V,
@@ -82,10 +92,11 @@ pub fn write_root<S: Writer, V: Serialize<S, Narrow>>(
     write_root_in::<Narrow, S, V>(alloc, value, serializer)
 }
 
-/// The narrow archive of a value.
+/// Returns the narrow archive of a value.
 ///
 /// # Errors
-/// As `to_bytes_in`.
+///
+/// The same as for `to_bytes_in`.
 pub fn to_bytes<V: Serialize<VecWriter, Narrow>>(
     alloc: Global,
     value: &V,

@@ -1,4 +1,4 @@
-//! Scalars: values of a few fixed bytes, which are one little endian number.
+//! Scalars: values of a few fixed bytes, which are one little-endian number.
 
 ghost use Rattle.std.specs.Prelude.{◌≡◌, ℕ, ◌+◌, ◌≤◌, length, IsTrue, ◌↔◌};
 ghost use Rattle.std.specs.Int.{byte_len, from_le_bytes};
@@ -21,29 +21,42 @@ use crate::width::Width;
 use crate::writer::Writer;
 use std::alloc::Global;
 
-/// A value that is written as a little endian number of 1, 2, 4 or 8 bytes.
+/// A value that is written as a little-endian number of 1, 2, 4 or 8 bytes.
 ///
-/// Each scalar is an element, stands for itself and is archived as itself.
+/// Each scalar is an element, represents itself and is archived as itself.
 pub trait Scalar: Copy {
-    // How it is written.
+    // The encoding of its values.
     ghost encoding: { Encoding Self };
 
-    /// How many bytes the number has.
+    /// Returns the number of bytes.
     fn byte_count() -> usize
         ensures { result ≡ byte_len encoding.word };
 
-    /// Whether the bytes are a value.
+    /// Returns `true` if and only if the bytes are a valid value.
+    ///
+    /// # Requires
+    ///
+    /// - The number of bytes is `byte_count`.
     fn is_value(bytes: &[u8]) -> bool
         requires { length bytes.now ≡ byte_len encoding.word }
         ensures { IsTrue result ↔ encoding.IsCode (from_le_bytes encoding.word bytes.now) };
 
-    /// The value of the bytes.
+    /// Returns the value of the bytes.
+    ///
+    /// # Requires
+    ///
+    /// - The number of bytes is `byte_count`.
+    /// - The bytes are a valid value.
     fn read(bytes: &[u8]) -> Self
         requires whole { length bytes.now ≡ byte_len encoding.word }
         requires value { encoding.IsCode (from_le_bytes encoding.word bytes.now) }
         ensures { result ≡ encoding.value (from_le_bytes encoding.word bytes.now) };
 
     /// Writes the value over the whole of the bytes.
+    ///
+    /// # Requires
+    ///
+    /// - The number of bytes is `byte_count`.
     fn write(self, bytes: &mut [u8])
         requires { length bytes.old ≡ byte_len encoding.word }
         ensures { Encodes encoding self bytes.new };

@@ -1,4 +1,8 @@
-//! Seals: values written in place.
+//! Seals: values that are written in place.
+//!
+//! A `Seal` borrows bytes with one value at a position.
+//! An `ArchiveSeal` borrows a whole archive, so other values of it can be read or sealed as well.
+//! `set_at` and `set_value` write to plain bytes.
 
 ghost use Rattle.std.specs.Prelude.{◌≡◌, ℕ, ◌+◌, ◌≤◌, List, length, take, drop};
 ghost use Rattle.std.specs.Borrow.{sem};
@@ -36,7 +40,7 @@ use crate::scalars::Scalar;
 use crate::view::View;
 use std::marker::PhantomData;
 
-/// One value that is written in place: the bytes that are lent, and the value's position in them.
+/// One value that is written in place: the borrowed bytes, and the value's position in them.
 pub struct Seal<'a, T> {
     pub(crate) bytes: &'a mut [u8],
     pub(crate) pos: usize,
@@ -56,7 +60,7 @@ impl<'a, T> Drop for Seal<'a, T> {
 }
 
 impl<'a, T> Seal<'a, T> {
-    /// The value at a position of some bytes.
+    /// Returns the seal of the value at a position of some bytes.
     #[inline]
     pub fn over(bytes: &'a mut [u8], pos: usize) -> Seal<'a, T>
         ensures { SealAt result bytes.entry pos }
@@ -68,9 +72,9 @@ impl<'a, T> Seal<'a, T> {
         }
     }
 
-    /// The bytes that are lent as a whole archive, with the value's position in them.
+    /// Returns the seal of the value as one of an archive, with the same bytes and position.
     ///
-    /// So a map that stands as the value of another is looked up in as one that stands alone.
+    /// Use it to look up a key in a map that is the value of another map.
     #[inline]
     pub fn into_archive(self) -> ArchiveSeal<'a, T>
         ensures { ArchiveAt result self.entry.bytes (seal_pos self.entry) }
@@ -84,7 +88,11 @@ impl<'a, T> Seal<'a, T> {
     }
 }
 
-/// Writes a value at a position of some bytes.
+/// Writes a value at a position of some bytes. All other bytes are unchanged.
+///
+/// # Requires
+///
+/// - The value's bytes end inside `bytes`.
 #[inline]
 pub fn set_at<N: Scalar>(bytes: &mut [u8], pos: usize, value: N)
     requires { pos + byte_len N.encoding.word ≤ length bytes.old }
@@ -98,7 +106,12 @@ pub fn set_at<N: Scalar>(bytes: &mut [u8], pos: usize, value: N)
 }
 
 impl<'a, N: Scalar> Seal<'a, N> {
-    /// The value itself.
+    /// Returns the value itself.
+    ///
+    /// # Requires
+    ///
+    /// - The value's bytes end inside the borrowed bytes.
+    /// - The bytes at the position are a valid value.
     #[inline]
     pub fn to_native(&self) -> N
         requires inside { LiesIn (scalar_shape N.encoding) self.now }
@@ -108,7 +121,11 @@ impl<'a, N: Scalar> Seal<'a, N> {
         N::read(&self.bytes[self.pos..self.pos + N::byte_count()])
     }
 
-    /// Writes the value; all other bytes stay.
+    /// Writes the value. All other bytes are unchanged.
+    ///
+    /// # Requires
+    ///
+    /// - The value's bytes end inside the borrowed bytes.
     #[inline]
     pub fn set(&mut self, value: N)
         requires { LiesIn (scalar_shape N.encoding) self.old }
@@ -148,7 +165,7 @@ impl<'a, T> Drop for ArchiveSeal<'a, T> {
 }
 
 impl<'a, T> ArchiveSeal<'a, T> {
-    /// The value at a position of an archive.
+    /// Returns the seal of the value at a position of an archive.
     #[inline]
     pub fn new(archive: &'a mut [u8], pos: u64) -> ArchiveSeal<'a, T>
         ensures { ArchiveAt result archive.entry pos }
@@ -160,7 +177,7 @@ impl<'a, T> ArchiveSeal<'a, T> {
         }
     }
 
-    /// Where the value stands.
+    /// Returns the position of the value.
     #[inline]
     pub fn pos(&self) -> u64
         ensures { result ≡ pos_in self.now }
@@ -168,7 +185,7 @@ impl<'a, T> ArchiveSeal<'a, T> {
         self.pos
     }
 
-    /// The archive and the position.
+    /// Returns the archive and the position.
     #[inline]
     pub fn into_parts(self) -> (&'a mut [u8], u64)
         ensures same_reference { result.0.ghost_name ≡ self.entry.archive.ghost_name }
@@ -183,7 +200,7 @@ impl<'a, T> ArchiveSeal<'a, T> {
         (archive, pos)
     }
 
-    /// The same archive and position, lent again.
+    /// Reborrows the archive, with the same position.
     #[inline]
     pub fn as_mut(&mut self) -> ArchiveSeal<'_, T>
         ensures bytes { archive_in result ≡ archive_in self.old }
@@ -194,7 +211,11 @@ impl<'a, T> ArchiveSeal<'a, T> {
         ArchiveSeal::new(archive, pos)
     }
 
-    /// Gives the archive and the value's position to `write`, which may change any byte.
+    /// Calls `write` with the archive and the value's position. It may change any byte.
+    ///
+    /// # Requires
+    ///
+    /// - `write` can be called with the archive and the position.
     #[inline]
     pub fn write_with<F: FnOnce(&mut [u8], u64)>(&mut self, write: F)
         requires { MayWrite F.pre write (archive_in self.old) (pos_in self.old) }
@@ -207,7 +228,11 @@ impl<'a, T> ArchiveSeal<'a, T> {
         write(archive, pos);
     }
 
-    /// A value at another position of the archive.
+    /// Returns the seal of a value at another position of the archive.
+    ///
+    /// # Requires
+    ///
+    /// - The archive has a valid `U` at `pos`.
     #[inline]
     pub fn seal_at<U: Element>(self, pos: u64) -> Seal<'a, U>
         requires { Viewed U.shape (archive_in self) pos }
@@ -221,10 +246,14 @@ impl<'a, T> ArchiveSeal<'a, T> {
         Seal::over(archive, pos as usize)
     }
 
-    /// The key of an entry, and its value to be written.
+    /// Returns a view of the key of an entry, and a seal of its value.
     ///
-    /// The archive is cut in two at the value's begin: the key's view is of the front, and the seal
-    /// is at the begin of the back.
+    /// The archive is cut in two at the start of the value. The view is of the front,
+    /// and the seal is at the start of the back.
+    ///
+    /// # Requires
+    ///
+    /// - The archive has a valid entry at `entry_pos`.
     #[inline]
     pub fn split_value<K: Element, V: Element>(self, entry_pos: u64) -> (View<'a, K>, Seal<'a, V>)
         requires { Viewed (entry_shape K.shape V.shape) (archive_in self) entry_pos }
@@ -250,7 +279,11 @@ impl<'a, T> ArchiveSeal<'a, T> {
 }
 
 impl<'a, T: Element> ArchiveSeal<'a, T> {
-    /// The value, to be read.
+    /// Returns a view of the value.
+    ///
+    /// # Requires
+    ///
+    /// - The archive has a valid `T` at the position.
     #[inline]
     pub fn as_view(&self) -> View<'_, T>
         requires { Viewed T.shape (archive_in self.now) (pos_in self.now) }
@@ -262,7 +295,11 @@ impl<'a, T: Element> ArchiveSeal<'a, T> {
     }
 }
 
-/// The bytes of an archive before the value of an entry, and those from there on.
+/// Returns the bytes of an archive before the value of an entry, and those from there on.
+///
+/// # Requires
+///
+/// - The value begins inside the archive or at its end.
 #[inline]
 pub fn halves<K: Element, V: Element>(archive: &mut [u8], entry_pos: u64) -> (&mut [u8], &mut [u8])
     requires { value_pos K.shape V.shape entry_pos ≤ length archive.old }
@@ -274,7 +311,11 @@ pub fn halves<K: Element, V: Element>(archive: &mut [u8], entry_pos: u64) -> (&m
     archive.split_at_mut(begin)
 }
 
-/// Writes the value of an entry that stands at a position of an archive.
+/// Writes the value of the entry at a position of an archive. All other bytes are unchanged.
+///
+/// # Requires
+///
+/// - The archive has a valid entry at `entry_pos`.
 #[inline]
 pub fn set_value<K: Element, N: Scalar>(archive: &mut [u8], entry_pos: u64, value: N)
     requires { Viewed (entry_shape K.shape (scalar_shape N.encoding)) archive.old entry_pos }

@@ -1,4 +1,4 @@
-//! Text that is written in place, as far as it stands inline.
+//! Text that is written in place, if it is inline.
 
 ghost use Rattle.std.specs.Prelude.{◌≡◌, ℕ, ◌+◌, ◌≤◌, List, length, map, MatchOption};
 ghost use Rattle.std.specs.Char.{to_ascii_uppercase};
@@ -12,7 +12,7 @@ use crate::seal::Seal;
 use crate::text::{Text, fixed_at, inline_part, is_elsewhere};
 use crate::width::Width;
 
-/// The inline text at a position, where the text isn't elsewhere.
+/// Returns the inline text at a position, or `None` if the text is out of line.
 #[inline]
 fn inline_bytes<W: Width>(bytes: &[u8], pos: usize) -> Option<&[u8]>
     requires { pos + text_size W.word ≤ length bytes.now }
@@ -28,7 +28,7 @@ fn inline_bytes<W: Width>(bytes: &[u8], pos: usize) -> Option<&[u8]>
     Some(inline_part(fixed))
 }
 
-/// How many bytes the inline text at a position has, where the text isn't elsewhere.
+/// Returns the length of the inline text at a position, or `None` if the text is out of line.
 #[inline]
 fn inline_len<W: Width>(bytes: &[u8], pos: usize) -> Option<usize>
     requires { pos + text_size W.word ≤ length bytes.now }
@@ -43,7 +43,7 @@ fn inline_len<W: Width>(bytes: &[u8], pos: usize) -> Option<usize>
     }
 }
 
-/// Writes the inline text at a place in upper case, and answers whether the text stands inline.
+/// Writes the inline text at a position in upper case, and returns `true` if it is inline.
 #[inline]
 fn uppercase_at<W: Width>(bytes: &mut [u8], pos: usize) -> bool
     requires { pos + text_size W.word ≤ length bytes.old }
@@ -59,7 +59,12 @@ fn uppercase_at<W: Width>(bytes: &mut [u8], pos: usize) -> bool
 }
 
 impl<'a, W: Width> Seal<'a, Text<W>> {
-    /// The text; None where it stands elsewhere, outside its fixed bytes.
+    /// Returns the text, or `None` if it is out of line, outside its fixed bytes.
+    ///
+    /// # Requires
+    ///
+    /// - The fixed bytes end inside the borrowed bytes.
+    /// - The text is UTF-8 if it is inline.
     #[inline]
     pub fn as_str(&self) -> Option<&str>
         requires inside { LiesIn (text_shape W.word) self.now }
@@ -74,8 +79,13 @@ impl<'a, W: Width> Seal<'a, Text<W>> {
         }
     }
 
-    /// Writes the text in upper case, each letter from a to z, and answers true; false, and nothing
-    /// is changed, where the text stands elsewhere, outside its fixed bytes.
+    /// Writes each letter from a to z of inline text in upper case, and returns `true`.
+    ///
+    /// Returns `false`, and changes no byte, if the text is out of line, outside its fixed bytes.
+    ///
+    /// # Requires
+    ///
+    /// - The fixed bytes end inside the borrowed bytes.
     #[inline]
     pub fn make_ascii_uppercase(&mut self) -> bool
         requires { LiesIn (text_shape W.word) self.old }

@@ -1,4 +1,4 @@
-//! The first byte of those that are sought, eight at a time.
+//! The search for the first byte of a kind, eight bytes at a time.
 
 ghost use Rattle.std.specs.Prelude.{
   ◌≡◌,
@@ -18,21 +18,21 @@ ghost use Rattle.std.specs.Str.{IsAscii};
 
 use std::simd::prelude::*;
 
-/// What is looked for among bytes.
+/// A kind of byte that is searched for.
 pub(crate) trait Sought {
-    // Whether a byte is it.
+    // The test for a byte of the kind.
     ghost sought: { ℕ → Bool };
 
-    /// Whether a byte is it.
+    /// Returns `true` if the byte is of the kind.
     fn is(byte: u8) -> bool
         ensures { result ≡ sought byte };
 
-    /// Which of eight bytes are it, a bit for each.
+    /// Returns a mask of the bytes of the kind, with one bit for each of eight.
     fn marks(eight: u8x8) -> u64
         ensures { result ≡ mask_l (map sought eight) };
 }
 
-/// The byte ff, which no text has.
+/// The byte ff, which is in no text.
 pub(crate) struct Ff;
 
 impl Sought for Ff {
@@ -49,7 +49,7 @@ impl Sought for Ff {
     }
 }
 
-/// A byte that isn't ASCII.
+/// The bytes that are not ASCII.
 pub(crate) struct High;
 
 impl Sought for High {
@@ -66,7 +66,7 @@ impl Sought for High {
     }
 }
 
-/// The index of the first among the first eight bytes, by one comparison.
+/// Returns the index of the first byte of the kind among the first eight, by one comparison.
 #[inline]
 fn first_of_eight<S: Sought>(bytes: &[u8]) -> Option<usize>
     requires { 8 ≤ length bytes.now }
@@ -80,7 +80,7 @@ fn first_of_eight<S: Sought>(bytes: &[u8]) -> Option<usize>
     }
 }
 
-/// The index of the first, byte by byte.
+/// Returns the index of the first byte of the kind, byte by byte.
 #[inline]
 fn first_of_bytes<S: Sought>(bytes: &[u8]) -> Option<usize>
     ensures { result ≡ position S.sought bytes.now }
@@ -88,7 +88,7 @@ fn first_of_bytes<S: Sought>(bytes: &[u8]) -> Option<usize>
     bytes.iter().position(|byte| S::is(*byte))
 }
 
-/// The index of the first.
+/// Returns the index of the first byte of the kind.
 #[inline]
 pub(crate) fn first<S: Sought>(bytes: &[u8]) -> Option<usize>
     ensures { result ≡ position S.sought bytes.now }
@@ -106,7 +106,9 @@ pub(crate) fn first<S: Sought>(bytes: &[u8]) -> Option<usize>
     }
 }
 
-/// Whether eight bytes or more are ASCII: by eights, the last of which may overlap.
+/// Returns `true` only if eight or more bytes are ASCII.
+///
+/// It tests eight bytes at a time, and the last eight may overlap the ones before.
 #[inline]
 pub(crate) fn is_ascii(bytes: &[u8]) -> bool
     requires { 8 ≤ length bytes.now }

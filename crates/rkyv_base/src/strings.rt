@@ -1,4 +1,4 @@
-//! `&str` and `String`, which are archived as text.
+//! The `Archive` and `Serialize` impls of `&str` and `String`, which are archived as text.
 
 ghost use Rattle.std.specs.Prelude.{
   ◌≡◌,
@@ -33,9 +33,10 @@ use crate::width::Width;
 use crate::writer::{Writer, append_in};
 use std::alloc::Global;
 
-/// What resolves a text: where its bytes were written, and 0 where they stand inline.
+/// The resolver of a text: the position of its bytes, or 0 if it is inline.
 #[derive(Clone, Copy, Debug)]
 pub struct TextResolver {
+    /// The position of the bytes, or 0.
     pub pos: u64,
 }
 
@@ -50,7 +51,7 @@ fn fill_inline(text: &[u8], out: &mut [u8])
     back.fill(255);
 }
 
-/// The first word of the fixed bytes of text that stands elsewhere.
+/// Returns the first word of the fixed bytes of out-of-line text.
 #[inline]
 fn word_of_length(len: u64) -> u64
     requires { len < 2 ^ 62 }
@@ -59,7 +60,7 @@ fn word_of_length(len: u64) -> u64
     len % 64 + 128 + len / 64 * 256
 }
 
-/// Writes the length of a text that stands elsewhere, and the distance to it.
+/// Writes the length of an out-of-line text, and the distance to it.
 #[inline]
 fn fill_far<W: Width>(len: u64, distance: i64, out: &mut [u8])
     requires room { length out.old ≡ text_size W.word }
@@ -102,7 +103,7 @@ fn resolve_text<W: Width>(
     }
 }
 
-/// Writes the bytes of a text that can't stand inline.
+/// Writes the bytes of a text that is too long to be inline.
 #[inline]
 fn serialize_text<S: Writer, W: Width>(
     text: &str,

@@ -44,16 +44,18 @@ use crate::view::View;
 use crate::width::{Narrow, Width};
 use std::marker::PhantomData;
 
-/// Text, as it stands in an archive of the width W.
+/// A text in an archive of the width `W`.
 ///
-/// A text of up to 8 bytes (16 in a wide archive) stands in the fixed bytes, the rest of which are
-/// ff. A longer one stands elsewhere, before them: the fixed bytes then have its length, in a form
-/// that no text begins with, and the distance to it.
+/// A text of up to 8 bytes (16 in a wide archive) is inline, in the fixed bytes.
+/// All fixed bytes after it are ff.
+///
+/// A longer text is out of line, before the fixed bytes. These then have its length,
+/// in a form with which no text begins, and the distance to it.
 pub struct Text<W = Narrow> {
     width: PhantomData<W>,
 }
 
-/// The fixed bytes of the text at a position.
+/// Returns the fixed bytes of the text at a position.
 #[inline]
 pub(crate) fn fixed_at<W: Width>(bytes: &[u8], pos: u64) -> &[u8]
     requires { pos + text_size W.word ≤ length bytes.now }
@@ -63,7 +65,7 @@ pub(crate) fn fixed_at<W: Width>(bytes: &[u8], pos: u64) -> &[u8]
     &bytes[at..at + W::TEXT_SIZE]
 }
 
-/// Whether the text stands elsewhere: the first byte has the form 10xxxxxx.
+/// Returns `true` if the text is out of line: its first fixed byte has the form 10xxxxxx.
 #[inline]
 pub(crate) fn is_elsewhere(fixed: &[u8]) -> bool
     requires { 0 < length fixed.now }
@@ -72,7 +74,7 @@ pub(crate) fn is_elsewhere(fixed: &[u8]) -> bool
     128 <= fixed[0] && fixed[0] < 192
 }
 
-/// The text that stands inline: the fixed bytes before the first ff.
+/// Returns the inline text: the fixed bytes before the first ff.
 #[inline]
 pub(crate) fn inline_part(fixed: &[u8]) -> &[u8]
     ensures { result.now ≡ inline_text fixed.now }
@@ -83,7 +85,9 @@ pub(crate) fn inline_part(fixed: &[u8]) -> &[u8]
     }
 }
 
-/// Whether the text that stands inline is ASCII: the first byte that isn't is the ff behind it.
+/// Returns `true` only if the inline text is ASCII.
+///
+/// The first fixed byte that is not ASCII, if there is one, is then the ff at its end.
 #[inline]
 fn is_inline_ascii(fixed: &[u8]) -> bool
     ensures { IsTrue result → IsAscii (inline_text fixed.now) }
@@ -94,7 +98,7 @@ fn is_inline_ascii(fixed: &[u8]) -> bool
     }
 }
 
-/// The length that a first word tells.
+/// Returns the length that a first word encodes.
 #[inline]
 fn length_told(word: u64) -> u64
     ensures { result ≡ told_length word }
@@ -102,7 +106,7 @@ fn length_told(word: u64) -> u64
     word % 64 + word / 256 * 64
 }
 
-/// The length of text that stands elsewhere.
+/// Returns the length of out-of-line text.
 #[inline]
 fn far_len<W: Width>(fixed: &[u8]) -> u64
     requires { length fixed.now ≡ text_size W.word }
@@ -111,7 +115,7 @@ fn far_len<W: Width>(fixed: &[u8]) -> u64
     length_told(W::read_count(fixed, 0))
 }
 
-/// A position moved by a distance.
+/// Returns a position moved by a distance.
 #[inline]
 fn moved(pos: u64, distance: i64) -> i128
     ensures { result ≡ int pos +ℤ distance }
@@ -119,7 +123,7 @@ fn moved(pos: u64, distance: i64) -> i128
     i128::from(pos) + i128::from(distance)
 }
 
-/// Where text that stands elsewhere begins.
+/// Returns the position at which out-of-line text begins.
 #[inline]
 fn far_start<W: Width>(fixed: &[u8], pos: u64) -> i128
     requires { length fixed.now ≡ text_size W.word }
@@ -128,11 +132,12 @@ fn far_start<W: Width>(fixed: &[u8], pos: u64) -> i128
     moved(pos, W::read_distance(fixed, W::ALIGN))
 }
 
-/// Up to this length a text elsewhere is first looked at as ASCII, eight bytes at a time; of a
-/// longer one std's test takes more at once.
+/// The greatest length of out-of-line text that is first tested for ASCII, eight bytes at a time.
+///
+/// On longer text, std's validation takes more bytes at once.
 const SHORT: usize = 64;
 
-/// Looks whether the bytes of the text at `pos` are text.
+/// Validates the bytes of the text at `pos` as UTF-8.
 #[inline]
 fn check_utf8(text: &[u8], pos: u64) -> Result<(), VerifyError>
     ensures { MatchResult result
@@ -145,7 +150,7 @@ fn check_utf8(text: &[u8], pos: u64) -> Result<(), VerifyError>
     }
 }
 
-/// Looks whether the fixed bytes of the text at `pos` are text before the first ff.
+/// Validates the inline text of the fixed bytes at `pos` as UTF-8.
 #[inline]
 fn check_inline_utf8(fixed: &[u8], pos: u64) -> Result<(), VerifyError>
     ensures { MatchResult result
@@ -158,7 +163,7 @@ fn check_inline_utf8(fixed: &[u8], pos: u64) -> Result<(), VerifyError>
     check_utf8(inline_part(fixed), pos)
 }
 
-/// Looks whether the bytes of the text at `pos`, which stand elsewhere, are text.
+/// Validates the bytes of the out-of-line text at `pos` as UTF-8.
 #[inline]
 fn check_far_utf8(text: &[u8], pos: u64) -> Result<(), VerifyError>
     requires { 8 ≤ length text.now }
@@ -172,7 +177,7 @@ fn check_far_utf8(text: &[u8], pos: u64) -> Result<(), VerifyError>
     check_utf8(text, pos)
 }
 
-/// Looks at text that stands elsewhere.
+/// Validates out-of-line text.
 fn check_far<W: Width>(bytes: &[u8], pos: u64, range: PartRange) -> Result<PartRange, VerifyError>
     requires inside { pos + text_size W.word ≤ length bytes.now }
     requires ordered { range.hi ≤ pos }
@@ -229,7 +234,7 @@ impl<W: Width> Element for Text<W> {
     ghost laws = { text_element W.word W.layout.kind };
 }
 
-/// The position at which a part begins.
+/// Returns the position at which a part begins.
 #[inline]
 fn pos_of_begin(begin: i128) -> usize
     requires { (at : ℕ) × (int at ≡ begin) × (at < 2 ^ 64) }
@@ -238,7 +243,7 @@ fn pos_of_begin(begin: i128) -> usize
     begin as usize
 }
 
-/// The text that stands elsewhere.
+/// Returns the out-of-line text.
 #[inline]
 fn far_part<W: Width>(bytes: &[u8], pos: u64) -> &[u8]
     requires viewed { Viewed (text_shape W.word) bytes.now pos }
@@ -250,7 +255,7 @@ fn far_part<W: Width>(bytes: &[u8], pos: u64) -> &[u8]
     &bytes[at..at + far_len::<W>(fixed) as usize]
 }
 
-/// The text whose fixed bytes stand at a position.
+/// Returns the text whose fixed bytes are at a position.
 #[inline]
 fn text_part<W: Width>(bytes: &[u8], pos: u64) -> &[u8]
     requires { Viewed (text_shape W.word) bytes.now pos }
@@ -276,7 +281,11 @@ impl<'t, W: Width> StandsFor<&'t str> for Text<W> {
 }
 
 impl<'a, W: Width> View<'a, Text<W>> {
-    /// The text itself.
+    /// Returns the text itself.
+    ///
+    /// # Requires
+    ///
+    /// - The archive has a valid text at the position.
     #[inline]
     pub fn as_str(self) -> &'a str
         requires { IsView (text_shape W.word) self }

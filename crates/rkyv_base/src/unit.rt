@@ -1,4 +1,4 @@
-//! The value that takes no byte.
+//! The unit value, which has no bytes in an archive.
 
 ghost use Rattle.std.specs.Prelude.{◌≡◌};
 ghost use Rattle.rkyv_base.specs.Empty.{

@@ -1,4 +1,4 @@
-//! Views: values read in place.
+//! Views: values that are read in place.
 
 ghost use Rattle.std.specs.Prelude.{◌≡◌, ℕ, ◌+◌};
 ghost use Rattle.rkyv_base.specs.Entry.{entry_shape, value_offset};
@@ -11,7 +11,7 @@ use crate::entry::{Entry, value_offset};
 use crate::scalars::Scalar;
 use std::marker::PhantomData;
 
-/// The bytes of an archive and a position, at which a value of the element T stands.
+/// The bytes of an archive, and the position of a value of the element `T`.
 #[derive_where(Clone, Copy)]
 pub struct View<'a, T> {
     archive: &'a [u8],
@@ -20,7 +20,11 @@ pub struct View<'a, T> {
 }
 
 impl<'a, T: Element> View<'a, T> {
-    /// The value at a position of some bytes where it stands.
+    /// Returns the view of the value at a position of some bytes.
+    ///
+    /// # Requires
+    ///
+    /// - The bytes have a valid `T` at `pos`.
     #[inline]
     pub fn new(archive: &'a [u8], pos: u64) -> View<'a, T>
         requires { Viewed T.shape archive.now pos }
@@ -33,7 +37,7 @@ impl<'a, T: Element> View<'a, T> {
         }
     }
 
-    /// Where the value stands.
+    /// Returns the position of the value.
     #[inline]
     pub fn pos(self) -> u64
         ensures { result ≡ pos_of self.entry }
@@ -41,7 +45,7 @@ impl<'a, T: Element> View<'a, T> {
         self.pos
     }
 
-    /// The bytes of the whole archive.
+    /// Returns the bytes of the whole archive.
     #[inline]
     pub fn bytes(self) -> &'a [u8]
         ensures { result ≡ archive_of self.entry }
@@ -49,7 +53,11 @@ impl<'a, T: Element> View<'a, T> {
         self.archive
     }
 
-    /// A value that stands at another position of the same archive.
+    /// Returns the view of a value at another position of the same archive.
+    ///
+    /// # Requires
+    ///
+    /// - The archive has a valid `U` at `pos`.
     #[inline]
     pub fn at<U: Element>(self, pos: u64) -> View<'a, U>
         requires { Viewed U.shape (bytes_of self) pos }
@@ -60,7 +68,11 @@ impl<'a, T: Element> View<'a, T> {
 }
 
 impl<'a, N: Scalar> View<'a, N> {
-    /// The value itself.
+    /// Returns the value itself.
+    ///
+    /// # Requires
+    ///
+    /// - The archive has a valid value at the position.
     #[inline]
     pub fn to_native(self) -> N
         requires { IsView (scalar_shape N.encoding) self }
@@ -71,11 +83,15 @@ impl<'a, N: Scalar> View<'a, N> {
     }
 }
 
-/// A key and its value, as they stand in an archive.
+/// The views of a key and its value.
 pub type PairView<'a, K, V> = (View<'a, K>, View<'a, V>);
 
 impl<'a, K: Element, V: Element> View<'a, Entry<K, V>> {
-    /// The key of the entry.
+    /// Returns the view of the key of the entry.
+    ///
+    /// # Requires
+    ///
+    /// - The archive has a valid entry at the position.
     #[inline]
     pub fn key(self) -> View<'a, K>
         requires { IsView (entry_shape K.shape V.shape) self }
@@ -85,7 +101,11 @@ impl<'a, K: Element, V: Element> View<'a, Entry<K, V>> {
         self.at::<K>(self.pos)
     }
 
-    /// The value of the entry.
+    /// Returns the view of the value of the entry.
+    ///
+    /// # Requires
+    ///
+    /// - The archive has a valid entry at the position.
     #[inline]
     pub fn value(self) -> View<'a, V>
         requires { IsView (entry_shape K.shape V.shape) self }

@@ -44,9 +44,9 @@ pub trait Word {
     ghost word: { IntWidth };
 }
 
-/// How wide the positions and counts of an archive are, and what follows from it.
+/// The width of the positions and counts of an archive, and the sizes that depend on it.
 pub trait Width: Word {
-    /// The element of a place in an index map: a number of one word.
+    /// The element of an index in an index map: a number of one word.
     type Place: Scalar;
 
     /// The greatest position, and the greatest length of an archive, in bytes.
@@ -54,7 +54,7 @@ pub trait Width: Word {
 
     ghost LIMIT: { ℕ };
 
-    /// The bytes of a word, and the alignment of headers and text.
+    /// The size of a word in bytes, and the alignment of headers and text.
     const ALIGN: usize;
 
     ghost ALIGN: { ℕ };
@@ -64,49 +64,67 @@ pub trait Width: Word {
 
     ghost MAX_CAPACITY: { ℕ };
 
-    /// The bytes of a table's header.
+    /// The size of a table's header in bytes.
     const TABLE_SIZE: usize;
 
     ghost TABLE_SIZE: { ℕ };
 
-    /// The bytes of an index map's header.
+    /// The size of an index map's header in bytes.
     const INDEX_SIZE: usize;
 
     ghost INDEX_SIZE: { ℕ };
 
-    /// The fixed bytes of a text, and the greatest length of one that stands in them.
+    /// The number of fixed bytes of a text, and the greatest length of an inline text.
     const TEXT_SIZE: usize;
 
     ghost TEXT_SIZE: { ℕ };
 
-    /// A text of this many bytes or more is refused.
+    /// The least length in bytes of a text that is refused.
     const TEXT_LIMIT: u64;
 
     ghost TEXT_LIMIT: { ℕ };
 
-    /// The count at position `at`.
+    /// Returns the count at position `at`.
+    ///
+    /// # Requires
+    ///
+    /// - The word at `at` ends inside `bytes`.
     fn read_count(bytes: &[u8], at: usize) -> u64
         requires { at + byte_len Self.word ≤ length bytes.now }
         ensures { result ≡ number_at Self.word bytes.now at };
 
     /// Writes a count over the whole of `out`.
+    ///
+    /// # Requires
+    ///
+    /// - `out` has the size of a word.
+    /// - `count` fits in a word.
     fn write_count(out: &mut [u8], count: u64)
         requires room { length out.old ≡ byte_len Self.word }
         requires fits { count < 2 ^ bits Self.word }
         ensures { out.new ≡ to_le_bytes Self.word count };
 
-    /// The distance at position `at`.
+    /// Returns the distance at position `at`.
+    ///
+    /// # Requires
+    ///
+    /// - The word at `at` ends inside `bytes`.
     fn read_distance(bytes: &[u8], at: usize) -> i64
         requires { at + byte_len Self.word ≤ length bytes.now }
         ensures { result ≡ signed_at Self.word bytes.now at };
 
     /// Writes a distance over the whole of `out`.
+    ///
+    /// # Requires
+    ///
+    /// - `out` has the size of a word.
+    /// - `distance` fits in a signed word.
     fn write_distance(out: &mut [u8], distance: i64)
         requires room { length out.old ≡ byte_len Self.word }
         requires fits { FitsSigned Self.word distance }
         ensures { out.new ≡ to_le_bytes Self.word (cast_unsigned Self.word distance) };
 
-    /// The distance from `from` to `target`, where it fits.
+    /// Returns the distance from `from` to `target`, or `None` if it doesn't fit in a signed word.
     fn distance(target: u64, from: u64) -> Option<i64>
         ensures { MatchOption result (FitsSigned Self.word (pos target -ℤ pos from) → ⊥)
             (λ d. (d ≡ pos target -ℤ pos from) × FitsSigned Self.word d) };
@@ -117,11 +135,13 @@ pub trait Width: Word {
     ghost place: { IsPlace Self.word Self.Place.encoding };
 }
 
-/// Archives of up to 4,294,967,295 bytes, whose positions and counts have 32 bits.
+/// The width of archives of up to 4,294,967,295 bytes. Positions and counts have 32 bits.
 #[derive(Clone, Copy, Debug)]
 pub struct Narrow;
 
-/// Archives of up to 9,223,372,036,854,775,807 bytes, whose positions and counts have 64 bits.
+/// The width of archives of up to 9,223,372,036,854,775,807 bytes.
+///
+/// Positions and counts have 64 bits.
 #[derive(Clone, Copy, Debug)]
 pub struct Wide;
 

@@ -1,4 +1,7 @@
-//! Writers: where the bytes of an archive go.
+//! Writers: the destinations of the bytes of an archive.
+//!
+//! `Writer` is the trait, and `VecWriter` writes to memory. `append` and `align_for` write
+//! to a narrow archive by it, and `append_in` and `align_for_in` to one of any width.
 
 ghost use Rattle.std.specs.Prelude.{
   List,
@@ -31,37 +34,43 @@ use std::alloc::Global;
 use std::fmt::Debug;
 use std::marker::Model;
 
-/// Takes the bytes of an archive, in pieces.
+/// A destination that takes the bytes of an archive, in pieces.
 pub trait Writer {
-    /// Why a piece wasn't written.
+    /// The fault of a write that failed.
     type Fault: Debug + Drop;
 
-    // The bytes written so far, from where, and the count of failures.
+    // The bytes already written, with their position, and the count of failures.
     ghost output: { Self → Output };
 
-    /// The position of the next byte.
+    /// Returns the position of the next byte.
     fn pos(&self) -> u64
         ensures { result ≡ end_of (output self.now) };
 
-    /// How many writes failed, at most 18,446,744,073,709,551,615.
+    /// Returns the number of failed writes, at most 18,446,744,073,709,551,615.
     fn failures(&self) -> u64
         ensures { result ≡ (output self.now).failures };
 
     /// Appends a piece.
     ///
+    /// # Requires
+    ///
+    /// - The piece ends below 2^64.
+    ///
     /// # Errors
-    /// Where a front of the piece alone was appended; one more failure is then counted.
+    ///
+    /// The fault of the writer. It appended some front of the piece, maybe all of it,
+    /// and counts one more failure.
     fn write(&mut self, bytes: &[u8]) -> Result<(), Self::Fault>
         requires { end_of (output self.old) + length bytes.now < 2 ^ 64 }
         ensures appends { OnOk result (Appends (output self.old) (output self.new) bytes.now) }
         ensures fell { OnErr result (Fell (output self.old) (output self.new) bytes.now) };
 }
 
-/// A growth that was refused.
+/// The fault of an allocation that failed.
 #[derive(Debug, Drop)]
 pub struct NoMemory;
 
-/// A writer into memory, from position 0.
+/// A writer to memory, from position 0.
 #[derive(Drop)]
 pub struct VecWriter {
     bytes: Vec<u8>,
@@ -75,7 +84,7 @@ impl Model for VecWriter {
 }
 
 impl VecWriter {
-    /// A writer that holds nothing; it takes no memory.
+    /// Returns a writer without bytes.
     pub fn new(alloc: Global) -> VecWriter
         ensures { result ≡ ([], 0) }
     {
@@ -85,14 +94,14 @@ impl VecWriter {
         }
     }
 
-    /// The bytes that were written.
+    /// Returns the bytes that were written.
     pub fn into_vec(self) -> Vec<u8>
         ensures { result.items ≡ self.0 }
     {
         self.bytes
     }
 
-    /// The bytes that were written so far.
+    /// Returns the bytes that were written up to now.
     pub fn bytes(&self) -> &[u8]
         ensures { result.now ≡ self.now.0 }
     {
@@ -118,7 +127,8 @@ impl Writer for VecWriter {
     /// Appends the whole piece.
     ///
     /// # Errors
-    /// Where the growth is refused; nothing is appended then.
+    ///
+    /// - `NoMemory`: memory could not be allocated. Nothing is appended.
     #[inline]
     fn write(&mut self, bytes: &[u8]) -> Result<(), NoMemory>
         requires { length self.old.0 + length bytes.now < 2 ^ 64 }
@@ -138,12 +148,12 @@ impl Writer for VecWriter {
     }
 }
 
-/// Appends one piece to an archive of the width W. Every byte of an archive is written by this
-/// call.
+/// Appends one piece to an archive of the width `W`.
 ///
 /// # Errors
-/// `PositionTooLarge` where the piece would end past the width's limit, and nothing is written;
-/// `Writer` where the writer fails, which may have taken a front of the piece.
+///
+/// - `PositionTooLarge`: the piece would end after the width's limit. Nothing is written.
+/// - `Writer`: the writer failed. It may have written a front of the piece.
 #[inline]
 pub fn append_in<W: Width, S: Writer>(serializer: &mut S, bytes: &[u8]) -> WriteResult<(), S>
     ensures { AppendsPiece W.LIMIT bytes.now
@@ -160,11 +170,13 @@ pub fn append_in<W: Width, S: Writer>(serializer: &mut S, bytes: &[u8]) -> Write
     }
 }
 
-/// Appends zeros up to the next multiple of the element's alignment, in one piece, and answers the
-/// position behind them.
+/// Appends zeros up to the next multiple of the element's alignment, in one piece.
+///
+/// Returns the position after them.
 ///
 /// # Errors
-/// Those of `append_in`.
+///
+/// The same as for `append_in`.
 #[inline]
 pub fn align_for_in<W: Width, T: Element, S: Writer>(serializer: &mut S) -> WriteResult<u64, S>
     ensures { Aligns W.LIMIT T.shape.align
@@ -182,7 +194,8 @@ pub fn align_for_in<W: Width, T: Element, S: Writer>(serializer: &mut S) -> Writ
 /// Appends one piece to a narrow archive.
 ///
 /// # Errors
-/// As `append_in`, with the limit 4,294,967,295.
+///
+/// The same as for `append_in`, with a limit of 4,294,967,295 bytes.
 #[inline]
 pub fn append<S: Writer>(serializer: &mut S, bytes: &[u8]) -> WriteResult<(), S>
     ensures { AppendsPiece 4294967295 bytes.now
@@ -193,8 +206,11 @@ pub fn append<S: Writer>(serializer: &mut S, bytes: &[u8]) -> WriteResult<(), S>
 
 /// Appends zeros up to the next multiple of the element's alignment to a narrow archive.
 ///
+/// Returns the position after them.
+///
 /// # Errors
-/// As `align_for_in`, with the limit 4,294,967,295.
+///
+/// The same as for `align_for_in`, with a limit of 4,294,967,295 bytes.
 #[inline]
 pub fn align_for<T: Element, S: Writer>(serializer: &mut S) -> WriteResult<u64, S>
     ensures { Aligns 4294967295 T.shape.align

@@ -1,4 +1,4 @@
--- Steps of writing a list with its header, and what it then is.
+-- Writing a list with its header, step by step, and the written list.
 use Rattle.std.proofs.Common.{◌≡◌, ℕ, ◌+◌, ◌-◌, ◌*◌, ◌%◌, ◌^◌, ◌<◌, ◌≤◌, ◌∙◌, ◌↔◌, inl, inr, refl, sym, ap, subst, arith, append_assoc, length-append, length-take, Bool, List, [], ◌++◌, length, take}
 use Rattle.std.specs.Int.{Width, byte_len}
 use Rattle.std.specs.List.{AllPairs, Contains, IsDistinct}
@@ -38,14 +38,14 @@ use Rattle.rkyv_headline.specs.declared.looking.Unseen.{Unseen}
 use Rattle.rkyv_headline.specs.declared.looking.Unseen.TheVariants.{Memory, Verify}
 use Rattle.rkyv_headline.specs.declared.whole.Lost.TheVariants.{Look}
 
--- what the table's write gives up for, the list's does
+-- an error of writing the table is an error of writing the list
 pub no_list : {X F : Type 0} (gave : List (ℕ × X) → Type 0) (len : ℕ) (load_factor : ℕ × ℕ) (max limit align : ℕ) (f : Format (List (ℕ × X)) TableResolver) (o o' : Output)
     (other : ℕ → Type 0) (e : WriteError F) → NoItems gave len load_factor max f o o' limit other e → NoList gave len load_factor max limit align f o o' other e
 no_list gave len load_factor max limit align f o o' other e (inl h) = inl h
 no_list gave len load_factor max limit align f o o' other e (inr h) =
     inr (h.0, h.1, h.2, told_as limit (RootNext align f h.1 (end_of o)) (f.next h.1 (end_of o)) o o' e (λ front step n. inr (inl n)) h.3)
 
--- the scratch has room for a header
+-- the buffer has room for a header
 pub header_small : (w : Width) → IsArchiveWord w → (size align : ℕ) → align ≡ byte_len w → size ≡ 3 * align → size ≤ 24
 header_small w kind size align a t =
     let small : 3 * byte_len w ≤ 24 = by_archive_word (λ v. 3 * byte_len v ≤ 24) (omega arith) (omega arith) w kind in
@@ -84,7 +84,7 @@ list_wrote align f pairs o o1 o2 o3 part r out end p a made b image c ends at =
     } in
     (part ++ (z ++ out), subst (Appends o o3) (append_assoc part z out) all, subst (P end) (sym at) (subst (λ e. P e (end_of o2)) (sym ends) there))
 
--- what was appended to a writer from position 0 on sits there
+-- the bytes appended to a writer from position 0 are at its end
 pub appended_sits : (o o' : Output) (x : List ℕ) → o.start ≡ 0 → Appends o o' x → Sits o'.bytes (end_of o) x
 appended_sits o o' x from a =
     let b : List ℕ = o.bytes ++ x in
@@ -94,7 +94,7 @@ appended_sits o o' x from a =
     subst (λ (c : List ℕ). Sits c (end_of o) x) (sym a.bytes) (subst (λ q. Sits b q x) at (sits_back b 0 o.bytes x all))
 
 module _ {X : Type 0} (w : Width) (s : Shape) (stands : List ℕ → ℕ → X → Type 0) (load_factor : ℕ × ℕ) (were : StandingWereWritten w s stands load_factor) (visits : WalkVisitsHomes) where
-  -- the walk over a table that stands
+  -- the walk over a valid table
   items_visited : (c : List ℕ) (p : ℕ) (pairs : List (ℕ × X)) → TableStands w s stands load_factor c p pairs → VisitsItems w s.size stands c p pairs
   items_visited c p pairs stand =
       let is = were c p pairs stand in
@@ -116,7 +116,7 @@ module _ {X : Type 0} (w : Width) (s : Shape) (stands : List ℕ → ℕ → X �
 
   module _ {R : Type 0} (kind : IsArchiveWord w) (law : IsElement s) (f : Format X R)
       (format : IsFormat (table_shape w s) (TableStands w s stands load_factor) (table_format w s f load_factor)) (passing : WrittenTablesPass w s f load_factor) where
-    -- a list that was written stands wherever its bytes sit
+    -- a written list is valid in each archive that has its bytes
     pub lists_stand : ListsStand w s stands f load_factor
     lists_stand pairs begin end p bytes c l sits =
         let part : List ℕ = l.part in
@@ -144,7 +144,7 @@ module _ {X : Type 0} (w : Width) (s : Shape) (stands : List ℕ → ℕ → X �
           omega (arith, len, whole, at),
         )
 
--- what is seen of a list that was written
+-- the items and the lookup of a written list
 module _ {T X : Type 0} (post : View T → Bool → Type 0) (w : Width) (s : Shape) (stands : List ℕ → ℕ → X → Type 0) (load_factor : ℕ × ℕ) (o o' : Output) (hash : ℕ) (pairs : List (ℕ × X))
     (bytes : List ℕ) (appends : Appends o o' bytes) (end p : ℕ) (list : StandsList w s stands load_factor o'.bytes (end_of o) end p pairs) (whole : p + 3 * byte_len w ≡ end_of o + length bytes) where
   pub list_seen : AnswersFirst w s stands load_factor → hash < 2 ^ 64 → (b : List ℕ) → b ≡ o'.bytes → (seen : Seen) → SeesTable post w s b p hash seen
@@ -164,7 +164,7 @@ module _ {T X : Type 0} (post : View T → Bool → Type 0) (w : Width) (s : Sha
         sees = there;
       }
 
--- why nothing was seen of a list that was written: not since it is refused
+-- the bytes of a written list are not refused
 pub not_refused : (w : Width) → IsArchiveWord w → (s : Shape) → IsElement s → (c b : List ℕ) (p begin end : ℕ) → HoldsAround (table_shape w s) c p begin end → b ≡ c → (range : PartRange)
     → range.lo ≡ begin → range.hi ≡ end → (e : VerifyError) → Fails (table_shape w s) b p range e → ⊥
 not_refused w kind s law c b p begin end around same range low high e fails =

@@ -1,4 +1,4 @@
--- Steps of looking over a table.
+-- Validation, walk and lookup of a table, step by step.
 use Rattle.std.proofs.Common.{◌≡◌, ℕ, ◌+◌, ◌*◌, ◌/◌, ◌%◌, ◌≤◌, ◌∙◌, refl, sym, ap, subst, arith, Bool, true, List, length, map, Option, Some, None}
 use Rattle.std.specs.Prelude.{IfSome}
 use Rattle.std.specs.Int.{Width, byte_len}
@@ -25,7 +25,7 @@ use Rattle.rkyv_table.proofs.Walks.{full_walked}
 use Rattle.rkyv_headline.specs.Seeing.{ReadsFew, SeesTable}
 use Rattle.rkyv_headline.specs.declared.looking.Seen.{Seen}
 
--- where the check accepts the bytes, a table stands
+-- accepted bytes are a valid table
 pub accepted_viewed : (w : Width) → IsArchiveWord w → (s : Shape) → IsElement s → (b : List ℕ) (p : ℕ) (range rest : PartRange)
     → p + 3 * byte_len w ≤ length b → p % byte_len w ≡ 0 → range.lo ≤ range.hi → range.hi ≤ p → Passes (table_shape w s) b p range rest → Viewed (table_shape w s) b p
 accepted_viewed w kind s law b p range rest inside aligned ordered before passes = record {
@@ -38,7 +38,7 @@ contains_map : (f : ℕ → ℕ) (xs : List ℕ) (x : ℕ) → Contains xs x →
 contains_map f xs x c = (c.0, omega (arith, c.1, length-map xs f), get_or-map f xs c.0 x (f x) c.1 ∙ ap f c.2)
 
 module _ {T : Type 0} (post : View T → Bool → Type 0) (w : Width) (s : Shape) (b : List ℕ) (p : ℕ) where
-  -- an item that is accepted is one of the walked
+  -- an accepted item is one of those of the walk
   accepted_walked : (q : ℕ) → AcceptedOf post w s b p q → Contains (item_positions w s.size b p) q
   accepted_walked q is =
       let one = is.1 in
@@ -50,7 +50,7 @@ module _ {T : Type 0} (post : View T → Bool → Type 0) (w : Width) (s : Shape
   found_walked None is = tt
   found_walked (Some q) is = accepted_walked q is
 
-  -- what is seen of a table that stands
+  -- the items and the lookup of a valid table
   pub table_seen : IsElement s → Viewed (table_shape w s) b p → (hash : ℕ) (seen : Seen) → seen.walked.items ≡ item_positions w s.size b p
       → LooksUp post generic_kind w s b p hash seen.found → ReadsFew w b p seen.strides → ReadsExactly post generic_kind w s b p hash seen.strides
       → SeesTable post w s b p hash seen
@@ -64,14 +64,14 @@ module _ {T : Type 0} (post : View T → Bool → Type 0) (w : Width) (s : Shape
     exact = exact;
   }
 
--- what a lookup answers in the table it answers in the bytes
+-- the result of a lookup in the table is its result in the bytes
 pub looks_found : {T W : Type 0} (post : View T → Bool → Type 0) (w : Width) (s : Shape) (b : List ℕ) (p : ℕ) (t : ArchivedHashTable T W) → t.view.archive.now ≡ b → t.view.pos ≡ p
     → (hash : ℕ) (found : Option (View T)) → IfSome found (IsItem w s t) → IfSome found (λ v. post v true) → FindsFound post generic_kind w s t hash (pos_of_found found)
     → FindsFirst post w s t hash (pos_of_found found) → LooksUp post generic_kind w s b p hash (pos_of_found found)
 looks_found post w s b p t bytes place hash None walked accepted answer first = looks_up_none w s b p t bytes place post generic_kind hash answer first
 looks_found post w s b p t bytes place hash (Some v) walked accepted answer first = looks_up_some w s b p t bytes place post generic_kind hash v.pos answer first (v, walked, refl, accepted)
 
--- what a lookup reads of the table it reads of the bytes
+-- the strides that a lookup in the table reads are those of the bytes
 pub few_read : {T W : Type 0} (w : Width) (b : List ℕ) (p : ℕ) (t : ArchivedHashTable T W) → t.view.archive.now ≡ b → t.view.pos ≡ p
     → (before after : ℕ) → before ≡ 0 → CountsWithin w t before after → ReadsFew w b p after
 few_read w b p t bytes place before after none within =

@@ -1,4 +1,4 @@
--- What a list is that was written as a table with its header behind it, and what is seen of it.
+-- A list that is written as a table followed by its header, and the result of its lookup.
 use Rattle.std.specs.Prelude.{◌≡◌, ℕ, ◌+◌, ◌*◌, ◌%◌, ◌≤◌, ◌⊎◌, Bool, List, ◌++◌, length}
 use Rattle.std.specs.Prelude.{slice_get, slice_index, MatchResult, Result, Some}
 use Rattle.std.specs.Int.{Width, byte_len}
@@ -31,12 +31,12 @@ use Rattle.rkyv_headline.specs.declared.whole.Lost.{Lost}
 use Rattle.rkyv_headline.specs.declared.whole.Lost.TheVariants.{Look, Write}
 use Rattle.rkyv_headline.specs.declared.writing.Written.{Written}
 
--- the comparison may be asked of each item, wherever one stands
+-- the comparison can be called on each valid item, at any position
 abbrev pub MayAskAny : {T : Type 0} → (View T → Type 0) → Shape → Type 0
 MayAskAny {T} pre s = (v : View T) → IsView s v → pre v
 
--- The bytes of a table with its header behind it, written from `begin` on: the table, which ends at
--- `end`; zeros up to the header's alignment; the header, at p.
+-- `bytes`: bytes of a list written from `begin` on. They are the table, which ends at `end`,
+-- zeros up to the header's alignment, and the header at `p`
 pub record ListBytes {X : Type 0} (align : ℕ) (f : Format (List (ℕ × X)) TableResolver)
     (pairs : List (ℕ × X)) (begin end p : ℕ) (bytes : List ℕ) : Type 0 where
   pub part : List ℕ
@@ -50,21 +50,21 @@ pub record ListBytes {X : Type 0} (align : ℕ) (f : Format (List (ℕ × X)) Ta
 
 module _ {X : Type 0} (gave : List (ℕ × X) → Type 0) (len : ℕ) (load_factor : ℕ × ℕ)
     (max limit align : ℕ) (f : Format (List (ℕ × X)) TableResolver) (o o' : Output) where
-  -- the pairs that came were written as a table, and its header behind it
+  -- the input pairs were written as a table, followed by its header
   abbrev pub WroteList : ℕ → ℕ → Type 0
   WroteList end p = HasCapacity len load_factor max × (pairs : List (ℕ × X)) × Came gave len pairs
       × (bytes : List ℕ) × Appended limit bytes o o'
       × ListBytes align f pairs (end_of o) end p bytes
 
-  -- a cause of the call's own, and nothing was written; or else writing the pairs that came, the
-  -- zeros or the header gave up
+  -- `e`: error of the call itself, before it wrote anything, or error
+  -- of writing the pairs, the zeros or the header
   abbrev pub NoList : {F : Type 0} → (ℕ → Type 0) → WriteError F → Type 0
   NoList other e = (OwnCause len load_factor max other e × (o' ≡ o))
       ⊎ (HasCapacity len load_factor max × (pairs : List (ℕ × X)) × Came gave len pairs
       × RootGaveUp limit align f pairs o o' e)
 
--- `len` pairs of hash and item are written as a table, of items that lend values of the format, and
--- its header behind it: the answer is where, or why they are not written
+-- `result`: the positions of `len` pairs of hash and item that were written as a table
+-- with its header, or the error
 abbrev pub WritesList : {X V R F : Type 0} → Width → ℕ → ℕ → Shape → (X → V) → Format V R
     → Input (ℕ × X) → ℕ → ℕ × ℕ → Output → Output → Result Written (WriteError F) → Type 0
 WritesList w max limit s lent f input len load_factor o o' result =
@@ -72,9 +72,8 @@ WritesList w max limit s lent f input len load_factor o o' result =
     (λ at. WroteList input.gave len load_factor max limit (byte_len w) g o o' at.end at.pos)
     (NoList input.gave len load_factor max limit (byte_len w) g o o' (input.gave_other len))
 
--- The walk over the table at p visits the home of each of the items once, ascending, and nothing
--- else; there each stands, whose home is the first bucket that its hash shows and no earlier item
--- has.
+-- the walk at `p` visits each item's home bucket once, in bucket order, and no other bucket.
+-- A home bucket is the first in the probe order of the item's hash that no earlier item has
 pub record VisitsItems {X : Type 0} (w : Width) (size : ℕ) (stands : List ℕ → ℕ → X → Type 0)
     (c : List ℕ) (p : ℕ) (pairs : List (ℕ × X)) : Type 0 where
   pub homes : List ℕ
@@ -83,9 +82,8 @@ pub record VisitsItems {X : Type 0} (w : Width) (size : ℕ) (stands : List ℕ 
       → stands c (slice_index (home_positions w size c p homes) i) x
   pub visits : VisitsHomes (cap_at w c p) homes (table_controls w c p)
 
--- A list that was written as a table from `begin` to `end`, and its header at p: it passes the
--- check in each range from `begin`, or before, to `end`, or behind; each item stands at its home;
--- and the walk visits those alone.
+-- a list that was written as a table from `begin` to `end`, with its header at `p`. It is valid
+-- in each range around the table, each item is in its home bucket, and the walk visits these alone
 pub record StandsList {X : Type 0} (w : Width) (s : Shape) (stands : List ℕ → ℕ → X → Type 0)
     (load_factor : ℕ × ℕ) (c : List ℕ) (begin end p : ℕ) (pairs : List (ℕ × X)) : Type 0 where
   pub behind : (begin ≤ end) × (end ≤ p)
@@ -94,7 +92,7 @@ pub record StandsList {X : Type 0} (w : Width) (s : Shape) (stands : List ℕ �
   pub stand : TableStands w s stands load_factor c p pairs
   pub items : VisitsItems w s.size stands c p pairs
 
--- so does each list, wherever its bytes sit
+-- each written list is valid, in each archive that has its bytes
 abbrev pub ListsStand : {X R : Type 0} → Width → Shape → (List ℕ → ℕ → X → Type 0) → Format X R
     → ℕ × ℕ → Type 0
 ListsStand {X} w s stands f load_factor =
@@ -104,9 +102,9 @@ ListsStand {X} w s stands f load_factor =
     → StandsList w s stands load_factor c begin end p pairs
     × (p + 3 * byte_len w ≡ begin + length bytes)
 
--- Where the comparison's answers are a function of the position, and on each item of the list the
--- answer that `accept` gives of it, and each accepted item was handed in under the hash: what is
--- answered is where the first accepted item stands, and none exactly where none is accepted.
+-- the lookup finds the first accepted item, or none if no item is accepted.
+-- The comparison must be a function of the position, agree with `accept` on each item,
+-- and accept only items with the hash `hash`
 abbrev pub AnswersFirstItem : {T X : Type 0} → (View T → Bool → Type 0) → Width → Shape
     → (List ℕ → ℕ → X → Type 0) → List ℕ → ℕ → ℕ → List (ℕ × X) → Seen → Type 0
 AnswersFirstItem {X = X} post w s stands c p hash pairs seen =
@@ -114,10 +112,9 @@ AnswersFirstItem {X = X} post w s stands c p hash pairs seen =
     → TellsOf stands c accept (items_of pairs) told → AreUnder hash accept pairs
     → IsFirstOf stands c accept (items_of pairs) seen.found
 
--- A list that was written and then looked over: what stood before is kept; the table ends at
--- `end`, and its header stands behind it, at p, and ends what the writer holds; the list stands, so
--- that it passes the check; the walk gives exactly its items; and a lookup answers the first of
--- them that the comparison accepts, within the bound.
+-- a list that was written and looked up. The earlier bytes are unchanged. The table ends at `end`,
+-- and the header at `p` ends the output. The list is valid, the walk visits its items alone,
+-- and the lookup finds the first accepted one
 pub record SeesList {T X : Type 0} (post : View T → Bool → Type 0) (w : Width) (s : Shape)
     (stands : List ℕ → ℕ → X → Type 0) (load_factor : ℕ × ℕ) (o o' : Output) (hash : ℕ)
     (pairs : List (ℕ × X)) (seen : Seen) : Type 0 where
@@ -133,15 +130,15 @@ pub record SeesList {T X : Type 0} (post : View T → Bool → Type 0) (w : Widt
 module _ {X : Type 0} (gave : List (ℕ × X) → Type 0) (len : ℕ) (load_factor : ℕ × ℕ)
     (max limit align : ℕ) (f : Format (List (ℕ × X)) TableResolver) (o o' : Output)
     (other : ℕ → Type 0) where
-  -- why a list wasn't written and looked over: a cause of writing it; or there is no memory for
-  -- what is seen of it. Never that the check refuses what was written.
+  -- the list was not written, or memory for the positions could not be allocated.
+  -- The bytes of a written list are always valid
   abbrev pub ListLost : Lost → Type 0
   ListLost (Write e) = NoList gave len load_factor max limit align f o o' other e
   ListLost (Look (Verify e)) = ⊥
   ListLost (Look Memory) =
       (end : ℕ) × (p : ℕ) × WroteList gave len load_factor max limit align f o o' end p
 
--- the pairs that came, of items that lend values, were written and then looked over
+-- the input pairs were written and looked up
 abbrev pub SawItems : {T X V : Type 0} → (View T → Bool → Type 0) → Width → Shape
     → (List ℕ → ℕ → V → Type 0) → (X → V) → Input (ℕ × X) → ℕ → ℕ × ℕ → ℕ → Output → Output → Seen
     → Type 0
@@ -149,7 +146,7 @@ SawItems {X = X} post w s stands lent input len load_factor hash o o' seen =
     (pairs : List (ℕ × X)) × Came input.gave len pairs
     × SeesList post w s (lent_stands lent stands) load_factor o o' hash pairs seen
 
--- why pairs, of items that lend values of the format, were not written and looked over
+-- the error of writing the input pairs and looking them up
 abbrev pub LosesItems : {X V R : Type 0} → Width → ℕ → ℕ → Shape → (X → V) → Format V R
     → Input (ℕ × X) → ℕ → ℕ × ℕ → Output → Output → Lost → Type 0
 LosesItems w max limit s lent f input len load_factor o o' lost =

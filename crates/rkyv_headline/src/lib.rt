@@ -1,5 +1,6 @@
-//! A list that is written as a hash table, checked, walked and looked up, and bytes of a stranger
-//! that are.
+//! A list as a hash table: written, validated, walked and looked up, with one contract.
+//!
+//! `write_and_look_over` does this from a list of items, and `look_over` from untrusted bytes.
 #![tactic(auto)]
 
 mod looking;

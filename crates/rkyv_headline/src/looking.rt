@@ -1,4 +1,4 @@
-//! Looking over the table that bytes hold: checking, walking, looking up.
+//! Validation, walk and lookup of a table in untrusted bytes.
 
 ghost use Rattle.std.specs.Prelude.{IfOk, MatchResult, length, ◌%◌, ◌*◌, ◌+◌, ◌≡◌, ◌≤◌};
 ghost use Rattle.std.specs.Int.{byte_len};
@@ -18,36 +18,36 @@ use rkyv_table::table::ArchivedHashTable;
 use std::alloc::{AllocError, Global};
 use thiserror::Error;
 
-/// What a table showed.
+/// The items of a table, and the result of one lookup.
 #[derive(Debug, Drop)]
 pub struct Seen {
-    /// The positions of its items, by ascending bucket.
+    /// The positions of its items, in bucket order.
     pub walked: Vec<u64>,
-    /// The position of the item that the lookup answered.
+    /// The position of the item that the lookup found.
     pub found: Option<u64>,
-    /// How many strides of sixteen control bytes the lookup read.
+    /// The number of strides of sixteen control bytes that the lookup read.
     pub strides: u64,
 }
 
-/// Why a table showed nothing.
+/// The error of `look_over`.
 #[derive(Debug, Drop, Error)]
 pub enum Unseen {
-    /// The check refuses the bytes.
+    /// The bytes are not a valid table.
     #[error("{0}")]
     Verify(VerifyError),
-    /// A growth of the memory for the positions was refused.
+    /// Memory for the positions could not be allocated.
     #[error("no memory")]
     Memory,
 }
 
-// What one lookup answers.
+// The result of one lookup.
 #[derive(Drop)]
 struct Answer {
     found: Option<u64>,
     strides: u64,
 }
 
-// The positions of the items of the table at `pos`, by ascending bucket.
+// Returns the positions of the items of the table at `pos`, in bucket order.
 fn walk<W: Width, T: Element>(alloc: Global, bytes: &[u8], pos: u64) -> Result<Vec<u64>, AllocError>
     requires { Viewed (table_shape W.word T.shape) bytes.now pos }
     ensures { IfOk result (λ walked. walked.items
@@ -60,7 +60,7 @@ fn walk<W: Width, T: Element>(alloc: Global, bytes: &[u8], pos: u64) -> Result<V
     Ok(walked)
 }
 
-// Where an item stands that may have been found.
+// Returns the position of an item, if one was found.
 fn found_pos<T: Element>(found: Option<View<'_, T>>) -> Option<u64>
     ensures { result ≡ pos_of_found found.entry }
 {
@@ -70,7 +70,7 @@ fn found_pos<T: Element>(found: Option<View<'_, T>>) -> Option<u64>
     }
 }
 
-// What a lookup in the table at `pos` answers, and how many strides it reads.
+// Looks up `hash` in the table at `pos`, and counts the strides that it reads.
 fn look_up<W: Width, T: Element, F: Fn(View<'_, T>) -> bool>(
     bytes: &[u8],
     pos: u64,
@@ -94,16 +94,25 @@ fn look_up<W: Width, T: Element, F: Fn(View<'_, T>) -> bool>(
     }
 }
 
-/// Looks whether the bytes at `pos` are the header of a table whose items stand in the range, and
-/// where they are, walks over its items, and looks up the hash.
+/// Validates the table whose header is at `pos`, walks over its items, and looks up `hash`.
 ///
-/// Whatever the bytes are and the comparison answers: the items that are walked were checked, each
-/// lies in the bytes, and the lookup answers none or one of them that the comparison accepted,
-/// after at most one stride of sixteen control bytes for each sixteen buckets, rounded up.
+/// The items of the table must be in the range.
+///
+/// The contract is for all bytes, and for any results of the comparison. Each item of the walk
+/// is valid and inside the bytes. The lookup finds no item, or one that the comparison accepted.
+/// It reads at most ceil(buckets / 16) strides of sixteen control bytes.
+///
+/// # Requires
+///
+/// - The header at `pos` ends inside `bytes`.
+/// - `pos` is a multiple of the size of a word.
+/// - The range ends at or after its start, and at or before `pos`.
+/// - `cmp` can be called on each item of the table.
 ///
 /// # Errors
-/// `Verify` with the first point that fails, where the check refuses the bytes; `Memory` where
-/// it accepts them and a growth for the positions is refused.
+///
+/// - `Verify`: the bytes are not a valid table. It has the first fault.
+/// - `Memory`: the table is valid, and memory for the positions could not be allocated.
 pub fn look_over<W: Width, T: Element, F: Fn(View<'_, T>) -> bool>(
     alloc: Global,
     bytes: &[u8],

@@ -1,4 +1,4 @@
-//! A list from its items to what is seen of it.
+//! A list from its items to its lookup.
 
 ghost use Rattle.std.specs.Prelude.{IfErr, IfOk, ℕ};
 ghost use Rattle.rkyv_base.specs.Pairs.{written_as};
@@ -24,20 +24,23 @@ use rkyv_table::table::written::{
 use std::alloc::Global;
 use thiserror::Error;
 
-/// Why a list wasn't written and looked over.
+/// The error of `write_and_look_over`.
 #[derive(Debug, Drop, Error)]
 pub enum Lost {
-    /// It can't be written.
+    /// The list can't be written.
     #[error("{0}")]
     Write(WriteError<NoMemory>),
-    /// It was written, and wasn't looked over: never because its bytes are refused.
+    /// The list was written, and memory for the positions could not be allocated.
+    ///
+    /// It is never `Unseen::Verify`, since the written bytes are valid.
     #[error("{0}")]
     Look(Unseen),
 }
 
-/// Wherever the bytes of a list that was written as a table sit, with its header behind it: it
-/// passes the check in each range around the table, each item stands at its home, and the walk
-/// visits those alone.
+/// A list that was written as a table with its header is valid in each archive that has its bytes.
+///
+/// It is valid with each range around the table. Each item is in its home bucket,
+/// and the walk visits these buckets and no others.
 pub fn written_lists_stand<W: Width, U: Archive<W>, X: Lend<U>>()
     ensures { (load_factor : ℕ × ℕ) → ListsStand W.word U.Archived.shape
         (lent_stands X.lent U.Archived.stands) (written_as X.lent U.format) load_factor }
@@ -48,18 +51,27 @@ pub fn written_lists_stand<W: Width, U: Archive<W>, X: Lend<U>>()
     walk_visits_homes();
 }
 
-/// Writes a list of `len` items, of which each has the next of the hashes, as a table behind what
-/// the writer holds, and behind the table its header; checks it where it stands, walks over its
-/// items, and looks up `hash`.
+/// Writes a list of `len` items as a table, validates it, walks over it, and looks up `hash`.
 ///
-/// What was written passes the check; the walk gives exactly the items; the lookup answers the
-/// first item handed in that the comparison accepts, where it goes by the item and accepts only
-/// items under `hash`; and reads at most one stride of sixteen control bytes for each sixteen
-/// buckets, rounded up.
+/// Each item has the next of the hashes. The table follows the bytes that the writer already has,
+/// and the header follows the table.
+///
+/// - The written bytes are valid.
+/// - The walk visits each item once, and nothing else.
+/// - The lookup finds the first inserted item that the comparison accepts.
+///   This is under two conditions: the comparison depends on the item alone,
+///   and accepts only items with the hash `hash`.
+/// - The lookup reads at most ceil(buckets / 16) strides of sixteen control bytes.
+///
+/// # Requires
+///
+/// - Both iterators can be advanced.
+/// - `cmp` can be called on each valid item.
 ///
 /// # Errors
-/// `Write` with the cause, where the list can't be written; `Look(Unseen::Memory)` where a growth
-/// for the positions is refused.
+///
+/// - `Write`: the list can't be written. It has the error of the write.
+/// - `Look(Unseen::Memory)`: memory for the positions could not be allocated.
 pub fn write_and_look_over<
     W: Width,
     U: Serialize<VecWriter, W>,

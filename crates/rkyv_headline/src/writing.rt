@@ -1,4 +1,4 @@
-//! Writing a list as a table, with its header behind it.
+//! Writing a list as a table, followed by its header.
 
 ghost use Rattle.rkyv_table.specs.Table.Input.{from_both};
 ghost use Rattle.rkyv_headline.specs.Listing.{WritesList};
@@ -11,19 +11,23 @@ use rkyv_base::writer::{Writer, align_for_in, append_in};
 use rkyv_table::table::{ArchivedHashTable, TableOf};
 use std::alloc::Global;
 
-/// Where a list was written: the end of its table, and its header.
+/// The positions of a written list: the end of its table, and its header.
 #[derive(Clone, Copy, Debug)]
 pub(crate) struct Written {
     pub(crate) end: u64,
     pub(crate) pos: u64,
 }
 
-/// Writes a list of `len` items, of which each has the next of the hashes, as a table, and behind
-/// it, aligned, its header.
+/// Writes a list of `len` items as a table, followed by its aligned header.
+///
+/// Each item has the next of the hashes.
 ///
 /// # Errors
-/// Those of `serialize_from_iter`, then those of appending the zeros and the header, and
-/// `DistanceTooLarge` where the distance to the table doesn't fit.
+///
+/// - The errors of `serialize_from_iter`.
+/// - The error of appending zeros up to the header's alignment.
+/// - `DistanceTooLarge`: the distance to the table doesn't fit in the width.
+/// - The error of appending the header.
 pub(crate) fn write_list<
     W: Width,
     S: Writer,

@@ -1,4 +1,4 @@
-//! Tests of `rkyv_headline`: a list from its items to what is seen of it, and bytes of a stranger.
+//! Tests of `rkyv_headline`, on written lists and on untrusted bytes.
 #![tactic(auto)]
 
 #[cfg(test)]

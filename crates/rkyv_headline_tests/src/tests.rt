@@ -1,4 +1,4 @@
-//! A list in both widths, and archives that were not written here.
+//! Tests of a list in both widths, and of archives from other sources.
 
 use rkyv_base::element::PartRange;
 use rkyv_base::entry::Entry;
@@ -8,14 +8,14 @@ use rkyv_base::writer::{VecWriter, Writer};
 use rkyv_headline::{Seen, Unseen, look_over, write_and_look_over, written_lists_stand};
 use std::alloc::Global;
 
-// Whether the items stand at these positions, and the lookup answers so, after so many strides.
+// Returns `true` if the walk, the result and the strides of a lookup are these.
 fn is_seen(seen: &Seen, walked: &[u64], found: Option<u64>, strides: u64) -> bool {
     seen.walked.as_slice() == walked && seen.found == found && seen.strides == strides
 }
 
-// Whether 10, 20 and 30, written behind a zero, the first two under the hash 2 and the last under
-// 5, are walked as they stand in four buckets, a lookup under 2 of a number above 10 answers 20,
-// and the header ends there.
+// Writes 10, 20 and 30 after a zero, the first two with the hash 2 and the last with 5.
+// Returns `true` if the header ends at `end`, the walk visits the items of four buckets in order,
+// and a lookup is right. The lookup by 2 of a number above 10 finds 20.
 fn is_looked_over<W: Width>(alloc: Global, end: u64) -> bool {
     let mut writer = VecWriter::new(alloc);
     if writer.write(&[0]).is_err() {
@@ -57,7 +57,7 @@ const ONE_PAIR: [u8; 60] = [
     0xe0, 0xff, 0xff, 0xff, 0x01, 0x00, 0x00, 0x00, 0x02, 0x00, 0x00, 0x00,
 ];
 
-// What is seen of it under a hash, where all are accepted.
+// Looks up a hash in that table, with a comparison that accepts every item.
 fn look(alloc: Global, bytes: &[u8; 60], hash: u64) -> Result<Seen, Unseen> {
     let range = PartRange { lo: 0, hi: 48 };
     look_over::<Narrow, Entry<u32, u32>, _>(alloc, bytes, 48, range, hash, |_| true)

@@ -1,4 +1,4 @@
--- What native keys and queries answer of keys that were written.
+-- Laws of native keys and queries on written keys.
 use Rattle.std.specs.Prelude.{◌≡◌, ℕ, ◌+◌, Bool, true, List}
 use Rattle.std.proofs.Common.{sym, ◌∙◌, arith}
 use Rattle.std.proofs.lemmas.Bool.Decides.{same_from_decides}
@@ -8,7 +8,7 @@ use Rattle.rkyv_base.specs.Shape.{IsElement, Shape, Standing}
 use Rattle.rkyv_keys.specs.Equality.{Comparison, IsEquivalence, StandsOnce}
 use Rattle.rkyv_keys.specs.Keys.{FitsItsEqual, IsKey, IsQuery}
 
--- a value makes the calls of each key that was written of it
+-- a native key makes the calls of each archived key that represents it
 abbrev pub HashesAsWritten : {V : Type 0} → Shape → (List ℕ → ℕ → V → Type 0)
     → (List ℕ → ℕ → List HasherCall)
     → (V → Type 0) → (V → List HasherCall) → Type 0
@@ -16,7 +16,7 @@ HashesAsWritten {V = V} s stands key_calls can_read calls =
     (v : V) (b : List ℕ) (p : ℕ) → can_read v → Standing s b p → stands b p v
     → calls v ≡ key_calls b p
 
--- a query answers the same of all keys that were written of one value
+-- a query fits both of two keys that represent one value, or neither
 abbrev pub AsksForValues : {V Q : Type 0} → Shape → (List ℕ → ℕ → V → Type 0) → (V → Type 0)
     → (Q → Type 0) → (Q → List ℕ → ℕ → Bool) → Type 0
 AsksForValues {V = V} {Q = Q} s stands reads can_read fits =
@@ -34,7 +34,7 @@ module _ {V : Type 0} (s : Shape) (same : Comparison) (key_calls : List ℕ → 
   pub hashes_as_written : HashesAsWritten s stands key_calls reads calls
   hashes_as_written v b p r h st = query.alike v b p r h (fits_written v b p h st)
 
-  -- two keys that were written of one value are the same
+  -- two keys that represent one value are the same
   pub same_written : (v : V) (b c : List ℕ) (p r : ℕ) → reads v → Standing s b p → Standing s c r
       → stands b p v → stands c r v → same b p c r ≡ true
   same_written v b c p r can h g st tt' =
@@ -52,21 +52,20 @@ module _ {V : Type 0} (s : Shape) (same : Comparison) (key_calls : List ℕ → 
         (λ x. laws.class q b c p r can h g x ∙ there, λ x. laws.class q c b r p can g h x ∙ back)
         (λ x. x, λ x. x)
 
--- values that are asked for by themselves stand alone
+-- a key represents only the values that are equal to it, if values are looked up by themselves
 pub native_alone : {V : Type 0} (s : Shape) (stands : List ℕ → ℕ → V → Type 0) (equal : V → V
     → Bool) (fits : V → List ℕ → ℕ → Bool)
     → FitsItsEqual s stands equal fits → ((v : V) → equal v v ≡ true) → StandsOnce s stands equal
 native_alone s stands equal fits native itself v x b p h st st' = sym (native v x b p h st')
     ∙ native v v b p h st ∙ itself v
 
--- Whether a key fits rests on the bytes on which it rests that the key holds: its own, and those of
--- its parts.
+-- the keys that a query fits depend only on the bytes on which their validity depends
 abbrev pub RestsOnKeys : {Q : Type 0} → Shape → (Q → Type 0) → (Q → List ℕ → ℕ → Bool) → Type 0
 RestsOnKeys {Q = Q} s can_read fits =
     (q : Q) (b c : List ℕ) (p l : ℕ) → can_read q → s.holds b p 0 p l → Same b c p (p + s.size)
     → Same b c 0 l → fits q c p ≡ fits q b p
 
--- a query rests on the keys, since a copy of a key is the same as the key
+-- a query depends on the keys alone, since a copy of a key is the same as the key
 pub rests_on_keys : {Q : Type 0} {s : Shape} {same : Comparison}
     {key_calls : List ℕ → ℕ → List HasherCall} {can_read : Q → Type 0} {calls : Q → List HasherCall}
     {fits : Q → List ℕ → ℕ → Bool} → IsElement s → IsEquivalence s same → IsKey s same key_calls

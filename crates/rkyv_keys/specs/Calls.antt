@@ -1,12 +1,12 @@
--- The calls that a key makes of a hasher.
+-- The calls of a key to a hasher.
 use Rattle.std.specs.Prelude.{ℕ, Bool, if◌then◌else◌, List, [], ◌∷◌, fold}
 use Rattle.rkyv_scan.specs.Hash.{Hasher, HasherCall, Bytes, U8}
 
--- the state after a list of calls, in order
+-- the state `state` after a list of calls, in order
 abbrev pub after_calls : {State : Type 0} → Hasher State → State → List HasherCall → State
 after_calls hasher state calls = fold hasher.feed state calls
 
--- a text's bytes, and then 255, which no text has
+-- the bytes of a text, followed by the byte 255, which is in no text
 abbrev pub text_calls : List ℕ → List HasherCall
 text_calls bytes = Bytes bytes ∷ U8 255 ∷ []
 

@@ -1,13 +1,13 @@
--- When the values that stand at two positions are the same.
+-- The comparison of the values at two positions.
 use Rattle.std.specs.Prelude.{◌≡◌, ℕ, Bool, true, List}
 use Rattle.std.specs.Bool.{Decides}
 use Rattle.rkyv_base.specs.Shape.{Shape, Standing}
 
--- whether the value at a position of some bytes is the same as that at a position of others
+-- a comparison of the value at a position of some bytes with one at a position of others
 abbrev pub Comparison : Type 0
 Comparison = List ℕ → ℕ → List ℕ → ℕ → Bool
 
--- over the values that stand, sameness is an equivalence
+-- the comparison `same` is an equivalence of valid values
 pub record IsEquivalence (s : Shape) (same : Comparison) : Type 0 where
   pub reflexive : (b : List ℕ) (p : ℕ) → Standing s b p → same b p b p ≡ true
   pub symmetric : (b c : List ℕ) (p q : ℕ) → Standing s b p → Standing s c q → same b p c q ≡ true
@@ -15,17 +15,17 @@ pub record IsEquivalence (s : Shape) (same : Comparison) : Type 0 where
   pub transitive : (b c d : List ℕ) (p q r : ℕ) → Standing s b p → Standing s c q → Standing s d r
       → same b p c q ≡ true → same c q d r ≡ true → same b p d r ≡ true
 
--- an equality that only a value and itself meet
+-- an equality of a value with itself alone
 abbrev pub TellsApart : {V : Type 0} → (V → V → Bool) → Type 0
 TellsApart {V = V} equal = (v w : V) → Decides (equal v w) (v ≡ w)
 
--- what stands at a position and what the value there equals are equal
+-- each value that the archived one represents is equal to each value that it equals
 abbrev pub EqualsOnce : {V : Type 0} → Shape → (List ℕ → ℕ → V → Type 0)
     → (List ℕ → ℕ → V → Type 0) → (V → V → Bool) → Type 0
 EqualsOnce {V = V} s stands equals equal =
     (v x : V) (b : List ℕ) (p : ℕ) → Standing s b p → stands b p v → equals b p x
     → equal v x ≡ true
 
--- values that stand at one position are equal
+-- the values that one archived value represents are equal
 abbrev pub StandsOnce : {V : Type 0} → Shape → (List ℕ → ℕ → V → Type 0) → (V → V → Bool) → Type 0
 StandsOnce s stands equal = EqualsOnce s stands stands equal

@@ -1,4 +1,4 @@
--- Keys whose calls hash alike under every rule for `usize` and `isize`.
+-- Keys that hash alike under every rule for `usize` and `isize`.
 use Rattle.std.specs.Prelude.{ℕ, ◌+◌, List, [], ◌∷◌, All}
 use Rattle.std.proofs.lemmas.List.Elements.{All-cons, All-append}
 use Rattle.std.proofs.Common.{arith}
@@ -9,7 +9,7 @@ use Rattle.rkyv_base.specs.Entry.{entry_shape, value_offset}
 use Rattle.rkyv_keys.specs.Calls.{text_calls}
 use Rattle.rkyv_keys.specs.OfEntries.{entry_calls, standing_key, standing_value}
 
--- where the key stands, none of its calls is that of a `usize` or an `isize`
+-- a valid key makes no call for a `usize` or an `isize`
 abbrev pub MakesFixedCalls : Shape → (List ℕ → ℕ → List HasherCall) → Type 0
 MakesFixedCalls s calls = (b : List ℕ) (p : ℕ) → Standing s b p → All IsFixed (calls b p)
 

@@ -1,4 +1,4 @@
--- Entries: what is said of both parts, the value standing behind the key.
+-- Entries, by their key and their value.
 use Rattle.std.specs.Prelude.{ℕ, ◌+◌, ◌≤◌, ◌⊎◌, Bool, ◌&&◌, List, ◌++◌}
 use Rattle.std.proofs.Common.{arith}
 use Rattle.std.proofs.lemmas.Bool.{and_parts, and_from}
@@ -16,31 +16,31 @@ module _ (k v : Shape) where
   entry_same key value b p c q = key b p c q
       && value b (p + value_offset k v) c (q + value_offset k v)
 
-  -- the key's calls, then the value's
+  -- the calls of the key, followed by those of the value
   abbrev pub entry_calls : (List ℕ → ℕ → List HasherCall) → (List ℕ → ℕ → List HasherCall) → List ℕ
       → ℕ → List HasherCall
   entry_calls key value b p = key b p ++ value b (p + value_offset k v)
 
-  -- each part fits its part
+  -- each part of the pair fits its part of the entry
   abbrev pub entry_fits : {A B : Type 0} → (A → List ℕ → ℕ → Bool) → (B → List ℕ → ℕ → Bool) → A × B
       → List ℕ → ℕ → Bool
   entry_fits key value q b p = key q.0 b p && value q.1 b (p + value_offset k v)
 
-  -- each part equals its part
+  -- each part of the entry equals its part of the pair
   abbrev pub entry_equals : {A B : Type 0} → (List ℕ → ℕ → A → Type 0) → (List ℕ → ℕ → B → Type 0)
       → List ℕ → ℕ → A × B → Type 0
   entry_equals key value b p pair = key b p pair.0 × value b (p + value_offset k v) pair.1
 
-  -- what either part may answer
+  -- an error of either part
   abbrev pub entry_refuses : Refusals → Refusals → Refusals
   entry_refuses key value b p e = key b p e ⊎ value b (p + value_offset k v) e
 
--- the calls of a pair, and when it can be read
+-- the calls of both parts of a pair
 abbrev pub pair_calls : {A B : Type 0} → (A → List HasherCall) → (B → List HasherCall) → A × B
     → List HasherCall
 pair_calls first second q = first q.0 ++ second q.1
 
--- both parts of a pair of queries can be read
+-- both parts of a pair can be read
 abbrev pub BothRead : {A B : Type 0} → (A → Type 0) → (B → Type 0) → A × B → Type 0
 BothRead first second q = first q.0 × second q.1
 

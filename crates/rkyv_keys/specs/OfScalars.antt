@@ -1,4 +1,4 @@
--- Scalars, whose value at a position is the one that the number there is read as.
+-- Scalars, by the value of the number at a position.
 use Rattle.std.specs.Prelude.{ℕ, Bool, List, [], ◌∷◌}
 use Rattle.rkyv_scan.specs.Hash.{HasherCall}
 use Rattle.rkyv_scan.specs.Laws.{IsFixed}
@@ -17,12 +17,12 @@ use Rattle.rkyv_keys.specs.OfValues.{
   value_fits_its_equal,
 }
 
--- one call
+-- the list of the one call of a scalar
 abbrev pub one_call : {V : Type 0} → (V → HasherCall) → V → List HasherCall
 one_call call v = call v ∷ []
 
 module _ {V : Type 0} (e : Encoding V) where
-  -- the scalar that stands at a position
+  -- the scalar at position `p`
   abbrev pub scalar_at : List ℕ → ℕ → V
   scalar_at b p = e.value (number_at e.word b p)
 
@@ -34,7 +34,7 @@ module _ {V : Type 0} (e : Encoding V) where
   abbrev pub scalar_calls : (V → HasherCall) → List ℕ → ℕ → List HasherCall
   scalar_calls call = value_calls scalar_at (one_call call)
 
-  -- the scalar at a position is equal to the one that is asked for
+  -- the scalar at a position is equal to the query
   abbrev pub scalar_fits : (V → V → Bool) → V → List ℕ → ℕ → Bool
   scalar_fits equal = value_fits scalar_at equal (λ v. v)
 

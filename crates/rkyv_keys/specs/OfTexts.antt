@@ -1,4 +1,4 @@
--- Text, whose value at a position is its bytes, wherever they stand.
+-- Text, by its bytes, inline or out of line.
 use Rattle.std.specs.Prelude.{◌≡◌, ℕ, Bool, true, nat_eq, List}
 use Rattle.std.proofs.Common.{refl}
 use Rattle.std.specs.Int.{Width}
@@ -36,11 +36,11 @@ module _ (w : Width) where
   abbrev pub text_key_calls : List ℕ → ℕ → List HasherCall
   text_key_calls = value_calls (text_at w) text_calls
 
-  -- the text at a position has the bytes that are asked for
+  -- the text at a position has the bytes of the query
   abbrev pub text_fits : {Q : Type 0} → (Q → List ℕ) → Q → List ℕ → ℕ → Bool
   text_fits seen = value_fits (text_at w) same_bytes seen
 
-  -- the text at a position is that of the value
+  -- the text at position `p` is that of the value `q`
   abbrev pub IsTextOf : {Q : Type 0} → (Q → List ℕ) → List ℕ → ℕ → Q → Type 0
   IsTextOf seen b p q = TextReads w b p (seen q)
 
@@ -62,7 +62,7 @@ module _ (w : Width) where
         (λ q v. same_bytes (seen q) (seen v)) (text_fits seen)
     text_fits_its_equal = value_fits_its_equal (text_shape w) (text_at w) same_bytes seen
 
-    -- values of equal bytes alone stand at one position
+    -- a text represents only values with its bytes
     pub text_alone : StandsOnce (text_shape w) (IsTextOf seen) (λ q v. same_bytes (seen q) (seen v))
     text_alone = native_alone (text_shape w) (IsTextOf seen) (λ q v. same_bytes (seen q) (seen v))
         (text_fits seen) text_fits_its_equal (λ v. bytes_equal_themselves (seen v))

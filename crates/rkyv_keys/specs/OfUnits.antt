@@ -1,4 +1,4 @@
--- The unit value, which stands everywhere, is the same everywhere and makes no call.
+-- The unit value, which is valid at every position and makes no call.
 use Rattle.std.specs.Prelude.{ℕ, Bool, true, List, []}
 use Rattle.std.proofs.Common.{refl}
 use Rattle.rkyv_scan.specs.Hash.{HasherCall}
@@ -18,15 +18,15 @@ units_equal v w = true
 abbrev pub unit_same : Comparison
 unit_same b p c q = true
 
--- a unit value makes no call
+-- the unit value makes no call
 abbrev pub no_calls : Unit {0} → List HasherCall
 no_calls v = []
 
--- a unit value that stands makes no call either
+-- an archived unit value makes no call
 abbrev pub unit_calls : List ℕ → ℕ → List HasherCall
 unit_calls b p = []
 
--- a unit value asks for every unit value
+-- the unit value fits every archived unit value
 abbrev pub unit_fits : Unit {0} → List ℕ → ℕ → Bool
 unit_fits q b p = true
 

@@ -1,5 +1,5 @@
--- Elements at whose positions one value stands, which is compared and hashed as a whole: scalars,
--- text and the unit value.
+-- Elements with one value at a position, which is compared and hashed as a whole:
+-- scalars, text and the unit value.
 use Rattle.std.specs.Prelude.{◌≡◌, ℕ, Bool, true, List}
 use Rattle.std.proofs.Common.{refl, sym, ◌∙◌, ap}
 use Rattle.rkyv_scan.specs.Hash.{HasherCall}
@@ -13,15 +13,15 @@ module _ {V : Type 0} (value_at : List ℕ → ℕ → V) where
   abbrev pub values_same : (V → V → Bool) → Comparison
   values_same equal b p c q = equal (value_at b p) (value_at c q)
 
-  -- the calls of the value at a position
+  -- the calls of the value at position `p`
   abbrev pub value_calls : (V → List HasherCall) → List ℕ → ℕ → List HasherCall
   value_calls calls b p = calls (value_at b p)
 
-  -- the value at a position is equal to the one that is asked for
+  -- the value at position `p` is equal to that of the query `q`
   abbrev pub value_fits : {Q : Type 0} → (V → V → Bool) → (Q → V) → Q → List ℕ → ℕ → Bool
   value_fits equal seen q b p = equal (seen q) (value_at b p)
 
-  -- the value at a position is this one
+  -- the value at position `p` is that of `q`
   abbrev pub IsValueAt : {Q : Type 0} → (Q → V) → List ℕ → ℕ → Q → Type 0
   IsValueAt seen b p q = value_at b p ≡ seen q
 

@@ -1,4 +1,4 @@
--- A key that stands in some archive, by which others are asked for.
+-- A key in an archive, as a query for keys of other archives.
 use Rattle.std.specs.Prelude.{◌≡◌, ℕ, Bool, true, List}
 use Rattle.std.specs.Bool.{Decides}
 use Rattle.std.proofs.lemmas.Bool.Decides.{same_from_decides}
@@ -9,11 +9,11 @@ use Rattle.rkyv_base.specs.View.{IsView, bytes_of, pos_of}
 use Rattle.rkyv_keys.specs.Equality.{Comparison, IsEquivalence}
 use Rattle.rkyv_keys.specs.Keys.{IsKey, IsQuery}
 
--- the calls of the key at which a view is
+-- the calls of the key of the view `view`
 abbrev pub view_calls : {K : Type 0} → (List ℕ → ℕ → List HasherCall) → View K → List HasherCall
 view_calls calls view = calls (bytes_of view) (pos_of view)
 
--- the key at a position is the same as the view's
+-- the key at position `p` is the same as that of the view `view`
 abbrev pub view_fits : {K : Type 0} → Comparison → View K → List ℕ → ℕ → Bool
 view_fits same view b p = same (bytes_of view) (pos_of view) b p
 

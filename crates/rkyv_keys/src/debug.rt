@@ -1,4 +1,4 @@
-//! Printing values that stand in archives.
+//! Formatting of values in archives by `Debug`.
 
 ghost use Rattle.std.specs.Prelude.{◌≡◌, MatchOption};
 ghost use Rattle.rkyv_base.specs.Entry.{entry_shape};
@@ -13,14 +13,20 @@ use rkyv_base::entry::Entry;
 use rkyv_base::view::View;
 use std::fmt::{self, Debug, Formatter, Write};
 
-/// An element whose values are printed in place, as Rust's `Debug` prints the values themselves.
+/// An element whose values can be formatted in place.
 pub trait ElementDebug: Element {
-    /// Writes the value.
+    /// Writes the value to the formatter.
+    ///
+    /// # Requires
+    ///
+    /// - The view is of a valid value.
     fn debug<W: Write>(view: View<'_, Self>, f: &mut Formatter<W>) -> fmt::Result
         requires { IsView Self.shape view };
 }
 
-/// The value at a position of some bytes, where one stands.
+/// Validates the value at a position of some bytes, and returns a view of it.
+///
+/// Returns `None` if there is no valid value at the position. Its parts can be anywhere before it.
 #[inline]
 pub fn standing<T: Element>(bytes: &[u8], pos: u64) -> Option<View<'_, T>>
     ensures { MatchOption result
@@ -38,17 +44,17 @@ pub fn standing<T: Element>(bytes: &[u8], pos: u64) -> Option<View<'_, T>>
     }
 }
 
-/// A value that stands in an archive, to be handed to what prints by `Debug`.
+/// A value in an archive, for formatting by `Debug`.
 ///
-/// It looks again whether the value stands, so it needs no condition: where none does, printing
-/// is an error.
+/// Formatting validates the value again, so it has no condition.
+/// It fails if the value is not valid.
 #[derive_where(Clone, Copy)]
 pub struct Shown<'a, T> {
     view: View<'a, T>,
 }
 
 impl<'a, T: ElementDebug> Shown<'a, T> {
-    /// The value where the view is.
+    /// Returns the value of the view, for formatting.
     #[inline]
     pub fn new(view: View<'a, T>) -> Shown<'a, T>
         ensures { result.view ≡ view.entry }

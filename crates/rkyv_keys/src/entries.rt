@@ -1,4 +1,4 @@
-//! Entries and pairs as keys.
+//! The implementations for entries and pairs.
 
 ghost use Rattle.std.specs.Prelude.{◌≡◌, IsTrue, ◌↔◌, MatchResult};
 ghost use Rattle.rkyv_base.specs.Entry.{entry_shape};

@@ -1,4 +1,9 @@
-//! Equality of values that stand in archives.
+//! Equality of values in archives.
+//!
+//! - `ElementEq` compares two archived values, and `ElementEquiv` has the laws of an equivalence.
+//! - `MatchesNative` compares an archived value with a native one.
+//!   `EqualsWritten` and `EqualsAlone` have its laws for written values.
+//! - `StandsAlone` states that the native values of one archived value are equal.
 
 ghost use Rattle.std.specs.Prelude.{◌≡◌, ℕ, Bool, List, IsTrue, ◌↔◌};
 ghost use Rattle.rkyv_base.specs.Format.{IsFormat};
@@ -11,54 +16,67 @@ use rkyv_base::element::{Element, StandsFor};
 use rkyv_base::view::View;
 use rkyv_base::width::Width;
 
-/// An element whose values can be compared in place, in one archive or in two.
+/// An element whose values can be compared in place, within one archive or between two.
 pub trait ElementEq: Element {
-    // Whether the values at two positions are the same.
+    // The comparison of the values at two positions.
     ghost same: { Comparison };
 
-    /// Whether both values are the same.
+    /// Returns `true` if and only if the two values are the same.
+    ///
+    /// # Requires
+    ///
+    /// - `a` is the view of a valid value.
+    /// - `b` is the view of a valid value.
     fn same(a: View<'_, Self>, b: View<'_, Self>) -> bool
         requires a { IsView Self.shape a }
         requires b { IsView Self.shape b }
         ensures { result ≡ at_views same a.entry b.entry };
 }
 
-/// An element whose equality is an equivalence.
+/// An element whose comparison is an equivalence.
 pub trait ElementEquiv: ElementEq {
     ghost equivalence: { IsEquivalence Self.shape Self.same };
 }
 
-/// An element whose values can be compared with the values of the type V in place.
+/// An element whose values can be compared in place with values of the type `V`.
 pub trait MatchesNative<V>: StandsFor<V> {
-    // The value at a position equals another.
+    // The value at a position equals a native value.
     ghost equals: { List ℕ → ℕ → V → Type 0 };
 
-    /// Whether the value equals the other.
+    /// Returns `true` if and only if the archived value equals the native value.
+    ///
+    /// # Requires
+    ///
+    /// - The view is of a valid value.
     fn eq_native(view: View<'_, Self>, value: &V) -> bool
         requires { IsView Self.shape view }
         ensures { IsTrue result ↔ StandsAt equals view.entry value.now };
 }
 
-/// A type whose values equal what is written of them, in archives of the width W.
+/// A type whose values equal their archived form, in archives of the width `W`.
 pub trait EqualsWritten<W: Width>: Archive<W>
 where
     Self::Archived: MatchesNative<Self>,
 {
-    // In every archive in which what was written of a value sits, the value there equals it.
+    // In each archive that has the bytes of a written value,
+    // the archived value equals the written one.
     ghost equal: { IsFormat Self.Archived.shape Self.Archived.equals Self.format };
 }
 
-/// An element that equals, where a value stands, that value's equals alone: so what `eq_native`
-/// answers of a value that was written is `==` of both native values.
+/// An element whose values equal only native values that are equal to the represented ones.
 ///
-/// Std's maps and sets don't have it: that the keys of one are distinct is known where a call is
-/// made, and no law can know it.
+/// If `eq_native` returns `true`, its argument is `==` to each native value
+/// that the archived one represents.
+///
+/// std's maps and sets don't implement it. A caller knows that the keys of an archived map
+/// are distinct, and a law can't.
 pub trait EqualsAlone<V: PartialEq>: MatchesNative<V> {
     ghost exact: { EqualsOnce Self.shape Self.stands Self.equals V.eq };
 }
 
-/// An element as which equal values alone stand at one position: what is read back of what was
-/// written of a value equals it.
+/// An element whose values each represent only native values that are equal to one another.
+///
+/// A deserialized value is therefore equal to the written one.
 pub trait StandsAlone<V: PartialEq>: StandsFor<V> {
     ghost alone: { StandsOnce Self.shape Self.stands V.eq };
 }

@@ -1,4 +1,4 @@
-//! Hashing values by lists of hasher calls.
+//! Hashing of values by lists of hasher calls.
 
 ghost use Rattle.std.specs.Prelude.{◌≡◌, List, [], ◌∷◌};
 ghost use Rattle.rkyv_scan.specs.Hash.{HasherCall, Isize, Usize, hash_of_calls};
@@ -9,21 +9,29 @@ use rkyv_scan::hash::KeyHasher;
 
 /// A value that is hashed by a list of calls, which is a function of the value.
 ///
-/// It takes the place of std's `Hash`, whose calls depend on the machine.
+/// It replaces std's `Hash`, whose calls depend on the machine.
 pub trait KeyHash {
     // The calls, in order.
     ghost calls: { Self → List HasherCall };
 
-    // What must hold of the value so that it can be read: of a view, that something stands there.
+    // The condition under which the value can be read. For a view, it is that of a valid value.
     ghost can_read: { Self → Type 0 } = { ReadsAnywhere };
 
-    /// Makes the value's calls of a hasher.
+    /// Feeds the value's calls to a hasher.
+    ///
+    /// # Requires
+    ///
+    /// - The value can be read.
     fn hash<H: KeyHasher>(&self, state: &mut H)
         requires { can_read self.now }
         ensures { state.new ≡ after_calls H.hasher state.old (calls self.now) };
 }
 
-/// The hash of a value by a new hasher.
+/// Returns the hash of a value by a new hasher.
+///
+/// # Requires
+///
+/// - The value can be read.
 #[inline]
 pub fn hash_value<Q: KeyHash, H: KeyHasher + Default>(value: &Q) -> u64
     requires { Q.can_read value.now }

@@ -1,4 +1,7 @@
-//! Keys and what they are asked for by.
+//! Keys, and the queries by which they are looked up.
+//!
+//! `KeyElement` is the trait of archived keys, and `Query` that of values by which they
+//! are looked up. A `NativeKey` is a query for its own archived form.
 
 ghost use Rattle.std.specs.Prelude.{◌≡◌, ℕ, Bool, List};
 ghost use Rattle.rkyv_scan.specs.Hash.{HasherCall};
@@ -19,7 +22,11 @@ pub trait KeyElement: ElementEquiv {
     // The calls of the value at a position, in order.
     ghost key_calls: { List ℕ → ℕ → List HasherCall };
 
-    /// Makes the value's calls of a hasher.
+    /// Feeds the calls of an archived value to a hasher.
+    ///
+    /// # Requires
+    ///
+    /// - The view is of a valid value.
     fn hash_view<H: KeyHasher>(view: View<'_, Self>, state: &mut H)
         requires { IsView Self.shape view }
         ensures { state.new ≡ after_calls H.hasher state.old (at_view key_calls view.entry) };
@@ -27,12 +34,17 @@ pub trait KeyElement: ElementEquiv {
     ghost key: { IsKey Self.shape Self.same key_calls };
 }
 
-/// A value by which a key of the element K is asked for.
+/// A value by which a key of the element `K` is looked up.
 pub trait Query<K: KeyElement>: KeyHash {
-    // Whether the key at a position is the one that is asked for.
+    // The query fits the key at a position.
     ghost fits: { Self → List ℕ → ℕ → Bool };
 
-    /// Whether the key is the one that is asked for.
+    /// Returns `true` if and only if the query fits the key.
+    ///
+    /// # Requires
+    ///
+    /// - The query can be read.
+    /// - The view is of a valid key.
     fn same(&self, key: View<'_, K>) -> bool
         requires query { Self.can_read self.now }
         requires key { IsView K.shape key }
@@ -41,16 +53,17 @@ pub trait Query<K: KeyElement>: KeyHash {
     ghost query: { IsQuery K.shape K.same K.key_calls Self.can_read Self.calls fits };
 }
 
-/// A type whose values are archived as keys of the element K, and asked for by themselves.
+/// A type whose values are archived as keys of the element `K`, and which look these up.
 pub trait NativeKey<K: KeyElement + StandsFor<Self>>: Query<K> + Eq {
     ghost native: { FitsItsEqual K.shape K.stands Self.eq Self.fits };
 
-    // It can be read by itself.
+    // A native key can always be read.
     ghost reads: { (key : Self) → Self.can_read key };
 }
 
-/// A key whose hash makes no call of a `usize` or an `isize`, so that hashers that differ in these
-/// alone hash it alike. All keys of this crate are such.
+/// A key whose hash makes no call for a `usize` or an `isize`.
+///
+/// Two hashers that differ in these calls alone hash it alike. All keys of this crate implement it.
 pub trait FixedKey: KeyElement {
     ghost fixed: { MakesFixedCalls Self.shape Self.key_calls };
 }

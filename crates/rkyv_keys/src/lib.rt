@@ -1,6 +1,13 @@
-//! Keys: how the values of elements are hashed, compared, asked for and read back.
+//! Keys: hashing, comparison, lookup and deserialization of archived values.
 //!
-//! What callers name stands at the root too.
+//! - `KeyHash` hashes native values, and `KeyElement` archived ones.
+//! - `ElementEq` compares archived values, and `MatchesNative` compares them with native ones.
+//! - `Query` is the trait of values by which a key is looked up.
+//! - `Deserialize` reads an archived value back.
+//! - `Shown` formats an archived value by `Debug`.
+//!
+//! These are implemented for scalar keys, text, entries and the unit value.
+//! The root re-exports the traits.
 #![tactic(auto)]
 
 pub mod debug;

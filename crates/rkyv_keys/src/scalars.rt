@@ -1,4 +1,4 @@
-//! Scalars as keys.
+//! The implementations for scalars.
 
 ghost use Rattle.std.specs.Prelude.{◌≡◌, IsTrue, ◌↔◌, MatchResult};
 ghost use Rattle.std.specs.Cmp.{booleans_Decides, signed_Decides, unsigned_Decides};
@@ -39,12 +39,12 @@ use std::fmt::Debug;
 
 /// A scalar that is hashed by one call, and is equal to itself alone.
 ///
-/// Each is a key, is asked for by itself and is read back as itself.
+/// Each is a key, is a query for itself and is deserialized as itself.
 pub trait ScalarKey: Scalar + Eq {
     // Its one call.
     ghost call: { Self → HasherCall };
 
-    /// Makes the value's call of a hasher.
+    /// Feeds the value's call to a hasher.
     fn feed<H: KeyHasher>(self, state: &mut H)
         ensures { state.new ≡ H.hasher.feed state.old (call self) };
 

@@ -1,4 +1,4 @@
-//! Text as keys, asked for by text that stands anywhere.
+//! The implementations for text, which is looked up by `&str` and `String`.
 
 ghost use Rattle.std.specs.Prelude.{◌≡◌, string_bytes, IsTrue, ◌↔◌, MatchResult};
 ghost use Rattle.rkyv_base.specs.Text.{text_shape};

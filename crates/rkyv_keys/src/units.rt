@@ -1,4 +1,4 @@
-//! The unit value as a key.
+//! The implementations for the unit value.
 
 ghost use Rattle.std.specs.Prelude.{◌≡◌, true, IsTrue, ◌↔◌, MatchResult};
 ghost use Rattle.std.proofs.Common.{refl};

@@ -1,4 +1,4 @@
-//! Keys that stand in an archive, as queries.
+//! Views of archived keys, as queries.
 
 ghost use Rattle.std.specs.Prelude.{◌≡◌};
 ghost use Rattle.rkyv_base.specs.View.{IsView};

@@ -19,7 +19,7 @@ use Rattle.rkyv_keys.specs.Reading.{Refusals}
 abbrev pub low_shape : Shape
 low_shape = scalar_shape (unsigned w32)
 
--- the low byte of the number at a place
+-- the low byte of the number at position `p`
 abbrev pub low_byte : List ℕ → ℕ → ℕ
 low_byte b p = number_at w32 b p % 256
 
@@ -35,11 +35,11 @@ low_calls = value_calls low_byte byte_call
 abbrev pub low_fits : {Q : Type 0} → (Q → ℕ) → Q → List ℕ → ℕ → Bool
 low_fits seen = value_fits low_byte nat_eq seen
 
--- the whole number reads back
+-- the whole number represents the value
 abbrev pub low_stands : List ℕ → ℕ → ℕ → Type 0
 low_stands = ScalarStands (unsigned w32)
 
--- a number whose low byte is 0 may be refused with 7
+-- deserializing a number whose low byte is 0 may fail with `Refused 7`
 abbrev pub low_refuses : Refusals
 low_refuses b p e = (e ≡ Refused 7) × (low_byte b p ≡ 0)
 

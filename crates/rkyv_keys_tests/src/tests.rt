@@ -1,4 +1,4 @@
-//! The tests, by what they call.
+//! The tests, by the module that they test.
 
 mod elements;
 mod equality;

@@ -23,7 +23,7 @@ half_next xs t k ne =
     let low : is_word_match_at (half_of xs k) t r ≡ is_half_match_at xs t (k - 1) = sym (half_lower xs t k r (omega arith)) ∙ ap (is_half_match_at xs t) d in
     ap (is_word_match_at (half_of xs k) t) e ∙ (λ i. eqb (at i) t || (eqb (at i) (bit_xor t 1) && low i))
 
--- ---- the mask of the places that are no half's first
+-- ---- the mask of the indices that are not the first of a half
 later_bit : (i : ℕ) → i < 16 → bit_at 65278 i ≡ cond (eqb (i % 8) 0) 0 1
 later_bit i l = eqb-true _ _ (all_to_at 16 (λ i. eqb (bit_at 65278 i) (cond (eqb (i % 8) 0) 0 1)) refl i l)
 
@@ -65,7 +65,7 @@ pub chain_more : (equal next n : ℕ) → bit_or equal (bit_and (bits_after (cha
 unfolding chain
 chain_more equal next n = let e : suc n ≡ n + 1 = omega arith in ap (chain equal next) e
 
--- the bits of m are the marks, as far as the first n + 1 places of each half
+-- the bits of `m` are the marks of the first n + 1 indices of each half
 abbrev pub Chains : List ℕ → ℕ → ℕ → ℕ → Type 0
 Chains xs t n m = (k : ℕ) → k < 16 → k % 8 ≤ n → eqb (bit_at m k) 1 ≡ is_half_match_at xs t k
 
@@ -96,7 +96,7 @@ module _ (xs : List ℕ) (t equal next : ℕ) (tells : TellsEqual xs t equal) (t
   chain_is zero k l h = tells k l ∙ sym (half_first xs t k (omega arith))
   chain_is (suc n) k l h = chain_step n (chain equal next n) (chain_is n) k l h
 
-  -- what a step leaves as it is has all marks
+  -- a mask that a step leaves unchanged has all marks
   chain_fixed : (m : ℕ) → ((k : ℕ) → k < 16 → bit_at m k ≡ bit_at (bit_or equal (bit_and (bits_after m) next)) k) → (n : ℕ) → Chains xs t n m
   chain_fixed m e zero k l h = ap (λ x. eqb x 1) (e k l) ∙ chain_base m k l h
   chain_fixed m e (suc n) k l h = ap (λ x. eqb x 1) (e k l) ∙ chain_step n m (chain_fixed m e n) k l h
@@ -118,7 +118,7 @@ none_marked xs t none (suc n) k l h = elim (cases_eq (k % 8) 0) [
       half_next xs t k nz ∙ (λ i. a i || (eqb (slice_index xs k) (bit_xor t 1) && b i)) ∙ and_no (eqb (slice_index xs k) (bit_xor t 1))
 ]
 
--- where no byte is equal none is marked
+-- if no byte is equal, no index is marked
 pub none_equal : (xs : List ℕ) (t equal : ℕ) → TellsEqual xs t equal → equal ≡ 0 → Chains xs t 7 0
 none_equal xs t equal tells z k l h =
     let none = λ (j : ℕ) (m : j < 16). sym (tells j m) ∙ ap (λ x. eqb (bit_at x j) 1) z ∙ ap (λ x. eqb x 1) (bit_at-zero j) in

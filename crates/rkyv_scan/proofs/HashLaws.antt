@@ -33,7 +33,7 @@ words_held sizes held (call ∷ calls) =
 pub calls_words : CallsHashTheirWords
 calls_words sizes calls = words_held sizes 0 calls
 
--- no rest where all words are whole
+-- a length that is a multiple of eight leaves no further words
 rest_none : (a : List ℕ) → length a % 8 ≡ 0 → rest_words a ≡ []
 unfolding rest_words
 rest_none a h =
@@ -54,7 +54,7 @@ from_eight xs ys h =
     (λ i. h 0 (omega arith) i + h 1 (omega arith) i * 256 + h 2 (omega arith) i * 65536 + h 3 (omega arith) i * 16777216 + h 4 (omega arith) i * 4294967296
     + h 5 (omega arith) i * 1099511627776 + h 6 (omega arith) i * 281474976710656 + h 7 (omega arith) i * 72057594037927936)
 
--- a word of the first list, and of the second
+-- a word of the first list, and a word of the second
 number_left : (a b : List ℕ) (i : ℕ) → i + 8 ≤ length a → number_from w64 (a ++ b) i ≡ number_from w64 a i
 number_left a b i l =
     from_eight (drop i (a ++ b)) (drop i a) (λ j p. get_or-drop i (a ++ b) j 0 ∙ get_or_append_left a b 0 (i + j) (omega arith) ∙ sym (get_or-drop i a j 0))

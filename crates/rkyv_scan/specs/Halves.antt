@@ -1,18 +1,18 @@
--- Sixteen control bytes, in each half of which those places are marked that the eight wide group
--- marks there.
+-- Groups of sixteen control bytes, whose halves are matched as groups of eight.
 use Rattle.std.specs.Prelude.{◌≡◌, ℕ, ◌+◌, ◌*◌, ◌/◌, ◌%◌, ◌<◌, Bool, List, slice_index, take, drop}
 use Rattle.std.proofs.Common.{arith, refl, sym, ◌∙◌, ap, get_or-take, get_or-drop}
 use Rattle.rkyv_scan.specs.Groups.{IsKind, Kind, is_word_match_at}
 use Rattle.rkyv_scan.specs.Lemmas.KindLaws.{word_lawful}
 
--- the half in which the place stands
+-- the eight control bytes of the half that has index `place`
 abbrev pub half_of : List ℕ → ℕ → List ℕ
 half_of controls place = take 8 (drop (place / 8 * 8) controls)
 
+-- `is_word_match_at` within the half that has index `place`
 abbrev pub is_half_match_at : List ℕ → ℕ → ℕ → Bool
 is_half_match_at controls byte place = is_word_match_at (half_of controls place) byte (place % 8)
 
--- sixteen controls as two words of eight
+-- the kind with sixteen control bytes that marks those of `is_half_match_at`
 abbrev pub halves_kind : Kind
 halves_kind = record { width = 16; marks = is_half_match_at }
 
@@ -22,7 +22,7 @@ half_at s k =
     get_or-take 8 (drop (k / 8 * 8) s) (k % 8) 0 (omega arith) ∙ get_or-drop (k / 8 * 8) s (k % 8) 0
     ∙ ap (slice_index s) e
 
--- a lower place of the same half
+-- the match at index `j` of the half that has index `k`
 pub half_lower : (s : List ℕ) (t k j : ℕ) → j < 8
     → is_half_match_at s t (k / 8 * 8 + j) ≡ is_word_match_at (half_of s k) t j
 half_lower s t k j l =

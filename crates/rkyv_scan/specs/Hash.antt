@@ -1,4 +1,4 @@
--- The calls that a key makes of a hasher, the words that they feed, and what they hash to.
+-- The calls of a hasher, the words that they feed, and the hash of a list of calls.
 use Rattle.std.specs.Prelude.{
   ℕ,
   ◌*◌,
@@ -33,86 +33,87 @@ use Rattle.std.specs.Int.{
   cast_signed,
 }
 
--- one call of a hasher
+-- one call of a hasher, with its argument
 pub data HasherCall : Type 0 where
   Bytes : List ℕ → HasherCall
   U8 U16 U32 U64 U128 Usize : ℕ → HasherCall
   I8 I16 I32 I64 I128 Isize : ℤ → HasherCall
 
--- a hasher over its states: that of a new one, that after one call, and what it answers
+-- a hasher over its states. `initial`: initial state, `feed`: state after one call,
+-- `finish`: hash of a state
 pub record Hasher (State : Type 0) : Type 0 where
   pub initial : State
   pub feed : State → HasherCall → State
   pub finish : State → ℕ
 
--- the number after a list of calls, which are fed in order from the initial state on
+-- the hash of a list of calls, fed in order from the initial state on
 abbrev pub hash_of_calls : {State : Type 0} → Hasher State → List HasherCall → ℕ
 hash_of_calls hasher calls = hasher.finish (fold hasher.feed hasher.initial calls)
 
--- the number after any list of calls is one of 64 bits
+-- the hash of any list of calls is below 2^64
 abbrev pub NumbersFit : {State : Type 0} → Hasher State → Type 0
 NumbersFit hasher = (calls : List HasherCall) → hash_of_calls hasher calls < 2 ^ 64
 
--- the little endian number of the first bytes from i on, as many as the width has
+-- the little-endian number of width `w` in `bytes` from position `i` on
 abbrev pub number_from : Width → List ℕ → ℕ → ℕ
 number_from w bytes i = from_le_bytes w (drop i bytes)
 
--- n whole words of eight bytes, from the start
+-- the first `n` whole words of eight bytes
 abbrev pub whole_words : List ℕ → ℕ → List ℕ
 whole_words bytes n = map (λ k. number_from w64 bytes (8 * k)) (range_with_len 0 n)
 
--- of the up to seven bytes past the last whole word: the first four, where there are as many
+-- the word of four bytes after the whole words, if the length has the bit 4
 abbrev pub four_bytes : List ℕ → List ℕ
 four_bytes bytes =
     let n = length bytes in
     if n / 4 % 2 == 1 then number_from w32 bytes (n / 8 * 8) ∷ [] else []
 
--- the next two
+-- the word of two bytes after those, if the length has the bit 2
 abbrev pub two_bytes : List ℕ → List ℕ
 two_bytes bytes =
     let n = length bytes in
     if n / 2 % 2 == 1 then number_from w16 bytes (n / 4 * 4) ∷ [] else []
 
--- and the last one
+-- the word of the last byte, if the length is odd
 abbrev pub last_byte : List ℕ → List ℕ
 last_byte bytes =
     let n = length bytes in
     if n % 2 == 1 then number_from w8 bytes (n / 2 * 2) ∷ [] else []
 
--- the words past the last whole one
+-- the words after the last whole one
 unfoldable pub rest_words : List ℕ → List ℕ
 rest_words bytes = four_bytes bytes ++ two_bytes bytes ++ last_byte bytes
 
--- what `write` feeds
+-- the words that `write` feeds
 unfoldable pub byte_words : List ℕ → List ℕ
 byte_words bytes = whole_words bytes (length bytes / 8) ++ rest_words bytes
 
--- a signed number as the unsigned one of its width
+-- `z` as the one unsigned word of width `w` with the same bits
 abbrev pub signed_word : Width → ℤ → List ℕ
 signed_word w z = cast_unsigned w z ∷ []
 
--- the low 64 bits, and then the high ones
+-- the low 64 bits, and then the others
 abbrev pub wide_words : ℕ → List ℕ
 wide_words n = n % 2 ^ 64 ∷ n / 2 ^ 64 ∷ []
 
--- how a hasher makes one word of a `usize`, and one of an `isize`
+-- a rule for the one word of a `usize`, and the one word of an `isize`
 pub record SizeWords : Type 0 where
   pub usize_word : ℕ → ℕ
   pub isize_word : ℤ → ℕ
 
--- the low 32 bits as a signed number, widened with its sign
+-- the low 32 bits as a signed number, sign-extended to 64
 abbrev pub narrow_isize : ℤ → ℕ
 narrow_isize z = cast_unsigned w64 (cast_signed w32 (cast_unsigned w64 z % 2 ^ 32))
 
--- the low 32 bits alone
+-- the rule that takes the low 32 bits
 abbrev pub low_halves : SizeWords
 low_halves = record { usize_word = λ n. n % 2 ^ 32; isize_word = narrow_isize }
 
--- all 64 bits
+-- the rule that takes all 64 bits
 abbrev pub all_bits : SizeWords
 all_bits = record { usize_word = λ n. n; isize_word = cast_unsigned w64 }
 
--- the words that one call feeds
+-- the words that one call feeds under the rule `sizes`
 abbrev pub call_words : SizeWords → HasherCall → List ℕ
 call_words sizes (Bytes bytes) = byte_words bytes
 call_words sizes (U8 n) = n ∷ []
@@ -128,30 +129,30 @@ call_words sizes (I64 z) = signed_word w64 z
 call_words sizes (I128 z) = wide_words (cast_unsigned w128 z)
 call_words sizes (Isize z) = sizes.isize_word z ∷ []
 
--- the words that `FxHasher64` is fed by a call
+-- the words that one call feeds to `FxHasher64`
 abbrev pub fx_words : HasherCall → List ℕ
 fx_words = call_words low_halves
 
--- the words that `FxHasher64Wide` is fed by a call
+-- the words that one call feeds to `FxHasher64Wide`
 abbrev pub wide_fx_words : HasherCall → List ℕ
 wide_fx_words = call_words all_bits
 
--- the held number after one word
+-- the state `held` after one word
 unfoldable pub hash_word : ℕ → ℕ → ℕ
 hash_word held word = (bit_xor (rotate_left w64 held 5) word * 0x517c_c1b7_2722_0a95) % 2 ^ 64
 
--- the held number after a list of words
+-- the state `held` after a list of words
 abbrev pub hash_words : ℕ → List ℕ → ℕ
 hash_words held words = fold hash_word held words
 
--- the held number after a call
+-- the state `held` after one call
 abbrev pub fx_feed : SizeWords → ℕ → HasherCall → ℕ
 fx_feed sizes held call = hash_words held (call_words sizes call)
 
--- a state is the held number, at first 0, which is what the hasher answers
+-- the `FxHasher` of the rule `sizes`. Its state is at first 0, and is its own hash
 abbrev pub fx_hasher : SizeWords → Hasher ℕ
 fx_hasher sizes = record { initial = 0; feed = fx_feed sizes; finish = λ held. held }
 
--- the number that a new hasher answers after a list of calls
+-- the hash of a list of calls by the `FxHasher` of the rule `sizes`
 abbrev pub fx_hash : SizeWords → List HasherCall → ℕ
 fx_hash sizes calls = hash_of_calls (fx_hasher sizes) calls

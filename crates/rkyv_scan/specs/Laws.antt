@@ -1,5 +1,5 @@
--- Laws of the hash, over its definition alone.
--- Each holds of every rule for `usize` and `isize`, so of both hashers.
+-- Laws of the hash, over its definition alone. Each is for every rule for `usize`
+-- and `isize`, and so for both hashers.
 use Rattle.std.specs.Prelude.{◌≡◌, ℕ, ◌%◌, List, ◌++◌, length, All, flat_map}
 use Rattle.std.specs.Int.{w64, from_le_bytes}
 use Rattle.rkyv_scan.specs.Hash.{
@@ -15,33 +15,33 @@ use Rattle.rkyv_scan.specs.Hash.{
   fx_hash,
 }
 
--- a list of calls hashes as the list of all words that they feed, from 0
+-- the hash of a list of calls is the hash from 0 of all words that they feed
 abbrev pub CallsHashTheirWords : Type 0
 CallsHashTheirWords = (sizes : SizeWords) (calls : List HasherCall)
     → fx_hash sizes calls ≡ hash_words 0 (flat_map (call_words sizes) calls)
 
--- two writes are one of both, where the first ends at a whole word
+-- two writes hash as one of both joined, if the length of the first is a multiple of eight
 abbrev pub WritesJoin : Type 0
 WritesJoin = (sizes : SizeWords) (held : ℕ) (a b : List ℕ) → length a % 8 ≡ 0
     → fx_feed sizes (fx_feed sizes held (Bytes a)) (Bytes b) ≡ fx_feed sizes held (Bytes (a ++ b))
 
--- a write of eight bytes is one of their little endian number
+-- a write of eight bytes hashes as a `write_u64` of their little-endian number
 abbrev pub EightBytesAreOneWord : Type 0
 EightBytesAreOneWord = (sizes : SizeWords) (held : ℕ) (a : List ℕ) → length a ≡ 8
     → fx_feed sizes held (Bytes a) ≡ fx_feed sizes held (U64 (from_le_bytes w64 a))
 
--- the call feeds no `usize` and no `isize`
+-- the call is no `write_usize` and no `write_isize`
 abbrev pub IsFixed : HasherCall → Type 0
 IsFixed (Usize n) = ⊥
 IsFixed (Isize z) = ⊥
 IsFixed call = Unit {0}
 
--- any two rules feed the same words of such a call
+-- a fixed call feeds the same words under any two rules
 abbrev pub FixedCallsAgree : Type 0
 FixedCallsAgree = (one other : SizeWords) (call : HasherCall) → IsFixed call
     → call_words one call ≡ call_words other call
 
--- any two rules answer the same number after a list of such calls
+-- a list of fixed calls has the same hash under any two rules
 abbrev pub FixedCallsHashAlike : Type 0
 FixedCallsHashAlike = (one other : SizeWords) (calls : List HasherCall) → All IsFixed calls
     → fx_hash one calls ≡ fx_hash other calls

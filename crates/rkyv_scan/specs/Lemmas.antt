@@ -1,4 +1,4 @@
--- Lemmas that laws of traits and their impls need: a law may import from specs/ alone.
+-- Lemmas for the laws of traits and of their impls. A law can import from specs/ alone.
 pub mod KindLaws
 pub mod HalfBits
 pub mod Ascending

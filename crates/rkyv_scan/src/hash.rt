@@ -1,8 +1,11 @@
-//! Hashers that answer alike on every machine.
+//! Hashers whose hashes are the same on every machine.
 //!
-//! std's `Hasher` leaves open what its calls feed, and its numbers depend on the machine. The
-//! number of a `KeyHasher` is a function of the list of its calls alone, so that an archive may
-//! rest on it.
+//! The hash of a `KeyHasher` is a function of the list of its calls alone,
+//! so an archive can depend on it. std's `Hasher` leaves open how a call changes the hash,
+//! and its hashes may differ between machines.
+//!
+//! `FxHasher64` is the hasher of archived maps, and `FxHasher64Wide` its variant
+//! for 64-bit `usize` words.
 ghost use Rattle.std.specs.Prelude.{◌≡◌, ℕ, ◌+◌, ◌≤◌, ◌%◌, ◌^◌, length, List};
 ghost use Rattle.std.specs.Int.{w8, w16, w32, w64};
 ghost use Rattle.rkyv_scan.specs.Hash.{
@@ -39,19 +42,22 @@ ghost use Rattle.rkyv_scan.specs.Lemmas.Numbers.{fx_fits};
 use std::marker::{Model, PhantomData};
 use std::simd::prelude::*;
 
-/// A state machine that is fed calls and answers a number.
+/// A state machine that is fed calls and returns a hash.
 ///
-/// Each call's new state is a function of the old state and the call, and the number one of the
-/// state. What is said of words is said of `FxHasher64`; another hasher may take a call otherwise.
+/// Each call's new state is a function of the old state and the call.
+/// The hash is a function of the state.
+///
+/// The docs of the methods describe the words that `FxHasher64` feeds.
+/// Another hasher may treat a call differently.
 pub trait KeyHasher: Default + Drop {
-    // The state of a new hasher, the state after one call, and what `finish` answers.
+    // The initial state, the state after one call, and the result of `finish`.
     ghost hasher: { Hasher Self };
 
-    /// Takes the bytes, but not their number: two writes may hash as one of both joined.
+    /// Feeds the bytes without their number: two writes may hash as one write of both joined.
     ///
-    /// Feeds the whole words of eight bytes, each in little endian order, and then up to three
-    /// words of the fewer than eight bytes that are left: four, two and one of them, as their
-    /// number has these bits.
+    /// Feeds the whole words of eight bytes first, each in little-endian order.
+    /// Up to three words follow, for the remaining bytes: four, two and one of them,
+    /// each fed if the remaining length has that bit.
     fn write(&mut self, bytes: &[u8])
         ensures { self.new ≡ hasher.feed self.old (Bytes bytes.now) };
 
@@ -71,66 +77,73 @@ pub trait KeyHasher: Default + Drop {
     fn write_u64(&mut self, number: u64)
         ensures { self.new ≡ hasher.feed self.old (U64 number) };
 
-    /// Feeds two words: the low 64 bits, and then the high ones.
+    /// Feeds two words: the low 64 bits, and then the high 64 bits.
     fn write_u128(&mut self, number: u128)
         ensures { self.new ≡ hasher.feed self.old (U128 number) };
 
-    /// Feeds one word: `FxHasher64` the low 32 bits, whatever the machine, and `FxHasher64Wide`
-    /// all 64.
+    /// Feeds one word.
+    ///
+    /// `FxHasher64` feeds the low 32 bits, whatever the machine. `FxHasher64Wide` feeds all 64.
     fn write_usize(&mut self, number: usize)
         ensures { self.new ≡ hasher.feed self.old (Usize number) };
 
-    /// Feeds what `write_u8` does of the number with the same bits.
+    /// Feeds the same words as `write_u8` of the number with the same bits.
     fn write_i8(&mut self, number: i8)
         ensures { self.new ≡ hasher.feed self.old (I8 number) };
 
-    /// Feeds what `write_u16` does of the number with the same bits.
+    /// Feeds the same words as `write_u16` of the number with the same bits.
     fn write_i16(&mut self, number: i16)
         ensures { self.new ≡ hasher.feed self.old (I16 number) };
 
-    /// Feeds what `write_u32` does of the number with the same bits.
+    /// Feeds the same words as `write_u32` of the number with the same bits.
     fn write_i32(&mut self, number: i32)
         ensures { self.new ≡ hasher.feed self.old (I32 number) };
 
-    /// Feeds what `write_u64` does of the number with the same bits.
+    /// Feeds the same words as `write_u64` of the number with the same bits.
     fn write_i64(&mut self, number: i64)
         ensures { self.new ≡ hasher.feed self.old (I64 number) };
 
-    /// Feeds what `write_u128` does of the number with the same bits.
+    /// Feeds the same words as `write_u128` of the number with the same bits.
     fn write_i128(&mut self, number: i128)
         ensures { self.new ≡ hasher.feed self.old (I128 number) };
 
-    /// Feeds one word: `FxHasher64` the low 32 bits, whatever the machine, widened to 64 with
-    /// their sign, and `FxHasher64Wide` all 64 bits.
+    /// Feeds one word.
+    ///
+    /// `FxHasher64` feeds the low 32 bits, whatever the machine, sign-extended to 64.
+    /// `FxHasher64Wide` feeds all 64.
     fn write_isize(&mut self, number: isize)
         ensures { self.new ≡ hasher.feed self.old (Isize number) };
 
-    /// The number of the calls so far. The state stays as it is, and may be fed further calls.
+    /// Returns the hash of all calls made on this hasher.
+    ///
+    /// The state is unchanged, and can be fed further calls.
     fn finish(&self) -> u64
         ensures { result ≡ hasher.finish self.now };
 
-    // A default hasher is a new one.
+    // A default hasher is in the initial state.
     ghost starts: { (s : Self) → Self.is_default s → s ≡ hasher.initial };
 
-    // What `finish` answers after any calls of a new hasher is below 2^64.
+    // The hash of any list of calls of a new hasher is below 2^64.
     ghost fits: { NumbersFit hasher };
 }
 
-/// How an `FxHasher` makes one word of a `usize`, and one of an `isize`.
+/// The rule by which an `FxHasher` turns a `usize` or an `isize` into one word.
 pub trait SizeRule: Drop {
-    // The words that it makes.
+    // The words that it returns.
     ghost words: { SizeWords };
 
-    /// The word of a `usize`.
+    /// Returns the word of a `usize`.
     fn usize_word(number: usize) -> u64
         ensures { result ≡ words.usize_word number };
 
-    /// The word of an `isize`.
+    /// Returns the word of an `isize`.
     fn isize_word(number: isize) -> u64
         ensures { result ≡ words.isize_word number };
 }
 
-/// The low 32 bits alone, as a machine of 32 bits has them; of an `isize` widened with their sign.
+/// The rule that takes the low 32 bits alone, as a 32-bit machine has them.
+///
+/// It sign-extends those of an `isize` to 64 bits.
 #[derive(Drop)]
 pub struct LowHalves;
 
@@ -149,7 +162,7 @@ impl SizeRule for LowHalves {
     }
 }
 
-/// All 64 bits.
+/// The rule that takes all 64 bits.
 #[derive(Drop)]
 pub struct AllBits;
 
@@ -199,8 +212,9 @@ fn read_u16(bytes: &[u8], at: usize) -> u16
     u16::from_le_bytes(u8x2::from_slice(&bytes[at..]).to_array())
 }
 
-// The number is read, and the word hashed, whether it is fed or not, here and in the two below: so
-// no branch rests on a length's bits, which no processor foretells of texts of many lengths.
+// Reads and hashes the word even if it is not fed, as the two functions below do.
+// The choice between `fed` and `held` then needs no branch on a bit of the length.
+// Such a branch is hard to predict for keys of many lengths.
 #[inline]
 fn hash_four_bytes(held: u64, bytes: &[u8]) -> u64
     ensures { result ≡ hash_words held (four_bytes bytes.now) }
@@ -237,7 +251,7 @@ fn hash_last_byte(held: u64, bytes: &[u8]) -> u64
     if len % 2 == 1 { fed } else { held }
 }
 
-// The words past the last whole one.
+// Hashes the words after the last whole one.
 #[inline]
 fn hash_rest(held: u64, bytes: &[u8]) -> u64
     ensures { result ≡ hash_words held (rest_words bytes.now) }
@@ -258,20 +272,20 @@ fn hash_bytes(held: u64, bytes: &[u8]) -> u64
     hash_rest(held, bytes)
 }
 
-/// Holds one word, at first 0, into which each word fed is mixed by a rotation, an xor and a
-/// product, and answers it.
+/// A hasher whose state is one word, at first 0, which is also its hash.
 ///
-/// The rule `S` says what a `usize` and an `isize` feed.
+/// Each word fed is mixed into the state by a rotation, an xor and a product.
+/// The rule `S` chooses the words of a `usize` and an `isize`.
 #[derive(Drop)]
 pub struct FxHasher<S> {
     held: u64,
     rule: PhantomData<S>,
 }
 
-/// The hasher of archived maps: its `write_usize` and `write_isize` feed 32 bits on every machine.
+/// The hasher of archived maps. Its words of a `usize` or an `isize` have 32 bits on every machine.
 pub type FxHasher64 = FxHasher<LowHalves>;
 
-/// As `FxHasher64`, but a `usize` or an `isize` is one word of all its 64 bits.
+/// The variant of `FxHasher64` that feeds a `usize` or an `isize` as one word of all its 64 bits.
 pub type FxHasher64Wide = FxHasher<AllBits>;
 
 impl<S> Model for FxHasher<S> {

@@ -1,5 +1,7 @@
-//! Laws of the hash, over its definition alone, under either hasher's rule for `usize` and
-//! `isize`; and what the crate's public names are.
+//! Laws of the hash and of the crate's public names.
+//!
+//! The laws of the hash are about its definition alone, under any rule for `usize` and `isize`.
+//! The others say which definitions the public hashers, masks and groups have.
 ghost use Rattle.std.specs.Prelude.{◌≡◌, ◌+◌, ◌≤◌, List, [], drop, length, take};
 ghost use Rattle.rkyv_scan.specs.Groups.{is_word_match_at, places_where};
 ghost use Rattle.rkyv_scan.specs.Hash.{HasherCall, all_bits, fx_hash, hash_of_calls, low_halves};
@@ -15,32 +17,32 @@ use crate::hash::{FxHasher64, FxHasher64Wide, KeyHasher};
 use crate::simd::{GroupKind, MAX_GROUP_WIDTH, Marks, bytewise, generic, lanes};
 use crate::{Bitmask, Group};
 
-/// A list of calls hashes as the list of all words that they feed, from 0.
+/// The hash of a list of calls is the hash from 0 of the list of all words that they feed.
 pub fn calls_hash_their_words()
     ensures { CallsHashTheirWords }
 {}
 
-/// Two writes are one of both, where the first ends at a whole word.
+/// Two writes hash as one of both joined, if the length of the first is a multiple of eight.
 pub fn writes_join()
     ensures { WritesJoin }
 {}
 
-/// A write of eight bytes is one of their little endian number.
+/// A write of eight bytes hashes as a `write_u64` of their little-endian number.
 pub fn eight_bytes_are_one_word()
     ensures { EightBytesAreOneWord }
 {}
 
-/// Both hashers are fed the same words by a call that is no `write_usize` and no `write_isize`.
+/// A call that is no `write_usize` and no `write_isize` feeds the same words under any two rules.
 pub fn fixed_calls_agree()
     ensures { FixedCallsAgree }
 {}
 
-/// Both hashers answer the same number after calls that are no `write_usize` and no `write_isize`.
+/// Calls that are no `write_usize` and no `write_isize` have the same hash under any two rules.
 pub fn fixed_calls_hash_alike()
     ensures { FixedCallsHashAlike }
 {}
 
-/// The mask `EMPTY` of each kind of group, which marks no place.
+/// Returns the mask `EMPTY` of each of three kinds of group, which marks no index.
 pub fn empty_masks() -> (bytewise::Bitmask, generic::Bitmask, lanes::Bitmask)
     ensures bytewise { ⟦<bytewise::Bitmask as Marks>⟧.places result.0 ≡ [] }
     ensures generic { ⟦<generic::Bitmask as Marks>⟧.places result.1 ≡ [] }
@@ -53,8 +55,9 @@ pub fn empty_masks() -> (bytewise::Bitmask, generic::Bitmask, lanes::Bitmask)
     )
 }
 
-/// The numbers of the two hashers: `FxHasher64` is fed the low halves of a `usize` and an `isize`,
-/// `FxHasher64Wide` all their bits.
+/// The hash of each public hasher is `fx_hash` of its rule for `usize` and `isize`.
+///
+/// The rule of `FxHasher64` is `low_halves`, and that of `FxHasher64Wide` is `all_bits`.
 pub fn fx_hashers()
     ensures narrow { (calls : List HasherCall)
         → hash_of_calls ⟦<FxHasher64 as KeyHasher>⟧.hasher calls
@@ -64,9 +67,14 @@ pub fn fx_hashers()
         ≡ fx_hash all_bits calls }
 {}
 
-/// What the group at the crate's root marks for a byte, as a mask at the crate's root: of eight
-/// control bytes those that hold it, and those that differ from it in the lowest bit alone and
-/// stand right above a marked one.
+/// Returns the indices that the group at the crate's root marks for `byte`, as a mask.
+///
+/// Of the eight control bytes from `pos` on, each that is `byte` is marked.
+/// So is each that differs from `byte` in its lowest bit alone and follows a marked one.
+///
+/// # Requires
+///
+/// - `pos + 8` is at most the length of `bytes`.
 pub fn root_group_marks(bytes: &[u8], pos: usize, byte: u8) -> Bitmask
     requires { pos + 8 ≤ length bytes.now }
     ensures { ⟦<Bitmask as Marks>⟧.places result
@@ -75,7 +83,7 @@ pub fn root_group_marks(bytes: &[u8], pos: usize, byte: u8) -> Bitmask
     Group::read(bytes, pos).match_byte(byte)
 }
 
-/// The width of the widest kind of group.
+/// `MAX_GROUP_WIDTH` is 16.
 pub fn widest_group()
     ensures { MAX_GROUP_WIDTH ≡ 16 }
 {}

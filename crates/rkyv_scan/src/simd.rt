@@ -1,4 +1,12 @@
-//! Groups of control bytes, which are matched at once. `generic` is the kind at the crate's root.
+//! Groups of control bytes, which are matched at once.
+//!
+//! A `GroupKind` reads its control bytes and matches them, and returns the matches as a mask,
+//! a `Marks`. There are four kinds:
+//!
+//! - `generic` has eight bytes in one word. It is the kind at the crate's root.
+//! - `bytewise` has eight bytes, compared one by one.
+//! - `lanes` has sixteen bytes in one vector.
+//! - `halves` has sixteen bytes in one vector, and marks each half as `generic` does.
 ghost use Rattle.std.specs.Prelude.{
   ◌≡◌,
   ℕ,
@@ -27,32 +35,36 @@ pub mod generic;
 pub mod halves;
 pub mod lanes;
 
-/// The width of the widest kind of group; each kind's width divides it.
+/// The width of the widest kind of group. Each kind's width divides it.
 pub const MAX_GROUP_WIDTH: usize = 16;
 
-/// A set of places of a group. Place 0 is the first of the group's control bytes.
+/// A set of indices within a group. Index 0 is the first of the group's control bytes.
 ///
-/// A mask iterates over its places in ascending order.
+/// A mask iterates over its indices in ascending order.
 pub trait Marks: Iterator<Item = usize> + Copy {
-    // The marked places, ascending.
+    // The marked indices, ascending.
     ghost places: { Self → List ℕ };
 
     ghost ascend: { (m : Self) → IsStrictlyIncreasing (places m) };
 
-    /// Whether a place is marked.
+    /// Returns `true` if and only if some index is marked.
     fn any_bit_set(self) -> bool
         ensures { IsTrue result ↔ (0 < length (places self)) };
 
-    /// The mask without its lowest place. Some place must be marked.
+    /// Returns the mask without its lowest index.
+    ///
+    /// # Requires
+    ///
+    /// - Some index is marked.
     fn remove_lowest_bit(self) -> Self
         requires { 0 < length (places self) }
         ensures { places result ≡ drop 1 (places self) };
 
-    /// The lowest marked place, or `None` where no place is marked.
+    /// Returns the lowest marked index, or `None` if no index is marked.
     fn lowest_set_bit(self) -> Option<usize>
         ensures { result ≡ slice_get (places self) 0 };
 
-    // The iterator gives the marked places.
+    // The iterator yields the marked indices.
     ghost can: { (s : Self) → Self.can_next s };
 
     ghost gives: { (s t : Self) (r : Option ℕ) → Self.next_gives s r t → YieldsFirst places s r t };
@@ -60,43 +72,48 @@ pub trait Marks: Iterator<Item = usize> + Copy {
     ghost ends: { (s : Self) → Self.remaining s ≡ item_count places s };
 }
 
-/// A number of control bytes that are looked at together.
+/// A kind of group: a fixed number of control bytes that are matched at once.
 ///
-/// A control byte with its high bit set is empty. One below 128 is full, and is the tag of its
-/// item.
+/// A control byte with its high bit set is empty. One below 128 is full,
+/// and is the tag of its item.
 pub trait GroupKind: Copy {
-    /// The places that a match marks.
+    /// The type of the masks that a match returns.
     type Mask: Marks;
 
-    /// How many control bytes a group has: 1, 2, 4, 8 or 16.
+    /// The number of control bytes of a group: 1, 2, 4, 8 or 16.
     const WIDTH: usize;
 
     ghost WIDTH: { ℕ };
 
-    // The width again, and which places `match_byte` marks.
+    // The width again, and the indices that `match_byte` marks.
     ghost kind: { Kind };
 
     // The control bytes, in order.
     ghost controls: { Self → List ℕ };
 
-    /// The `WIDTH` control bytes from `pos` on, which must lie inside `bytes`.
+    /// Returns the group of the `WIDTH` control bytes from `pos` on.
+    ///
+    /// # Requires
+    ///
+    /// - `pos + WIDTH` is at most the length of `bytes`.
     fn read(bytes: &[u8], pos: usize) -> Self
         requires { pos + kind.width ≤ length bytes.now }
         ensures { controls result ≡ take kind.width (drop pos bytes.now) };
 
-    /// Marks each place that holds `byte`, and the false ones that the kind allows.
+    /// Marks each index whose control byte is `byte`, and the false matches that the kind allows.
     ///
-    /// For a tag, which is below 128, each marked place is full, and the lowest one holds the tag.
+    /// The lowest marked index is never a false match. If `byte` is below 128,
+    /// each marked index is full.
     fn match_byte(self, byte: u8) -> Self::Mask
         ensures { Self.Mask.places result
             ≡ places_where (kind.marks (controls self) byte) kind.width };
 
-    /// Marks exactly the empty places.
+    /// Marks the empty indices and no others.
     fn match_empty(self) -> Self::Mask
         ensures { Self.Mask.places result
             ≡ places_where (λ k. is_empty (slice_index (controls self) k)) kind.width };
 
-    /// Marks exactly the full places.
+    /// Marks the full indices and no others.
     fn match_full(self) -> Self::Mask
         ensures { Self.Mask.places result
             ≡ places_where (λ k. is_full (slice_index (controls self) k)) kind.width };

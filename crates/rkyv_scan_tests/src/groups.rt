@@ -1,14 +1,14 @@
-//! Groups: the places that they mark.
+//! Tests of the indices that groups mark.
 
 use rkyv_scan::simd::{bytewise, generic, halves, lanes};
 use rkyv_scan::{GroupKind, MAX_GROUP_WIDTH, Marks, laws};
 
-// Whether the iterator has ended, and ends again when it is asked again.
+// Returns `true` if the iterator has ended, and stays ended.
 fn is_over<M: Marks>(mut items: M) -> bool {
     items.next().is_none() && items.next().is_none()
 }
 
-// Whether the mask's places are these: by its iterator, and by its calls.
+// Returns `true` if the mask's indices are these, by its iterator and by its methods.
 fn marks<M: Marks>(mask: M, places: &[usize]) -> bool {
     let mut items = mask;
     let mut left = mask;
@@ -24,7 +24,7 @@ fn marks<M: Marks>(mask: M, places: &[usize]) -> bool {
     !left.any_bit_set() && left.lowest_set_bit().is_none() && is_over(items)
 }
 
-// The places that a group marks: of a byte, of the empty controls, of the full ones.
+// The indices that a group marks: of a byte, of the empty control bytes, and of the full ones.
 #[derive(Clone, Copy)]
 struct Places<'a> {
     byte: &'a [usize],
@@ -32,7 +32,7 @@ struct Places<'a> {
     full: &'a [usize],
 }
 
-// Whether the first group of the controls marks these places.
+// Returns `true` if the first group of the control bytes marks these indices.
 fn matches<G: GroupKind>(controls: &[u8], byte: u8, expected: &Places) -> bool {
     if controls.len() < G::WIDTH {
         return false;
@@ -43,7 +43,7 @@ fn matches<G: GroupKind>(controls: &[u8], byte: u8, expected: &Places) -> bool {
         && marks(group.match_full(), expected.full)
 }
 
-// The controls, and then eight empty ones.
+// Returns the control bytes, followed by eight empty ones.
 fn padded(controls: [u8; 8]) -> [u8; 16] {
     let mut all = [0xff; 16];
     for place in 0..8 {
@@ -52,8 +52,9 @@ fn padded(controls: [u8; 8]) -> [u8; 16] {
     all
 }
 
-// The places that the kinds mark of eight controls and eight empty ones behind them: the byte's,
-// and what the word marks for it; the empty ones among the eight, and all; the full ones.
+// The indices that the kinds mark of eight control bytes, followed by eight empty ones.
+// For the byte there are the exact ones and those of the word group.
+// Then there are the empty ones among the eight, all empty ones, and the full ones.
 #[derive(Clone, Copy)]
 struct Marked<'a> {
     byte: &'a [usize],
@@ -63,8 +64,8 @@ struct Marked<'a> {
     full: &'a [usize],
 }
 
-// Whether each kind marks these places: the word, each byte by itself, sixteen lanes, and sixteen
-// lanes that mark as two words.
+// Returns `true` for each kind that marks these indices: the word, each byte by itself,
+// sixteen lanes, and sixteen lanes that mark as two words.
 fn each_kind_matches(eight: [u8; 8], byte: u8, marked: &Marked) -> [bool; 4] {
     let controls = padded(eight);
     let exact = Places {
@@ -147,7 +148,7 @@ fn marks_any_high_bit_as_empty(rt: HostRuntime) {
         empty: &[0, 1, 5, 7],
         full: &[2, 3, 4, 6],
     };
-    // The second half, read from its own place on.
+    // The second half, read from its own position on.
     let rest = [0, 1, 2, 3, 4, 5, 6];
     let right = [
         matches::<lanes::Group>(&controls, 0x28, &wide),
@@ -161,7 +162,7 @@ fn marks_any_high_bit_as_empty(rt: HostRuntime) {
     assert_eq!(rt; right, [true; 7]);
 }
 
-// The places that the sixteen lanes mark for a byte as two words would, and those of each word.
+// Compares the indices that the sixteen lanes mark as two words with those of each word.
 fn halves_match(
     controls: &[u8; 16],
     byte: u8,
@@ -175,8 +176,8 @@ fn halves_match(
     ]
 }
 
-// In each half the equal bytes are marked, and above a marked one each that differs in the lowest
-// bit alone. Place 7 is marked, and place 8, which is the first of the other half, is not for it.
+// In each half the equal bytes are marked. So is each byte after a marked one that differs in the
+// lowest bit alone. Index 7 is marked, and index 8 is not, since it is the first of the other half.
 #[test]
 fn halves_are_marked_apart(rt: HostRuntime) {
     let mixed = [
@@ -240,7 +241,8 @@ fn root_group_marks_as_the_word_kind(rt: HostRuntime) {
     assert_eq!(rt; right, [true; 3]);
 }
 
-// Whether the group's clone marks the places for the byte, and the clone of its mask has them.
+// Returns `true` if the group's clone marks the indices for the byte,
+// and the clone of its mask has them.
 fn clones_match<G: GroupKind>(controls: &[u8; 16], byte: u8, places: &[usize]) -> bool {
     if G::WIDTH > 16 {
         return false;

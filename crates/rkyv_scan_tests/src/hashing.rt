@@ -1,4 +1,4 @@
-//! Hashers: worked numbers.
+//! Tests of the hashers, with worked hashes.
 ghost use Rattle.std.specs.Prelude.{◌≡◌, [], ◌∷◌};
 ghost use Rattle.rkyv_scan.specs.Hash.{Usize, Isize, hash_of_calls};
 
@@ -25,8 +25,8 @@ fn of_isize<H: KeyHasher>(number: isize) -> u64
     state.finish()
 }
 
-// The numbers after every call but `write_usize` and `write_isize`, which are the same for both
-// hashers.
+// Returns the hashes after every call but `write_usize` and `write_isize`.
+// They are the same for both hashers.
 fn fed_words<H: KeyHasher>() -> [u64; 11] {
     let new = H::default();
 
@@ -82,7 +82,7 @@ const FED_WORDS: [u64; 11] = [
     0x6a4b_e67f_f98f_abc8,
 ];
 
-// The numbers after signed numbers of each width, one behind the other, and after minus one.
+// Returns the hashes after signed numbers of each width in a row, and after minus one.
 fn fed_signed<H: KeyHasher>() -> ([u64; 5], u64) {
     let mut signed = H::default();
     signed.write_i8(-2);
@@ -102,7 +102,7 @@ fn fed_signed<H: KeyHasher>() -> ([u64; 5], u64) {
     )
 }
 
-// The same after the unsigned numbers with their bits.
+// Returns the same after the unsigned numbers with the same bits.
 fn fed_bits<H: KeyHasher>() -> ([u64; 5], u64) {
     let mut unsigned = H::default();
     unsigned.write_u8(0xfe);
@@ -141,7 +141,7 @@ fn signed_numbers_are_fed_as_their_bits(rt: HostRuntime) {
     );
 }
 
-// The number after these bytes, written in two pieces.
+// Returns the hash of these bytes, written in two pieces.
 fn in_two_pieces<H: KeyHasher>(first: &[u8], others: &[u8]) -> u64 {
     let mut state = H::default();
     state.write(first);

@@ -1,9 +1,9 @@
-//! Rules for a `usize` and an `isize`, and the hashers of each.
+//! Tests of the rules for a `usize` and an `isize`, and of the hashers of each.
 
 use rkyv_scan::{AllBits, FxHasher, KeyHasher, LowHalves, SizeRule};
 
-// The words that a rule feeds for a `usize`, for minus one, and for an `isize` whose low half
-// alone holds bits.
+// Returns a rule's words of a `usize`, of minus one,
+// and of an `isize` whose bits are all in its low half.
 fn words<S: SizeRule>() -> [u64; 3] {
     [
         S::usize_word(4_294_967_297),
@@ -12,7 +12,7 @@ fn words<S: SizeRule>() -> [u64; 3] {
     ]
 }
 
-// The numbers that the hasher of a rule answers after each of these by itself.
+// Returns the hashes of each of these by itself, by the hasher of a rule.
 fn numbers<S: SizeRule>() -> [u64; 3] {
     let mut large = FxHasher::<S>::default();
     large.write_usize(4_294_967_297);

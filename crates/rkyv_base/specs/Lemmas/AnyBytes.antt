@@ -1,9 +1,9 @@
--- Elements that any bytes of their size are.
+-- Elements for which all bytes of their size are valid.
 use Rattle.std.specs.Prelude.{◌≡◌, ℕ, ◌%◌, ◌≤◌}
 use Rattle.std.proofs.Common.{refl, arith, sym, ◌∙◌}
 use Rattle.rkyv_base.specs.Shape.{Shape, IsAlign, IsElement}
 
--- it holds anywhere, and has no part elsewhere
+-- an element that is valid everywhere, without parts
 abbrev pub any_bytes : ℕ → ℕ → Shape
 any_bytes size align = record {
   size = size;

@@ -1,4 +1,4 @@
--- What no byte of UTF-8 is, and what its first byte isn't.
+-- Bytes that are in no UTF-8 text, and bytes that begin none.
 use Rattle.std.specs.Prelude.{
   ◌≡◌,
   ℕ,
@@ -75,7 +75,7 @@ chars_below (c ∷ cs) h =
 pub text_below : (t : List ℕ) → IsUtf8 t → BelowFf t
 text_below t u = subst BelowFf u.1.1 (chars_below u.0 u.1.0)
 
--- the first byte of a text has not the form 10xxxxxx
+-- the first byte of a text doesn't have the form 10xxxxxx
 pub text_begins : (x : ℕ) (t : List ℕ) → IsUtf8 (x ∷ t) → (nat_le 128 x && nat_lt x 192) ≡ false
 text_begins x t u =
     let lead : 128 ≤ x → 192 ≤ x = (IsCharBoundary-start (x ∷ t) u).1 (omega arith) in

@@ -1,9 +1,9 @@
-//! The text of each error.
+//! Tests of the text of each error.
 use rkyv_base::{IteratorLengthMismatch, NoMemory, ReadError, VerifyError, WriteError};
 use std::alloc::Global;
 use std::fmt::Display;
 
-// Whether an error is shown as this text.
+// Returns `true` if an error is formatted as this text.
 fn shows<E: Display + Drop>(alloc: Global, error: E, text: &str) -> bool {
     match error.to_string(alloc) {
         Ok(shown) => shown.as_str() == text,

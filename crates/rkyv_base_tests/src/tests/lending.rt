@@ -1,4 +1,4 @@
-//! Archives whose bytes are given to a closure.
+//! Tests of archives whose bytes are passed to a closure.
 
 ghost use Rattle.std.specs.Prelude.{◌≡◌, ◌+◌, ◌-◌, ◌≤◌, IsOk, MatchResult, length};
 ghost use Rattle.std.specs.Int.{byte_len};
@@ -11,7 +11,7 @@ use rkyv_base::{
     access_mut_with_in, set_at,
 };
 
-// Writes the root of an archive of a scalar: where it is none, no byte is changed.
+// Writes the root of an archive of a scalar. If the archive is not valid, no byte is changed.
 fn root_written<W: Width, N: Scalar>(bytes: &mut [u8], value: N) -> Result<(), VerifyError>
     ensures written { MatchResult result
         (λ _. bytes.new ≡ with_value N.encoding bytes.old

@@ -1,4 +1,4 @@
-//! Types of a user's own that meet the traits.
+//! Tests of a user's own types that implement the traits.
 ghost use Rattle.std.specs.Prelude.{[], length, ⊤, ◌≡◌};
 ghost use Rattle.std.specs.Int.{w32};
 ghost use Rattle.std.proofs.Common.{inl, inr, lit≤, refl};
@@ -14,7 +14,7 @@ use rkyv_base::{
 use rkyv_testing::written::is_archived_as;
 use std::alloc::Global;
 
-// A scalar of one's own.
+// A user's own scalar.
 #[derive(Clone, Copy, Debug, PartialEq, Eq)]
 struct Grams(u32);
 
@@ -46,7 +46,7 @@ impl Scalar for Grams {
     ghost word = { inr (inr (inl refl)) };
 }
 
-// An element of one's own, as large as one may be. Any bytes are it.
+// A user's own element, of the greatest size. All bytes are valid for it.
 struct Huge;
 
 impl Element for Huge {
@@ -102,7 +102,7 @@ impl<S: Writer, W: Width> Serialize<S, W> for Huge {
     }
 }
 
-// The value of an entry of a bool and such a scalar.
+// Returns the value of an entry of a `bool` and such a scalar.
 fn grams_of(bytes: &[u8]) -> Result<Grams, VerifyError> {
     Ok(access::<Entry<bool, Grams>>(bytes)?.value().to_native())
 }
@@ -114,7 +114,7 @@ fn an_own_scalar_is_archived(rt: HostRuntime) {
     assert_eq!(rt; (archived, grams_of(&bytes).ok()), (true, Some(Grams(258))));
 }
 
-// Whether a value is refused with 0 where it is archived.
+// Returns `true` if archiving a value fails with `Refused(0)`.
 fn is_refused<V: Serialize<VecWriter, Narrow>>(alloc: Global, value: &V) -> bool {
     matches!(to_bytes(alloc, value), Err(WriteError::Refused(0)))
 }

@@ -1,4 +1,4 @@
-//! Parts, entries and roots that are known to stand.
+//! Tests of parts, entries and roots that are known to be valid.
 
 use rkyv_base::{
     Archive, EntryResolver, LARGEST, Narrow, PartRange, access_in, access_unchecked, part_in,
@@ -19,7 +19,7 @@ fn parts_lie_in_their_range(rt: HostRuntime) {
     assert_eq!(rt; begins, [Some(4), Some(16), None, None, None, None]);
 }
 
-// The fixed bytes of a pair at position 0.
+// Returns the fixed bytes of a pair at position 0.
 fn resolved(pair: &(u8, u32)) -> [u8; 8] {
     let mut out = [0xff; 8];
     let resolver = EntryResolver { key: (), value: () };
@@ -29,7 +29,7 @@ fn resolved(pair: &(u8, u32)) -> [u8; 8] {
     }
 }
 
-// The number at the end of an archive of it, read once more.
+// Reads the number at the end of its archive a second time, without validation.
 fn number_again(bytes: &[u8]) -> Option<u32> {
     match access_in::<Narrow, u32>(bytes) {
         Ok(_) => Some(access_unchecked::<u32>(bytes).to_native()),
@@ -48,7 +48,7 @@ fn entries_are_resolved(rt: HostRuntime) {
     );
 }
 
-// The position and the number of a clone of the view of a number at the end.
+// Returns the position and the number of a clone of the view of a number at the end.
 fn cloned_number(bytes: &[u8]) -> Option<(u64, u32)> {
     let view = access_in::<Narrow, u32>(bytes).ok()?;
     let same = view.clone().ok()?;

@@ -1,19 +1,19 @@
-//! Why archives are refused.
+//! The errors of invalid archives, in a form that can be compared.
 
 use rkyv_base::{Element, VerifyError, Width, access_in, access_mut_in};
 
-/// Why an archive is refused.
+/// The error of an archive that is not valid.
 #[derive(Clone, Copy, Debug, PartialEq, Eq)]
 pub(crate) enum Refusal {
     /// The position and the size that are out of range.
     OutOfRange(i128, u128),
-    /// The position, and the alignment that it is no multiple of.
+    /// The position, and the alignment.
     Unaligned(u64, u64),
-    /// The position of what is no value.
+    /// The position of the invalid value.
     InvalidValue(u64),
-    /// The element's own reason.
+    /// The element's own number.
     Refused(u32),
-    /// Anything else.
+    /// Any other error.
     Other,
 }
 
@@ -27,7 +27,7 @@ fn reason(error: VerifyError) -> Refusal {
     }
 }
 
-/// Why bytes are refused to a reader, where they are.
+/// Returns the error of `access_in`, or `None` if it succeeds.
 pub(crate) fn refused<W: Width, T: Element>(bytes: &[u8]) -> Option<Refusal> {
     match access_in::<W, T>(bytes) {
         Ok(_) => None,
@@ -35,7 +35,7 @@ pub(crate) fn refused<W: Width, T: Element>(bytes: &[u8]) -> Option<Refusal> {
     }
 }
 
-/// Why bytes are refused to a writer, where they are.
+/// Returns the error of `access_mut_in`, or `None` if it succeeds.
 pub(crate) fn refused_to_write<W: Width, T: Element>(bytes: &mut [u8]) -> Option<Refusal> {
     match access_mut_in::<W, T>(bytes) {
         Ok(_) => None,

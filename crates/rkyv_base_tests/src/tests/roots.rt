@@ -1,4 +1,4 @@
-//! Whole archives of numbers and pairs.
+//! Tests of whole archives of numbers and pairs.
 ghost use Rattle.std.specs.Prelude.{IfOk, ◌≡◌};
 
 use crate::tests::refusals::{Refusal, refused};
@@ -22,7 +22,7 @@ fn pairs_are_padded(rt: HostRuntime) {
     assert_eq!(rt; padded, [true; 3]);
 }
 
-// The parts of a pair and its pair, read in place.
+// Returns the parts of a pair and of its inner pair, read in place.
 fn parts(bytes: &[u8]) -> Option<(u8, i32, bool)> {
     let root = access::<Entry<u8, Entry<i32, bool>>>(bytes).ok()?;
     let inner = root.value();
@@ -33,7 +33,7 @@ fn parts(bytes: &[u8]) -> Option<(u8, i32, bool)> {
     ))
 }
 
-// The same of the archive of 1, -2 and true.
+// Returns the same parts of the archive of 1, -2 and `true`.
 fn parts_written(alloc: Global) -> Option<(u8, i32, bool)> {
     match to_bytes(alloc, &(1u8, (-2i32, true))) {
         Ok(bytes) => parts(bytes.as_slice()),
@@ -65,7 +65,7 @@ fn what_is_no_value_is_refused(rt: HostRuntime) {
     );
 }
 
-/// Archives a pair, and reads its key in place: it is the key that was archived.
+/// Archives a pair, and returns its key, read in place. It is the key that was archived.
 fn archived_key(alloc: Global, pair: &(u32, bool)) -> Result<u32, WriteError<NoMemory>>
     ensures { IfOk result (λ key. key ≡ pair.now.0) }
 {

@@ -1,11 +1,11 @@
-//! Scalars, widths and entries at their limits.
+//! Tests of scalars, widths and entries at their limits.
 use crate::tests::refusals::{Refusal, refused};
 use rkyv_base::{
     Element, Entry, Narrow, Scalar, Wide, Width, access_in, to_bytes_in, value_offset, whole_size,
 };
 use std::alloc::Global;
 
-// Whether a scalar is archived as these bytes in this width, and read back.
+// Returns `true` if a scalar is archived as these bytes in this width, and reads back.
 fn stands_in<W: Width, N: Scalar + PartialEq>(alloc: Global, value: N, bytes: &[u8]) -> bool {
     match to_bytes_in::<W, N>(alloc, &value) {
         Ok(archive) => archive.as_slice() == bytes && is_root::<W, N>(bytes, value),
@@ -13,7 +13,7 @@ fn stands_in<W: Width, N: Scalar + PartialEq>(alloc: Global, value: N, bytes: &[
     }
 }
 
-// Whether a scalar is the root of an archive.
+// Returns `true` if a scalar is the root of an archive.
 fn is_root<W: Width, N: Scalar + PartialEq>(bytes: &[u8], value: N) -> bool {
     match access_in::<W, N>(bytes) {
         Ok(root) => root.to_native() == value,
@@ -21,7 +21,7 @@ fn is_root<W: Width, N: Scalar + PartialEq>(bytes: &[u8], value: N) -> bool {
     }
 }
 
-// Both widths write a scalar as the same bytes, and read it back.
+// Returns `true` if both widths archive a scalar as the same bytes, and read it back.
 fn stands_as<N: Scalar + PartialEq>(alloc: Global, value: N, bytes: &[u8]) -> bool {
     stands_in::<Narrow, N>(alloc, value, bytes) && stands_in::<Wide, N>(alloc, value, bytes)
 }
@@ -191,7 +191,7 @@ fn wide_counts_and_distances_at_their_limits(rt: HostRuntime) {
     );
 }
 
-// The size of an entry, its alignment, and where its value begins.
+// Returns the size of an entry, its alignment, and the offset of its value.
 fn laid_out<K: Element, V: Element>() -> (usize, usize, usize) {
     (
         <Entry<K, V> as Element>::size(),

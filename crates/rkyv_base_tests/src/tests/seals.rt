@@ -1,4 +1,4 @@
-//! Values written in place.
+//! Tests of values that are written in place.
 
 ghost use Rattle.std.specs.Prelude.{◌≡◌, ◌+◌, ◌≤◌, length};
 ghost use Rattle.std.specs.Int.{w32, w64};
@@ -18,7 +18,7 @@ use rkyv_base::{
 use rkyv_testing::written::is_archived_as;
 use std::test::Fail;
 
-// A caller of `Seal::over` knows all bytes after the write.
+// Writes by `Seal::over`. The contract states all bytes after the write.
 fn sets_over(bytes: &mut [u8], place: usize, value: i64)
     requires { place + 8 ≤ length bytes.old }
     ensures { bytes.new ≡ with_value (signed w64) bytes.old place value }
@@ -27,7 +27,7 @@ fn sets_over(bytes: &mut [u8], place: usize, value: i64)
     seal.set(value);
 }
 
-// So does a caller of `halves`, who reads the key beside the seal.
+// Reads the key and writes the value by `halves`. The contract states all bytes after the write.
 #[tactic(auto, using(rkyv_base::proofs::Sealing::joined, rkyv_base::proofs::Sealing::key_in_front))]
 fn sets_behind_key(archive: &mut [u8], entry_pos: u64, value: u32) -> u32
     requires inside { entry_pos + 8 ≤ length archive.old }
@@ -68,8 +68,8 @@ fn numbers_are_written_over_bytes(rt: HostRuntime) {
     );
 }
 
-// Writes a bool over the root of an archive: where it stands, what a view shows, what stood there,
-// and what stands there then.
+// Writes a `bool` over the root of an archive. Returns its position, the value of a view,
+// the old value, and the new value.
 fn root_replaced(bytes: &mut [u8], value: bool) -> Result<(u64, bool, bool, bool), VerifyError> {
     let whole = access_mut::<bool>(bytes)?;
     let (root, viewed) = (whole.pos(), whole.as_view().to_native());
@@ -90,7 +90,7 @@ fn roots_are_written_in_place(rt: HostRuntime) {
     );
 }
 
-// The same of a character in a wide archive: what stood there, and what stands there then.
+// Writes a character over the root of a wide archive. Returns the old value and the new value.
 fn wide_root_replaced(bytes: &mut [u8], value: char) -> Result<(char, char), VerifyError> {
     let whole = access_mut_in::<Wide, char>(bytes)?;
     let root = whole.pos();
@@ -107,7 +107,7 @@ fn wide_roots_are_written_in_place(rt: HostRuntime) {
     assert_eq!(rt; (replaced, bytes), (Some(('a', '€')), [0xac, 0x20, 0, 0]));
 }
 
-// Writes a number over the value of an entry: the key and what stood there.
+// Writes a number over the value of an entry. Returns the key and the old value.
 fn value_replaced(bytes: &mut [u8], value: u32) -> Result<(u8, u32), VerifyError> {
     let whole = access_mut::<Entry<u8, u32>>(bytes)?;
     let (key, mut seal) = whole.split_value::<u8, u32>(0);
@@ -116,7 +116,7 @@ fn value_replaced(bytes: &mut [u8], value: u32) -> Result<(u8, u32), VerifyError
     Ok(before)
 }
 
-// The value of an entry.
+// Returns the value of an entry.
 fn value_of(bytes: &[u8]) -> Result<u32, VerifyError> {
     Ok(access::<Entry<u8, u32>>(bytes)?.value().to_native())
 }
@@ -177,7 +177,7 @@ fn what_is_refused_to_readers_is_refused_to_writers(rt: HostRuntime) {
     );
 }
 
-// Whether a seal of the text at the root shows this.
+// Returns `true` if a seal of the text at the root has this text.
 #[tactic(auto, using(rkyv_base::proofs::SealedText::viewed_sealed))]
 fn shows_in_place<W: Width>(bytes: &mut [u8], text: &str) -> Result<bool, VerifyError> {
     let whole = access_mut_in::<W, Text<W>>(bytes)?;
@@ -216,7 +216,7 @@ fn inline_text_is_raised_in_place(rt: HostRuntime) {
     );
 }
 
-// Whether a seal of the text at the root shows none, and whether it raises it.
+// Returns two flags: a seal of the text at the root has no text, and it raises the text.
 #[tactic(auto, using(rkyv_base::proofs::SealedText::viewed_sealed))]
 fn raises_elsewhere<W: Width>(bytes: &mut [u8]) -> Result<(bool, bool), VerifyError> {
     let whole = access_mut_in::<W, Text<W>>(bytes)?;
@@ -262,7 +262,7 @@ fn wide_text_is_raised_in_place(rt: HostRuntime) {
 
 #[test]
 fn wide_text_elsewhere_stays(rt: HostRuntime) {
-    // the text, five zeros, its length, and how far back it begins
+    // The text, five zeros, its length, and the distance back to its start.
     let mut bytes =
         *b"most wonderful text\0\0\0\0\0\x93\0\0\0\0\0\0\0\xe8\xff\xff\xff\xff\xff\xff\xff";
     assert_eq!(rt;

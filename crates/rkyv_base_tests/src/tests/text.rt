@@ -1,4 +1,4 @@
-//! Text: its bytes, what is refused, and what is read in place.
+//! Tests of text: its bytes, its errors, and reading it in place.
 use crate::tests::refusals::{Refusal, refused};
 use rkyv_base::{
     Archive, Entry, Narrow, Text, TextResolver, VerifyError, Wide, Width, access_in, to_bytes_in,
@@ -6,7 +6,7 @@ use rkyv_base::{
 use rkyv_testing::written::is_archived_as;
 use std::alloc::{AllocError, Global};
 
-/// The text at the root of an archive.
+/// Returns the text at the root of an archive.
 #[tactic(auto, using(rkyv_base::specs::Access::root_viewed))]
 fn text_of<W: Width>(bytes: &[u8]) -> Result<&str, VerifyError> {
     match access_in::<W, Text<W>>(bytes) {
@@ -15,7 +15,7 @@ fn text_of<W: Width>(bytes: &[u8]) -> Result<&str, VerifyError> {
     }
 }
 
-/// The two texts at the root of an archive.
+/// Returns the two texts at the root of an archive.
 #[tactic(auto, using(rkyv_base::specs::Access::root_viewed))]
 fn texts_of<W: Width>(bytes: &[u8]) -> Result<(&str, &str), VerifyError> {
     match access_in::<W, Entry<Text<W>, Text<W>>>(bytes) {
@@ -24,7 +24,7 @@ fn texts_of<W: Width>(bytes: &[u8]) -> Result<(&str, &str), VerifyError> {
     }
 }
 
-/// So many letters a.
+/// Returns `len` letters a.
 fn letters(alloc: Global, len: usize) -> Result<String, AllocError> {
     let mut text = String::new(alloc);
     for _ in 0..len {
@@ -33,7 +33,7 @@ fn letters(alloc: Global, len: usize) -> Result<String, AllocError> {
     Ok(text)
 }
 
-// Whether this text is the root of an archive.
+// Returns `true` if this text is the root of an archive.
 fn is_root<W: Width>(bytes: &[u8], text: &str) -> bool {
     match text_of::<W>(bytes) {
         Ok(found) => found == text,
@@ -41,7 +41,7 @@ fn is_root<W: Width>(bytes: &[u8], text: &str) -> bool {
     }
 }
 
-// Whether a text is archived as these bytes, and read back from them.
+// Returns `true` if a text is archived as these bytes, and reads back from them.
 fn stands_as<W: Width>(alloc: Global, text: &str, bytes: &[u8]) -> bool {
     match to_bytes_in::<W, &str>(alloc, &text) {
         Ok(archive) => archive.as_slice() == bytes && is_root::<W>(bytes, text),
@@ -72,7 +72,7 @@ fn long_text_stands_before_its_fixed_bytes(rt: HostRuntime) {
     assert_eq!(rt; right, [true; 2]);
 }
 
-// Whether these two texts are the root of an archive.
+// Returns `true` if these two texts are the root of an archive.
 fn are_root(bytes: &[u8], texts: (&str, &str)) -> bool {
     match texts_of::<Narrow>(bytes) {
         Ok(found) => found == texts,
@@ -127,7 +127,7 @@ fn text_ends_before_the_first_ff(rt: HostRuntime) {
     assert_eq!(rt; right, [true; 3]);
 }
 
-// Whether an owned text is archived as a borrowed one is, and read back.
+// Returns `true` if an owned text is archived as a borrowed one is, and reads back.
 fn is_read_back<W: Width>(alloc: Global, text: &String) -> bool {
     match to_bytes_in::<W, String>(alloc, text) {
         Ok(archive) => stands_as::<W>(alloc, text.as_str(), archive.as_slice()),
@@ -135,7 +135,7 @@ fn is_read_back<W: Width>(alloc: Global, text: &String) -> bool {
     }
 }
 
-// The same of so many letters, in both widths.
+// Returns `true` if `len` letters are archived so, in both widths.
 fn are_read_back(alloc: Global, len: usize) -> bool {
     match letters(alloc, len) {
         Ok(text) => is_read_back::<Narrow>(alloc, &text) && is_read_back::<Wide>(alloc, &text),
@@ -152,7 +152,8 @@ fn lengths_read_back(rt: HostRuntime) {
     assert!(rt; right);
 }
 
-// Whether an archive has this length, and this word at its root.
+// Returns `true` if an archive has eight fixed bytes after `root` bytes,
+// and they begin with this word.
 fn has_root(bytes: &[u8], root: usize, word: &[u8]) -> bool {
     match bytes.split_at_checked(root) {
         Some((_, fixed)) => fixed.len() == 8 && fixed.starts_with(word),
@@ -160,7 +161,7 @@ fn has_root(bytes: &[u8], root: usize, word: &[u8]) -> bool {
     }
 }
 
-// The same of the archive of so many letters.
+// Returns `true` if the archive of `len` letters has such fixed bytes.
 fn has_word(alloc: Global, len: usize, root: usize, word: &[u8]) -> bool {
     match letters(alloc, len) {
         Ok(text) => match to_bytes_in::<Narrow, String>(alloc, &text) {
@@ -183,7 +184,7 @@ fn the_first_word_tells_the_length(rt: HostRuntime) {
     assert_eq!(rt; right, [true; 4]);
 }
 
-// Whether a text is archived in this width, and read back.
+// Returns `true` if a text is archived in this width, and reads back.
 fn is_kept<W: Width>(alloc: Global, text: &str) -> bool {
     match to_bytes_in::<W, &str>(alloc, &text) {
         Ok(archive) => is_root::<W>(archive.as_slice(), text),

@@ -1,4 +1,4 @@
-//! Writers: positions at the limit, faults, and writers with a limit.
+//! Tests of writers: positions at the limit, faults, and writers with a limit.
 
 use rkyv_base::{
     EntryAdapter, Lend, LimitFault, LimitWriter, NoMemory, VecWriter, Wide, WriteError, Writer,
@@ -47,7 +47,7 @@ fn a_writer_into_memory_holds_what_was_written(rt: HostRuntime) {
     );
 }
 
-// Whether a write is refused since it would reach past the greatest position.
+// Returns `true` if a write fails since it would end after the greatest position.
 fn is_too_large<T: Drop>(answer: Result<T, WriteError<NoRoom>>) -> bool {
     matches!(answer, Err(WriteError::PositionTooLarge))
 }
@@ -147,10 +147,10 @@ fn failures_stay_at_the_greatest_number(rt: HostRuntime) {
     assert_eq!(rt; [first, second], [wanted; 2]);
 }
 
-// A nine, and behind it the archive of 1 and 2.
+// The byte 9, followed by the aligned archive of 1 and 2.
 const WHOLE: [u8; 12] = [9, 0, 0, 0, 1, 0, 0, 0, 2, 0, 0, 0];
 
-// Writes it: where its root stands.
+// Writes these bytes, and returns the position of the root.
 fn write_whole(
     alloc: Global,
     writer: &mut LimitWriter<VecWriter>,
@@ -161,7 +161,7 @@ fn write_whole(
     }
 }
 
-// Whether a writer with this limit is full, and keeps so many of its bytes.
+// Returns `true` if a writer with this limit is full, and has a front of these bytes.
 fn keeps_a_front(alloc: Global, limit: u64) -> bool {
     let mut writer = LimitWriter::new(VecWriter::new(alloc), limit);
     let full = matches!(
@@ -195,7 +195,7 @@ fn a_limit_keeps_a_front_of_the_archive(rt: HostRuntime) {
     );
 }
 
-// Whether the inner writer is told to be full.
+// Returns `true` if the fault is that of an inner writer that is full.
 fn is_full_within(answer: Result<(), LimitFault<LimitFault<NoMemory>>>) -> bool {
     matches!(answer, Err(LimitFault::Inner(LimitFault::Full)))
 }
@@ -203,10 +203,10 @@ fn is_full_within(answer: Result<(), LimitFault<LimitFault<NoMemory>>>) -> bool 
 #[test]
 fn a_fault_of_the_inner_writer_is_told_in_its_place(rt: HostRuntime) {
     let mut writer = LimitWriter::new(LimitWriter::new(VecWriter::new(rt.alloc()), 3), 5);
-    // it fits here, and the inner writer takes three bytes of it
+    // The piece fits in the outer limit, and the inner writer takes three of its bytes.
     let first = is_full_within(writer.write(&[1, 2, 3, 4]));
     let told = (writer.pos(), writer.failures());
-    // of the two bytes that are left here, the inner writer takes none
+    // The inner writer takes none of the two bytes that still fit in the outer limit.
     let second = is_full_within(writer.write(&[4, 5, 6]));
     let third = is_full_within(writer.write(&[4, 5]));
     let nothing = writer.write(&[]).is_ok();

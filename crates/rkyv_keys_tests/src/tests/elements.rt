@@ -1,4 +1,4 @@
-//! Values that stand in archives: read back, compared, hashed and printed.
+//! Tests of values in archives: deserialized, compared, hashed and formatted.
 use rkyv_base::access::access;
 use rkyv_base::{VerifyError, to_bytes};
 use rkyv_keys::{
@@ -8,7 +8,7 @@ use rkyv_scan::{FxHasher64, KeyHasher};
 use std::alloc::Global;
 use std::fmt::Debug;
 
-// What each comparison answers of the value of an archive, and of that of another.
+// Returns the result of each comparison for the value of an archive, and for another value.
 fn compared<N: ScalarKey>(
     bytes: &[u8],
     others: &[u8],
@@ -27,7 +27,7 @@ fn compared<N: ScalarKey>(
     ])
 }
 
-// Whether the value of an archive hashes as it does natively.
+// Returns `true` if the value of an archive has the hash of the native value.
 fn hashes_alike<N: ScalarKey>(bytes: &[u8], value: N) -> Result<bool, VerifyError> {
     let view = access::<N>(bytes)?;
     let mut state = FxHasher64::default();
@@ -35,7 +35,7 @@ fn hashes_alike<N: ScalarKey>(bytes: &[u8], value: N) -> Result<bool, VerifyErro
     Ok(state.finish() == hash_value::<N, FxHasher64>(&value))
 }
 
-// Whether it is read back.
+// Returns `true` if the value of an archive is deserialized as this value.
 fn is_read_back<N: ScalarKey>(alloc: Global, bytes: &[u8], value: N) -> bool {
     match access::<N>(bytes) {
         Ok(view) => matches!(N::deserialize(alloc, view), Ok(read) if read == value),
@@ -43,7 +43,7 @@ fn is_read_back<N: ScalarKey>(alloc: Global, bytes: &[u8], value: N) -> bool {
     }
 }
 
-// Whether it is shown as this text.
+// Returns `true` if the value of an archive is formatted as this text.
 fn is_shown<N: ScalarKey + Debug>(alloc: Global, bytes: &[u8], text: &str) -> bool {
     match access::<N>(bytes) {
         Ok(view) => {
@@ -54,7 +54,7 @@ fn is_shown<N: ScalarKey + Debug>(alloc: Global, bytes: &[u8], text: &str) -> bo
     }
 }
 
-// All of these, of the archives of a value and of another.
+// Returns `true` if all of these are as expected, for the archives of a value and of another.
 fn stands_in<N: ScalarKey + Debug>(
     alloc: Global,
     bytes: &[u8],
@@ -69,7 +69,7 @@ fn stands_in<N: ScalarKey + Debug>(
         && is_shown::<N>(alloc, bytes, text)
 }
 
-// Each call on the one value of an archive, and on that of another.
+// Archives a value and another, and calls `stands_in` on the archives.
 fn stands_for<N: ScalarKey + Debug>(alloc: Global, value: N, other: N, text: &str) -> Option<bool> {
     let bytes = to_bytes(alloc, &value).ok()?;
     let others = to_bytes(alloc, &other).ok()?;

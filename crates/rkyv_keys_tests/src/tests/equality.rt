@@ -1,4 +1,4 @@
-//! Values that equal what is written of them.
+//! Tests of values that equal their archived form.
 
 use rkyv_base::{Narrow, NoMemory, Serialize, VecWriter, Wide, Width, WriteError, to_bytes_in};
 use rkyv_keys::{
@@ -6,8 +6,8 @@ use rkyv_keys::{
 };
 use std::alloc::Global;
 
-// Whether the value of an archive stands there, equals the value in place, and is read back as one
-// that equals it.
+// Archives a value. Returns `true` if the archived value is valid, equals the value in place,
+// and is deserialized as an equal value.
 fn equals_itself<W: Width, V: Serialize<VecWriter, W> + EqualsWritten<W> + PartialEq + Drop>(
     alloc: Global,
     value: &V,

@@ -1,4 +1,4 @@
-//! Hashes of native values.
+//! Tests of the hashes of native values.
 
 use rkyv_keys::{KeyHash, hash_value};
 use rkyv_scan::{FxHasher64, FxHasher64Wide, KeyHasher};

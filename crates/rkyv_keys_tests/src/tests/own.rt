@@ -1,4 +1,4 @@
-//! A user's own element: a number that is compared by its low byte, and asked for by it.
+//! Tests of a user's own element: a number that is compared and looked up by its low byte.
 ghost use Rattle.std.specs.Prelude.{◌≡◌, MatchResult};
 ghost use Rattle.std.specs.Int.{w32};
 ghost use Rattle.rkyv_base.specs.Bytes.{number_at};
@@ -100,7 +100,7 @@ impl StandsFor<u32> for LowByte {
     ghost near = { low_near };
 }
 
-// A number whose low byte is 0 is refused with 7.
+// Deserializing a number whose low byte is 0 fails with `Refused(7)`.
 impl Deserialize<u32> for LowByte {
     ghost refuses = { low_refuses };
 
@@ -118,7 +118,7 @@ impl Deserialize<u32> for LowByte {
     }
 }
 
-// What each comparison answers of three numbers, of which the first two end in one byte.
+// Returns the result of each comparison of three numbers. The first two have the same low byte.
 fn compared(first: &[u8], second: &[u8], third: &[u8]) -> Result<[bool; 5], VerifyError> {
     let a = access::<LowByte>(first)?;
     let b = access::<LowByte>(second)?;
@@ -132,14 +132,14 @@ fn compared(first: &[u8], second: &[u8], third: &[u8]) -> Result<[bool; 5], Veri
     ])
 }
 
-// The hash of such a number.
+// Returns the hash of such a number.
 fn hash_of(bytes: &[u8]) -> Result<u64, VerifyError> {
     let mut state = FxHasher64::default();
     LowByte::hash_view(access::<LowByte>(bytes)?, &mut state);
     Ok(state.finish())
 }
 
-// The number that is read back, or whether it is refused with 7.
+// Returns the deserialized number, and a flag for an error `Refused(7)`.
 fn read(alloc: Global, bytes: &[u8]) -> Result<(Option<u32>, bool), VerifyError> {
     match LowByte::deserialize(alloc, access::<LowByte>(bytes)?) {
         Ok(number) => Ok((Some(number), false)),

@@ -1,4 +1,4 @@
-//! Keys that stand in archives, asked for by native values and by keys of other archives.
+//! Tests of keys in archives, looked up by native values and by keys of other archives.
 use rkyv_base::access::access;
 use rkyv_base::{Entry, ReadError, Text, VerifyError, View, Wide};
 use rkyv_keys::{
@@ -10,7 +10,7 @@ use std::alloc::Global;
 // "hello" in its fixed bytes.
 const HELLO: [u8; 8] = [0x68, 0x65, 0x6c, 0x6c, 0x6f, 0xff, 0xff, 0xff];
 
-// "hello" once more, with other bytes behind its end.
+// "hello" again, with other bytes after its end.
 const HELLO_AGAIN: [u8; 8] = [0x68, 0x65, 0x6c, 0x6c, 0x6f, 0xff, 0x00, 0x01];
 
 // "wonderful", three zeros, and the fixed bytes: its length and the distance to it.
@@ -57,7 +57,7 @@ fn hash_of<K: KeyElement>(bytes: &[u8]) -> Result<u64, VerifyError> {
     Ok(state.finish())
 }
 
-// The text that is read back.
+// Returns `true` if this text is deserialized.
 fn reads_text(alloc: Global, bytes: &[u8], text: &str) -> bool {
     match access::<Text>(bytes) {
         Ok(view) => matches!(Text::deserialize(alloc, view), Ok(read) if is(&read, text)),
@@ -65,12 +65,12 @@ fn reads_text(alloc: Global, bytes: &[u8], text: &str) -> bool {
     }
 }
 
-// Whether an owned text is this one.
+// Returns `true` if an owned text is this one.
 fn is(text: &String, wanted: &str) -> bool {
     text.as_str() == wanted
 }
 
-// The same of a text and a number.
+// Returns `true` if this pair of a text and a number is deserialized.
 fn reads_pair(alloc: Global, bytes: &[u8], pair: (&str, u32)) -> Result<bool, VerifyError> {
     let view = access::<Entry<Text, u32>>(bytes)?;
     let read: Result<(String, u32), ReadError> = Entry::deserialize(alloc, view);
@@ -80,14 +80,14 @@ fn reads_pair(alloc: Global, bytes: &[u8], pair: (&str, u32)) -> Result<bool, Ve
     }
 }
 
-// The same of the unit value.
+// Returns `true` if the unit value is deserialized.
 fn reads_unit(alloc: Global, bytes: &[u8]) -> Result<bool, VerifyError> {
     let view = access::<()>(bytes)?;
     let read: Result<(), ReadError> = <()>::deserialize(alloc, view);
     Ok(read.is_ok())
 }
 
-// Whether the root of an archive is shown as this text.
+// Returns `true` if the root of an archive is formatted as this text.
 fn shows<T: ElementDebug>(alloc: Global, bytes: &[u8], text: &str) -> bool {
     match access::<T>(bytes) {
         Ok(view) => {
@@ -98,7 +98,7 @@ fn shows<T: ElementDebug>(alloc: Global, bytes: &[u8], text: &str) -> bool {
     }
 }
 
-// What an owned "hello" asks and equals.
+// Returns the results of lookups and comparisons with an owned "hello".
 fn owned_hello(alloc: Global) -> Option<[Option<bool>; 4]> {
     let text = String::from_str(alloc, "hello").ok()?;
     Some([

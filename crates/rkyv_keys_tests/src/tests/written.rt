@@ -1,4 +1,4 @@
-//! Keys that are archived and asked for by themselves.
+//! Tests of keys that are archived, and looked up by themselves.
 ghost use Rattle.std.specs.Prelude.{◌≡◌, IfOk, true};
 
 use rkyv_base::access::access_in;
@@ -10,7 +10,7 @@ use rkyv_base::writer::{NoMemory, VecWriter};
 use rkyv_keys::keys::{KeyElement, NativeKey};
 use std::alloc::Global;
 
-// Whether the archive of a key is asked for by the key itself: wherever it can be made.
+// Archives a key. Returns `true` if the key fits its archived form. The contract is for all keys.
 fn finds_itself<W: Width, V: Serialize<VecWriter, W> + NativeKey<V::Archived>>(
     alloc: Global,
     key: &V,
@@ -27,7 +27,7 @@ where
     }
 }
 
-// The same of an owned text.
+// Returns the same for an owned text.
 fn text_finds_itself(alloc: Global) -> Option<bool> {
     let text = String::from_str(alloc, "wonderful text").ok()?;
     finds_itself::<Wide, String>(alloc, &text).ok()

@@ -1,4 +1,4 @@
--- The places of every mask ascend.
+-- The indices of every mask ascend.
 use Rattle.std.proofs.Common.{ℕ, ◌+◌, Bool, List, arith}
 use Rattle.std.specs.List.{range_with_len}
 use Rattle.std.specs.List.Sorted.{IsStrictlyIncreasing}

@@ -1,4 +1,4 @@
--- The three kinds of group keep what each kind keeps.
+-- Proofs of the laws of the kinds of group.
 use Rattle.std.proofs.Common.{
   ◌≡◌,
   ℕ,
@@ -74,7 +74,7 @@ word_lawful = record {
   lowest = λ s t k h low. lowest_lem s t k h low;
 }
 
--- a group that marks the equal bytes alone
+-- a kind that marks the equal bytes alone is lawful
 pub equal_lawful : (k : ℕ) → k ≤ 4 → IsKind (record { width = 2 ^ k; marks = is_equal_at })
 equal_lawful k small = record {
   power = (k, small, refl);

@@ -1,4 +1,4 @@
--- The number that either hasher answers fits 64 bits.
+-- The hash of an `FxHasher` fits in 64 bits.
 use Rattle.std.proofs.Common.{ℕ, ◌^◌, ◌<◌, List, [], ◌∷◌, arith}
 use Rattle.std.specs.List.{fold}
 use Rattle.rkyv_scan.specs.Hash.{

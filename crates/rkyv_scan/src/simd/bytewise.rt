@@ -1,4 +1,4 @@
-//! Eight control bytes, each looked at by itself.
+//! The group of eight control bytes that compares each byte by itself.
 ghost use Rattle.std.specs.Prelude.{◌≡◌, ℕ, Bool, false, slice_index_or};
 ghost use Rattle.std.specs.Iterator.{YieldsFirst, item_count};
 ghost use Rattle.rkyv_scan.specs.Groups.{flag_places, bytewise_kind, IsFirstFlag};
@@ -9,18 +9,18 @@ ghost use Rattle.std.proofs.Common.{refl, arith};
 use crate::simd::{GroupKind, Marks};
 use std::simd::prelude::*;
 
-/// A mark or none for each place.
+/// A mask with one flag for each of eight indices.
 #[derive(Clone, Copy)]
 pub struct Bitmask {
     marks: [bool; 8],
 }
 
 impl Bitmask {
-    /// No mark.
+    /// The mask that marks no index.
     pub const EMPTY: Self = Bitmask { marks: [false; 8] };
 }
 
-// The first mark's place, or 8.
+// Returns the index of the first mark, or 8 if there is none.
 #[inline]
 fn first(marks: &[bool; 8]) -> usize
     ensures { IsFirstFlag marks.now result }
@@ -79,7 +79,7 @@ impl Iterator for Bitmask {
     }
 }
 
-/// Eight control bytes.
+/// A group of eight control bytes, which marks the bytes that are equal and no others.
 #[derive(Clone, Copy)]
 pub struct Group {
     bytes: [u8; 8],

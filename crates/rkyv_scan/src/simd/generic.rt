@@ -1,4 +1,4 @@
-//! Eight control bytes in one word.
+//! The group of eight control bytes in one word. It is the kind at the crate's root.
 ghost use Rattle.std.specs.Prelude.{◌≡◌, ℕ, ◌*◌, bit_and};
 ghost use Rattle.std.specs.Iterator.{YieldsFirst, item_count};
 ghost use Rattle.std.specs.Int.{w64, to_le_bytes};
@@ -11,13 +11,13 @@ use crate::simd::{GroupKind, Marks};
 use std::num::NonZeroU64;
 use std::simd::prelude::*;
 
-/// The word of a group, the byte at the lowest position in the lowest bits.
+/// The word of a group. The first byte is in the lowest bits.
 pub type Word = u64;
 
 /// A word that is not zero.
 pub type NonZeroWord = NonZeroU64;
 
-/// Marks, each the high bit of its byte.
+/// A mask whose marks are the high bits of a word's bytes.
 #[derive(Clone, Copy)]
 pub struct Bitmask {
     bits: Word,
@@ -25,7 +25,7 @@ pub struct Bitmask {
 }
 
 impl Bitmask {
-    /// No mark.
+    /// The mask that marks no index.
     pub const EMPTY: Self = Bitmask { bits: 0 };
 }
 
@@ -76,7 +76,10 @@ impl Iterator for Bitmask {
     }
 }
 
-/// Eight control bytes.
+/// A group of eight control bytes in one word.
+///
+/// `match_byte` may also mark a byte that differs from the asked one in its lowest bit alone.
+/// It does so only right after a marked byte.
 #[derive(Clone, Copy)]
 pub struct Group {
     word: Word,

@@ -1,4 +1,4 @@
-//! Sixteen control bytes in one vector, marked as the eight wide group marks each half.
+//! The group of sixteen control bytes that marks each half as the group of eight marks it.
 ghost use Rattle.std.specs.Prelude.{
   ◌≡◌,
   ℕ,
@@ -22,16 +22,16 @@ ghost use Rattle.std.proofs.Common.{refl};
 use crate::simd::GroupKind;
 use crate::simd::lanes::{self, Bitmask};
 
-/// Sixteen control bytes.
+/// A group of sixteen control bytes.
 ///
-/// A match marks in each half what [`generic::Group`](crate::simd::generic::Group) marks there, so
-/// that a lookup by this group answers what a lookup by that one answers.
+/// A match marks in each half the indices
+/// that [`generic::Group`](crate::simd::generic::Group) marks there.
 #[derive(Clone, Copy)]
 pub struct Group {
     both: lanes::Group,
 }
 
-/// Each mark moved to the place above it in the same half.
+/// Moves each mark one index up, and drops the last mark of each half.
 #[inline]
 fn after(marks: u16) -> u16
     ensures { result ≡ bits_after marks }
@@ -39,7 +39,9 @@ fn after(marks: u16) -> u16
     (marks << 1) & 0xfefe
 }
 
-/// The marks, where a byte that differs in the lowest bit alone stands above a marked one.
+/// Returns the marks of a match, after seven steps from `equal`.
+///
+/// Each step also marks an index of `next` if the index right below it in the same half is marked.
 #[cold]
 #[inline(never)]
 fn chained(equal: u16, next: u16) -> u16

@@ -1,4 +1,4 @@
-//! Sixteen control bytes in one vector.
+//! The group of sixteen control bytes in one vector.
 ghost use Rattle.std.specs.Prelude.{◌≡◌, ℕ, length};
 ghost use Rattle.std.specs.Iterator.{YieldsFirst, item_count};
 ghost use Rattle.rkyv_scan.specs.Groups.{mask_places, lanes_kind};
@@ -10,17 +10,17 @@ ghost use Rattle.std.proofs.Common.{refl, arith};
 use crate::simd::{GroupKind, Marks};
 use std::simd::prelude::*;
 
-/// Marks, each the bit of its place.
+/// A mask with one bit for each of sixteen indices.
 #[derive(Clone, Copy)]
 pub struct Bitmask {
     bits: u16,
 }
 
 impl Bitmask {
-    /// No mark.
+    /// The mask that marks no index.
     pub const EMPTY: Self = Bitmask { bits: 0 };
 
-    /// The marks with these bits.
+    /// Returns the mask with these bits.
     #[inline]
     pub(crate) fn of_bits(bits: u16) -> Self
         ensures { result.bits ≡ bits }
@@ -77,7 +77,7 @@ impl Iterator for Bitmask {
     }
 }
 
-/// Sixteen control bytes.
+/// A group of sixteen control bytes, which marks the bytes that are equal and no others.
 #[derive(Clone, Copy)]
 pub struct Group {
     lanes: u8x16,
@@ -85,7 +85,7 @@ pub struct Group {
 }
 
 impl Group {
-    /// The bits of the places that hold `byte`.
+    /// Returns the bits of the indices whose control byte is `byte`.
     #[inline]
     pub(crate) fn equal_bits(self, byte: u8) -> u16
         ensures { TellsEqual self.lanes byte result }

@@ -4,7 +4,7 @@ use Rattle.rkyv_base.proofs.Ascii.{none_high}
 use Rattle.rkyv_base.proofs.FirstMark.{NoneBelow, eight, tail_is, eight_stretch, is_absent, stretch_miss}
 use Rattle.rkyv_base.proofs.sought.is_ascii.Goals as goal
 
--- eight more, none of which is 128 or more
+-- the next eight bytes, all below 128
 on : (xs : List ℕ) (at : ℕ) (o : Option ℕ) → at + 8 ≤ length xs → NoneBelow (λ x. leb 128 x) xs at
     → o ≡ position (λ x. leb 128 x) (take 8 (take (length xs - at) (drop at xs))) → None ≡ o → NoneBelow (λ x. leb 128 x) xs (at + 8)
 on xs at o le before e none =

@@ -2,6 +2,6 @@ use Rattle.std.proofs.Common.{◌≡◌, ◌++◌}
 use Rattle.rkyv_table.specs.Table.Reading.{item_positions}
 use Rattle.rkyv_headline.proofs.looking.walk.Given as goal
 
--- what was walked, and what is left, are all positions
+-- the positions already walked and those left are all positions
 abbrev pub invariant-loop-item : goal.invariant-loop-item
 invariant-loop-item g l = l.walked.items ++ l.item-iterator.places ≡ item_positions g.W.Word.word g.T.Element.shape.size l.bytes l.pos
