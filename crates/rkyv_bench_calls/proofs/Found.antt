@@ -1,4 +1,5 @@
 -- The number behind a key that was found.
+use Rattle.rkyv_base.specs.declared.width.Word.{Ghosts as Words}
 use Rattle.std.proofs.Common.{◌≡◌, ℕ, ◌+◌, ap, refl, ◌∙◌, Option, None, Some}
 use Rattle.std.specs.Borrow.{Bor}
 use Rattle.std.specs.Int.{w32}
@@ -13,11 +14,11 @@ use Rattle.rkyv_collections.specs.declared.map.ArchivedHashMap.{ArchivedHashMap}
 use Rattle.rkyv_bench_calls.specs.Archives.{number_shape}
 use Rattle.rkyv_bench_calls.specs.Totals.{number_seen, value_or_miss}
 
-pub found_viewed : {K V H W : Type 0} (key : Shape) (m : ArchivedHashMap K V H W) (found : Option (View V)) → IfSome found (IsValueIn w32 key number_shape m) → IfSome found (IsView number_shape)
+pub found_viewed : {K V H W : Type 0} {wt : Words W} (key : Shape) (m : ArchivedHashMap K V H W wt) (found : Option (View V)) → IfSome found (IsValueIn w32 key number_shape m) → IfSome found (IsView number_shape)
 found_viewed key m None walked = walked
 found_viewed key m (Some value) walked = walked.viewed
 
-pub found_seen : {K V H W : Type 0} (key : Shape) (m : ArchivedHashMap K V H W) (found : Option (View V)) (place : Option ℕ) → IfSome found (IsValueIn w32 key number_shape m) → IsValueAt key number_shape found place
+pub found_seen : {K V H W : Type 0} {wt : Words W} (key : Shape) (m : ArchivedHashMap K V H W wt) (found : Option (View V)) (place : Option ℕ) → IfSome found (IsValueIn w32 key number_shape m) → IsValueAt key number_shape found place
     → number_seen found ≡ value_or_miss key (map_bytes m) place
 found_seen key m None None walked at = refl
 found_seen key m None (Some q) walked at = cc

@@ -1,4 +1,5 @@
 -- The number behind the key of a place that was found.
+use Rattle.rkyv_base.specs.declared.width.Word.{Ghosts as Words}
 use Rattle.std.proofs.Common.{◌≡◌, ℕ, ◌∙◌, ap, List, Option, None, Some}
 use Rattle.std.specs.Borrow.{Bor}
 use Rattle.std.specs.Int.{w32}
@@ -13,12 +14,12 @@ use Rattle.rkyv_bench_calls.specs.Archives.{number_shape}
 use Rattle.rkyv_bench_calls.specs.Index.{place_or_miss}
 use Rattle.rkyv_bench_calls.specs.Totals.{number_seen}
 
-pub index_found_viewed : {K V H W : Type 0} (key : Shape) (m : ArchivedIndexMap K V H W) (Held : ℕ → Type 0) (found : Option (View V))
+pub index_found_viewed : {K V H W : Type 0} {wt : Words W} (key : Shape) (m : ArchivedIndexMap K V H W wt) (Held : ℕ → Type 0) (found : Option (View V))
     → IfSome found (λ v. (i : ℕ) × Held i × IsValueOf w32 key number_shape m i v) → IfSome found (IsView number_shape)
 index_found_viewed key m Held None walked = walked
 index_found_viewed key m Held (Some value) walked = walked.2.viewed
 
-pub index_found_seen : {K V H W : Type 0} (key : Shape) (m : ArchivedIndexMap K V H W) (found : Option (View V)) (place : Option ℕ) → IsValueAt w32 key number_shape m found place
+pub index_found_seen : {K V H W : Type 0} {wt : Words W} (key : Shape) (m : ArchivedIndexMap K V H W wt) (found : Option (View V)) (place : Option ℕ) → IsValueAt w32 key number_shape m found place
     → number_seen found ≡ place_or_miss key (index_bytes m) (index_pos m) place
 index_found_seen key m found None at = ap number_seen at
 index_found_seen key m found (Some i) at =

@@ -1,4 +1,5 @@
 -- The archives of maps to numbers that are measured.
+use Rattle.rkyv_base.specs.declared.width.Word.{Ghosts as Words}
 use Rattle.std.specs.Prelude.{◌≡◌, ℕ, ◌+◌, ◌-◌, ◌⊎◌, List, length}
 use Rattle.std.specs.Borrow.{Bor}
 use Rattle.std.specs.Int.{w32}
@@ -33,7 +34,7 @@ abbrev pub root : List ℕ → ℕ
 root b = length b - 12
 
 -- the map is that of these bytes
-abbrev pub IsMapAtRoot : {K V H W : Type 0} → ArchivedHashMap K V H W → Bor (List ℕ) → Type 0
+abbrev pub IsMapAtRoot : {K V H W : Type 0} {wt : Words W} → ArchivedHashMap K V H W wt → Bor (List ℕ) → Type 0
 IsMapAtRoot m archive = IsAt m.view archive (root archive.now)
 
 -- a length and one more where it is one, and 0 where it is none

@@ -1,4 +1,5 @@
 -- The archives of index maps to numbers that are measured, and what each measured call sums up.
+use Rattle.rkyv_base.specs.declared.width.Word.{Ghosts as Words}
 use Rattle.std.specs.Prelude.{ℕ, ◌+◌, ◌-◌, ◌^◌, Bool, List, length, Option, None}
 use Rattle.std.specs.Prelude.{Some}
 use Rattle.std.specs.Borrow.{Bor}
@@ -36,7 +37,7 @@ abbrev pub index_root : List ℕ → ℕ
 index_root b = length b - 16
 
 -- the index map is that of these bytes
-abbrev pub IsIndexAtRoot : {K V H W : Type 0} → ArchivedIndexMap K V H W → Bor (List ℕ) → Type 0
+abbrev pub IsIndexAtRoot : {K V H W : Type 0} {wt : Words W} → ArchivedIndexMap K V H W wt → Bor (List ℕ) → Type 0
 IsIndexAtRoot m archive = IsAt m.view archive (index_root archive.now)
 
 -- the index map's length and one more, or 0 where the bytes are no archive
@@ -59,7 +60,7 @@ index_looked_up key b p calls fits = place_or_miss key b p
     (index_found w32 b p (hash_by calls) (λ i. fits b (index_key_pos key b p i)))
 
 -- that of the index map
-abbrev pub index_answer : {K V H W : Type 0} → Shape → ArchivedIndexMap K V H W → List HasherCall
+abbrev pub index_answer : {K V H W : Type 0} {wt : Words W} → Shape → ArchivedIndexMap K V H W wt → List HasherCall
     → (List ℕ → ℕ → Bool) → ℕ
 index_answer key m = index_looked_up key (index_bytes m) (index_pos m)
 

@@ -1,4 +1,5 @@
 -- What each measured call sums up.
+use Rattle.rkyv_base.specs.declared.width.Word.{Ghosts as Words}
 use Rattle.std.specs.Prelude.{ℕ, ◌+◌, ◌^◌, ◌%◌, ◌==◌, Bool, List, [], ◌∷◌, length, Option, None}
 use Rattle.std.specs.Prelude.{Some, ◌≡◌}
 use Rattle.std.specs.Int.{w32}
@@ -60,7 +61,7 @@ looked_up key b p calls fits = value_or_miss key b
     (pos_found generic_kind w32 (entry_shape key number_shape).size b p (hash_by calls) (fits b))
 
 -- that of the map
-abbrev pub map_answer : {K V H W : Type 0} → Shape → ArchivedHashMap K V H W → List HasherCall
+abbrev pub map_answer : {K V H W : Type 0} {wt : Words W} → Shape → ArchivedHashMap K V H W wt → List HasherCall
     → (List ℕ → ℕ → Bool) → ℕ
 map_answer key m = looked_up key (map_bytes m) (map_pos m)
 

@@ -1,4 +1,5 @@
 -- What is answered of the first pair of a list whose key is asked for.
+use Rattle.rkyv_base.specs.declared.width.Word.{Ghosts as Words}
 use Rattle.std.proofs.Common.{◌≡◌, ◌∙◌, ℕ, Bool, List, None, Option, Some, ap, false, subst, sym, true}
 use Rattle.std.specs.Option.{is_some}
 use Rattle.std.specs.Borrow.{Bor}
@@ -21,7 +22,7 @@ pub view_stands : {T : Type 0} (s : Shape) (view : View T) (a : Bor (List ℕ)) 
 view_stands s view a p e f h = subst (Viewed s view.archive.now) (sym f) (subst (λ (d : Bor (List ℕ)). Viewed s d.now p) (sym e) h)
 
 -- of what was found in a map whose bytes these are: where it is, and that it stands there
-module _ {K V H W : Type 0} (w : Width) (k v : Shape) (m : ArchivedHashMap K V H W) (b : List ℕ) (same : map_bytes m ≡ b) where
+module _ {K V H W : Type 0} {wt : Words W} (w : Width) (k v : Shape) (m : ArchivedHashMap K V H W wt) (b : List ℕ) (same : map_bytes m ≡ b) where
   pub found_viewed : (found : Option (View V)) (place : Option ℕ) → place ≡ pos_of_found found → IfSome found (IsValueIn w k v m) → IfSome place (Viewed v b)
   found_viewed None place e h = subst (λ (o : Option ℕ). IfSome o (Viewed v b)) (sym e) h
   found_viewed (Some value) place e h = subst (λ (o : Option ℕ). IfSome o (Viewed v b)) (sym e) (subst (λ d. Viewed v d value.pos) (ap (λ (a : Bor (List ℕ)). a.now) h.at.0 ∙ same) h.viewed)

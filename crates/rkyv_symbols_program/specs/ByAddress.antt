@@ -1,4 +1,5 @@
 -- Indexes of symbols: the symbols by ascending address, and the archive of them.
+use Rattle.rkyv_base.specs.declared.width.Word.{Ghosts as Words}
 use Rattle.std.specs.Prelude.{◌≡◌, ◌⊎◌, ◌-◌, ℕ, List, MatchResult, Result, length, map}
 use Rattle.std.specs.Borrow.{Bor}
 use Rattle.std.specs.Int.{w32, w64}
@@ -63,15 +64,15 @@ IndexResult shape stands format symbols result =
 
 -- Any bytes are opened exactly where they are the archive of an index, and the index map that is
 -- read is the one at their root; else the first point at which they are none is told.
-abbrev pub OpensIndex : {K V H W : Type 0} → Shape → Bor (List ℕ)
-    → Result (ArchivedIndexMap K V H W) VerifyError → Type 0
+abbrev pub OpensIndex : {K V H W : Type 0} {wt : Words W} → Shape → Bor (List ℕ)
+    → Result (ArchivedIndexMap K V H W wt) VerifyError → Type 0
 OpensIndex s index result = MatchResult result
     (λ map. Accepted 4_294_967_295 s index.now
     × IsAt map.view index (length index.now - s.size))
     (AccessFails 4_294_967_295 s index.now)
 
 -- the address and the name are those of a place of an index
-abbrev pub IsEntryOf : {K V H W : Type 0} → ArchivedIndexMap K V H W → ℕ → ℕ × Bor (List ℕ)
+abbrev pub IsEntryOf : {K V H W : Type 0} {wt : Words W} → ArchivedIndexMap K V H W wt → ℕ → ℕ × Bor (List ℕ)
     → Type 0
 IsEntryOf {K} {V} index place entry = (pair : View K × View V)
     × IsPairOf w32 address_shape name_shape index place pair
