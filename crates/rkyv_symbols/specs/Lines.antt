@@ -11,8 +11,7 @@ use Rattle.std.specs.Str.Parse.{digits_value}
 abbrev pub seen : Bor (List ℕ) × ℕ → List ℕ × ℕ
 seen symbol = (symbol.0.now, symbol.1)
 
--- `line` is sixteen hexadecimal digits, a space, one byte, a space, and a name
--- The name has at least one byte.
+-- `line` is 16 hexadecimal digits, a space, one byte, a space, and a name of at least one byte
 abbrev pub tells_symbol : List ℕ → Bool
 tells_symbol line = nat_lt 19 (length line)
     && ((slice_index line 16 == 32)

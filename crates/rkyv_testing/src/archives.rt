@@ -153,9 +153,8 @@ pub fn two_units() -> [u8; 44] {
 
 /// Returns the wide map of 1 to the set of 1, under the hasher that feeds all bits.
 ///
-/// Bucket of the set from 0 on and its controls from 2 on. Buckets of the map from 40 on, its
-/// controls
-/// from 104 on, its header at 136.
+/// Bucket of the set from 0 on, its controls from 2 on.
+/// Buckets of the map from 40 on, its controls from 104 on, its header at 136.
 pub fn set_in_a_map() -> [u8; 160] {
     let inner = archive::<40>(&[1, 0, 0xff, 0x28, 0xff, 0x28], &[0, 0, 0, 0, 0, 0, 0]);
     let outer = archive::<120>(
