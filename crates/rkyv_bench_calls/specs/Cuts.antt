@@ -13,7 +13,7 @@ pub record IsText (bytes : List ℕ) (from end : ℕ) : Type 0 where
   pub inside : end ≤ length bytes
   pub utf8 : IsUtf8 (slice_range bytes from end)
 
--- each part from `from` on is a text, and the ends ascend
+-- each part from `from` on is a text, and the ends don't decrease
 abbrev pub AreTextsFrom : List ℕ → ℕ → List ℕ → Type 0
 AreTextsFrom bytes from [] = Unit {0}
 AreTextsFrom bytes from (end ∷ ends) = IsText bytes from end × AreTextsFrom bytes end ends
@@ -22,6 +22,6 @@ AreTextsFrom bytes from (end ∷ ends) = IsText bytes from end × AreTextsFrom b
 abbrev pub texts : List ℕ → List ℕ → List (List ℕ)
 texts bytes ends = cut_from bytes 0 ends
 
--- the ends ascend and are inside the bytes, and the parts between them are texts
+-- the ends don't decrease and are inside the bytes, and the parts between them are texts
 abbrev pub AreTexts : List ℕ → List ℕ → Type 0
 AreTexts bytes ends = AreTextsFrom bytes 0 ends

@@ -3,8 +3,8 @@
 //! Each call hashes, builds, validates, looks up or walks, and returns a sum or a length.
 //! `std_numbers` writes maps of std and reads them back.
 //!
-//! Texts are adjacent in `bytes`. Text `i` ends at `ends[i]`. It begins at the end of the text before
-//! it, or at 0.
+//! Texts are adjacent in `bytes`. Text `i` ends at `ends[i]`, and begins at 0 or at the end of the
+//! text before it.
 #![tactic(auto)]
 
 mod building;

@@ -35,8 +35,7 @@ fn std_map<A: Eq + Hash + Copy, B: Copy>(
 /// The keys are inserted into the map, each with the value at its index. A later equal key replaces
 /// the value. Keys without a value, and values without a key, are left out.
 ///
-/// Returns 0, with `out` unchanged, if the write fails, the archive doesn't fit, or an allocation
-/// fails.
+/// Returns 0, with `out` unchanged, if the write fails or the archive doesn't fit.
 pub fn build_std_u32(alloc: Global, keys: &[u32], values: &[u32], out: &mut [u8]) -> usize
     ensures { IsBuilt (StdMapsNumbers keys.now values.now) out.old out.new result }
 {
