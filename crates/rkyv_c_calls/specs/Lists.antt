@@ -29,8 +29,7 @@ module _ {A N : Type 0} (w : Width) (k : Shape) (key : List ℕ → ℕ → A �
   abbrev pub PairsStand : ℕ × ℕ → List ℕ → List (A × N) → Type 0
   PairsStand factor b pairs = PairsStandAt factor b (root w k (scalar_shape e) b) pairs
 
-  -- `place` is the position of the value of the first pair whose key passes `asks`, or both are
-  -- `None`
+  -- `place` is the position of the first value whose key passes `asks`, or both are `None`
   abbrev pub PlaceOfFirst : (A → Bool) → List ℕ → Option ℕ → Type 0
   PlaceOfFirst asks b place = (factor : ℕ × ℕ) (pairs : List (A × N))
       → PairsStand factor b pairs
@@ -67,8 +66,8 @@ module _ {A N : Type 0} (w : Width) (k : Shape) (key : List ℕ → ℕ → A �
     pairs_format = listed most (7, 8) (map_format w k (scalar_shape e) format (scalar_format e)
         (hash_of (fx_hasher low_halves) calls) (7, 8))
 
-    -- `b` is the archive of the pairs, in this order: valid, it represents them and has no other
-    -- bytes
+    -- `b` is the archive of the pairs, in this order.
+    -- It is valid, represents them, and has no other bytes.
     unfoldable pub IsArchiveOf : List (A × N) → List ℕ → Type 0
     IsArchiveOf pairs b = ArchiveOf limit (map_shape w k (scalar_shape e)) (PairsStandAt (7, 8))
         pairs_format pairs b

@@ -52,8 +52,7 @@ module _ {V R : Type 0} (size : ℕ) (f : Format V R) (whole : (v : V) (r : R) (
 
 module _ {X R : Type 0} (size : ℕ) (f : Format X R) (whole : (x : X) (r : R) (p : ℕ) (out : List ℕ) → f.image x r p out → length out ≡ size)
     (clear : (x : X) (r : R) (p : ℕ) (out : List ℕ) → f.image x r p out → f.far x r p → ⊥) (p : ℕ) where
-  -- the buckets of the slots from position `p` on; those of later slots come before that of the
-  -- first
+  -- the buckets of the slots from position `p` on, in reverse order of the slots
   abbrev Images : List (Option X) → List R → List ℕ → Type 0
   Images [] rs out = (rs ≡ []) × (out ≡ [])
   Images (None ∷ ss) rs out = (a : List ℕ) × (u : Unit {0}) × (b : List ℕ) × Images ss rs a × (b ≡ zeros size) × (out ≡ a ++ b)

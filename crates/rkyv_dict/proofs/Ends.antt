@@ -7,8 +7,7 @@ use Rattle.rkyv_base.specs.Writing.{Refusal, Step, no_memory, piece, refusal}
 abbrev pub IsKnown : Refusal → Type 0
 IsKnown c = c ≡ no_memory → ⊥
 
--- `next front step`: `step` follows the pieces `front`; `made part`: the write is complete after
--- `part`.
+-- `next front step`: `step` follows the pieces `front`; `made part`: the write ends with `part`.
 -- There is one error, all pieces lie before it, and with an error no write is complete.
 pub record Ends (next : List ℕ → Step → Type 0) (made : List ℕ → Type 0) : Type 0 where
   pub refusals : (front front' : List ℕ) (c c' : Refusal) → IsKnown c → IsKnown c' → next front (refusal c) → next front' (refusal c') → c ≡ c'

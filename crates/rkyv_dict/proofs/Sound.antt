@@ -43,8 +43,7 @@ archive_here s a form bytes sound is f b = rw (f, b) (sound_here s a sound is).a
 pub refused_here : (s : State) (form : Form) (b bytes : List ℕ) (e : VerifyError) → form ≡ form_of s → b ≡ bytes → IsRefused form b e → IsRefused (form_of s) bytes e
 refused_here s form b bytes e f is h = subst (λ (g : Form). IsRefused g bytes e) f (subst (λ (l : List ℕ). IsRefused form l e) is h)
 
--- `get` returns the value of the first pair of a built archive, and else the one that a lookup
--- finds
+-- `get` returns the value of the first pair of a built archive, else that of a lookup
 value_by : {U E : Type 0} (form : Form) (bytes : List ℕ) (built : Option Pairs) (r : Result U E) (now old : List ℕ) (key : Asked)
     → ForSome built (λ pairs. (factor : ℕ × ℕ) × Holds form factor bytes pairs)
     → OnOk r (now ≡ old ++ value_line (value_found form bytes key))

@@ -17,8 +17,8 @@ use Rattle.rkyv_dict.specs.declared.form.Kind.TheVariants.{Num, Text}
 use Rattle.rkyv_dict.specs.Forms.{limit_of, word_of}
 
 -- The keys and values, of one kind, of the maps of an archive.
--- `word`: word of the width, `limit`: greatest length of the archive, `shape`: shape of a key or
--- value, `text`: text of the one at a position, `same`: equality, `calls`: hasher calls.
+-- `word`: word of the width, `limit`: greatest length of the archive, `shape`: shape of a part,
+-- `text`: text of the part at a position, `same`: equality, `calls`: hasher calls.
 pub record Parts : Type 1 where
   pub word : Width
   pub limit : ℕ

@@ -125,9 +125,9 @@ pub fn number_of(message: &[u8], part: &str, field: &str) -> Result<Option<u32>,
 
 /// Validates a message, and overwrites the number of a field of a part in place.
 ///
-/// The part and the field are those that `number_of` finds. It returns `false`, and changes no
-/// byte,
-/// if a lookup finds none. It changes only the bytes of the number, and the message stays valid.
+/// The part and the field are those that `number_of` finds.
+/// Returns `false`, and changes no byte, if a lookup finds none.
+/// Otherwise it returns `true`, and changes only the bytes of the number. The message stays valid.
 ///
 /// # Errors
 /// - The errors of `access`, if the bytes are no valid message; no byte is changed then.

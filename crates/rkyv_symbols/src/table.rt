@@ -1,8 +1,9 @@
 //! Tables of symbols: archives of maps of names to addresses.
 //!
-//! `archive` writes a table and `check` validates one. `address_in` looks up a name in a valid
-//! table,
-//! and `address_of` validates the table first.
+//! - `archive` writes a table.
+//! - `check` validates one.
+//! - `address_in` looks up a name in a valid table.
+//! - `address_of` validates a table, then looks up a name.
 ghost use Rattle.std.specs.Prelude.{IfOk, IsOk, MatchResult, ◌≡◌};
 ghost use Rattle.rkyv_symbols.specs.Table.{
   IsRefused,
