@@ -74,7 +74,7 @@ Does s count_misplaced answer s' = Shows s (answered (audit_line (form_of s)) s.
 
 -- ---- lines
 
--- a bad line, `None`, leaves the state unchanged; a request executes
+-- the request executes; `None`, a bad line, outputs error 10 and leaves the state unchanged
 abbrev pub DoesIf : State → Option Request → List ℕ → State → Type 0
 DoesIf s None answer s' = Shows s bad_line answer s'
 DoesIf s (Some request) answer s' = Does s request answer s'
