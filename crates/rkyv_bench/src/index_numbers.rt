@@ -40,7 +40,8 @@ pub extern "C" fn rkyv_bench_access_index_u32(archive: &[u8]) -> usize
 /// Returns the sum modulo 2^64 of the values of the keys, with 2^32 for each that isn't found.
 ///
 /// # Requires
-/// The archive is valid: `rkyv_bench_access_index_u32` returned more than 0.
+///
+/// - The archive is valid: `rkyv_bench_access_index_u32` returned more than 0.
 #[unsafe(no_mangle)]
 pub extern "C" fn rkyv_bench_lookup_index_u32(archive: &[u8], keys: &[u32]) -> u64
     requires { IsIndexArchive archive.now }
@@ -63,7 +64,8 @@ pub extern "C" fn rkyv_bench_lookup_index_u32_by_finder(archive: &[u8], keys: &[
 /// Returns the sum modulo 2^64 of all keys and all values.
 ///
 /// # Requires
-/// The archive is valid: `rkyv_bench_access_index_u32` returned more than 0.
+///
+/// - The archive is valid: `rkyv_bench_access_index_u32` returned more than 0.
 #[unsafe(no_mangle)]
 pub extern "C" fn rkyv_bench_walk_index_u32(archive: &[u8]) -> u64
     requires { IsIndexArchive archive.now }

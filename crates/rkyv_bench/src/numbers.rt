@@ -48,7 +48,8 @@ pub extern "C" fn rkyv_bench_access_u32(archive: &[u8]) -> usize
 /// Returns the sum modulo 2^64 of the values of the keys, with 2^32 for each that isn't found.
 ///
 /// # Requires
-/// The archive is valid: `rkyv_bench_access_u32` returned more than 0.
+///
+/// - The archive is valid: `rkyv_bench_access_u32` returned more than 0.
 #[unsafe(no_mangle)]
 pub extern "C" fn rkyv_bench_lookup_u32(archive: &[u8], keys: &[u32]) -> u64
     requires { IsArchive number_shape archive.now }
@@ -71,7 +72,8 @@ pub extern "C" fn rkyv_bench_lookup_u32_by_finder(archive: &[u8], keys: &[u32]) 
 /// Returns the sum modulo 2^64 of all keys and all values.
 ///
 /// # Requires
-/// The archive is valid: `rkyv_bench_access_u32` returned more than 0.
+///
+/// - The archive is valid: `rkyv_bench_access_u32` returned more than 0.
 #[unsafe(no_mangle)]
 pub extern "C" fn rkyv_bench_walk_u32(archive: &[u8]) -> u64
     requires { IsArchive number_shape archive.now }

@@ -28,7 +28,8 @@ pub extern "C" fn rkyv_bench_build_std_u32(
 /// Deserializes a map of std, drops it, and returns its length, or 0 if an allocation fails.
 ///
 /// # Requires
-/// The archive is valid: `rkyv_bench_access_u32` returned more than 0.
+///
+/// - The archive is valid: `rkyv_bench_access_u32` returned more than 0.
 #[unsafe(no_mangle)]
 pub extern "C" fn rkyv_bench_read_std_u32(alloc: Global, archive: &[u8]) -> usize
     requires { IsArchive number_shape archive.now }

@@ -15,7 +15,8 @@ use std::alloc::Global;
 /// Returns the sum modulo 2^64 of the hashes of the texts.
 ///
 /// # Requires
-/// Each text is inside `bytes` and is UTF-8, and `ends` doesn't decrease.
+///
+/// - Each text is inside `bytes` and is UTF-8, and `ends` doesn't decrease.
 #[unsafe(no_mangle)]
 pub extern "C" fn rkyv_bench_hash_text(bytes: &[u8], ends: &[u32]) -> u64
     requires { AreTexts bytes.now ends.now }
@@ -32,7 +33,8 @@ pub extern "C" fn rkyv_bench_hash_text(bytes: &[u8], ends: &[u32]) -> u64
 /// Returns 0, with `out` unchanged, if the write fails or the archive doesn't fit.
 ///
 /// # Requires
-/// Each text is inside `bytes` and is UTF-8, and `ends` doesn't decrease.
+///
+/// - Each text is inside `bytes` and is UTF-8, and `ends` doesn't decrease.
 #[unsafe(no_mangle)]
 pub extern "C" fn rkyv_bench_build_text(
     alloc: Global,
@@ -58,8 +60,9 @@ pub extern "C" fn rkyv_bench_access_text(archive: &[u8]) -> usize
 /// Returns the sum modulo 2^64 of the values of the texts, with 2^32 for each that isn't found.
 ///
 /// # Requires
-/// The archive is valid: `rkyv_bench_access_text` returned more than 0.
-/// Each text is inside `bytes` and is UTF-8, and `ends` doesn't decrease.
+///
+/// - The archive is valid: `rkyv_bench_access_text` returned more than 0.
+/// - Each text is inside `bytes` and is UTF-8, and `ends` doesn't decrease.
 #[unsafe(no_mangle)]
 pub extern "C" fn rkyv_bench_lookup_text(archive: &[u8], bytes: &[u8], ends: &[u32]) -> u64
     requires archive { IsArchive short_text archive.now }
@@ -88,7 +91,8 @@ pub extern "C" fn rkyv_bench_lookup_text_by_finder(
 /// Returns the sum modulo 2^64 of the lengths of all keys, in bytes, and of all values.
 ///
 /// # Requires
-/// The archive is valid: `rkyv_bench_access_text` returned more than 0.
+///
+/// - The archive is valid: `rkyv_bench_access_text` returned more than 0.
 #[unsafe(no_mangle)]
 pub extern "C" fn rkyv_bench_walk_text(archive: &[u8]) -> u64
     requires { IsArchive short_text archive.now }

@@ -54,7 +54,8 @@ fn index_in<'a>(archive: &'a [u8]) -> ArchivedIndexMap<'a, u32, u32>
 /// Returns the sum modulo 2^64 of the values of the keys, with 2^32 for each that isn't found.
 ///
 /// # Requires
-/// The archive is valid: `access_index_u32` returned more than 0.
+///
+/// - The archive is valid: `access_index_u32` returned more than 0.
 pub fn lookup_index_u32(archive: &[u8], keys: &[u32]) -> u64
     requires { IsIndexArchive archive.now }
     ensures { result ≡ total (index_number_looked_up archive.now) keys.now }
@@ -75,7 +76,8 @@ pub fn lookup_index_u32_by_finder(archive: &[u8], keys: &[u32]) -> u64
 /// Returns the sum modulo 2^64 of all keys and all values.
 ///
 /// # Requires
-/// The archive is valid: `access_index_u32` returned more than 0.
+///
+/// - The archive is valid: `access_index_u32` returned more than 0.
 pub fn walk_index_u32(archive: &[u8]) -> u64
     requires { IsIndexArchive archive.now }
     ensures { result ≡ index_walk_total archive.now }

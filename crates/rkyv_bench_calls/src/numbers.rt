@@ -42,7 +42,8 @@ pub fn access_u32(archive: &[u8]) -> usize
 /// Returns the sum modulo 2^64 of the values of the keys, with 2^32 for each that isn't found.
 ///
 /// # Requires
-/// The archive is valid: `access_u32` returned more than 0.
+///
+/// - The archive is valid: `access_u32` returned more than 0.
 pub fn lookup_u32(archive: &[u8], keys: &[u32]) -> u64
     requires { IsArchive number_shape archive.now }
     ensures { result ≡ total (number_looked_up archive.now) keys.now }
@@ -63,7 +64,8 @@ pub fn lookup_u32_by_finder(archive: &[u8], keys: &[u32]) -> u64
 /// Returns the sum modulo 2^64 of all keys and all values.
 ///
 /// # Requires
-/// The archive is valid: `access_u32` returned more than 0.
+///
+/// - The archive is valid: `access_u32` returned more than 0.
 pub fn walk_u32(archive: &[u8]) -> u64
     requires { IsArchive number_shape archive.now }
     ensures { result ≡ walk_total number_shape number_weight archive.now }

@@ -51,7 +51,8 @@ pub fn build_std_u32(alloc: Global, keys: &[u32], values: &[u32], out: &mut [u8]
 /// Deserializes a map of std, drops it, and returns its length, or 0 if an allocation fails.
 ///
 /// # Requires
-/// The archive is valid: `access_u32` returned more than 0.
+///
+/// - The archive is valid: `access_u32` returned more than 0.
 pub fn read_std_u32(alloc: Global, archive: &[u8]) -> usize
     requires { IsArchive number_shape archive.now }
     ensures { IsReadBack archive.now result }

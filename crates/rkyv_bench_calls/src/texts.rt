@@ -18,7 +18,8 @@ use std::alloc::Global;
 /// Returns the sum modulo 2^64 of the hashes of the texts.
 ///
 /// # Requires
-/// Each text is inside `bytes` and is UTF-8, and `ends` doesn't decrease.
+///
+/// - Each text is inside `bytes` and is UTF-8, and `ends` doesn't decrease.
 pub fn hash_text(bytes: &[u8], ends: &[u32]) -> u64
     requires { AreTexts bytes.now ends.now }
     ensures { result ≡ total text_hash (texts bytes.now ends.now) }
@@ -34,7 +35,8 @@ pub fn hash_text(bytes: &[u8], ends: &[u32]) -> u64
 /// Returns 0, with `out` unchanged, if the write fails or the archive doesn't fit.
 ///
 /// # Requires
-/// Each text is inside `bytes` and is UTF-8, and `ends` doesn't decrease.
+///
+/// - Each text is inside `bytes` and is UTF-8, and `ends` doesn't decrease.
 pub fn build_text(
     alloc: Global,
     bytes: &[u8],
@@ -63,8 +65,9 @@ pub fn access_text(archive: &[u8]) -> usize
 /// Returns the sum modulo 2^64 of the values of the texts, with 2^32 for each that isn't found.
 ///
 /// # Requires
-/// The archive is valid: `access_text` returned more than 0.
-/// Each text is inside `bytes` and is UTF-8, and `ends` doesn't decrease.
+///
+/// - The archive is valid: `access_text` returned more than 0.
+/// - Each text is inside `bytes` and is UTF-8, and `ends` doesn't decrease.
 pub fn lookup_text(archive: &[u8], bytes: &[u8], ends: &[u32]) -> u64
     requires archive { IsArchive short_text archive.now }
     requires texts { AreTexts bytes.now ends.now }
@@ -87,7 +90,8 @@ pub fn lookup_text_by_finder(archive: &[u8], bytes: &[u8], ends: &[u32]) -> u64
 /// Returns the sum modulo 2^64 of the lengths of all keys, in bytes, and of all values.
 ///
 /// # Requires
-/// The archive is valid: `access_text` returned more than 0.
+///
+/// - The archive is valid: `access_text` returned more than 0.
 pub fn walk_text(archive: &[u8]) -> u64
     requires { IsArchive short_text archive.now }
     ensures { result ≡ walk_total short_text text_weight archive.now }

@@ -18,6 +18,7 @@ use std::alloc::Global;
 /// Validates the archive of a map of numbers.
 ///
 /// # Errors
+///
 /// - 16 to 23: the first validation error.
 #[unsafe(no_mangle)]
 pub extern "C" fn rkyv_c_open_numbers(archive: &[u8], long_values: bool, wide: bool) -> u32
@@ -30,7 +31,8 @@ pub extern "C" fn rkyv_c_open_numbers(archive: &[u8], long_values: bool, wide: b
 /// Returns the number of pairs of the map.
 ///
 /// # Requires
-/// The archive is valid: `rkyv_c_open_numbers` returned 0.
+///
+/// - The archive is valid: `rkyv_c_open_numbers` returned 0.
 #[unsafe(no_mangle)]
 pub extern "C" fn rkyv_c_count_numbers(archive: &[u8], long_values: bool, wide: bool) -> usize
     requires { IsNumberArchive long_values wide archive.now }
@@ -42,10 +44,12 @@ pub extern "C" fn rkyv_c_count_numbers(archive: &[u8], long_values: bool, wide: 
 /// Looks up a key, and stores its value in `value`.
 ///
 /// # Errors
-/// - 1 if the lookup doesn't find the key; `value` is unchanged then.
+///
+/// - 1: the lookup doesn't find the key; `value` is unchanged then.
 ///
 /// # Requires
-/// The archive is valid: `rkyv_c_open_numbers` returned 0.
+///
+/// - The archive is valid: `rkyv_c_open_numbers` returned 0.
 #[unsafe(no_mangle)]
 pub extern "C" fn rkyv_c_get_number(
     archive: &[u8],
@@ -64,13 +68,15 @@ pub extern "C" fn rkyv_c_get_number(
 /// Looks up a key, and overwrites its value in place. The archive stays valid.
 ///
 /// # Errors
-/// - 3 if the values of the map have 32 bits and the new one has more.
-/// - 1 if the lookup doesn't find the key.
+///
+/// - 3: the values of the map have 32 bits and the new one has more.
+/// - 1: the lookup doesn't find the key.
 ///
 /// After an error no byte is changed.
 ///
 /// # Requires
-/// The archive is valid: `rkyv_c_open_numbers` returned 0.
+///
+/// - The archive is valid: `rkyv_c_open_numbers` returned 0.
 #[unsafe(no_mangle)]
 pub extern "C" fn rkyv_c_set_number(
     archive: &mut [u8],
@@ -90,10 +96,12 @@ pub extern "C" fn rkyv_c_set_number(
 /// Stores the next pair, in bucket order, in `pair`.
 ///
 /// # Errors
-/// - 2 if no pair remains; `pair` is unchanged then.
+///
+/// - 2: no pair remains; `pair` is unchanged then.
 ///
 /// # Requires
-/// The archive is valid: `rkyv_c_open_numbers` returned 0.
+///
+/// - The archive is valid: `rkyv_c_open_numbers` returned 0.
 #[unsafe(no_mangle)]
 pub extern "C" fn rkyv_c_next_number(
     archive: &[u8],
@@ -113,8 +121,9 @@ pub extern "C" fn rkyv_c_next_number(
 /// `rattle_realloc`, which the caller frees.
 ///
 /// # Errors
-/// - 12 if an allocation fails.
-/// - 3 if a value has more bits than the values of the map.
+///
+/// - 12: an allocation fails.
+/// - 3: a value has more bits than the values of the map.
 /// - 23 to 29: the error of the write.
 ///
 /// After an error `built` is unchanged.

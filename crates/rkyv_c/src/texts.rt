@@ -19,6 +19,7 @@ use std::alloc::Global;
 /// Validates the archive of a map of texts.
 ///
 /// # Errors
+///
 /// - 16 to 23: the first validation error.
 #[unsafe(no_mangle)]
 pub extern "C" fn rkyv_c_open_texts(archive: &[u8], long_values: bool, wide: bool) -> u32
@@ -31,7 +32,8 @@ pub extern "C" fn rkyv_c_open_texts(archive: &[u8], long_values: bool, wide: boo
 /// Returns the number of pairs of the map.
 ///
 /// # Requires
-/// The archive is valid: `rkyv_c_open_texts` returned 0.
+///
+/// - The archive is valid: `rkyv_c_open_texts` returned 0.
 #[unsafe(no_mangle)]
 pub extern "C" fn rkyv_c_count_texts(archive: &[u8], long_values: bool, wide: bool) -> usize
     requires { IsTextArchive long_values wide archive.now }
@@ -43,13 +45,15 @@ pub extern "C" fn rkyv_c_count_texts(archive: &[u8], long_values: bool, wide: bo
 /// Looks up a key, and stores its value in `value`.
 ///
 /// # Errors
-/// - 4 if the bytes of the key aren't UTF-8.
-/// - 1 if the lookup doesn't find the key.
+///
+/// - 4: the bytes of the key aren't UTF-8.
+/// - 1: the lookup doesn't find the key.
 ///
 /// After an error `value` is unchanged.
 ///
 /// # Requires
-/// The archive is valid: `rkyv_c_open_texts` returned 0.
+///
+/// - The archive is valid: `rkyv_c_open_texts` returned 0.
 #[unsafe(no_mangle)]
 pub extern "C" fn rkyv_c_get_text(
     archive: &[u8],
@@ -69,14 +73,16 @@ pub extern "C" fn rkyv_c_get_text(
 /// Looks up a key, and overwrites its value in place. The archive stays valid.
 ///
 /// # Errors
-/// - 4 if the bytes of the key aren't UTF-8.
-/// - 3 if the values of the map have 32 bits and the new one has more.
-/// - 1 if the lookup doesn't find the key.
+///
+/// - 4: the bytes of the key aren't UTF-8.
+/// - 3: the values of the map have 32 bits and the new one has more.
+/// - 1: the lookup doesn't find the key.
 ///
 /// After an error no byte is changed.
 ///
 /// # Requires
-/// The archive is valid: `rkyv_c_open_texts` returned 0.
+///
+/// - The archive is valid: `rkyv_c_open_texts` returned 0.
 #[unsafe(no_mangle)]
 pub extern "C" fn rkyv_c_set_text(
     archive: &mut [u8],
@@ -97,10 +103,12 @@ pub extern "C" fn rkyv_c_set_text(
 /// Stores the next pair, in bucket order, in `pair`, with a key borrowed from the archive.
 ///
 /// # Errors
-/// - 2 if no pair remains; `pair` is unchanged then.
+///
+/// - 2: no pair remains; `pair` is unchanged then.
 ///
 /// # Requires
-/// The archive is valid: `rkyv_c_open_texts` returned 0.
+///
+/// - The archive is valid: `rkyv_c_open_texts` returned 0.
 #[unsafe(no_mangle)]
 pub extern "C" fn rkyv_c_next_text<'a>(
     archive: &'a [u8],
@@ -128,9 +136,10 @@ pub extern "C" fn rkyv_c_is_text(bytes: &[u8]) -> bool
 /// `rattle_realloc`, which the caller frees.
 ///
 /// # Errors
-/// - 12 if an allocation fails.
-/// - 4 if a key isn't UTF-8.
-/// - 3 if a value has more bits than the values of the map.
+///
+/// - 12: an allocation fails.
+/// - 4: a key isn't UTF-8.
+/// - 3: a value has more bits than the values of the map.
 /// - 23 to 29: the error of the write, which is 27 if a key is too long.
 ///
 /// After an error `built` is unchanged.

@@ -62,7 +62,8 @@ pub(crate) fn number_in<V: Value>(archive: &[u8], pos: u64) -> u64
 /// Looks up a key in a valid archive, and stores its value in `value`.
 ///
 /// # Errors
-/// - `NOT_FOUND` if the lookup doesn't find the key; `value` is unchanged then.
+///
+/// - `NOT_FOUND`: the lookup doesn't find the key; `value` is unchanged then.
 pub(crate) fn get_in<A: NativeKey<K>, K: KeyElement + StandsFor<A>, V: Value, W: Width>(
     archive: &[u8],
     key: &A,
@@ -97,8 +98,9 @@ fn status_of(found: bool) -> u32
 /// Looks up a key in a valid archive, and overwrites its value in place.
 ///
 /// # Errors
-/// - `VALUE_TOO_LARGE` if the value has more bits than the values of the map.
-/// - `NOT_FOUND` if the lookup doesn't find the key.
+///
+/// - `VALUE_TOO_LARGE`: the value has more bits than the values of the map.
+/// - `NOT_FOUND`: the lookup doesn't find the key.
 ///
 /// After an error no byte is changed.
 pub(crate) fn set_in<A: NativeKey<K>, K: KeyElement + StandsFor<A>, V: Value, W: Width>(

@@ -80,9 +80,10 @@ fn archive_by(alloc: Global, items: &[NumberItem], form: Form) -> Result<Vec<u8>
 /// The archive is a map under the load factor 7 / 8.
 ///
 /// # Errors
-/// - `NO_MEMORY` if an allocation fails.
-/// - `VALUE_TOO_LARGE` if a value has more bits than the values of the map.
-/// - A status from 23 on if the write fails.
+///
+/// - `NO_MEMORY`: an allocation fails.
+/// - `VALUE_TOO_LARGE`: a value has more bits than the values of the map.
+/// - A status from 23 on: the write fails.
 ///
 /// After an error `built` is unchanged.
 pub fn build_numbers(alloc: Global, items: &[NumberItem], form: Form, built: &mut Built<'_>) -> u32

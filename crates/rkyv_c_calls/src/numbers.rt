@@ -37,6 +37,7 @@ pub struct NumberPair {
 /// Validates the archive of a map of numbers.
 ///
 /// # Errors
+///
 /// - The status of the first validation error: 16 to 23.
 pub fn open_numbers(archive: &[u8], form: Form) -> u32
     ensures told { Opens (limit_of form.wide) (number_map form.long_values form.wide) archive.now
@@ -54,7 +55,8 @@ pub fn open_numbers(archive: &[u8], form: Form) -> u32
 /// Returns the number of pairs of the map.
 ///
 /// # Requires
-/// The archive is valid: `open_numbers` returned `DONE`.
+///
+/// - The archive is valid: `open_numbers` returned `DONE`.
 pub fn count_numbers(archive: &[u8], form: Form) -> usize
     requires { IsNumberArchive form.long_values form.wide archive.now }
     ensures { Counts (word_of form.wide) number_key (value_shape form.long_values) archive.now
@@ -71,10 +73,12 @@ pub fn count_numbers(archive: &[u8], form: Form) -> usize
 /// Looks up a key, and stores its value in `value`.
 ///
 /// # Errors
-/// - `NOT_FOUND` if the lookup doesn't find the key; `value` is unchanged then.
+///
+/// - `NOT_FOUND`: the lookup doesn't find the key; `value` is unchanged then.
 ///
 /// # Requires
-/// The archive is valid: `open_numbers` returned `DONE`.
+///
+/// - The archive is valid: `open_numbers` returned `DONE`.
 pub fn get_number(archive: &[u8], form: Form, key: u32, value: &mut u64) -> u32
     requires { IsNumberArchive form.long_values form.wide archive.now }
     ensures gives { GivesNumber form.long_values form.wide archive.now key value.old result
@@ -93,13 +97,15 @@ pub fn get_number(archive: &[u8], form: Form, key: u32, value: &mut u64) -> u32
 /// Looks up a key, and overwrites its value in place. The archive stays valid.
 ///
 /// # Errors
-/// - `VALUE_TOO_LARGE` if the values of the map have 32 bits and the new one has more.
-/// - `NOT_FOUND` if the lookup doesn't find the key.
+///
+/// - `VALUE_TOO_LARGE`: the values of the map have 32 bits and the new one has more.
+/// - `NOT_FOUND`: the lookup doesn't find the key.
 ///
 /// After an error no byte is changed.
 ///
 /// # Requires
-/// The archive is valid: `open_numbers` returned `DONE`.
+///
+/// - The archive is valid: `open_numbers` returned `DONE`.
 pub fn set_number(archive: &mut [u8], form: Form, key: u32, value: u64) -> u32
     requires { IsNumberArchive form.long_values form.wide archive.old }
     ensures kept { IsNumberArchive form.long_values form.wide archive.new }
@@ -147,10 +153,12 @@ fn next_in<V: Value, W: Width>(archive: &[u8], pair: &mut NumberPair) -> u32
 /// Stores the next pair, in bucket order, in `pair`.
 ///
 /// # Errors
-/// - `END` if no pair remains; `pair` is unchanged then.
+///
+/// - `END`: no pair remains; `pair` is unchanged then.
 ///
 /// # Requires
-/// The archive is valid: `open_numbers` returned `DONE`.
+///
+/// - The archive is valid: `open_numbers` returned `DONE`.
 pub fn next_number(archive: &[u8], form: Form, pair: &mut NumberPair) -> u32
     requires { IsNumberArchive form.long_values form.wide archive.now }
     ensures { StepsNumbers form.long_values form.wide archive.now pair.old result pair.new }

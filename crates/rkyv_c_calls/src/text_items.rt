@@ -85,10 +85,11 @@ fn archive_by(alloc: Global, items: &[TextItem<'_>], form: Form) -> Result<Vec<u
 /// The archive is a map under the load factor 7 / 8.
 ///
 /// # Errors
-/// - `NO_MEMORY` if an allocation fails.
-/// - `NOT_TEXT` if a key isn't UTF-8.
-/// - `VALUE_TOO_LARGE` if a value has more bits than the values of the map.
-/// - A status from 23 on if the write fails.
+///
+/// - `NO_MEMORY`: an allocation fails.
+/// - `NOT_TEXT`: a key isn't UTF-8.
+/// - `VALUE_TOO_LARGE`: a value has more bits than the values of the map.
+/// - A status from 23 on: the write fails.
 ///
 /// After an error `built` is unchanged.
 pub fn build_texts(alloc: Global, items: &[TextItem<'_>], form: Form, built: &mut Built<'_>) -> u32

@@ -60,6 +60,7 @@ pub fn is_text(bytes: &[u8]) -> bool
 /// Validates the archive of a map of texts.
 ///
 /// # Errors
+///
 /// - The status of the first validation error: 16 to 23.
 pub fn open_texts(archive: &[u8], form: Form) -> u32
     ensures told { Opens (limit_of form.wide) (text_map form.long_values form.wide) archive.now
@@ -77,7 +78,8 @@ pub fn open_texts(archive: &[u8], form: Form) -> u32
 /// Returns the number of pairs of the map.
 ///
 /// # Requires
-/// The archive is valid: `open_texts` returned `DONE`.
+///
+/// - The archive is valid: `open_texts` returned `DONE`.
 pub fn count_texts(archive: &[u8], form: Form) -> usize
     requires { IsTextArchive form.long_values form.wide archive.now }
     ensures { Counts (word_of form.wide) (text_key form.wide) (value_shape form.long_values)
@@ -110,13 +112,15 @@ fn get_of(archive: &[u8], form: Form, key: &str, value: &mut u64) -> u32
 /// Looks up a key, and stores its value in `value`.
 ///
 /// # Errors
-/// - `NOT_TEXT` if the bytes of the key aren't UTF-8.
-/// - `NOT_FOUND` if the lookup doesn't find the key.
+///
+/// - `NOT_TEXT`: the bytes of the key aren't UTF-8.
+/// - `NOT_FOUND`: the lookup doesn't find the key.
 ///
 /// After an error `value` is unchanged.
 ///
 /// # Requires
-/// The archive is valid: `open_texts` returned `DONE`.
+///
+/// - The archive is valid: `open_texts` returned `DONE`.
 pub fn get_text(archive: &[u8], form: Form, key: &[u8], value: &mut u64) -> u32
     requires { IsTextArchive form.long_values form.wide archive.now }
     ensures gives { GivesText form.long_values form.wide archive.now key.now value.old result
@@ -150,14 +154,16 @@ fn set_of(archive: &mut [u8], form: Form, key: &str, value: u64) -> u32
 /// Looks up a key, and overwrites its value in place. The archive stays valid.
 ///
 /// # Errors
-/// - `NOT_TEXT` if the bytes of the key aren't UTF-8.
-/// - `VALUE_TOO_LARGE` if the values of the map have 32 bits and the new one has more.
-/// - `NOT_FOUND` if the lookup doesn't find the key.
+///
+/// - `NOT_TEXT`: the bytes of the key aren't UTF-8.
+/// - `VALUE_TOO_LARGE`: the values of the map have 32 bits and the new one has more.
+/// - `NOT_FOUND`: the lookup doesn't find the key.
 ///
 /// After an error no byte is changed.
 ///
 /// # Requires
-/// The archive is valid: `open_texts` returned `DONE`.
+///
+/// - The archive is valid: `open_texts` returned `DONE`.
 pub fn set_text(archive: &mut [u8], form: Form, key: &[u8], value: u64) -> u32
     requires { IsTextArchive form.long_values form.wide archive.old }
     ensures kept { IsTextArchive form.long_values form.wide archive.new }
@@ -204,10 +210,12 @@ fn next_in<'a, V: Value, W: Width>(archive: &'a [u8], pair: &mut TextPair<'a>) -
 /// Stores the next pair, in bucket order, in `pair`.
 ///
 /// # Errors
-/// - `END` if no pair remains; `pair` is unchanged then.
+///
+/// - `END`: no pair remains; `pair` is unchanged then.
 ///
 /// # Requires
-/// The archive is valid: `open_texts` returned `DONE`.
+///
+/// - The archive is valid: `open_texts` returned `DONE`.
 pub fn next_text<'a>(archive: &'a [u8], form: Form, pair: &mut TextPair<'a>) -> u32
     requires { IsTextArchive form.long_values form.wide archive.now }
     ensures { StepsTexts form.long_values form.wide archive.now pair.old result pair.new }

@@ -175,8 +175,9 @@ where
 /// Validates an archive of the form, and returns the number of its pairs.
 ///
 /// # Errors
-/// - `OutOfRange` if the archive is shorter than a root or longer than the limit of its width.
-/// - `Unaligned` if the root isn't aligned.
+///
+/// - `OutOfRange`: the archive is shorter than a root or longer than the limit of its width.
+/// - `Unaligned`: the root isn't aligned.
 /// - The first error of the map at the root.
 pub fn check(form: Form, bytes: &[u8]) -> Result<usize, VerifyError>
     ensures { MatchResult result
@@ -196,10 +197,12 @@ pub fn check(form: Form, bytes: &[u8]) -> Result<usize, VerifyError>
 /// A key of the other kind is never found.
 ///
 /// # Errors
-/// - `AllocError` if `out` fails to allocate.
+///
+/// - `AllocError`: `out` fails to allocate.
 ///
 /// # Requires
-/// The bytes are a valid archive of the form.
+///
+/// - The bytes are a valid archive of the form.
 pub fn push_value(
     form: Form,
     bytes: &[u8],
@@ -230,10 +233,12 @@ pub fn push_value(
 /// The line of a pair is its key, a space and its value.
 ///
 /// # Errors
-/// - `AllocError` if `out` fails to allocate.
+///
+/// - `AllocError`: `out` fails to allocate.
 ///
 /// # Requires
-/// The bytes are a valid archive of the form.
+///
+/// - The bytes are a valid archive of the form.
 pub fn push_pairs(form: Form, bytes: &[u8], out: &mut String) -> Result<(), AllocError>
     requires { IsArchive form bytes.now }
     ensures { Pushes result out.old out.new (listing form bytes.now) }
@@ -249,7 +254,8 @@ pub fn push_pairs(form: Form, bytes: &[u8], out: &mut String) -> Result<(), Allo
 /// Returns the number of keys that a lookup doesn't find in their own bucket.
 ///
 /// # Requires
-/// The bytes are a valid archive of the form.
+///
+/// - The bytes are a valid archive of the form.
 pub fn misplaced(form: Form, bytes: &[u8]) -> usize
     requires { IsArchive form bytes.now }
     ensures { result ≡ misplaced_count form bytes.now }
@@ -265,12 +271,13 @@ pub fn misplaced(form: Form, bytes: &[u8]) -> usize
 /// Writes the archive of the pairs, in insertion order, as a map under the load factor.
 ///
 /// # Errors
-/// - `Memory` if the scratch space of the root fails to allocate.
+///
+/// - `Memory`: the scratch space of the root fails to allocate.
 /// - The errors of a map's `serialize_from_iter`, in its order.
-/// - `TextTooLong` if a text is too long for the width.
-/// - `PositionTooLarge` if the archive would be longer than the limit of the width.
-/// - `Writer` if the vector of the archive fails to allocate.
-/// - `DistanceTooLarge` if a distance doesn't fit the width.
+/// - `TextTooLong`: a text is too long for the width.
+/// - `PositionTooLarge`: the archive would be longer than the limit of the width.
+/// - `Writer`: the vector of the archive fails to allocate.
+/// - `DistanceTooLarge`: a distance doesn't fit the width.
 ///
 /// The last four are checked for each part, as it is written.
 pub fn build(

@@ -219,10 +219,12 @@ impl<'a> Dict<'a> {
     /// Executes a line, and appends its output.
     ///
     /// # Errors
-    /// - `AllocError` if an allocation fails; the state is unspecified then.
+    ///
+    /// - `AllocError`: an allocation fails; the state is unspecified then.
     ///
     /// # Requires
-    /// The archive of the state, if any, is valid (`IsSound`).
+    ///
+    /// - The archive of the state, if any, is valid (`IsSound`).
     pub fn answer(
         &mut self,
         alloc: Global,

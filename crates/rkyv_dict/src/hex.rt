@@ -18,7 +18,8 @@ fn push_byte(text: &mut String, byte: u8) -> Result<(), AllocError>
 /// Appends each byte as two lower case digits.
 ///
 /// # Errors
-/// - `AllocError` if `text` fails to allocate.
+///
+/// - `AllocError`: `text` fails to allocate.
 pub fn push_hex(text: &mut String, bytes: &[u8]) -> Result<(), AllocError>
     ensures { OnOk result (string_bytes text.new ≡ string_bytes text.old ++ hex_of bytes.now) }
 {
@@ -55,7 +56,8 @@ fn byte_of(high: u8, low: u8) -> Option<u8>
 /// Returns the bytes of pairs of digits of either case, or `None` if the input isn't such pairs.
 ///
 /// # Errors
-/// - `AllocError` if the vector of the bytes fails to allocate.
+///
+/// - `AllocError`: the vector of the bytes fails to allocate.
 pub fn read_hex(alloc: Global, digits: &[u8]) -> Result<Option<Vec<u8>>, AllocError>
     ensures { IfOk result (λ bytes. option_map (λ v. v.items) bytes ≡ bytes_said digits.now) }
 {

@@ -41,7 +41,8 @@ pub fn count_of(list: &PairList<'_>) -> usize
 /// Appends a pair of numbers to a list of numbers, and leaves a list of texts unchanged.
 ///
 /// # Errors
-/// - `AllocError` if the list fails to allocate; its pairs are unchanged then.
+///
+/// - `AllocError`: the list fails to allocate; its pairs are unchanged then.
 pub fn put_numbers(list: &mut PairList<'_>, key: u32, value: u32) -> Result<(), AllocError>
     ensures added { OnOk result
         (pairs_seen list.new ≡ with_numbers (pairs_seen list.old) key value) }
@@ -61,7 +62,8 @@ pub fn put_numbers(list: &mut PairList<'_>, key: u32, value: u32) -> Result<(), 
 /// Appends a pair of texts to a list of texts, and leaves a list of numbers unchanged.
 ///
 /// # Errors
-/// - `AllocError` if the list fails to allocate; its pairs are unchanged then.
+///
+/// - `AllocError`: the list fails to allocate; its pairs are unchanged then.
 pub fn put_texts<'a>(
     list: &mut PairList<'a>,
     key: &'a str,

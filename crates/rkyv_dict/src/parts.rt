@@ -21,7 +21,12 @@ pub trait Part: KeyElement {
     /// Appends the text of the part.
     ///
     /// # Errors
-    /// - `AllocError` if `out` fails to allocate.
+    ///
+    /// - `AllocError`: `out` fails to allocate.
+    ///
+    /// # Requires
+    ///
+    /// - A valid part is at the position of the view.
     fn push(view: View<'_, Self>, out: &mut String) -> Result<(), AllocError>
         requires { IsView Self.shape view }
         ensures { Pushes result out.old out.new (at_view text view.entry) };

@@ -175,9 +175,10 @@ fn write_answers<W: Write>(alloc: Global, script: &[u8], writer: &mut W) -> Resu
 /// A line ends with LF, which the last line may lack. Empty lines are skipped.
 ///
 /// # Errors
-/// - `Read` if a read fails; nothing is written then.
-/// - `Memory` if an allocation fails.
-/// - `Write` if a write fails or writes no byte.
+///
+/// - `Read`: a read fails; nothing is written then.
+/// - `Memory`: an allocation fails.
+/// - `Write`: a write fails or writes no byte.
 ///
 /// After `Memory` and `Write`, a prefix of the output of the first lines is written.
 pub fn run<R: Read, W: Write>(alloc: Global, reader: &mut R, writer: &mut W) -> Result<(), RunError>

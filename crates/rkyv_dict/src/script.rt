@@ -166,7 +166,8 @@ fn by_verb<'a>(
 /// - Bytes are pairs of hexadecimal digits of either case.
 ///
 /// # Errors
-/// - `AllocError` if the bytes of `check` fail to allocate.
+///
+/// - `AllocError`: the bytes of `check` fail to allocate.
 #[tactic(auto, unfolding(crate::specs::Script::request_of), using(crate::proofs::Texts::utf8_yes, crate::proofs::Texts::utf8_no))]
 pub fn read_command(
     alloc: Global,

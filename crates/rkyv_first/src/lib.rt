@@ -26,7 +26,8 @@ use std::alloc::Global;
 /// Writes the archive of the symbols, each a name with its address.
 ///
 /// # Errors
-/// - The errors of `to_bytes` for a map, such as `Memory` if an allocation fails.
+///
+/// The same as for `to_bytes` of a map.
 pub fn write(alloc: Global, symbols: &[(&str, u64)]) -> Result<Vec<u8>, WriteError<NoMemory>>
     ensures { TextMapResult (unsigned w64) symbols.now result }
 {
@@ -40,7 +41,8 @@ pub fn write(alloc: Global, symbols: &[(&str, u64)]) -> Result<Vec<u8>, WriteErr
 /// It is `None` if the list has no such symbol.
 ///
 /// # Errors
-/// - The errors of `access`, if the bytes are no valid archive of such a map.
+///
+/// The same as for `access`.
 pub fn look_up(table: &[u8], name: &str) -> Result<Option<u64>, VerifyError>
     ensures opened { OpensTextMap (unsigned w64) table.now result }
     ensures found { (symbols : TextPairs ℕ) → IsTextMap (unsigned w64) table.now symbols

@@ -48,8 +48,9 @@ pub type Fields<'a> = MapPairs<'a, &'a str, u32>;
 /// Writes the message of the parts, each a name with its fields, in insertion order.
 ///
 /// # Errors
-/// - The errors of `to_bytes` for a map, such as `Memory` if an allocation fails.
-/// - `InvalidLoadFactor` if the load factor of the fields of a part isn't in the range (0, 1].
+///
+/// - The errors of `to_bytes` of a map.
+/// - `InvalidLoadFactor`: the load factor of the fields of a part isn't in the range (0, 1].
 pub fn archive(alloc: Global, parts: &[(&str, Fields<'_>)]) -> Result<Vec<u8>, WriteError<NoMemory>>
     ensures whole { MatchResult result
         (λ message. IsMessageOf parts.now message.items)
@@ -107,7 +108,8 @@ fn pos_of_part(message: &[u8], part: &str) -> Result<Option<u64>, VerifyError>
 /// It is `None` if a lookup finds none.
 ///
 /// # Errors
-/// - The errors of `access`, if the bytes are no valid message.
+///
+/// The same as for `access`.
 pub fn number_of(message: &[u8], part: &str, field: &str) -> Result<Option<u32>, VerifyError>
     ensures checked { MatchResult result (λ _. IsMessage message.now) (IsRefused message.now) }
     ensures accepts { IsMessage message.now → IsOk result }
@@ -130,7 +132,8 @@ pub fn number_of(message: &[u8], part: &str, field: &str) -> Result<Option<u32>,
 /// Otherwise it returns `true`, and changes only the bytes of the number. The message stays valid.
 ///
 /// # Errors
-/// - The errors of `access`, if the bytes are no valid message; no byte is changed then.
+///
+/// The same as for `access`; no byte is changed then.
 pub fn set_number(
     message: &mut [u8],
     part: &str,

@@ -76,6 +76,10 @@ impl<S: Writer, W: Width> Serialize<S, W> for Spot {
 }
 
 /// Returns the first coordinate of a spot.
+///
+/// # Requires
+///
+/// - A valid spot is at the position of the view.
 pub fn x(spot: View<'_, ArchivedSpot>) -> i32
     requires { IsView spot_shape spot }
 {
@@ -83,6 +87,10 @@ pub fn x(spot: View<'_, ArchivedSpot>) -> i32
 }
 
 /// Returns the spot.
+///
+/// # Requires
+///
+/// - A valid spot is at the position of the view.
 pub fn spot_of(spot: View<'_, ArchivedSpot>) -> Spot
     requires { IsView spot_shape spot }
     ensures { StandsAt SpotStands spot.entry result }

@@ -56,7 +56,8 @@ fn push_symbol<'a>(line: &'a str, symbols: &mut Vec<(&'a str, u64)>) -> Result<(
 /// All other lines are skipped, as those of undefined symbols.
 ///
 /// # Errors
-/// - `AllocError` if the vector fails to allocate.
+///
+/// - `AllocError`: the vector fails to allocate.
 pub fn parse(alloc: Global, text: &str) -> Result<Vec<(&str, u64)>, AllocError>
     ensures { IfOk result (λ symbols. map seen symbols.items ≡ symbols_of text.now) }
 {

@@ -30,7 +30,8 @@ use std::alloc::Global;
 /// Writes the table of the symbols, in insertion order.
 ///
 /// # Errors
-/// - The errors of `to_bytes` for a map, such as `Memory` if an allocation fails.
+///
+/// The same as for `to_bytes` of a map.
 pub fn archive(alloc: Global, symbols: &[(&str, u64)]) -> Result<Vec<u8>, WriteError<NoMemory>>
     ensures whole { MatchResult result
         (λ table. IsTableOf symbols.now table.items)
@@ -45,7 +46,8 @@ pub fn archive(alloc: Global, symbols: &[(&str, u64)]) -> Result<Vec<u8>, WriteE
 /// Validates a table.
 ///
 /// # Errors
-/// - The errors of `access`, if the bytes are no valid table.
+///
+/// The same as for `access`.
 pub fn check(table: &[u8]) -> Result<(), VerifyError>
     ensures checked { MatchResult result (λ _. IsTable table.now) (IsRefused table.now) }
     ensures accepts { IsTable table.now → IsOk result }
@@ -62,7 +64,8 @@ pub fn check(table: &[u8]) -> Result<(), VerifyError>
 /// It is `None` if the list has no such symbol.
 ///
 /// # Requires
-/// The bytes are a valid table: `check` returns `Ok` for them.
+///
+/// - The bytes are a valid table: `check` returns `Ok` for them.
 pub fn address_in(table: &[u8], name: &str) -> Option<u64>
     requires { IsTable table.now }
     ensures found { result ≡ address_found name.now table.now }
@@ -80,7 +83,8 @@ pub fn address_in(table: &[u8], name: &str) -> Option<u64>
 /// Validates a table, and returns the address that `address_in` returns.
 ///
 /// # Errors
-/// - The errors of `access`, if the bytes are no valid table.
+///
+/// The same as for `access`.
 pub fn address_of(table: &[u8], name: &str) -> Result<Option<u64>, VerifyError>
     ensures checked { MatchResult result
         (λ found. IsTable table.now × (found ≡ address_found name.now table.now))

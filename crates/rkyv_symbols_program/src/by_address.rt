@@ -55,7 +55,8 @@ fn ascending<'a>(
 /// Names of one address are in the order of the list.
 ///
 /// # Errors
-/// - `Memory` if the sorted list fails to allocate.
+///
+/// - `Memory`: the sorted list fails to allocate.
 /// - The errors of `to_bytes` for an index map.
 pub fn archive(alloc: Global, symbols: &[(&str, u64)]) -> Result<Vec<u8>, WriteError<NoMemory>>
     ensures { IndexResult ⟦<Index as Element>⟧.shape ⟦<Index as StandsFor<Row<'static>>>⟧.stands
@@ -74,7 +75,8 @@ pub fn archive(alloc: Global, symbols: &[(&str, u64)]) -> Result<Vec<u8>, WriteE
 /// Validates an index, and returns a view of its index map.
 ///
 /// # Errors
-/// - The errors of `access`, if the bytes are no valid index.
+///
+/// The same as for `access`.
 pub fn open(index: &[u8]) -> Result<ArchivedIndexMap<'_, u64, Text>, VerifyError>
     ensures root { OpensIndex ⟦<Index as Element>⟧.shape index.entry result }
     ensures map { IfOk result (IsIndexMap w32 (scalar_shape (unsigned w64)) (text_shape w32)) }
@@ -89,7 +91,8 @@ pub fn open(index: &[u8]) -> Result<ArchivedIndexMap<'_, u64, Text>, VerifyError
 /// Returns the address and the name at index `place` of the map, or `None` from its length on.
 ///
 /// # Requires
-/// The map is one in a valid index, as `open` returns it.
+///
+/// - The map is one in a valid index, as `open` returns it.
 pub fn entry<'a>(map: ArchivedIndexMap<'a, u64, Text>, place: usize) -> Option<(u64, &'a str)>
     requires { IsIndexMap w32 (scalar_shape (unsigned w64)) (text_shape w32) map }
     ensures { MatchOption result (index_len w32 map.entry ≤ place) (IsEntryOf map.entry place) }

@@ -6,7 +6,8 @@ ghost use Rattle.std.specs.Prelude.{◌+◌, ◌≤◌, length};
 /// Returns `N` bytes: `front`, then bytes 0xff, then `back`.
 ///
 /// # Requires
-/// `N` is at least the length of both.
+///
+/// - `N` is at least the length of both.
 pub fn archive<const N: usize>(front: &[u8], back: &[u8]) -> [u8; N]
     requires { length front.now + length back.now ≤ N }
 {

@@ -65,6 +65,10 @@ impl Answers {
 }
 
 /// Counts the results for all archives that differ from this one in one byte.
+///
+/// # Requires
+///
+/// - `answer` is always callable.
 pub fn answers_to_changes<A: Fn(&[u8]) -> Result<bool, VerifyError>>(
     archive: &mut [u8],
     answer: A,
@@ -86,6 +90,10 @@ pub fn answers_to_changes<A: Fn(&[u8]) -> Result<bool, VerifyError>>(
 }
 
 /// Returns the number of archives that pass `is_answered`, of those with one byte inverted.
+///
+/// # Requires
+///
+/// - `is_answered` is always callable.
 pub fn answered_flips<A: Fn(&mut [u8]) -> bool>(archive: &mut [u8], is_answered: A) -> usize
     requires { A.IsAlwaysCallable is_answered }
 {
