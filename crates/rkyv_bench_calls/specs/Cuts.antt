@@ -18,7 +18,7 @@ abbrev pub AreTextsFrom : List ℕ → ℕ → List ℕ → Type 0
 AreTextsFrom bytes from [] = Unit {0}
 AreTextsFrom bytes from (end ∷ ends) = IsText bytes from end × AreTextsFrom bytes end ends
 
--- the texts of all bytes, from position 0 on
+-- the texts of `bytes` with these ends, the first from position 0 on
 abbrev pub texts : List ℕ → List ℕ → List (List ℕ)
 texts bytes ends = cut_from bytes 0 ends
 

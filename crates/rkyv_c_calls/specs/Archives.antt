@@ -24,7 +24,7 @@ abbrev pub by_form : {A : Type 0} → A → A → Bool → A
 by_form shorter longer false = shorter
 by_form shorter longer true = longer
 
--- the word of 32 bits, or of 64
+-- the word of 32 bits, or of 64 bits if the flag is `true`
 abbrev pub word_of : Bool → Width
 word_of = by_form w32 w64
 

@@ -14,7 +14,7 @@ archived_seen pairs stored = record {
       option_map (λ n. take_pairs n pairs) stored.handed;
 }
 
--- the state of a dictionary
+-- the state of a script that a dictionary has
 abbrev pub state_seen : Dict → State
 state_seen dict = record {
   bits = dict.bits;

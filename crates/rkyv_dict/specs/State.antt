@@ -63,6 +63,6 @@ pub record IsSoundIn (form : Form) (archived : Archived) : Type 0 where
   pub built : ForSome archived.built_of (λ pairs. (factor : ℕ × ℕ)
       × Holds form factor archived.bytes pairs)
 
--- the archive of `s`, if any, is sound in its form
+-- the archive of `s`, if any, is valid in its form; a built one represents its pairs
 unfoldable pub IsSound : State → Type 0
 IsSound s = ForSome s.archive (IsSoundIn (form_of s))

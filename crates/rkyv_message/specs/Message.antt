@@ -187,7 +187,7 @@ abbrev pub WritesIfFound : Option ℕ → ℕ → List ℕ → List ℕ → Bool
 WritesIfFound place number b c found = MatchOption place ((found ≡ false) × (c ≡ b))
     (λ q. (found ≡ true) × (c ≡ with_value (unsigned w32) b q number))
 
--- `c` is `b` with the number of the field overwritten, if lookups find one, as `found` states
+-- `c` is `b` with the number of the field overwritten if lookups find one; `found` is the result
 abbrev pub WritesNumber : List ℕ → List ℕ → ℕ → List ℕ → List ℕ → Bool → Type 0
 WritesNumber part field number b c found =
     WritesIfFound (number_found part field b) number b c found
@@ -209,7 +209,7 @@ abbrev pub with_number : List ℕ → List ℕ → ℕ → Parts → Parts
 with_number part field number parts =
     with_part part field number parts (first_value (is_named part) parts)
 
--- `found` states if the parts have the field, and `message` represents them with the new number
+-- `found` is `true` if the parts have the field; `message` represents them with the new number
 abbrev pub SetsNumber : List ℕ → List ℕ → ℕ → Parts → List ℕ → Bool → Type 0
 SetsNumber part field number parts message found =
     (found ≡ is_some (first_number part field parts))
