@@ -11,11 +11,12 @@ use rkyv_bench_calls::index_numbers::{
 };
 use std::alloc::Global;
 
-/// Archives an index map of the keys, each with the value at its place, in their order, under the
-/// load factor 7 / 8, into the front of `out`, and answers the archive's length.
+/// Archives an index map into the front of `out`, and returns the length of the archive.
 ///
-/// Answers 0 and leaves `out` as it was where the archive is refused, doesn't fit or wants memory.
-/// Of keys and values as many are paired as there are of both.
+/// Each key has the value at its index, in insertion order.
+/// Keys without a value, and values without a key, are left out. The load factor is 7 / 8.
+///
+/// Returns 0, with `out` unchanged, if the write fails or the archive doesn't fit.
 #[unsafe(no_mangle)]
 pub extern "C" fn rkyv_bench_build_index_u32(
     alloc: Global,
@@ -28,7 +29,7 @@ pub extern "C" fn rkyv_bench_build_index_u32(
     build_index_u32(alloc, keys, values, out)
 }
 
-/// The length of the archived index map and one more, or 0 where the bytes are no archive of one.
+/// Validates an archive, and returns the length of its index map plus 1, or 0 if it isn't valid.
 #[unsafe(no_mangle)]
 pub extern "C" fn rkyv_bench_access_index_u32(archive: &[u8]) -> usize
     ensures { IsIndexLengthAnd1 archive.now result }
@@ -36,9 +37,11 @@ pub extern "C" fn rkyv_bench_access_index_u32(archive: &[u8]) -> usize
     access_index_u32(archive)
 }
 
-/// The sum modulo 2^64 of the value of each key that is found, and of 2^32 for each other key.
+/// Returns the sum modulo 2^64 of the values of the keys, with 2^32 for each that isn't found.
 ///
-/// The archive must have been accepted: `rkyv_bench_access_index_u32` answered more than 0.
+/// # Requires
+///
+/// - The archive is valid: `rkyv_bench_access_index_u32` returned more than 0.
 #[unsafe(no_mangle)]
 pub extern "C" fn rkyv_bench_lookup_index_u32(archive: &[u8], keys: &[u32]) -> u64
     requires { IsIndexArchive archive.now }
@@ -58,9 +61,11 @@ pub extern "C" fn rkyv_bench_lookup_index_u32_by_finder(archive: &[u8], keys: &[
     lookup_index_u32_by_finder(archive, keys)
 }
 
-/// The sum modulo 2^64 of all keys and all values.
+/// Returns the sum modulo 2^64 of all keys and all values.
 ///
-/// The archive must have been accepted: `rkyv_bench_access_index_u32` answered more than 0.
+/// # Requires
+///
+/// - The archive is valid: `rkyv_bench_access_index_u32` returned more than 0.
 #[unsafe(no_mangle)]
 pub extern "C" fn rkyv_bench_walk_index_u32(archive: &[u8]) -> u64
     requires { IsIndexArchive archive.now }

@@ -1,9 +1,12 @@
-//! Hash maps of numbers and of texts, index maps of numbers and std's maps of numbers behind a C
-//! interface, to measure their speed.
+//! Hash maps and index maps of numbers, hash maps of texts, and maps of std, behind a C interface.
 //!
-//! A slice crosses as a pointer and then a length in elements. A parameter `alloc` takes no bytes:
-//! C passes nothing for it. Of texts that lie one behind the other in `bytes`, the one at `i` ends
-//! at `ends[i]`, and begins where the one in front of it ends, or at 0.
+//! The benchmarks call them to measure their speed.
+//!
+//! A slice is passed as a pointer, then a length in elements. A parameter `alloc` has no bytes: C
+//! passes nothing for it.
+//!
+//! Texts are adjacent in `bytes`. Text `i` ends at `ends[i]`, and begins at 0 or at the end of the
+//! text before it.
 #![tactic(auto)]
 
 mod index_numbers;

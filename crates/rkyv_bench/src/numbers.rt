@@ -11,7 +11,7 @@ use rkyv_bench_calls::numbers::{
 };
 use std::alloc::Global;
 
-/// The sum modulo 2^64 of the hashes of the keys.
+/// Returns the sum modulo 2^64 of the hashes of the keys.
 #[unsafe(no_mangle)]
 pub extern "C" fn rkyv_bench_hash_u32(keys: &[u32]) -> u64
     ensures { result ≡ total number_hash keys.now }
@@ -19,11 +19,12 @@ pub extern "C" fn rkyv_bench_hash_u32(keys: &[u32]) -> u64
     hash_u32(keys)
 }
 
-/// Archives a map of the keys, each with the value at its place, under the load factor 7 / 8, into
-/// the front of `out`, and answers the archive's length.
+/// Archives a map of the keys into the front of `out`, and returns the length of the archive.
 ///
-/// Answers 0 and leaves `out` as it was where the archive is refused, doesn't fit or wants memory.
-/// Of keys and values as many are paired as there are of both.
+/// Each key has the value at its index.
+/// Keys without a value, and values without a key, are left out. The load factor is 7 / 8.
+///
+/// Returns 0, with `out` unchanged, if the write fails or the archive doesn't fit.
 #[unsafe(no_mangle)]
 pub extern "C" fn rkyv_bench_build_u32(
     alloc: Global,
@@ -36,7 +37,7 @@ pub extern "C" fn rkyv_bench_build_u32(
     build_u32(alloc, keys, values, out)
 }
 
-/// The length of the archived map and one more, or 0 where the bytes are no archive of one.
+/// Validates an archive, and returns the length of its map plus 1, or 0 if it isn't valid.
 #[unsafe(no_mangle)]
 pub extern "C" fn rkyv_bench_access_u32(archive: &[u8]) -> usize
     ensures { IsLengthAnd1 number_shape archive.now result }
@@ -44,9 +45,11 @@ pub extern "C" fn rkyv_bench_access_u32(archive: &[u8]) -> usize
     access_u32(archive)
 }
 
-/// The sum modulo 2^64 of the value of each key that is found, and of 2^32 for each other key.
+/// Returns the sum modulo 2^64 of the values of the keys, with 2^32 for each that isn't found.
 ///
-/// The archive must have been accepted: `rkyv_bench_access_u32` answered more than 0.
+/// # Requires
+///
+/// - The archive is valid: `rkyv_bench_access_u32` returned more than 0.
 #[unsafe(no_mangle)]
 pub extern "C" fn rkyv_bench_lookup_u32(archive: &[u8], keys: &[u32]) -> u64
     requires { IsArchive number_shape archive.now }
@@ -66,9 +69,11 @@ pub extern "C" fn rkyv_bench_lookup_u32_by_finder(archive: &[u8], keys: &[u32]) 
     lookup_u32_by_finder(archive, keys)
 }
 
-/// The sum modulo 2^64 of all keys and all values.
+/// Returns the sum modulo 2^64 of all keys and all values.
 ///
-/// The archive must have been accepted: `rkyv_bench_access_u32` answered more than 0.
+/// # Requires
+///
+/// - The archive is valid: `rkyv_bench_access_u32` returned more than 0.
 #[unsafe(no_mangle)]
 pub extern "C" fn rkyv_bench_walk_u32(archive: &[u8]) -> u64
     requires { IsArchive number_shape archive.now }

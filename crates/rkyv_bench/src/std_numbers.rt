@@ -1,4 +1,4 @@
-//! The calls that write std's maps of numbers and read them back.
+//! The calls that write maps of std and read them back.
 
 ghost use Rattle.rkyv_bench_calls.specs.Archives.{IsArchive, number_shape};
 ghost use Rattle.rkyv_bench_calls.specs.Building.{IsBuilt};
@@ -7,12 +7,12 @@ ghost use Rattle.rkyv_bench_calls.specs.Std.{IsReadBack, StdMapsNumbers};
 use rkyv_bench_calls::std_numbers::{build_std_u32, read_std_u32};
 use std::alloc::Global;
 
-/// Makes a map of std's of the keys, each with the value at its place, archives it into the front
-/// of `out`, and answers the archive's length.
+/// Archives a map of std into the front of `out`, and returns the length of the archive.
 ///
-/// Answers 0 and leaves `out` as it was where the archive is refused, doesn't fit or wants memory.
-/// Of keys and values as many are paired as there are of both; of equal keys the later has its
-/// value.
+/// The keys are inserted into the map, each with the value at its index. A later equal key replaces
+/// the value. Keys without a value, and values without a key, are left out.
+///
+/// Returns 0, with `out` unchanged, if the write fails or the archive doesn't fit.
 #[unsafe(no_mangle)]
 pub extern "C" fn rkyv_bench_build_std_u32(
     alloc: Global,
@@ -25,10 +25,11 @@ pub extern "C" fn rkyv_bench_build_std_u32(
     build_std_u32(alloc, keys, values, out)
 }
 
-/// Reads a map of std's back from an archive, drops it, and answers how many entries it had, or 0
-/// where memory is wanted.
+/// Deserializes a map of std, drops it, and returns its length, or 0 if an allocation fails.
 ///
-/// The archive must have been accepted: `rkyv_bench_access_u32` answered more than 0.
+/// # Requires
+///
+/// - The archive is valid: `rkyv_bench_access_u32` returned more than 0.
 #[unsafe(no_mangle)]
 pub extern "C" fn rkyv_bench_read_std_u32(alloc: Global, archive: &[u8]) -> usize
     requires { IsArchive number_shape archive.now }

@@ -12,7 +12,11 @@ use rkyv_bench_calls::texts::{
 };
 use std::alloc::Global;
 
-/// The sum modulo 2^64 of the hashes of the texts.
+/// Returns the sum modulo 2^64 of the hashes of the texts.
+///
+/// # Requires
+///
+/// - Each text is inside `bytes` and is UTF-8, and `ends` doesn't decrease.
 #[unsafe(no_mangle)]
 pub extern "C" fn rkyv_bench_hash_text(bytes: &[u8], ends: &[u32]) -> u64
     requires { AreTexts bytes.now ends.now }
@@ -21,11 +25,16 @@ pub extern "C" fn rkyv_bench_hash_text(bytes: &[u8], ends: &[u32]) -> u64
     hash_text(bytes, ends)
 }
 
-/// Archives a map of the texts, each with the value at its place, under the load factor 7 / 8, into
-/// the front of `out`, and answers the archive's length.
+/// Archives a map of the texts into the front of `out`, and returns the length of the archive.
 ///
-/// Answers 0 and leaves `out` as it was where the archive is refused, doesn't fit or wants memory.
-/// Of texts and values as many are paired as there are of both.
+/// Each text has the value at its index.
+/// Texts without a value, and values without a text, are left out. The load factor is 7 / 8.
+///
+/// Returns 0, with `out` unchanged, if the write fails or the archive doesn't fit.
+///
+/// # Requires
+///
+/// - Each text is inside `bytes` and is UTF-8, and `ends` doesn't decrease.
 #[unsafe(no_mangle)]
 pub extern "C" fn rkyv_bench_build_text(
     alloc: Global,
@@ -40,7 +49,7 @@ pub extern "C" fn rkyv_bench_build_text(
     build_text(alloc, bytes, ends, values, out)
 }
 
-/// The length of the archived map and one more, or 0 where the bytes are no archive of one.
+/// Validates an archive, and returns the length of its map plus 1, or 0 if it isn't valid.
 #[unsafe(no_mangle)]
 pub extern "C" fn rkyv_bench_access_text(archive: &[u8]) -> usize
     ensures { IsLengthAnd1 short_text archive.now result }
@@ -48,9 +57,12 @@ pub extern "C" fn rkyv_bench_access_text(archive: &[u8]) -> usize
     access_text(archive)
 }
 
-/// The sum modulo 2^64 of the value of each text that is found, and of 2^32 for each other text.
+/// Returns the sum modulo 2^64 of the values of the texts, with 2^32 for each that isn't found.
 ///
-/// The archive must have been accepted: `rkyv_bench_access_text` answered more than 0.
+/// # Requires
+///
+/// - The archive is valid: `rkyv_bench_access_text` returned more than 0.
+/// - Each text is inside `bytes` and is UTF-8, and `ends` doesn't decrease.
 #[unsafe(no_mangle)]
 pub extern "C" fn rkyv_bench_lookup_text(archive: &[u8], bytes: &[u8], ends: &[u32]) -> u64
     requires archive { IsArchive short_text archive.now }
@@ -76,9 +88,11 @@ pub extern "C" fn rkyv_bench_lookup_text_by_finder(
     lookup_text_by_finder(archive, bytes, ends)
 }
 
-/// The sum modulo 2^64 of the lengths of all keys, in bytes, and of all values.
+/// Returns the sum modulo 2^64 of the lengths of all keys, in bytes, and of all values.
 ///
-/// The archive must have been accepted: `rkyv_bench_access_text` answered more than 0.
+/// # Requires
+///
+/// - The archive is valid: `rkyv_bench_access_text` returned more than 0.
 #[unsafe(no_mangle)]
 pub extern "C" fn rkyv_bench_walk_text(archive: &[u8]) -> u64
     requires { IsArchive short_text archive.now }

@@ -1,4 +1,4 @@
--- What is counted of each text that is cut from some bytes.
+-- Sums over the texts of some bytes.
 use Rattle.std.proofs.Common.{◌≡◌, ℕ, List}
 use Rattle.std.specs.Borrow.{Bor}
 use Rattle.std.specs.Iterator.{YieldsFirstBy}
@@ -10,7 +10,7 @@ use Rattle.rkyv_bench_calls.specs.Totals.{CountsAll, total}
 use Rattle.rkyv_bench_calls.specs.declared.cuts.Cuts.{Cuts}
 use Rattle.rkyv_bench_calls.proofs.Sums.{counted_at}
 
--- a text, and the texts that are left
+-- a text as its bytes, and the remaining texts
 abbrev pub bytes_of : Bor (List ℕ) → List ℕ
 bytes_of text = text.now
 

@@ -1,4 +1,4 @@
--- The number behind a key that was found.
+-- The value behind the key that a lookup finds.
 use Rattle.rkyv_base.specs.declared.width.Word.{Ghosts as Words}
 use Rattle.std.proofs.Common.{◌≡◌, ℕ, ◌+◌, ap, refl, ◌∙◌, Option, None, Some}
 use Rattle.std.specs.Borrow.{Bor}

@@ -1,4 +1,4 @@
--- The number behind the key of a place that was found.
+-- The value behind the key of the entry that a lookup finds.
 use Rattle.rkyv_base.specs.declared.width.Word.{Ghosts as Words}
 use Rattle.std.proofs.Common.{◌≡◌, ℕ, ◌∙◌, ap, List, Option, None, Some}
 use Rattle.std.specs.Borrow.{Bor}

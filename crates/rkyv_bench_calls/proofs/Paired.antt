@@ -1,4 +1,4 @@
--- What writing keys, each with the value at its place, answers.
+-- The results of writes of keys, each with the value at its index.
 use Rattle.std.proofs.Common.{◌≡◌, ◌∙◌, ℕ, List, Option, MatchResult, Result, ap, length, sym}
 use Rattle.std.specs.Borrow.{Bor}
 use Rattle.std.specs.Iterator.{Drains, YieldsFirstBy}
@@ -15,11 +15,11 @@ use Rattle.rkyv_table.specs.Table.Serializing.{NoItems, WroteItems}
 use Rattle.rkyv_table.proofs.Listing.{all_came, answers_listed, no_other_came}
 use Rattle.rkyv_bench_calls.specs.declared.building.Both.{Both}
 
--- of the same keys and values the same pairs
+-- equal keys and values have equal pairs
 pub pairs_made : {A B : Type 0} (keys keys' : Bor (List A)) (values values' : Bor (List B)) → keys ≡ keys' → values ≡ values' → zip keys.now values.now ≡ zip keys'.now values'.now
 pairs_made keys keys' values values' k v = ap (λ (those : Bor (List _)). zip those.now values.now) k ∙ ap (λ (those : Bor (List _)). zip keys'.now those.now) v
 
--- the pairs that are left, and a step over them
+-- the remaining pairs, and a step over them
 abbrev left : {A B : Type 0} → Both A B → List (A × B)
 left s = zip (iter_rest s.keys) (iter_rest s.values)
 

@@ -1,4 +1,4 @@
--- What a walk over the pairs of a map or an index map counts.
+-- The sum of a walk over the pairs of a map or an index map.
 use Rattle.std.proofs.Common.{◌≡◌, ℕ, ◌+◌, ◌%◌, ◌^◌, ◌∙◌, ap, sym, List, [], ◌∷◌, map, Some}
 use Rattle.std.specs.Borrow.{Bor}
 use Rattle.std.specs.Int.{w32}
@@ -12,7 +12,7 @@ use Rattle.rkyv_bench_calls.specs.Archives.{number_shape}
 use Rattle.rkyv_bench_calls.specs.Totals.{CountsAll, pair_seen, pair_weight, total}
 use Rattle.rkyv_bench_calls.proofs.Sums.{counted_all, sum_seen}
 
--- what is counted of each pair that is left
+-- the weights of the remaining pairs
 abbrev weights : Shape → (List ℕ → ℕ → ℕ) → ItemsLeft → List ℕ
 weights key weight left = map (pair_weight key weight left.archive.now) left.places
 
@@ -31,8 +31,7 @@ module _ {K V : Type 0} (key : Shape) (weight : List ℕ → ℕ → ℕ) where
       ap (map (pair_weight key weight b)) h.0.first
       ∙ ap (λ (a : Bor (List ℕ)). pair_weight key weight b k.pos ∷ map (pair_weight key weight a.now) t.places) (sym h.0.archive) ∙ ap (λ n. n ∷ weights key weight t) (sym seen)
 
-  -- what is counted of the pairs that came is counted of the places where the map that was viewed
-  -- has them, in its archive
+  -- the sum over the yielded pairs is that over the positions of the viewed map in its archive
   pub walk_counted : {T : Type 0} (positions : List ℕ → ℕ → List ℕ) (v : View T) (archive : Bor (List ℕ)) (p : ℕ) (left : ItemsLeft) (result : ℕ) → IsAt v archive p → left.archive ≡ v.archive
       → left.places ≡ positions v.archive.now v.pos → CountsAll (pair_seen {K = K} {V = V} weight) (TakesPair key number_shape) left result → result ≡ total (pair_weight key weight archive.now) (positions archive.now p)
   walk_counted positions v archive p left result at same stand came =

@@ -13,34 +13,34 @@ use Rattle.rkyv_collections.specs.Map.{map_shape}
 use Rattle.rkyv_collections.specs.declared.map.ArchivedHashMap.{ArchivedHashMap}
 use Rattle.rkyv_table.specs.Table.Header.{len_at}
 
--- a number of 32 bits, and a text
+-- the shape of a number of 32 bits
 abbrev pub number_shape : Shape
 number_shape = scalar_shape (unsigned w32)
 
--- text in a narrow archive
+-- the shape of a text in a narrow archive
 abbrev pub short_text : Shape
 short_text = text_shape w32
 
--- a map of such keys to numbers of 32 bits
+-- the shape of a map of keys of the shape to numbers of 32 bits
 abbrev pub map_of : Shape → Shape
 map_of key = map_shape w32 key number_shape
 
--- the bytes are accepted as the archive of a map of such keys
+-- `b` is the valid archive of a map of keys of the shape
 abbrev pub IsArchive : Shape → List ℕ → Type 0
 IsArchive key b = Accepted 4294967295 (map_of key) b
 
--- where its header stands
+-- the position of the map's header
 abbrev pub root : List ℕ → ℕ
 root b = length b - 12
 
--- the map is that of these bytes
+-- `m` is the map at the root of the archive
 abbrev pub IsMapAtRoot : {K V H W : Type 0} {wt : Words W} → ArchivedHashMap K V H W wt → Bor (List ℕ) → Type 0
 IsMapAtRoot m archive = IsAt m.view archive (root archive.now)
 
--- a length and one more where it is one, and 0 where it is none
+-- `n` is `length` plus 1 if `IsOne` is true, and else 0
 abbrev pub IsAnd1 : Type 0 → ℕ → ℕ → Type 0
 IsAnd1 IsOne length n = (IsOne × (n ≡ length + 1)) ⊎ ((IsOne → ⊥) × (n ≡ 0))
 
--- the map's length and one more, or 0 where the bytes are no archive
+-- `n` is the length of the map plus 1 if `b` is a valid archive, and else 0
 abbrev pub IsLengthAnd1 : Shape → List ℕ → ℕ → Type 0
 IsLengthAnd1 key b n = IsAnd1 (IsArchive key b) (len_at w32 b (root b)) n

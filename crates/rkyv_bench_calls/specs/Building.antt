@@ -1,4 +1,4 @@
--- What building leaves in a place for bytes.
+-- The bytes that a build leaves in its output.
 use Rattle.std.specs.Borrow.{Bor}
 use Rattle.std.specs.List.{zip}
 use Rattle.std.specs.Prelude.{◌≡◌, ℕ, ◌<◌, ◌⊎◌, List, ◌++◌, length, drop, map}
@@ -15,26 +15,26 @@ use Rattle.rkyv_collections.specs.MapFormat.{MapStands, map_format}
 use Rattle.rkyv_bench_calls.specs.Archives.{map_of, number_shape, short_text}
 use Rattle.rkyv_bench_calls.specs.Totals.{number_hash, text_hash}
 
--- these n bytes stand in front of what the place had there
+-- `new` is `old` with the `n` bytes at its front overwritten by `bytes`
 abbrev pub AreInFront : List ℕ → List ℕ → List ℕ → ℕ → Type 0
 AreInFront bytes old new n = (n ≡ length bytes) × (new ≡ bytes ++ drop n old)
 
--- nothing was written
+-- `n` is 0 and the output is unchanged
 abbrev pub IsKept : List ℕ → List ℕ → ℕ → Type 0
 IsKept old new n = (n ≡ 0) × (new ≡ old)
 
--- the bytes were put in front, or don't fit
+-- `bytes` are copied to the front, or the output is shorter and unchanged
 abbrev pub IsPut : List ℕ → List ℕ → List ℕ → ℕ → Type 0
 IsPut bytes old new n = AreInFront bytes old new n
     ⊎ (IsKept old new n × (length old < length bytes))
 
--- an archive was put in front, or nothing was written
+-- an archive that satisfies `IsOne` is copied to the front, or the output is unchanged
 abbrev pub IsBuilt : (List ℕ → Type 0) → List ℕ → List ℕ → ℕ → Type 0
 IsBuilt IsOne old new n = ((bytes : List ℕ) × IsOne bytes × AreInFront bytes old new n)
     ⊎ IsKept old new n
 
--- the bytes are the archive of a map of numbers to numbers, in this order, under the load factor 7
--- / 8, and no others
+-- `bytes` are the archive of a map of numbers to numbers, under the load factor 7 / 8.
+-- The pairs are inserted in this order.
 abbrev pub IsNumberMap : List (ℕ × ℕ) → List ℕ → Type 0
 IsNumberMap pairs bytes = ArchiveOf 4294967295 (map_of number_shape)
     (MapStands w32 number_shape number_shape (ScalarStands (unsigned w32))
@@ -43,7 +43,8 @@ IsNumberMap pairs bytes = ArchiveOf 4294967295 (map_of number_shape)
     (scalar_format (unsigned w32)) (scalar_format (unsigned w32)) number_hash (7, 8)))
     pairs bytes
 
--- and of the lent texts to numbers
+-- `bytes` are the archive of a map of borrowed texts to numbers, under the load factor 7 / 8.
+-- The pairs are inserted in this order.
 abbrev pub IsTextMap : List (Bor (List ℕ) × ℕ) → List ℕ → Type 0
 IsTextMap pairs bytes = ArchiveOf 4294967295 (map_of short_text)
     (MapStands w32 short_text number_shape (λ b q text. TextReads w32 b q text.now)
@@ -53,12 +54,12 @@ IsTextMap pairs bytes = ArchiveOf 4294967295 (map_of short_text)
     text_hash text.now) (7, 8)))
     pairs bytes
 
--- the bytes are the archive of a map of these texts, each to the value at its place
+-- `bytes` are the archive of a map of the texts, each to the value at its index
 abbrev pub MapsTexts : List (List ℕ) → List ℕ → List ℕ → Type 0
 MapsTexts texts values bytes =
     (lent : List (Bor (List ℕ))) × (map (λ text. text.now) lent ≡ texts)
     × IsTextMap (zip lent values) bytes
 
--- and of these numbers
+-- `bytes` are the archive of a map of the numbers, each to the value at its index
 abbrev pub MapsNumbers : List ℕ → List ℕ → List ℕ → Type 0
 MapsNumbers keys values bytes = IsNumberMap (zip keys values) bytes

@@ -1,4 +1,4 @@
--- The archives of index maps to numbers that are measured, and what each measured call sums up.
+-- The archives of index maps that are measured, and the sums of the calls.
 use Rattle.rkyv_base.specs.declared.width.Word.{Ghosts as Words}
 use Rattle.std.specs.Prelude.{ℕ, ◌+◌, ◌-◌, ◌^◌, Bool, List, length, Option, None}
 use Rattle.std.specs.Prelude.{Some}
@@ -24,65 +24,66 @@ use Rattle.rkyv_bench_calls.specs.Archives.{IsAnd1, number_shape}
 use Rattle.rkyv_bench_calls.specs.Totals.{hash_by, is_number, number_calls, number_hash}
 use Rattle.rkyv_bench_calls.specs.Totals.{number_weight, pair_weight, total}
 
--- an index map of numbers to numbers of 32 bits
+-- the shape of an index map of numbers to numbers of 32 bits
 abbrev pub index_map : Shape
 index_map = index_shape w32 (entry_shape number_shape number_shape)
 
--- the bytes are accepted as the archive of an index map of numbers
+-- `b` is the valid archive of an index map of numbers
 abbrev pub IsIndexArchive : List ℕ → Type 0
 IsIndexArchive b = Accepted 4294967295 index_map b
 
--- where its header stands
+-- the position of the index map's header
 abbrev pub index_root : List ℕ → ℕ
 index_root b = length b - 16
 
--- the index map is that of these bytes
+-- `m` is the index map at the root of the archive
 abbrev pub IsIndexAtRoot : {K V H W : Type 0} {wt : Words W} → ArchivedIndexMap K V H W wt → Bor (List ℕ) → Type 0
 IsIndexAtRoot m archive = IsAt m.view archive (index_root archive.now)
 
--- the index map's length and one more, or 0 where the bytes are no archive
+-- `n` is the length of the index map plus 1 if `b` is a valid archive, and else 0
 abbrev pub IsIndexLengthAnd1 : List ℕ → ℕ → Type 0
 IsIndexLengthAnd1 b n = IsAnd1 (IsIndexArchive b) (len_at w32 b (index_root b)) n
 
--- where the key of place i stands
+-- the position of the key of entry `i`
 abbrev pub index_key_pos : Shape → List ℕ → ℕ → ℕ → ℕ
 index_key_pos key b p i = pair_pos w32 (entry_shape key number_shape).size b p i
 
--- the number at the place that was found, or 2 ^ 32 where none was
+-- the value of the entry that a lookup finds, or 2 ^ 32
 abbrev pub place_or_miss : Shape → List ℕ → ℕ → Option ℕ → ℕ
 place_or_miss key b p None = 2 ^ 32
 place_or_miss key b p (Some i) =
     number_at w32 b (index_key_pos key b p i + value_offset key number_shape)
 
--- that of the place which a lookup with these calls finds in the archive, of those whose keys fit
+-- the value of the entry that a lookup finds, or 2 ^ 32.
+-- `calls`: hasher calls of the key, `fits`: test of the key at a position
 abbrev pub index_looked_up : Shape → List ℕ → ℕ → List HasherCall → (List ℕ → ℕ → Bool) → ℕ
 index_looked_up key b p calls fits = place_or_miss key b p
     (index_found w32 b p (hash_by calls) (λ i. fits b (index_key_pos key b p i)))
 
--- that of the index map
+-- the value of the entry that a lookup finds in the index map `m`, or 2 ^ 32
 abbrev pub index_answer : {K V H W : Type 0} {wt : Words W} → Shape → ArchivedIndexMap K V H W wt → List HasherCall
     → (List ℕ → ℕ → Bool) → ℕ
 index_answer key m = index_looked_up key (index_bytes m) (index_pos m)
 
--- that of a number, in the archive whose header stands at p
+-- the value that a lookup of `number` finds in the index map at `p`, or 2 ^ 32
 abbrev pub index_number_looked_up_at : List ℕ → ℕ → ℕ → ℕ
 index_number_looked_up_at b p number =
     index_looked_up number_shape b p (number_calls number) (is_number number)
 
--- what is counted of an asked number, in the index map at the root
+-- the value that a lookup of `number` finds in the index map at the root, or 2 ^ 32
 abbrev pub index_number_looked_up : List ℕ → ℕ → ℕ
 index_number_looked_up b number = index_number_looked_up_at b (index_root b) number
 
--- where the keys of the archived index map stand, in order
+-- the positions of the keys of the index map, in insertion order
 abbrev pub index_walked : List ℕ → List ℕ
 index_walked b = pair_positions w32 (entry_shape number_shape number_shape).size b (index_root b)
 
--- what a walk over the index map counts
+-- the sum of a walk over the index map
 abbrev pub index_walk_total : List ℕ → ℕ
 index_walk_total b = total (pair_weight number_shape number_weight b) (index_walked b)
 
--- the bytes are the archive of an index map of numbers to numbers, in this order, under the load
--- factor 7 / 8, and no others
+-- `bytes` are the archive of an index map of numbers to numbers, under the load factor 7 / 8.
+-- The pairs are inserted in this order.
 abbrev pub IsNumberIndex : List (ℕ × ℕ) → List ℕ → Type 0
 IsNumberIndex pairs bytes = ArchiveOf 4294967295 index_map
     (IndexStands w32 number_shape number_shape (ScalarStands (unsigned w32))
@@ -91,7 +92,7 @@ IsNumberIndex pairs bytes = ArchiveOf 4294967295 index_map
     (scalar_format (unsigned w32)) (scalar_format (unsigned w32)) number_hash (7, 8)))
     pairs bytes
 
--- the bytes are the archive of an index map of these numbers, each to the value at its place, in
--- this order, and no others
+-- `bytes` are the archive of an index map of the numbers, each to the value at its index.
+-- The pairs are inserted in this order.
 abbrev pub IndexesNumbers : List ℕ → List ℕ → List ℕ → Type 0
 IndexesNumbers keys values bytes = IsNumberIndex (zip keys values) bytes

@@ -1,4 +1,4 @@
--- Std's maps of numbers that are written and read back to be measured.
+-- Maps of std that are written and read back.
 use Rattle.std.specs.Prelude.{◌≡◌, ℕ, ◌==◌, ◌⊎◌, List, None, length}
 use Rattle.std.specs.Int.{w32}
 use Rattle.std.specs.List.{zip}
@@ -8,24 +8,24 @@ use Rattle.rkyv_base.specs.Scalar.{ScalarStands}
 use Rattle.rkyv_collections.specs.StdMap.{EntriesStand}
 use Rattle.rkyv_bench_calls.specs.Archives.{IsArchive, number_shape, root}
 
--- the entries of a map of std's stand in the archive: those of its pairs, each key once
+-- `entries` are those of the map in the archive `b`, each key once
 abbrev pub StdEntriesStand : List ℕ → List (ℕ × ℕ) → Type 0
 StdEntriesStand b entries = EntriesStand number_shape number_shape (ScalarStands (unsigned w32))
     (ScalarStands (unsigned w32)) w32 (λ x y. x == y) b (root b) entries
 
--- the entries are found as after inserting the pairs one after the other
+-- a lookup in `entries` finds the value that it finds after the pairs are inserted in turn
 abbrev pub AreFoundAs : List (ℕ × ℕ) → List (ℕ × ℕ) → Type 0
 AreFoundAs pairs entries = (q : ℕ)
     → lookup (λ x. q == x) entries ≡ update_all (λ x y. x == y) (λ _. None) pairs q
 
--- the bytes are accepted as the archive of a map of std's, into which the numbers were inserted,
--- each with the value at its place
+-- `bytes` are the valid archive of a map of std into which the numbers are inserted.
+-- Each number has the value at its index.
 abbrev pub StdMapsNumbers : List ℕ → List ℕ → List ℕ → Type 0
 StdMapsNumbers keys values bytes = IsArchive number_shape bytes
     × (entries : List (ℕ × ℕ)) × StdEntriesStand bytes entries
     × AreFoundAs (zip keys values) entries
 
--- how many entries were read back, or 0
+-- `n` is the number of entries that are read back, or 0
 abbrev pub IsReadBack : List ℕ → ℕ → Type 0
 IsReadBack b n = (n ≡ 0)
     ⊎ ((entries : List (ℕ × ℕ)) × StdEntriesStand b entries × (n ≡ length entries))

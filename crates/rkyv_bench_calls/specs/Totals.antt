@@ -1,4 +1,4 @@
--- What each measured call sums up.
+-- The sums of the calls.
 use Rattle.rkyv_base.specs.declared.width.Word.{Ghosts as Words}
 use Rattle.std.specs.Prelude.{ℕ, ◌+◌, ◌^◌, ◌%◌, ◌==◌, Bool, List, [], ◌∷◌, length, Option, None}
 use Rattle.std.specs.Prelude.{Some, ◌≡◌}
@@ -21,96 +21,98 @@ use Rattle.rkyv_collections.specs.Map.{map_bytes, map_pos}
 use Rattle.rkyv_collections.specs.declared.map.ArchivedHashMap.{ArchivedHashMap}
 use Rattle.rkyv_bench_calls.specs.Archives.{number_shape, root, short_text}
 
--- the sum modulo 2 ^ 64 of what is counted of each
+-- the sum of `count` over the items, modulo 2 ^ 64
 abbrev pub total : {X : Type 0} → (X → ℕ) → List X → ℕ
 total count xs = sum_by count xs % 2 ^ 64
 
--- the total of what is counted of each item that an iterator gives
+-- `n` is the sum of `count` over the items that the iterator yields
 abbrev pub CountsAll : {S X : Type 0} → (X → ℕ) → (S → Option X → S → Type 0) → S → ℕ → Type 0
 CountsAll {X = X} count gives s n =
     (items : List X) × Drains gives s items × (n ≡ total count items)
 
--- the hash of a list of calls of the hasher of archived maps
+-- the hash of hasher calls, under the hasher of archived maps
 abbrev pub hash_by : List HasherCall → ℕ
 hash_by calls = fx_hash low_halves calls
 
--- the calls of a number as a key
+-- the hasher calls of a number
 abbrev pub number_calls : ℕ → List HasherCall
 number_calls number = U32 number ∷ []
 
--- the hash of a number as a key
+-- the hash of a number
 abbrev pub number_hash : ℕ → ℕ
 number_hash number = hash_by (number_calls number)
 
--- the hash of a text as a key
+-- the hash of a text
 abbrev pub text_hash : List ℕ → ℕ
 text_hash text = hash_by (text_calls text)
 
--- whether the number at a position is this one
+-- the number at position `q` equals `number`
 abbrev pub is_number : ℕ → List ℕ → ℕ → Bool
 is_number number b q = number == number_at w32 b q
 
--- the number behind the key that was found, or 2 ^ 32 where none was
+-- the value behind the key that a lookup finds, or 2 ^ 32
 abbrev pub value_or_miss : Shape → List ℕ → Option ℕ → ℕ
 value_or_miss key b None = 2 ^ 32
 value_or_miss key b (Some q) = number_at w32 b (q + value_offset key number_shape)
 
--- that of the key which a lookup with these calls finds in the archive, of those that fit
+-- the value behind the key that a lookup finds, or 2 ^ 32.
+-- `calls`: hasher calls of the key, `fits`: test of the key at a position
 abbrev pub looked_up : Shape → List ℕ → ℕ → List HasherCall → (List ℕ → ℕ → Bool) → ℕ
 looked_up key b p calls fits = value_or_miss key b
     (pos_found generic_kind w32 (entry_shape key number_shape).size b p (hash_by calls) (fits b))
 
--- that of the map
+-- the value that a lookup finds in the map `m`, or 2 ^ 32
 abbrev pub map_answer : {K V H W : Type 0} {wt : Words W} → Shape → ArchivedHashMap K V H W wt → List HasherCall
     → (List ℕ → ℕ → Bool) → ℕ
 map_answer key m = looked_up key (map_bytes m) (map_pos m)
 
--- of a number and of a text, in the archive whose header stands at p
+-- the value that a lookup of `number` finds in the map at `p`, or 2 ^ 32
 abbrev pub number_looked_up_at : List ℕ → ℕ → ℕ → ℕ
 number_looked_up_at b p number = looked_up number_shape b p (number_calls number) (is_number number)
 
+-- the value that a lookup of `text` finds in the map at `p`, or 2 ^ 32
 abbrev pub text_looked_up_at : List ℕ → ℕ → List ℕ → ℕ
 text_looked_up_at b p text =
     looked_up short_text b p (text_calls text) (λ c q. same_bytes text (text_at w32 c q))
 
--- what is counted of an asked number, in the map at the root
+-- the value that a lookup of `number` finds in the map at the root, or 2 ^ 32
 abbrev pub number_looked_up : List ℕ → ℕ → ℕ
 number_looked_up b number = number_looked_up_at b (root b) number
 
--- what is counted of an asked text, in the map at the root
+-- the value that a lookup of `text` finds in the map at the root, or 2 ^ 32
 abbrev pub text_looked_up : List ℕ → List ℕ → ℕ
 text_looked_up b text = text_looked_up_at b (root b) text
 
--- what a walk counts of the pair whose key stands at q, if the key there counts so much
+-- the weight of the pair whose key is at `q`: `weight` of the key, plus the value
 abbrev pub pair_weight : Shape → (List ℕ → ℕ → ℕ) → List ℕ → ℕ → ℕ
 pair_weight key weight b q = weight b q + number_at w32 b (q + value_offset key number_shape)
 
--- where the keys of the archived map stand, by ascending bucket
+-- the positions of the keys of the map, in bucket order
 abbrev pub walked : Shape → List ℕ → List ℕ
 walked key b = item_positions w32 (entry_shape key number_shape).size b (root b)
 
--- what a walk over the map counts, if a key counts so much
+-- the sum of a walk over the map, whose keys weigh `weight`
 abbrev pub walk_total : Shape → (List ℕ → ℕ → ℕ) → List ℕ → ℕ
 walk_total key weight b = total (pair_weight key weight b) (walked key b)
 
--- a number counts itself, a text its bytes
+-- the weight of the number at `q`: the number
 abbrev pub number_weight : List ℕ → ℕ → ℕ
 number_weight b q = number_at w32 b q
 
--- a walk counts the length of a text
+-- the weight of the text at `q`: its length in bytes
 abbrev pub text_weight : List ℕ → ℕ → ℕ
 text_weight b q = length (text_at w32 b q)
 
--- the number that was found, or 2 ^ 32 where none was
+-- the number that is found, or 2 ^ 32
 abbrev pub number_seen : {T : Type 0} → Option (View T) → ℕ
 number_seen None = 2 ^ 32
 number_seen (Some found) = at_view number_weight found
 
--- what is counted of a pair, if its key counts so much
+-- the weight of a pair: `weight` of the key, plus the value
 abbrev pub pair_seen : {K V : Type 0} → (List ℕ → ℕ → ℕ) → View K × View V → ℕ
 pair_seen weight pair = at_view weight pair.0 + at_view number_weight pair.1
 
--- each pair that comes is one of views of such values
+-- all pairs that the iterator yields are views of valid elements of the shapes
 abbrev pub GivesViews : {S K V : Type 0} → Shape → Shape
     → (S → Option (View K × View V) → S → Type 0) → Type 0
 GivesViews {S} {K} {V} key value gives = (before after : S) (pair : View K × View V)

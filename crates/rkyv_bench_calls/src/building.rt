@@ -24,7 +24,7 @@ use rkyv_scan::hash::KeyHasher;
 use std::alloc::Global;
 use std::marker::PhantomData;
 
-/// Keys, each with the value at its place, that are archived as a map under the load factor 7 / 8.
+/// Keys, each with the value at its index, archived as a map under the load factor 7 / 8.
 #[derive(Drop)]
 pub(crate) struct Pairs<'a, A, B, H> {
     pub(crate) keys: &'a [A],
@@ -45,7 +45,7 @@ impl<'a, A, B, H> Pairs<'a, A, B, H> {
         }
     }
 
-    /// Its pairs.
+    /// Returns an iterator over the pairs.
     #[inline]
     pub(crate) fn both(&self) -> Both<'a, A, B>
         ensures keys { iter_rest result.keys ≡ self.now.keys.now }
@@ -57,7 +57,7 @@ impl<'a, A, B, H> Pairs<'a, A, B, H> {
         }
     }
 
-    /// How many pairs there are.
+    /// Returns the number of pairs.
     #[inline]
     pub(crate) fn len(&self) -> usize
         ensures { result ≡ length (zip self.now.keys.now self.now.values.now) }
@@ -66,7 +66,7 @@ impl<'a, A, B, H> Pairs<'a, A, B, H> {
     }
 }
 
-/// The pairs that are still to come.
+/// The remaining pairs.
 #[derive(Drop)]
 pub(crate) struct Both<'a, A, B> {
     pub(crate) keys: std::slice::Iter<'a, A>,
@@ -155,7 +155,7 @@ where
     }
 }
 
-/// Copies the bytes into the front of `out`, and answers their number, or 0 where they don't fit.
+/// Copies the bytes into the front of `out`, and returns their number, or 0 if they don't fit.
 fn put(bytes: &[u8], out: &mut [u8]) -> usize
     ensures { IsPut bytes.now out.old out.new result }
 {
@@ -166,7 +166,7 @@ fn put(bytes: &[u8], out: &mut [u8]) -> usize
     bytes.len()
 }
 
-/// Archives a value into the front of `out`, and answers the archive's length, or 0.
+/// Archives a value into the front of `out`, and returns the archive's length, or 0 if it fails.
 pub(crate) fn build<V: Serialize<VecWriter, Narrow>>(
     alloc: Global,
     value: &V,

@@ -1,4 +1,4 @@
-//! Texts that lie one behind the other.
+//! Texts that are adjacent in some bytes.
 
 ghost use Rattle.std.specs.Iterator.{YieldsFirstBy, at_most};
 ghost use Rattle.std.specs.Prelude.{IfOk, length, map, slice_range, ◌≡◌};
@@ -7,7 +7,7 @@ ghost use Rattle.rkyv_bench_calls.specs.Cuts.{AreTexts, AreTextsFrom, IsText, cu
 
 use std::alloc::{AllocError, Global};
 
-/// The texts of some bytes that are still to come, in order.
+/// The remaining texts of some bytes, in order.
 #[derive(Drop)]
 pub(crate) struct Cuts<'a> {
     bytes: &'a [u8],
@@ -15,7 +15,7 @@ pub(crate) struct Cuts<'a> {
     ends: std::slice::Iter<'a, u32>,
 }
 
-/// The text between two places.
+/// Returns the text between two positions.
 #[inline]
 fn text_between(bytes: &[u8], from: usize, end: usize) -> &str
     requires { IsText bytes.now from end }
@@ -47,7 +47,7 @@ impl<'a> Iterator for Cuts<'a> {
     }
 }
 
-/// All texts of some bytes.
+/// Returns an iterator over all texts of some bytes.
 #[inline]
 pub(crate) fn cut<'a>(bytes: &'a [u8], ends: &'a [u32]) -> Cuts<'a>
     ensures bytes { result.bytes ≡ bytes.entry }
@@ -61,7 +61,7 @@ pub(crate) fn cut<'a>(bytes: &'a [u8], ends: &'a [u32]) -> Cuts<'a>
     }
 }
 
-/// A list of all texts of some bytes.
+/// Returns a list of all texts of some bytes.
 pub(crate) fn list<'a>(
     alloc: Global,
     bytes: &'a [u8],

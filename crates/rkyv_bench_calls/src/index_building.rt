@@ -21,7 +21,7 @@ use rkyv_keys::keys::{KeyElement, NativeKey};
 use rkyv_scan::hash::KeyHasher;
 use std::alloc::Global;
 
-/// Pairs that are archived as an index map, in their order, under the load factor 7 / 8.
+/// Pairs archived as an index map, in insertion order, under the load factor 7 / 8.
 #[derive(Drop)]
 pub(crate) struct IndexPairs<'a, A, B, H>(pub(crate) Pairs<'a, A, B, H>);
 

@@ -18,11 +18,12 @@ use rkyv_index::{ArchivedIndexMap, IndexMapOf};
 use rkyv_scan::hash::FxHasher64;
 use std::alloc::Global;
 
-/// Archives an index map of the keys, each with the value at its place, in their order, under the
-/// load factor 7 / 8, into the front of `out`, and answers the archive's length.
+/// Archives an index map into the front of `out`, and returns the length of the archive.
 ///
-/// Answers 0 and leaves `out` as it was where the archive is refused, doesn't fit or wants memory.
-/// Of keys and values as many are paired as there are of both.
+/// Each key has the value at its index, in insertion order.
+/// Keys without a value, and values without a key, are left out. The load factor is 7 / 8.
+///
+/// Returns 0, with `out` unchanged, if the write fails or the archive doesn't fit.
 pub fn build_index_u32(alloc: Global, keys: &[u32], values: &[u32], out: &mut [u8]) -> usize
     ensures { IsBuilt (IndexesNumbers keys.now values.now) out.old out.new result }
 {
@@ -30,7 +31,7 @@ pub fn build_index_u32(alloc: Global, keys: &[u32], values: &[u32], out: &mut [u
     build(alloc, &IndexPairs(pairs), out)
 }
 
-/// The length of the archived index map and one more, or 0 where the bytes are no archive of one.
+/// Validates an archive, and returns the length of its index map plus 1, or 0 if it isn't valid.
 pub fn access_index_u32(archive: &[u8]) -> usize
     ensures { IsIndexLengthAnd1 archive.now result }
 {
@@ -40,7 +41,7 @@ pub fn access_index_u32(archive: &[u8]) -> usize
     }
 }
 
-/// The index map of an archive.
+/// Returns a view of the index map in a valid archive.
 #[inline]
 fn index_in<'a>(archive: &'a [u8]) -> ArchivedIndexMap<'a, u32, u32>
     requires { IsIndexArchive archive.now }
@@ -50,9 +51,11 @@ fn index_in<'a>(archive: &'a [u8]) -> ArchivedIndexMap<'a, u32, u32>
     ArchivedIndexMap::of(access_unchecked::<IndexMapOf<u32, u32>>(archive))
 }
 
-/// The sum modulo 2^64 of the value of each key that is found, and of 2^32 for each other key.
+/// Returns the sum modulo 2^64 of the values of the keys, with 2^32 for each that isn't found.
 ///
-/// The archive must have been accepted: `access_index_u32` answered more than 0.
+/// # Requires
+///
+/// - The archive is valid: `access_index_u32` returned more than 0.
 pub fn lookup_index_u32(archive: &[u8], keys: &[u32]) -> u64
     requires { IsIndexArchive archive.now }
     ensures { result ≡ total (index_number_looked_up archive.now) keys.now }
@@ -70,9 +73,11 @@ pub fn lookup_index_u32_by_finder(archive: &[u8], keys: &[u32]) -> u64
     lookup_total::<u32, u32, _, _, _>(index_in(archive).finder(), keys.iter())
 }
 
-/// The sum modulo 2^64 of all keys and all values.
+/// Returns the sum modulo 2^64 of all keys and all values.
 ///
-/// The archive must have been accepted: `access_index_u32` answered more than 0.
+/// # Requires
+///
+/// - The archive is valid: `access_index_u32` returned more than 0.
 pub fn walk_index_u32(archive: &[u8]) -> u64
     requires { IsIndexArchive archive.now }
     ensures { result ≡ index_walk_total archive.now }

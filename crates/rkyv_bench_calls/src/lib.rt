@@ -1,9 +1,10 @@
-//! Hash maps of numbers and of texts and index maps of numbers, as they are measured: hashing,
-//! building, checking, looking up and walking, each by one call that sums up what it sees; and
-//! std's maps of numbers, written and read back.
+//! Hash maps of numbers and of texts, and index maps of numbers, as the benchmarks call them.
 //!
-//! Of texts that lie one behind the other in `bytes`, the one at `i` ends at `ends[i]`, and begins
-//! where the one in front of it ends, or at 0.
+//! Each call hashes, builds, validates, looks up or walks, and returns a sum or a length.
+//! `std_numbers` writes maps of std and reads them back.
+//!
+//! Texts are adjacent in `bytes`. Text `i` ends at `ends[i]`, and begins at 0 or at the end of the
+//! text before it.
 #![tactic(auto)]
 
 mod building;

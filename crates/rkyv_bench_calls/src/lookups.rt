@@ -22,20 +22,20 @@ use rkyv_keys::keys::{KeyElement, Query};
 
 /// A map or an index map to numbers, or a finder of one.
 pub(crate) trait Lookup<K: KeyElement>: Copy + Drop {
-    // What it takes that keys can be looked up.
+    // The condition under which keys can be looked up.
     ghost ready: { Self → Type 0 };
 
-    // What is counted of a key that makes these calls, where fits tells which keys are it.
+    // The value of the key with these hasher calls, by a test of the key at a position.
     ghost answer: { Self → List HasherCall → (List ℕ → ℕ → Bool) → ℕ };
 
-    /// The value of a key, or 2^32 where it isn't found.
+    /// Returns the value of a key, or 2^32 if the lookup doesn't find it.
     fn value_or_miss<Q: Query<K>>(&self, key: &Q) -> u64
         requires ready { ready self.now }
         requires read { Q.can_read key.now }
         ensures { result ≡ answer self.now (Q.calls key.now) (Q.fits key.now) };
 }
 
-/// The number that is viewed.
+/// Returns the number of a view.
 #[inline]
 pub(crate) fn number_in(number: View<'_, u32>) -> u64
     requires { IsView number_shape number }
@@ -44,7 +44,7 @@ pub(crate) fn number_in(number: View<'_, u32>) -> u64
     u64::from(number.to_native())
 }
 
-/// The number that was found, or 2^32 where none was.
+/// Returns the number that a lookup finds, or 2^32 if it finds none.
 #[inline]
 fn number_or_miss(found: Option<View<'_, u32>>) -> u64
     requires { IfSome found (IsView number_shape) }

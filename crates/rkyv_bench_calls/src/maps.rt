@@ -9,7 +9,7 @@ use rkyv_base::access::{access, access_unchecked};
 use rkyv_base::element::Element;
 use rkyv_collections::map::{ArchivedHashMap, HashMapOf};
 
-/// The length of the archived map and one more, or 0 where the bytes are no archive of one.
+/// Validates an archive, and returns the length of its map plus 1, or 0 if it isn't valid.
 #[inline]
 pub(crate) fn length_and_1<K: Element>(archive: &[u8]) -> usize
     ensures { IsLengthAnd1 K.shape archive.now result }
@@ -20,7 +20,7 @@ pub(crate) fn length_and_1<K: Element>(archive: &[u8]) -> usize
     }
 }
 
-/// The map of an archive.
+/// Returns a view of the map in a valid archive.
 #[inline]
 pub(crate) fn map_in<'a, K: Element>(archive: &'a [u8]) -> ArchivedHashMap<'a, K, u32>
     requires { IsArchive K.shape archive.now }

@@ -12,18 +12,19 @@ use crate::totals::{hash_total, lookup_total, pair_total};
 use rkyv_scan::hash::FxHasher64;
 use std::alloc::Global;
 
-/// The sum modulo 2^64 of the hashes of the keys.
+/// Returns the sum modulo 2^64 of the hashes of the keys.
 pub fn hash_u32(keys: &[u32]) -> u64
     ensures { result ≡ total number_hash keys.now }
 {
     hash_total::<u32, _, _>(keys.iter())
 }
 
-/// Archives a map of the keys, each with the value at its place, under the load factor 7 / 8, into
-/// the front of `out`, and answers the archive's length.
+/// Archives a map of the keys into the front of `out`, and returns the length of the archive.
 ///
-/// Answers 0 and leaves `out` as it was where the archive is refused, doesn't fit or wants memory.
-/// Of keys and values as many are paired as there are of both.
+/// Each key has the value at its index.
+/// Keys without a value, and values without a key, are left out. The load factor is 7 / 8.
+///
+/// Returns 0, with `out` unchanged, if the write fails or the archive doesn't fit.
 pub fn build_u32(alloc: Global, keys: &[u32], values: &[u32], out: &mut [u8]) -> usize
     ensures { IsBuilt (MapsNumbers keys.now values.now) out.old out.new result }
 {
@@ -31,16 +32,18 @@ pub fn build_u32(alloc: Global, keys: &[u32], values: &[u32], out: &mut [u8]) ->
     build(alloc, &pairs, out)
 }
 
-/// The length of the archived map and one more, or 0 where the bytes are no archive of one.
+/// Validates an archive, and returns the length of its map plus 1, or 0 if it isn't valid.
 pub fn access_u32(archive: &[u8]) -> usize
     ensures { IsLengthAnd1 number_shape archive.now result }
 {
     length_and_1::<u32>(archive)
 }
 
-/// The sum modulo 2^64 of the value of each key that is found, and of 2^32 for each other key.
+/// Returns the sum modulo 2^64 of the values of the keys, with 2^32 for each that isn't found.
 ///
-/// The archive must have been accepted: `access_u32` answered more than 0.
+/// # Requires
+///
+/// - The archive is valid: `access_u32` returned more than 0.
 pub fn lookup_u32(archive: &[u8], keys: &[u32]) -> u64
     requires { IsArchive number_shape archive.now }
     ensures { result ≡ total (number_looked_up archive.now) keys.now }
@@ -58,9 +61,11 @@ pub fn lookup_u32_by_finder(archive: &[u8], keys: &[u32]) -> u64
     lookup_total::<u32, u32, _, _, _>(map_in(archive).finder(), keys.iter())
 }
 
-/// The sum modulo 2^64 of all keys and all values.
+/// Returns the sum modulo 2^64 of all keys and all values.
 ///
-/// The archive must have been accepted: `access_u32` answered more than 0.
+/// # Requires
+///
+/// - The archive is valid: `access_u32` returned more than 0.
 pub fn walk_u32(archive: &[u8]) -> u64
     requires { IsArchive number_shape archive.now }
     ensures { result ≡ walk_total number_shape number_weight archive.now }

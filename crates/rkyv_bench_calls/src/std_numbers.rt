@@ -1,4 +1,4 @@
-//! The calls that write std's maps of numbers and read them back.
+//! The calls that write maps of std and read them back.
 
 ghost use Rattle.std.specs.HashMap.{IsFromIterResult};
 ghost use Rattle.std.specs.List.{zip};
@@ -16,7 +16,7 @@ use std::alloc::{AllocError, Global};
 use std::collections::HashMap;
 use std::hash::{BuildHasherDefault, Hash};
 
-/// A map of std's into which the keys are inserted, each with the value at its place.
+/// Returns a map of std into which the keys are inserted, each with the value at its index.
 fn std_map<A: Eq + Hash + Copy, B: Copy>(
     alloc: Global,
     keys: &[A],
@@ -30,12 +30,12 @@ fn std_map<A: Eq + Hash + Copy, B: Copy>(
         .collect(alloc)
 }
 
-/// Makes a map of std's of the keys, each with the value at its place, archives it into the front
-/// of `out`, and answers the archive's length.
+/// Archives a map of std into the front of `out`, and returns the length of the archive.
 ///
-/// Answers 0 and leaves `out` as it was where the archive is refused, doesn't fit or wants memory.
-/// Of keys and values as many are paired as there are of both; of equal keys the later has its
-/// value.
+/// The keys are inserted into the map, each with the value at its index. A later equal key replaces
+/// the value. Keys without a value, and values without a key, are left out.
+///
+/// Returns 0, with `out` unchanged, if the write fails or the archive doesn't fit.
 pub fn build_std_u32(alloc: Global, keys: &[u32], values: &[u32], out: &mut [u8]) -> usize
     ensures { IsBuilt (StdMapsNumbers keys.now values.now) out.old out.new result }
 {
@@ -48,10 +48,11 @@ pub fn build_std_u32(alloc: Global, keys: &[u32], values: &[u32], out: &mut [u8]
     }
 }
 
-/// Reads a map of std's back from an archive, drops it, and answers how many entries it had, or 0
-/// where memory is wanted.
+/// Deserializes a map of std, drops it, and returns its length, or 0 if an allocation fails.
 ///
-/// The archive must have been accepted: `access_u32` answered more than 0.
+/// # Requires
+///
+/// - The archive is valid: `access_u32` returned more than 0.
 pub fn read_std_u32(alloc: Global, archive: &[u8]) -> usize
     requires { IsArchive number_shape archive.now }
     ensures { IsReadBack archive.now result }

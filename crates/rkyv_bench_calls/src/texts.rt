@@ -15,7 +15,11 @@ use rkyv_base::text::Text;
 use rkyv_scan::hash::FxHasher64;
 use std::alloc::Global;
 
-/// The sum modulo 2^64 of the hashes of the texts.
+/// Returns the sum modulo 2^64 of the hashes of the texts.
+///
+/// # Requires
+///
+/// - Each text is inside `bytes` and is UTF-8, and `ends` doesn't decrease.
 pub fn hash_text(bytes: &[u8], ends: &[u32]) -> u64
     requires { AreTexts bytes.now ends.now }
     ensures { result ≡ total text_hash (texts bytes.now ends.now) }
@@ -23,11 +27,16 @@ pub fn hash_text(bytes: &[u8], ends: &[u32]) -> u64
     hash_total::<&str, _, _>(cut(bytes, ends))
 }
 
-/// Archives a map of the texts, each with the value at its place, under the load factor 7 / 8, into
-/// the front of `out`, and answers the archive's length.
+/// Archives a map of the texts into the front of `out`, and returns the length of the archive.
 ///
-/// Answers 0 and leaves `out` as it was where the archive is refused, doesn't fit or wants memory.
-/// Of texts and values as many are paired as there are of both.
+/// Each text has the value at its index.
+/// Texts without a value, and values without a text, are left out. The load factor is 7 / 8.
+///
+/// Returns 0, with `out` unchanged, if the write fails or the archive doesn't fit.
+///
+/// # Requires
+///
+/// - Each text is inside `bytes` and is UTF-8, and `ends` doesn't decrease.
 pub fn build_text(
     alloc: Global,
     bytes: &[u8],
@@ -46,16 +55,19 @@ pub fn build_text(
     build(alloc, &pairs, out)
 }
 
-/// The length of the archived map and one more, or 0 where the bytes are no archive of one.
+/// Validates an archive, and returns the length of its map plus 1, or 0 if it isn't valid.
 pub fn access_text(archive: &[u8]) -> usize
     ensures { IsLengthAnd1 short_text archive.now result }
 {
     length_and_1::<Text>(archive)
 }
 
-/// The sum modulo 2^64 of the value of each text that is found, and of 2^32 for each other text.
+/// Returns the sum modulo 2^64 of the values of the texts, with 2^32 for each that isn't found.
 ///
-/// The archive must have been accepted: `access_text` answered more than 0.
+/// # Requires
+///
+/// - The archive is valid: `access_text` returned more than 0.
+/// - Each text is inside `bytes` and is UTF-8, and `ends` doesn't decrease.
 pub fn lookup_text(archive: &[u8], bytes: &[u8], ends: &[u32]) -> u64
     requires archive { IsArchive short_text archive.now }
     requires texts { AreTexts bytes.now ends.now }
@@ -75,9 +87,11 @@ pub fn lookup_text_by_finder(archive: &[u8], bytes: &[u8], ends: &[u32]) -> u64
     lookup_total::<Text, &str, _, _, _>(map_in(archive).finder(), cut(bytes, ends))
 }
 
-/// The sum modulo 2^64 of the lengths of all keys, in bytes, and of all values.
+/// Returns the sum modulo 2^64 of the lengths of all keys, in bytes, and of all values.
 ///
-/// The archive must have been accepted: `access_text` answered more than 0.
+/// # Requires
+///
+/// - The archive is valid: `access_text` returned more than 0.
 pub fn walk_text(archive: &[u8]) -> u64
     requires { IsArchive short_text archive.now }
     ensures { result ≡ walk_total short_text text_weight archive.now }

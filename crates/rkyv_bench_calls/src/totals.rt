@@ -1,4 +1,4 @@
-//! Sums in numbers of 64 bits, which wrap.
+//! Sums modulo 2^64.
 
 ghost use Rattle.std.specs.Iterator.{IsFinite};
 ghost use Rattle.rkyv_base.specs.View.{IsView};
@@ -13,7 +13,7 @@ use rkyv_keys::hash::{KeyHash, hash_value};
 use rkyv_keys::keys::{KeyElement, Query};
 use rkyv_scan::hash::FxHasher64;
 
-/// The sum of the hashes.
+/// Returns the sum of the hashes of the keys.
 #[inline]
 pub(crate) fn hash_total<Q: KeyHash, B: Lend<Q> + Drop, I: Iterator<Item = B> + Drop>(
     keys: I,
@@ -30,7 +30,7 @@ pub(crate) fn hash_total<Q: KeyHash, B: Lend<Q> + Drop, I: Iterator<Item = B> + 
     total
 }
 
-/// The sum of what is found of the keys.
+/// Returns the sum of the values of the keys, with 2^32 for each key that isn't found.
 #[inline]
 pub(crate) fn lookup_total<
     K: KeyElement,
@@ -53,7 +53,7 @@ pub(crate) fn lookup_total<
     total
 }
 
-/// The sum of the pairs of a walk.
+/// Returns the sum of the weights of the keys, and of the values, of the pairs of a walk.
 #[inline]
 pub(crate) fn pair_total<'a, K: Weigh, I: Iterator<Item = (View<'a, K>, View<'a, u32>)> + Drop>(
     pairs: I,

@@ -1,4 +1,4 @@
-//! What a walk counts of a key.
+//! The weight of a key in the sum of a walk.
 
 ghost use Rattle.std.specs.Prelude.{List, ℕ, ◌≡◌};
 ghost use Rattle.rkyv_base.specs.View.{IsView};
@@ -10,12 +10,12 @@ use rkyv_base::element::Element;
 use rkyv_base::text::Text;
 use rkyv_base::view::View;
 
-/// A key of which a walk counts something.
+/// A key with a weight in the sum of a walk.
 pub(crate) trait Weigh: Element {
-    // What it counts of the key at a place.
+    // The weight of the key at a position.
     ghost weight: { List ℕ → ℕ → ℕ };
 
-    /// What it counts.
+    /// Returns the weight of a key.
     fn weigh(key: &View<'_, Self>) -> u64
         requires { IsView Self.shape key.now }
         ensures { result ≡ at_view weight key.now };

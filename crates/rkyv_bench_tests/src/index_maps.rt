@@ -4,7 +4,7 @@ use rkyv_bench_calls::index_numbers::{
     access_index_u32, build_index_u32, lookup_index_u32, lookup_index_u32_by_finder, walk_index_u32,
 };
 
-// The index map of 1 to 2: two places from 0 on, controls from 8 on, the entry at 40, header at 48.
+// The index map of 1 to 2: buckets from 0 on, controls from 8 on, entry at 40, header at 48.
 fn one_to_two() -> [u8; 64] {
     let mut bytes = [0xff; 64];
     bytes[..12].copy_from_slice(&[0, 0, 0, 0, 0, 0, 0, 0, 0xff, 0x28, 0xff, 0x28]);

@@ -1,4 +1,4 @@
-//! Tests of `rkyv_bench_calls`: what each call answers of one pair.
+//! Tests of `rkyv_bench_calls`: the results of each call for one pair.
 #![tactic(auto)]
 
 #[cfg(test)]

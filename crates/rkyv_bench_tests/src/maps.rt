@@ -6,7 +6,7 @@ ghost use Rattle.rkyv_bench_calls.specs.Cuts.{AreTexts};
 use rkyv_bench_calls::numbers::{access_u32, build_u32, hash_u32, lookup_u32, walk_u32};
 use rkyv_bench_calls::texts::{access_text, build_text, hash_text, lookup_text, walk_text};
 
-// The map of 1 to 2.
+// Returns the map of 1 to 2.
 fn one_to_two() -> [u8; 60] {
     let mut bytes = [0xff; 60];
     bytes[..17].copy_from_slice(&[1, 0, 0, 0, 2, 0, 0, 0, 0, 0, 0, 0, 0, 0, 0, 0, 0xff]);
@@ -16,7 +16,7 @@ fn one_to_two() -> [u8; 60] {
     bytes
 }
 
-// What a lookup of the keys and a walk answer, where the archive is accepted.
+// Returns the results of a lookup of the keys and of a walk, if the archive is valid.
 fn numbers_read(archive: &[u8], keys: &[u32]) -> Option<(u64, u64)> {
     if access_u32(archive) == 0 {
         return None;
@@ -24,7 +24,7 @@ fn numbers_read(archive: &[u8], keys: &[u32]) -> Option<(u64, u64)> {
     Some((lookup_u32(archive, keys), walk_u32(archive)))
 }
 
-// The same of a text.
+// Returns the results of a lookup of a text and of a walk, if the archive is valid.
 fn texts_read(archive: &[u8], text: &str) -> Option<(u64, u64)>
     requires { length text.now < 2 ^ 32 }
 {
@@ -35,7 +35,7 @@ fn texts_read(archive: &[u8], text: &str) -> Option<(u64, u64)>
     Some((found, walk_text(archive)))
 }
 
-/// Where a text alone ends.
+/// Returns the end of a single text.
 pub(crate) fn end_of(text: &str) -> [u32; 1]
     requires { length text.now < 2 ^ 32 }
     ensures { AreTexts text.now result }

@@ -1,10 +1,10 @@
-//! Std's maps of one pair, written and read back.
+//! Maps of std with one pair, written and read back.
 
 use rkyv_bench_calls::numbers::{access_u32, build_u32};
 use rkyv_bench_calls::std_numbers::{build_std_u32, read_std_u32};
 use std::alloc::Global;
 
-// How many entries are read back, where the archive is accepted.
+// Returns the number of entries that are read back, if the archive is valid.
 fn read_back(alloc: Global, archive: &[u8]) -> Option<usize> {
     if access_u32(archive) == 0 {
         return None;
@@ -12,7 +12,7 @@ fn read_back(alloc: Global, archive: &[u8]) -> Option<usize> {
     Some(read_std_u32(alloc, archive))
 }
 
-// One pair has but one order: the archive is that of the list.
+// One pair has only one order: the archive is that of the list.
 #[test]
 fn a_map_of_std_is_written_and_read_back(rt: HostRuntime) {
     let mut of_std = [7u8; 60];

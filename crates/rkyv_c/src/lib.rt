@@ -1,8 +1,10 @@
 //! Hash maps of numbers and of texts behind a C interface.
 //!
-//! A slice crosses as a pointer and then a length in elements. A parameter `alloc` takes no bytes:
-//! C passes nothing for it. `clients/c` has the header that C programs include, and the functions
-//! behind it that test what they are handed before they call these.
+//! A slice is passed as a pointer, then a length in elements. A parameter `alloc` has no bytes: C
+//! passes nothing for it. `clients/c` has the header for C programs. Its functions check their
+//! arguments before they call the functions of this crate.
+//!
+//! A call that returns a `u32` returns a status: 0 on success, otherwise one of its errors.
 #![tactic(auto)]
 
 mod numbers;

@@ -15,8 +15,11 @@ use rkyv_c_calls::numbers::{
 };
 use std::alloc::Global;
 
-/// Whether the bytes are the archive of such a map: 0, or from 16 on the first point at which they
-/// are none.
+/// Validates the archive of a map of numbers.
+///
+/// # Errors
+///
+/// - 16 to 23: the first validation error.
 #[unsafe(no_mangle)]
 pub extern "C" fn rkyv_c_open_numbers(archive: &[u8], long_values: bool, wide: bool) -> u32
     ensures told { Opens (limit_of wide) (number_map long_values wide) archive.now result }
@@ -25,9 +28,11 @@ pub extern "C" fn rkyv_c_open_numbers(archive: &[u8], long_values: bool, wide: b
     open_numbers(archive, Form { long_values, wide })
 }
 
-/// How many pairs the map has.
+/// Returns the number of pairs of the map.
 ///
-/// The archive must have been accepted: `rkyv_c_open_numbers` answered 0.
+/// # Requires
+///
+/// - The archive is valid: `rkyv_c_open_numbers` returned 0.
 #[unsafe(no_mangle)]
 pub extern "C" fn rkyv_c_count_numbers(archive: &[u8], long_values: bool, wide: bool) -> usize
     requires { IsNumberArchive long_values wide archive.now }
@@ -36,9 +41,15 @@ pub extern "C" fn rkyv_c_count_numbers(archive: &[u8], long_values: bool, wide: 
     count_numbers(archive, Form { long_values, wide })
 }
 
-/// Gives the value of a key: 0, or 1 where it isn't found; `value` is kept then.
+/// Looks up a key, and stores its value in `value`.
 ///
-/// The archive must have been accepted.
+/// # Errors
+///
+/// - 1: the lookup doesn't find the key; `value` is unchanged then.
+///
+/// # Requires
+///
+/// - The archive is valid: `rkyv_c_open_numbers` returned 0.
 #[unsafe(no_mangle)]
 pub extern "C" fn rkyv_c_get_number(
     archive: &[u8],
@@ -54,10 +65,18 @@ pub extern "C" fn rkyv_c_get_number(
     get_number(archive, Form { long_values, wide }, key, value)
 }
 
-/// Writes the value of a key in place: 0; or 3 where the map's values have 32 bits and this one
-/// more, or 1 where the key isn't found, and then no byte is changed.
+/// Looks up a key, and overwrites its value in place. The archive stays valid.
 ///
-/// The archive must have been accepted, and stays so.
+/// # Errors
+///
+/// - 3: the values of the map have 32 bits and the new one has more.
+/// - 1: the lookup doesn't find the key.
+///
+/// After an error no byte is changed.
+///
+/// # Requires
+///
+/// - The archive is valid: `rkyv_c_open_numbers` returned 0.
 #[unsafe(no_mangle)]
 pub extern "C" fn rkyv_c_set_number(
     archive: &mut [u8],
@@ -74,9 +93,15 @@ pub extern "C" fn rkyv_c_set_number(
     set_number(archive, Form { long_values, wide }, key, value)
 }
 
-/// Takes the next pair, by ascending bucket: 0, or 2 where none is left; `pair` is kept then.
+/// Stores the next pair, in bucket order, in `pair`.
 ///
-/// The archive must have been accepted.
+/// # Errors
+///
+/// - 2: no pair remains; `pair` is unchanged then.
+///
+/// # Requires
+///
+/// - The archive is valid: `rkyv_c_open_numbers` returned 0.
 #[unsafe(no_mangle)]
 pub extern "C" fn rkyv_c_next_number(
     archive: &[u8],
@@ -90,10 +115,18 @@ pub extern "C" fn rkyv_c_next_number(
     next_number(archive, Form { long_values, wide }, pair)
 }
 
-/// Makes the archive of the items, in their order, under the load factor 7 / 8: 0, and `built` has
-/// its bytes, which are a block of `rattle_alloc` or `rattle_realloc` and the caller's to free; or
-/// 3 where a value has more bits than the map's, 12 where a growth is refused, or from 23 on why
-/// there is no archive, and then `built` is kept.
+/// Writes the archive of the items, in insertion order, and stores its bytes in `built`.
+///
+/// The archive is a map under the load factor 7 / 8. Its bytes are a block of `rattle_alloc` or
+/// `rattle_realloc`, which the caller frees.
+///
+/// # Errors
+///
+/// - 12: an allocation fails.
+/// - 3: a value has more bits than the values of the map.
+/// - 23 to 29: the error of the write.
+///
+/// After an error `built` is unchanged.
 #[unsafe(no_mangle)]
 pub extern "C" fn rkyv_c_build_numbers(
     alloc: Global,

@@ -16,8 +16,11 @@ use rkyv_c_calls::texts::{
 };
 use std::alloc::Global;
 
-/// Whether the bytes are the archive of such a map: 0, or from 16 on the first point at which they
-/// are none.
+/// Validates the archive of a map of texts.
+///
+/// # Errors
+///
+/// - 16 to 23: the first validation error.
 #[unsafe(no_mangle)]
 pub extern "C" fn rkyv_c_open_texts(archive: &[u8], long_values: bool, wide: bool) -> u32
     ensures told { Opens (limit_of wide) (text_map long_values wide) archive.now result }
@@ -26,9 +29,11 @@ pub extern "C" fn rkyv_c_open_texts(archive: &[u8], long_values: bool, wide: boo
     open_texts(archive, Form { long_values, wide })
 }
 
-/// How many pairs the map has.
+/// Returns the number of pairs of the map.
 ///
-/// The archive must have been accepted: `rkyv_c_open_texts` answered 0.
+/// # Requires
+///
+/// - The archive is valid: `rkyv_c_open_texts` returned 0.
 #[unsafe(no_mangle)]
 pub extern "C" fn rkyv_c_count_texts(archive: &[u8], long_values: bool, wide: bool) -> usize
     requires { IsTextArchive long_values wide archive.now }
@@ -37,10 +42,18 @@ pub extern "C" fn rkyv_c_count_texts(archive: &[u8], long_values: bool, wide: bo
     count_texts(archive, Form { long_values, wide })
 }
 
-/// Gives the value of a key: 0; or 4 where its bytes aren't UTF-8, or 1 where it isn't found, and
-/// then `value` is kept.
+/// Looks up a key, and stores its value in `value`.
 ///
-/// The archive must have been accepted.
+/// # Errors
+///
+/// - 4: the bytes of the key aren't UTF-8.
+/// - 1: the lookup doesn't find the key.
+///
+/// After an error `value` is unchanged.
+///
+/// # Requires
+///
+/// - The archive is valid: `rkyv_c_open_texts` returned 0.
 #[unsafe(no_mangle)]
 pub extern "C" fn rkyv_c_get_text(
     archive: &[u8],
@@ -57,11 +70,19 @@ pub extern "C" fn rkyv_c_get_text(
     get_text(archive, Form { long_values, wide }, key, value)
 }
 
-/// Writes the value of a key in place: 0; or 4 where the key's bytes aren't UTF-8, 3 where the
-/// map's values have 32 bits and this one more, or 1 where the key isn't found, and then no byte is
-/// changed.
+/// Looks up a key, and overwrites its value in place. The archive stays valid.
 ///
-/// The archive must have been accepted, and stays so.
+/// # Errors
+///
+/// - 4: the bytes of the key aren't UTF-8.
+/// - 3: the values of the map have 32 bits and the new one has more.
+/// - 1: the lookup doesn't find the key.
+///
+/// After an error no byte is changed.
+///
+/// # Requires
+///
+/// - The archive is valid: `rkyv_c_open_texts` returned 0.
 #[unsafe(no_mangle)]
 pub extern "C" fn rkyv_c_set_text(
     archive: &mut [u8],
@@ -79,10 +100,15 @@ pub extern "C" fn rkyv_c_set_text(
     set_text(archive, Form { long_values, wide }, key, value)
 }
 
-/// Takes the next pair, by ascending bucket: 0, or 2 where none is left; `pair` is kept then. The
-/// key that it tells is a part of the archive.
+/// Stores the next pair, in bucket order, in `pair`, with a key borrowed from the archive.
 ///
-/// The archive must have been accepted.
+/// # Errors
+///
+/// - 2: no pair remains; `pair` is unchanged then.
+///
+/// # Requires
+///
+/// - The archive is valid: `rkyv_c_open_texts` returned 0.
 #[unsafe(no_mangle)]
 pub extern "C" fn rkyv_c_next_text<'a>(
     archive: &'a [u8],
@@ -96,7 +122,7 @@ pub extern "C" fn rkyv_c_next_text<'a>(
     next_text(archive, Form { long_values, wide }, pair)
 }
 
-/// Whether the bytes are a text: UTF-8.
+/// Returns whether the bytes are a text: UTF-8.
 #[unsafe(no_mangle)]
 pub extern "C" fn rkyv_c_is_text(bytes: &[u8]) -> bool
     ensures { IsTrue result ↔ IsUtf8 bytes.now }
@@ -104,8 +130,19 @@ pub extern "C" fn rkyv_c_is_text(bytes: &[u8]) -> bool
     is_text(bytes)
 }
 
-/// Makes the archive of the items, as `rkyv_c_build_numbers` does; 4 where a key isn't UTF-8, 27
-/// where one is too long.
+/// Writes the archive of the items, in insertion order, and stores its bytes in `built`.
+///
+/// The archive is a map under the load factor 7 / 8. Its bytes are a block of `rattle_alloc` or
+/// `rattle_realloc`, which the caller frees.
+///
+/// # Errors
+///
+/// - 12: an allocation fails.
+/// - 4: a key isn't UTF-8.
+/// - 3: a value has more bits than the values of the map.
+/// - 23 to 29: the error of the write, which is 27 if a key is too long.
+///
+/// After an error `built` is unchanged.
 #[unsafe(no_mangle)]
 pub extern "C" fn rkyv_c_build_texts(
     alloc: Global,

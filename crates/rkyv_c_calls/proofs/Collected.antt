@@ -1,4 +1,4 @@
--- A loop that takes one item after the other, and keeps what is seen of each.
+-- A loop that takes items in turn, and keeps an image of each.
 use Rattle.std.proofs.Common.{◌≡◌, ◌∙◌, ℕ, ◌+◌, ◌<◌, ◌++◌, List, [], ◌∷◌, ap, arith, get_or, length, map, subst, suc, sym, take}
 use Rattle.std.specs.Prelude.{All}
 use Rattle.std.proofs.Math.Seq.{take-suc}
@@ -6,7 +6,7 @@ use Rattle.std.proofs.lemmas.List.{map-append, take_all}
 use Rattle.std.proofs.lemmas.List.Elements.{All-append}
 
 module _ {I Q : Type 0} (Fits : I → Type 0) (pair : I → Q) (items : List I) where
-  -- the first n items fit, and these are what is seen of them
+  -- the first `n` items fit, and `seen` are their images
   abbrev pub Collected : ℕ → List Q → Type 0
   Collected n seen = All Fits (take n items) × (seen ≡ map pair (take n items))
 
@@ -28,6 +28,6 @@ module _ {I Q : Type 0} (Fits : I → Type 0) (pair : I → Q) (items : List I) 
   pub all_of_them : (n : ℕ) (seen : List Q) → n ≡ length items → Collected n seen → All Fits items × (seen ≡ map pair items)
   all_of_them n seen e h = let all = take_all n items (omega arith) in (subst (All Fits) all h.0, h.1 ∙ ap (map pair) all)
 
--- one pair more, of which both halves are known otherwise
+-- a pair appended to equal lists, given the equality of both halves
 pub same_pair : {A B : Type 0} (before : List (A × B)) (a x : A) (b y : B) → a ≡ x → b ≡ y → before ++ ((a, b) ∷ []) ≡ before ++ ((x, y) ∷ [])
 same_pair before a x b y e f = ap (λ k. before ++ ((k, b) ∷ [])) e ∙ ap (λ v. before ++ ((x, v) ∷ [])) f

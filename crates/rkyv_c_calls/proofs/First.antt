@@ -1,4 +1,4 @@
--- What is answered of the first pair of a list whose key is asked for.
+-- The results for the first pair of a list whose key passes the test.
 use Rattle.rkyv_base.specs.declared.width.Word.{Ghosts as Words}
 use Rattle.std.proofs.Common.{◌≡◌, ◌∙◌, ℕ, Bool, List, None, Option, Some, ap, false, subst, sym, true}
 use Rattle.std.specs.Option.{is_some}
@@ -13,15 +13,15 @@ use Rattle.rkyv_collections.specs.Map.{IsValueIn, map_bytes}
 use Rattle.rkyv_collections.specs.declared.map.ArchivedHashMap.{ArchivedHashMap}
 use Rattle.rkyv_collections.specs.ListedLookups.{IsFoundValue}
 
--- the value stands at the place
+-- the value is at the position `place`
 abbrev StandsIn : {B : Type 0} → (List ℕ → ℕ → B → Type 0) → List ℕ → Option ℕ → B → Type 0
 StandsIn stands b place x = (q : ℕ) × (place ≡ Some q) × stands b q x
 
--- what stands at a position stands where a view of it is
+-- a valid element at a position is one at the position of a view of it
 pub view_stands : {T : Type 0} (s : Shape) (view : View T) (a : Bor (List ℕ)) (p : ℕ) → view.archive ≡ a → view.pos ≡ p → Viewed s a.now p → Viewed s view.archive.now view.pos
 view_stands s view a p e f h = subst (Viewed s view.archive.now) (sym f) (subst (λ (d : Bor (List ℕ)). Viewed s d.now p) (sym e) h)
 
--- of what was found in a map whose bytes these are: where it is, and that it stands there
+-- the position of a value that is found in a map over the bytes `b`, and its validity
 module _ {K V H W : Type 0} {wt : Words W} (w : Width) (k v : Shape) (m : ArchivedHashMap K V H W wt) (b : List ℕ) (same : map_bytes m ≡ b) where
   pub found_viewed : (found : Option (View V)) (place : Option ℕ) → place ≡ pos_of_found found → IfSome found (IsValueIn w k v m) → IfSome place (Viewed v b)
   found_viewed None place e h = subst (λ (o : Option ℕ). IfSome o (Viewed v b)) (sym e) h
@@ -34,7 +34,7 @@ module _ {K V H W : Type 0} {wt : Words W} (w : Width) (k v : Shape) (m : Archiv
   found_placed stands (Some value) place None e within h = absurd h
   found_placed stands (Some value) place (Some x) e within h = (value.pos, e, subst (λ d. stands d value.pos x) (ap (λ (a : Bor (List ℕ)). a.now) within.at.0 ∙ same) h)
 
--- of a place, the number there; and of none, what was there before
+-- the number at `place`, and at `None` the number before
 module _ {N : Type 0} (num : ℕ → ℕ) (value : ℕ → N) (place : Option ℕ) (status after before : ℕ) where
   abbrev Given : Option N → Type 0
   Given o = MatchOption o ((status ≡ 1) × (after ≡ before)) (λ x. (status ≡ 0) × (value after ≡ x))
@@ -50,7 +50,7 @@ module _ {N : Type 0} (num : ℕ → ℕ) (value : ℕ → N) (place : Option �
   none_given None p z e h = (z, e)
   none_given (Some x) p z e h = absurd (let wrong = h.1 in cc)
 
--- the status of a pair that was written, or of none
+-- the status of an overwrite, by the pair that it changes
 pub first_set : {P : Type 0} (o : Option P) (found : Bool) (status : ℕ) → found ≡ is_some o → (found ≡ true → status ≡ 0) → (found ≡ false → status ≡ 1) → MatchOption o (status ≡ 1) (λ pair. status ≡ 0)
 first_set None found status e met missed = missed e
 first_set (Some p) found status e met missed = met e

@@ -9,7 +9,7 @@ use Rattle.rkyv_c_calls.specs.Archives.{root}
 use Rattle.rkyv_c_calls.specs.Walking.{buckets_from, pair_pos, value_at}
 
 module _ {N : Type 0} (w : Width) (e : Encoding N) (b : List ℕ) (k : Shape) (p : ℕ) (at : p ≡ root w k (scalar_shape e) b) where
-  -- the buckets that are left at the root are those of the map that was read
+  -- the full buckets of the map at the root are those of the map that is read
   pub none_left : (from : ℕ) → buckets_from w b p from ≡ [] → buckets_from w b (root w k (scalar_shape e) b) from ≡ []
   none_left from h = subst (λ q. buckets_from w b q from ≡ []) at h
 
@@ -17,7 +17,7 @@ module _ {N : Type 0} (w : Width) (e : Encoding N) (b : List ℕ) (k : Shape) (p
       → buckets_from w b (root w k (scalar_shape e) b) from ≡ i ∷ buckets_from w b (root w k (scalar_shape e) b) (i + 1)
   some_left from i h = subst (λ q. buckets_from w b q from ≡ i ∷ buckets_from w b q (i + 1)) at h
 
-  -- and what was read where the pair of such a bucket stands is its key and its value
+  -- the key and value at the pair's position are those of the bucket
   pub pair_told : {X : Type 0} (key_at : ℕ → X) (i place : ℕ) (key : X) (value : ℕ) → place ≡ item_at w (entry_shape k (scalar_shape e)).size b p i → key ≡ key_at place → value ≡ value_at e b k place
       → (key ≡ key_at (pair_pos w e b k i)) × (value ≡ value_at e b k (pair_pos w e b k i))
   pair_told key_at i place key value stands is_key is_value =

@@ -1,4 +1,4 @@
--- What a write of a value in place answers, and that the archive is still accepted.
+-- The result of an overwrite in place, after which the archive is valid.
 use Rattle.std.proofs.Common.{◌≡◌, ℕ, ◌-◌, ◌%◌, ◌∙◌, Bool, List, None, Option, Some, ap, arith, false, length, subst, sym, true}
 use Rattle.std.specs.Int.{Width}
 use Rattle.std.specs.Option.{option_map}
@@ -16,18 +16,18 @@ use Rattle.rkyv_collections.specs.Map.{map_shape}
 use Rattle.rkyv_c_calls.specs.Archives.{hash_by, root, value_found}
 
 module _ {N : Type 0} (w : Width) (k : Shape) (e : Encoding N) (key_hash : List ℕ → ℕ → ℕ) (b : List ℕ) (p : ℕ) (value : N) (result : Bool) (c : List ℕ) where
-  -- by the status that tells whether the key was found
+  -- the result of an overwrite, by its status
   status_of_set : (status : ℕ) (place : Option ℕ) → (result ≡ true → status ≡ 0) → (result ≡ false → status ≡ 1) → SetsFound w k e key_hash b p value result c place
       → MatchOption place ((status ≡ 1) × (c ≡ b)) (λ q. (status ≡ 0) × (c ≡ with_value e b q value))
   status_of_set status None found missed h = (missed h.0, h.1)
   status_of_set status (Some q) found missed h = (found h.0, h.1)
 
-  -- the map stands after it
+  -- the map is valid after the overwrite
   stands_after_set : (place : Option ℕ) → SetsFound w k e key_hash b p value result c place → Viewed (map_shape w k (scalar_shape e)) b p → Viewed (map_shape w k (scalar_shape e)) c p
   stands_after_set None h v = subst (λ x. Viewed (map_shape w k (scalar_shape e)) x p) (sym h.1) v
   stands_after_set (Some q) h v = h.2.1.stands
 
--- bytes of the same length in which the root stands are accepted
+-- bytes of the same length with a valid root are a valid archive
 accepted_again : (limit : ℕ) (s : Shape) (b c : List ℕ) (p : ℕ) → Accepted limit s b → p ≡ length b - s.size → length c ≡ length b → Viewed s c p → Accepted limit s c
 accepted_again limit s b c p a at same v =
     let within = a.within in
@@ -39,17 +39,17 @@ accepted_again limit s b c p a at same v =
       stands = subst (Standing s c) (at ∙ ap (λ n. n - s.size) (sym same)) v.stands;
     }
 
--- a write at the place that a lookup finds of the map at the root of an archive
+-- an overwrite at the position that a lookup finds in the map at the root of an archive
 module _ {N : Type 0} (w : Width) (k : Shape) (e : Encoding N) (key_hash : List ℕ → ℕ → ℕ) (b : List ℕ) (p : ℕ) (calls : List HasherCall) (fits : ℕ → Bool) (value : N) (result : Bool) (c : List ℕ)
     (at : p ≡ root w k (scalar_shape e) b) (set : SetsValueAt w k e key_hash b p (hash_by calls) fits value result c) where
   abbrev place_at : ℕ → Option ℕ
   place_at q = option_map (value_pos k (scalar_shape e)) (pos_found generic_kind w (entry_shape k (scalar_shape e)).size b q (hash_by calls) fits)
 
-  -- the archive is still accepted
+  -- the archive is valid after the overwrite
   pub set_kept : (limit : ℕ) → Accepted limit (map_shape w k (scalar_shape e)) b → Viewed (map_shape w k (scalar_shape e)) b p → length c ≡ length b → Accepted limit (map_shape w k (scalar_shape e)) c
   set_kept limit accepted viewed same = accepted_again limit (map_shape w k (scalar_shape e)) b c p accepted at same (stands_after_set w k e key_hash b p value result c (place_at p) set viewed)
 
-  -- and the status tells whether there was such a place
+  -- the status of the overwrite, by the position that the lookup finds
   pub set_told : (status : ℕ) → (result ≡ true → status ≡ 0) → (result ≡ false → status ≡ 1)
       → MatchOption (value_found w k (scalar_shape e) b calls fits) ((status ≡ 1) × (c ≡ b)) (λ q. (status ≡ 0) × (c ≡ with_value e b q value))
   set_told status met missed =

@@ -1,4 +1,4 @@
--- The pairs that are handed in to be archived, and what is answered of them.
+-- The items to be archived, and the results of their write.
 use Rattle.std.specs.Prelude.{◌≡◌, ℕ, ◌<◌, ◌^◌, ◌≤◌, ◌⊎◌, All, Bool, Contains, List, map}
 use Rattle.std.specs.Borrow.{Bor}
 use Rattle.std.specs.Int.{Width, w32}
@@ -22,51 +22,51 @@ use Rattle.rkyv_c_calls.specs.declared.number_items.NumberItem.{NumberItem}
 use Rattle.rkyv_c_calls.specs.declared.text_items.TextItem.{TextItem}
 
 module _ {N : Type 0} (w : Width) (e : Encoding N) where
-  -- the bytes are the archive of pairs of numbers
+  -- a list of bytes is the archive of pairs of numbers
   abbrev pub AreNumbers : ℕ → ℕ → List (ℕ × N) → List ℕ → Type 0
   AreNumbers limit most = IsArchiveOf w number_key (ScalarStands (unsigned w32)) calls_of_number_at
       e limit most (scalar_format (unsigned w32)) number_calls
 
-  -- why there is no archive of pairs of numbers
+  -- the write of pairs of numbers fails with an error
   abbrev pub AreNoNumbers : ℕ → ℕ → List (ℕ × N) → WriteError NoMemory → Type 0
   AreNoNumbers limit most = NoArchiveOf w number_key (ScalarStands (unsigned w32))
       calls_of_number_at e limit most (scalar_format (unsigned w32)) number_calls
 
-  -- the bytes are the archive of pairs of texts
+  -- a list of bytes is the archive of pairs of texts
   abbrev pub AreTexts : ℕ → ℕ → List (Bor (List ℕ) × N) → List ℕ → Type 0
   AreTexts limit most = IsArchiveOf w (text_shape w) (IsTextOf w (λ text. text.now))
       (text_key_calls w) e limit most (written_as (λ text. text.now) (text_format w))
       (λ text. text_calls text.now)
 
-  -- why there is no archive of pairs of texts
+  -- the write of pairs of texts fails with an error
   abbrev pub AreNoTexts : ℕ → ℕ → List (Bor (List ℕ) × N) → WriteError NoMemory → Type 0
   AreNoTexts limit most = NoArchiveOf w (text_shape w) (IsTextOf w (λ text. text.now))
       (text_key_calls w) e limit most (written_as (λ text. text.now) (text_format w))
       (λ text. text_calls text.now)
 
 module _ {N : Type 0} (e : Encoding N) where
-  -- the value has no more bits than the word
+  -- the value of `item` has no more bits than the word
   abbrev pub NumberFits : NumberItem → Type 0
   NumberFits item = item.value < 2 ^ bits e.word
 
-  -- the key, and the value
+  -- the key and the value of `item`
   abbrev pub number_pair : NumberItem → ℕ × N
   number_pair item = (item.key, e.value item.value)
 
-  -- these are the pairs of the items, in their order, whose values have no more bits than the word
+  -- `pairs` are the pairs of the items, in order, and all values fit the word
   abbrev pub ArePairsOfNumbers : List NumberItem → List (ℕ × N) → Type 0
   ArePairsOfNumbers items pairs = All NumberFits items × (pairs ≡ map number_pair items)
 
-  -- there are no pairs for want of memory, or since a value has more bits than the word
+  -- `status` is that of an allocation failure, or of a value with more bits than the word
   abbrev pub NoPairsOfNumbers : List NumberItem → ℕ → Type 0
   NoPairsOfNumbers items status = (status ≡ 12)
       ⊎ ((item : NumberItem) × Contains items item × (2 ^ bits e.word ≤ item.value) × (status ≡ 3))
 
-  -- the key is a text, and the value has no more bits than the word
+  -- the key of `item` is UTF-8, and its value has no more bits than the word
   abbrev pub TextFits : TextItem → Type 0
   TextFits item = IsUtf8 item.key.now × (item.value < 2 ^ bits e.word)
 
-  -- the bytes of the key, and the value
+  -- the bytes of the key of `item`, and its value
   abbrev pub text_pair : TextItem → List ℕ × N
   text_pair item = (item.key.now, e.value item.value)
 
@@ -74,64 +74,62 @@ module _ {N : Type 0} (e : Encoding N) where
   abbrev pub text_seen : Bor (List ℕ) × N → List ℕ × N
   text_seen pair = (pair.0.now, pair.1)
 
-  -- these are the pairs of the items, in their order, whose keys are texts and whose values have no
-  -- more bits than the word
+  -- `pairs` are the pairs of the items, in order; all keys are UTF-8, and all values fit the word
   abbrev pub ArePairsOfTexts : List TextItem → List (Bor (List ℕ) × N) → Type 0
   ArePairsOfTexts items pairs =
       All TextFits items × (map text_seen pairs ≡ map text_pair items)
 
-  -- there are no pairs for want of memory, or since a key is no text, or a value has more bits than
-  -- the word
+  -- `status` is that of an allocation failure, a key that isn't UTF-8, or a value that doesn't fit
   abbrev pub NoPairsOfTexts : List TextItem → ℕ → Type 0
   NoPairsOfTexts items status = (status ≡ 12)
       ⊎ ((item : TextItem) × Contains items item × (IsUtf8 item.key.now → ⊥) × (status ≡ 4))
       ⊎ ((item : TextItem) × Contains items item × (2 ^ bits e.word ≤ item.value) × (status ≡ 3))
 
 module _ {N : Type 0} (w : Width) (e : Encoding N) (limit most : ℕ) where
-  -- the bytes are the archive of the pairs of the items
+  -- `b` is the archive of the pairs of the items
   abbrev pub NumbersMade : List NumberItem → List ℕ → Type 0
   NumbersMade items b = (pairs : List (ℕ × N)) × ArePairsOfNumbers e items pairs
       × AreNumbers w e limit most pairs b
 
-  -- there are no pairs, or the cause stands for which there is no archive of them
+  -- `status` is that of items without pairs, or of the error of the write of their pairs
   abbrev pub NumbersRefused : List NumberItem → ℕ → Type 0
   NumbersRefused items status = NoPairsOfNumbers e items status
       ⊎ ((pairs : List (ℕ × N)) × (error : WriteError NoMemory) × ArePairsOfNumbers e items pairs
       × AreNoNumbers w e limit most pairs error × (status ≡ write_refusal error))
 
-  -- the bytes are the archive of the pairs of the items
+  -- `b` is the archive of the pairs of the items
   abbrev pub TextsMade : List TextItem → List ℕ → Type 0
   TextsMade items b = (pairs : List (Bor (List ℕ) × N)) × ArePairsOfTexts e items pairs
       × AreTexts w e limit most pairs b
 
-  -- there are no pairs, or the cause stands for which there is no archive of them
+  -- `status` is that of items without pairs, or of the error of the write of their pairs
   abbrev pub TextsRefused : List TextItem → ℕ → Type 0
   TextsRefused items status = NoPairsOfTexts e items status
       ⊎ ((pairs : List (Bor (List ℕ) × N)) × (error : WriteError NoMemory)
       × ArePairsOfTexts e items pairs × AreNoTexts w e limit most pairs error
       × (status ≡ write_refusal error))
 
--- the bytes are the archive of the pairs of numbers, in one of the forms, and nothing else
+-- a list of bytes is the archive of the pairs of numbers in the form
 abbrev pub IsArchiveOfNumbers : Bool → Bool → List NumberItem → List ℕ → Type 0
 IsArchiveOfNumbers long_values wide = NumbersMade (word_of wide) (unsigned (word_of long_values))
     (limit_of wide) (most_of wide)
 
--- the bytes are the archive of the pairs of texts, in one of the forms, and nothing else
+-- a list of bytes is the archive of the pairs of texts in the form
 abbrev pub IsArchiveOfTexts : Bool → Bool → List TextItem → List ℕ → Type 0
 IsArchiveOfTexts long_values wide = TextsMade (word_of wide) (unsigned (word_of long_values))
     (limit_of wide) (most_of wide)
 
--- the status tells why there is no archive of the pairs of numbers
+-- a status is the error of the write of the pairs of numbers in the form
 abbrev pub NoArchiveOfNumbers : Bool → Bool → List NumberItem → ℕ → Type 0
 NoArchiveOfNumbers long_values wide = NumbersRefused (word_of wide)
     (unsigned (word_of long_values)) (limit_of wide) (most_of wide)
 
--- the status tells why there is no archive of the pairs of texts
+-- a status is the error of the write of the pairs of texts in the form
 abbrev pub NoArchiveOfTexts : Bool → Bool → List TextItem → ℕ → Type 0
 NoArchiveOfTexts long_values wide = TextsRefused (word_of wide) (unsigned (word_of long_values))
     (limit_of wide) (most_of wide)
 
--- the archive is handed out; or the status tells why there is none, and what was there is kept
+-- the status is 0 and `after` has the archive, or it is an error and `after` is `before`
 abbrev pub HandsOut : (List ℕ → Type 0) → (ℕ → Type 0) → Built → ℕ → Built → Type 0
 HandsOut IsMade IsRefused before status after =
     ((status ≡ 0) × IsMade after.bytes.now) ⊎ (IsRefused status × (after ≡ before))

@@ -1,4 +1,4 @@
--- Maps that stand for lists of pairs, and the archives of such lists.
+-- Maps that represent lists of pairs, and the archives of such lists.
 use Rattle.std.specs.Prelude.{◌≡◌, ℕ, ◌^◌, ◌≤◌, ◌⊎◌, Bool, List, MatchOption, None, Option, Some}
 use Rattle.std.specs.Int.{Width}
 use mir.Val.{bits}
@@ -20,34 +20,32 @@ use Rattle.rkyv_c_calls.specs.Archives.{root}
 
 module _ {A N : Type 0} (w : Width) (k : Shape) (key : List ℕ → ℕ → A → Type 0)
     (key_calls : List ℕ → ℕ → List HasherCall) (e : Encoding N) where
-  -- a map of the pairs stands at the position, under a load factor
+  -- the map at a position represents the pairs, under the load factor
   abbrev pub PairsStandAt : ℕ × ℕ → List ℕ → ℕ → List (A × N) → Type 0
   PairsStandAt factor = MapStands w k (scalar_shape e) key (ScalarStands e)
       (hash_at (fx_hasher low_halves) key_calls) factor
 
-  -- a map of the pairs stands at the root of an archive
+  -- the map at the root of `b` represents the pairs
   abbrev pub PairsStand : ℕ × ℕ → List ℕ → List (A × N) → Type 0
   PairsStand factor b pairs = PairsStandAt factor b (root w k (scalar_shape e) b) pairs
 
-  -- of each list for which the archive stands, the value of the first pair whose key is asked for
-  -- stands at the place; or there is neither
+  -- `place` is the position of the first value whose key passes `asks`, or both are `None`
   abbrev pub PlaceOfFirst : (A → Bool) → List ℕ → Option ℕ → Type 0
   PlaceOfFirst asks b place = (factor : ℕ × ℕ) (pairs : List (A × N))
       → PairsStand factor b pairs
       → MatchOption (first_value asks pairs) (place ≡ None)
       (λ x. (q : ℕ) × (place ≡ Some q) × ScalarStands e b q x)
 
-  -- Of the first pair whose key is asked for, of each list for which the archive stands, the value
-  -- is given; or there is none, and what was there is kept.
+  -- The result of a lookup is the value of the first pair whose key passes `asks`.
+  -- Without one the status is 1 and `after` is `before`.
   abbrev pub GivesFirst : (A → Bool) → List ℕ → ℕ → ℕ → ℕ → Type 0
   GivesFirst asks b before status after = (factor : ℕ × ℕ) (pairs : List (A × N))
       → PairsStand factor b pairs
       → MatchOption (first_value asks pairs) ((status ≡ 1) × (after ≡ before))
       (λ value. (status ≡ 0) × (e.value after ≡ value))
 
-  -- Of each list for which the archive stands, it stands afterwards for the one with the number's
-  -- value in the first pair whose key is asked for, or there is none; or the number has too many
-  -- bits.
+  -- After an overwrite `c` represents the list with the value of `number` in the first such pair.
+  -- If no key passes `asks` the status is 1; if `number` has too many bits it is 3.
   abbrev pub SetsFirstOf : (A → Bool) → List ℕ → ℕ → ℕ → List ℕ → Type 0
   SetsFirstOf asks b number status c = (factor : ℕ × ℕ) (pairs : List (A × N))
       → PairsStand factor b pairs
@@ -56,29 +54,30 @@ module _ {A N : Type 0} (w : Width) (k : Shape) (key : List ℕ → ℕ → A �
       × MatchOption (first_pair asks pairs) (status ≡ 1) (λ pair. status ≡ 0)
       × PairsStand factor c (with_first asks value pairs))
 
-  -- A walk over an archive that stands for a list visits the homes of its pairs, each once and
-  -- ascending, and nothing else; and in the n-th home stands the n-th pair.
+  -- A walk over an archive of a list visits the home buckets of its pairs, each once and ascending.
+  -- It visits no other bucket, and the n-th home bucket has the n-th pair.
   abbrev pub WalksVisitListed : Type 0
   WalksVisitListed = WalksVisitPairs w k (scalar_shape e) key (ScalarStands e)
       (hash_at (fx_hasher low_halves) key_calls)
 
   module _ {R : Type 0} (limit most : ℕ) (format : Format A R) (calls : A → List HasherCall) where
-    -- how the pairs are written, in at most so many buckets
+    -- the format of a list of pairs as a map of at most `most` buckets
     abbrev pub pairs_format : Format (List (A × N)) TableResolver
     pairs_format = listed most (7, 8) (map_format w k (scalar_shape e) format (scalar_format e)
         (hash_of (fx_hasher low_halves) calls) (7, 8))
 
-    -- the bytes are the archive of the pairs, in their order, and nothing else
+    -- `b` is the archive of the pairs, in this order.
+    -- It is valid, represents them, and has no other bytes.
     unfoldable pub IsArchiveOf : List (A × N) → List ℕ → Type 0
     IsArchiveOf pairs b = ArchiveOf limit (map_shape w k (scalar_shape e)) (PairsStandAt (7, 8))
         pairs_format pairs b
 
-    -- why there is no archive of the pairs
+    -- the write of the pairs fails with `error`
     unfoldable pub NoArchiveOf : {F : Type 0} → List (A × N) → WriteError F → Type 0
     NoArchiveOf pairs error = ArchiveRefused limit (map_shape w k (scalar_shape e)) pairs_format
         pairs error
 
-    -- an archive of a list is accepted, and stands for the list
+    -- an archive of a list is valid, and represents the list
     abbrev pub ArchivesStand : Type 0
     ArchivesStand = (pairs : List (A × N)) (b : List ℕ) → IsArchiveOf pairs b
         → Accepted limit (map_shape w k (scalar_shape e)) b × PairsStand (7, 8) b pairs

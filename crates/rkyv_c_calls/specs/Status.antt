@@ -1,4 +1,4 @@
--- The numbers that stand for refusals.
+-- The statuses of errors.
 use Rattle.std.specs.Prelude.{ℕ}
 use Rattle.rkyv_base.specs.declared.errors.VerifyError.{VerifyError}
 use Rattle.rkyv_base.specs.declared.errors.VerifyError.TheVariants.{OutOfRange, Unaligned}
@@ -10,7 +10,7 @@ use Rattle.rkyv_base.specs.declared.errors.VerifyError.TheVariants.{Refused}
 use Rattle.rkyv_base.specs.declared.errors.WriteError.{WriteError}
 use Rattle.rkyv_base.specs.declared.errors.WriteError.TheVariants as write
 
--- why bytes are no archive
+-- the status of a validation error
 unfoldable pub refusal : VerifyError → ℕ
 refusal (OutOfRange pos size) = 16
 refusal (Unaligned pos align) = 17
@@ -21,7 +21,7 @@ refusal (PlaceOutOfRange place len) = 21
 refusal (InvalidValue pos) = 22
 refusal (Refused reason) = 23
 
--- why no archive was made
+-- the status of a write error
 unfoldable pub write_refusal : {F : Type 0} → WriteError F → ℕ
 write_refusal write.Memory = 12
 write_refusal (write.Writer fault) = 12

@@ -1,4 +1,4 @@
-//! Whether bytes are the archive of a map, where it stands, and how many pairs it has.
+//! The archive of a map: its validation, its header, and its number of pairs.
 
 ghost use Rattle.std.specs.Prelude.{◌≡◌};
 ghost use Rattle.rkyv_base.specs.Access.{Accepted};
@@ -17,7 +17,7 @@ use rkyv_base::width::Width;
 use rkyv_collections::FxHasher64;
 use rkyv_collections::map::{ArchivedHashMap, HashMapOf};
 
-/// Whether the bytes are the archive of a map.
+/// Validates the archive of a map; returns `DONE` or the status of the first error.
 pub(crate) fn open_map<K: Element, V: Element, W: Width>(archive: &[u8]) -> u32
     ensures told { Opens W.LIMIT (map_shape W.word K.shape V.shape) archive.now result }
     ensures accepts { Accepted W.LIMIT (map_shape W.word K.shape V.shape) archive.now
@@ -29,7 +29,7 @@ pub(crate) fn open_map<K: Element, V: Element, W: Width>(archive: &[u8]) -> u32
     }
 }
 
-/// Where the header of the map of an archive stands.
+/// Returns the position of the map's header in a valid archive.
 #[inline]
 pub(crate) fn root_of<K: Element, V: Element, W: Width>(archive: &[u8]) -> u64
     requires { Accepted W.LIMIT (map_shape W.word K.shape V.shape) archive.now }
@@ -39,7 +39,7 @@ pub(crate) fn root_of<K: Element, V: Element, W: Width>(archive: &[u8]) -> u64
     access_unchecked::<HashMapOf<K, V, FxHasher64, W>>(archive).pos()
 }
 
-/// How many pairs the map of an archive has.
+/// Returns the number of pairs of the map in a valid archive.
 #[inline]
 pub(crate) fn pair_count<K: Element, V: Value, W: Width>(archive: &[u8]) -> usize
     requires { IsMapArchive W.word W.LIMIT K.shape V.encoding archive.now }

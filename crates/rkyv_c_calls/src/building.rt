@@ -13,7 +13,7 @@ use rkyv_base::writer::{NoMemory, VecWriter};
 use rkyv_collections::{KeyElement, MapPairs, NativeKey};
 use std::alloc::Global;
 
-/// The archive of the pairs.
+/// Writes the archive of the pairs, in insertion order, under the load factor 7 / 8.
 pub(crate) fn archive_of<A: NativeKey<A::Archived> + Serialize<VecWriter, W>, V: Value, W: Width>(
     alloc: Global,
     pairs: &[(A, V)],
@@ -34,14 +34,14 @@ where
     }
 }
 
-/// The bytes of an archive, which are handed out for good: this crate neither reads nor frees them
-/// again.
+/// The bytes of an archive, leaked to the caller: this crate neither reads nor frees them again.
 #[repr(C)]
 pub struct Built<'a> {
+    /// The bytes of the archive.
     pub bytes: &'a mut [u8],
 }
 
-/// Hands out the bytes of an archive, where there is one.
+/// Leaks the bytes of an archive into `built`, or returns the status of the error.
 pub(crate) fn hand_out<'a>(archive: Result<Vec<u8>, u32>, built: &mut Built<'a>) -> u32
     ensures { MatchResult archive
         (λ v. (result ≡ 0) × (built.new.bytes.now ≡ v.items))

@@ -1,9 +1,10 @@
 //! The forms of maps.
 
-/// What a map is of: whether its values have 64 bits or 32, and whether its archive is wide or
-/// narrow.
+/// The form of a map: the width of its values, and the width of its archive.
 #[derive(Clone, Copy)]
 pub struct Form {
+    /// Whether values have 64 bits, in place of 32.
     pub long_values: bool,
+    /// Whether the archive is wide, in place of narrow.
     pub wide: bool,
 }

@@ -1,4 +1,4 @@
-//! Laws of the archives that stand for lists of pairs.
+//! Laws of archives that represent lists of pairs, each a function whose contract is the statement.
 
 ghost use Rattle.rkyv_c_calls.specs.Lists.{ArchivesStand, WalksVisitListed};
 
@@ -9,17 +9,17 @@ use rkyv_base::width::Width;
 use rkyv_collections::map::laws::walks_give_listed;
 use rkyv_collections::{FxHasher64, KeyElement, NativeKey};
 
-/// A walk over an archive that stands for a list of pairs visits the home of each, once and in
-/// ascending order, and nothing else; and in the n-th home stands the n-th pair. So the calls that
-/// take the next pair, of the first full bucket from the one that is told on, give each pair of the
-/// list once.
+/// A walk over an archive of a list visits the home bucket of each pair once, and no other bucket.
+///
+/// The buckets ascend, and the n-th home bucket has the n-th pair of the list.
+/// Repeated calls for the next pair, from bucket 0 on, thus return each pair of the list once.
 pub fn walks_visit_listed<A, K: KeyElement + StandsFor<A>, V: Value, W: Width>()
     ensures { WalksVisitListed W.word K.shape K.stands K.key_calls V.encoding }
 {
     walks_give_listed::<A, V, K, V, FxHasher64, W>();
 }
 
-/// An archive that was made of a list of pairs is accepted, and stands for the list.
+/// An archive that is written from a list of pairs is valid, and represents the list.
 pub fn archives_stand_for_their_lists<A: NativeKey<A::Archived> + Archive<W>, V: Value, W: Width>()
 where
     A::Archived: KeyElement,

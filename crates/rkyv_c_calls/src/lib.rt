@@ -1,7 +1,9 @@
-//! Hash maps as they are offered to C: of numbers or texts to numbers, in both widths.
+//! Hash maps for C: keys are numbers or texts, values are numbers, archives are narrow or wide.
 //!
-//! Each call answers a status, of which `status` has the list. What a map is of is told by two
-//! answers: whether its values have 64 bits or 32, and whether its archive is wide or narrow.
+//! - `numbers` and `texts` validate, look up, overwrite and walk the maps.
+//! - `number_items` and `text_items` write archives.
+//! - `form` has the two flags of a map's form, and `status` the statuses that calls return.
+//! - `laws` states that archives represent their lists, and that walks visit each pair once.
 #![tactic(auto)]
 
 mod archives;

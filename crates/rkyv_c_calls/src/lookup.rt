@@ -1,4 +1,4 @@
-//! Finding the value of a key, and writing it in place.
+//! Lookup of a key's value, and its overwrite in place.
 
 ghost use Rattle.std.specs.Prelude.{IfSome, false, true, ◌≡◌};
 ghost use Rattle.rkyv_base.specs.Bytes.{number_at};
@@ -19,7 +19,7 @@ use rkyv_collections::map::in_place::set_value_of;
 use rkyv_collections::map::laws::lookups_find_listed;
 use rkyv_collections::{FxHasher64, KeyElement, NativeKey};
 
-/// Where the value that was found stands.
+/// Returns the position of the value that a lookup finds.
 #[inline]
 fn found_pos<V: Element>(found: Option<View<'_, V>>) -> Option<u64>
     ensures { result ≡ pos_of_found found.entry }
@@ -30,7 +30,7 @@ fn found_pos<V: Element>(found: Option<View<'_, V>>) -> Option<u64>
     }
 }
 
-/// Where the value of the key stands that is asked for, in the map of an archive.
+/// Returns the position of the value that a lookup of the key finds in a valid archive.
 #[inline]
 fn value_place<A: NativeKey<K>, K: KeyElement + StandsFor<A>, V: Value, W: Width>(
     archive: &[u8],
@@ -50,7 +50,7 @@ fn value_place<A: NativeKey<K>, K: KeyElement + StandsFor<A>, V: Value, W: Width
     found_pos(map.get(key))
 }
 
-/// The number at a position.
+/// Returns the number at a position.
 #[inline]
 pub(crate) fn number_in<V: Value>(archive: &[u8], pos: u64) -> u64
     requires { Viewed (scalar_shape V.encoding) archive.now pos }
@@ -59,9 +59,11 @@ pub(crate) fn number_in<V: Value>(archive: &[u8], pos: u64) -> u64
     View::<V>::new(archive, pos).to_native().to_number()
 }
 
-/// Gives the value of the key that is asked for.
+/// Looks up a key in a valid archive, and stores its value in `value`.
 ///
-/// `NOT_FOUND` where it isn't found; `value` is kept then.
+/// # Errors
+///
+/// - `NOT_FOUND`: the lookup doesn't find the key; `value` is unchanged then.
 pub(crate) fn get_in<A: NativeKey<K>, K: KeyElement + StandsFor<A>, V: Value, W: Width>(
     archive: &[u8],
     key: &A,
@@ -84,7 +86,7 @@ pub(crate) fn get_in<A: NativeKey<K>, K: KeyElement + StandsFor<A>, V: Value, W:
     }
 }
 
-/// The status that tells whether a key was found.
+/// Returns `DONE` if a key is found, and `NOT_FOUND` if it isn't.
 #[inline]
 fn status_of(found: bool) -> u32
     ensures yes { found ≡ true → result ≡ 0 }
@@ -93,10 +95,14 @@ fn status_of(found: bool) -> u32
     if found { DONE } else { NOT_FOUND }
 }
 
-/// Writes the value of the key that is asked for in place.
+/// Looks up a key in a valid archive, and overwrites its value in place.
 ///
-/// `VALUE_TOO_LARGE` where it has more bits than the map's values, `NOT_FOUND` where the key isn't
-/// found; no byte is changed then.
+/// # Errors
+///
+/// - `VALUE_TOO_LARGE`: the value has more bits than the values of the map.
+/// - `NOT_FOUND`: the lookup doesn't find the key.
+///
+/// After an error no byte is changed.
 pub(crate) fn set_in<A: NativeKey<K>, K: KeyElement + StandsFor<A>, V: Value, W: Width>(
     archive: &mut [u8],
     key: &A,

@@ -12,15 +12,17 @@ use crate::value::Value;
 use rkyv_base::width::{Narrow, Wide, Width};
 use std::alloc::Global;
 
-/// A pair that is to be archived.
+/// A pair to be archived.
 #[repr(C)]
 #[derive(Clone, Copy)]
 pub struct NumberItem {
+    /// The value, which `build_numbers` rejects if it has more bits than the values of the map.
     pub value: u64,
+    /// The key.
     pub key: u32,
 }
 
-/// The pairs of the items.
+/// Returns the pairs of the items.
 fn pairs_of<V: Value>(alloc: Global, items: &[NumberItem]) -> Result<Vec<(u32, V)>, u32>
     ensures { MatchResult result
         (λ pairs. ArePairsOfNumbers V.encoding items.now pairs.items)
@@ -43,7 +45,7 @@ fn pairs_of<V: Value>(alloc: Global, items: &[NumberItem]) -> Result<Vec<(u32, V
     Ok(pairs)
 }
 
-/// The archive of the items.
+/// Writes the archive of the items.
 fn archive_in<V: Value, W: Width>(alloc: Global, items: &[NumberItem]) -> Result<Vec<u8>, u32>
     ensures { MatchResult result
         (λ v. NumbersMade W.word V.encoding W.LIMIT W.MAX_CAPACITY items.now v.items)
@@ -59,7 +61,7 @@ fn archive_in<V: Value, W: Width>(alloc: Global, items: &[NumberItem]) -> Result
     }
 }
 
-/// The archive of the items, in one of the forms.
+/// Writes the archive of the items in the form.
 fn archive_by(alloc: Global, items: &[NumberItem], form: Form) -> Result<Vec<u8>, u32>
     ensures { MatchResult result
         (λ v. IsArchiveOfNumbers form.long_values form.wide items.now v.items)
@@ -73,11 +75,17 @@ fn archive_by(alloc: Global, items: &[NumberItem], form: Form) -> Result<Vec<u8>
     }
 }
 
-/// Makes the archive of the items, in their order, as a map under the load factor 7 / 8, and hands
-/// out its bytes.
+/// Writes the archive of the items, in insertion order, and leaks its bytes into `built`.
 ///
-/// `VALUE_TOO_LARGE` where a value has more bits than the map's, `NO_MEMORY` where a growth is
-/// refused, and each other cause of a write; `built` is kept then.
+/// The archive is a map under the load factor 7 / 8.
+///
+/// # Errors
+///
+/// - `NO_MEMORY`: an allocation fails.
+/// - `VALUE_TOO_LARGE`: a value has more bits than the values of the map.
+/// - A status from 23 on: the write fails.
+///
+/// After an error `built` is unchanged.
 pub fn build_numbers(alloc: Global, items: &[NumberItem], form: Form, built: &mut Built<'_>) -> u32
     ensures { HandsOut (IsArchiveOfNumbers form.long_values form.wide items.now)
         (NoArchiveOfNumbers form.long_values form.wide items.now) built.old result built.new }

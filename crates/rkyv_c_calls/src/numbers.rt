@@ -1,4 +1,6 @@
-//! Maps of numbers of 32 bits.
+//! Maps whose keys are numbers of 32 bits.
+//!
+//! `open_numbers` validates an archive; the other calls require a valid one.
 
 ghost use Rattle.std.specs.Prelude.{◌≡◌};
 ghost use Rattle.std.specs.Int.{w32};
@@ -20,17 +22,23 @@ use rkyv_base::entry::Entry;
 use rkyv_base::view::View;
 use rkyv_base::width::{Narrow, Wide, Width};
 
-/// A pair of a map, and the bucket from which on the next one is looked for: 0 before the first.
+/// A pair of a map, and the bucket at which a walk continues.
 #[repr(C)]
 #[derive(Clone, Copy)]
 pub struct NumberPair {
+    /// The bucket at which the walk continues: 0 at the beginning.
     pub next: u64,
+    /// The value of the pair.
     pub value: u64,
+    /// The key of the pair.
     pub key: u32,
 }
 
-/// Whether the bytes are the archive of such a map: `DONE`, or from 16 on the first point at which
-/// they are none.
+/// Validates the archive of a map of numbers.
+///
+/// # Errors
+///
+/// - The status of the first validation error: 16 to 23.
 pub fn open_numbers(archive: &[u8], form: Form) -> u32
     ensures told { Opens (limit_of form.wide) (number_map form.long_values form.wide) archive.now
         result }
@@ -44,9 +52,11 @@ pub fn open_numbers(archive: &[u8], form: Form) -> u32
     }
 }
 
-/// How many pairs the map has.
+/// Returns the number of pairs of the map.
 ///
-/// The archive must have been accepted: `open_numbers` answered `DONE`.
+/// # Requires
+///
+/// - The archive is valid: `open_numbers` returned `DONE`.
 pub fn count_numbers(archive: &[u8], form: Form) -> usize
     requires { IsNumberArchive form.long_values form.wide archive.now }
     ensures { Counts (word_of form.wide) number_key (value_shape form.long_values) archive.now
@@ -60,9 +70,15 @@ pub fn count_numbers(archive: &[u8], form: Form) -> usize
     }
 }
 
-/// Gives the value of a key.
+/// Looks up a key, and stores its value in `value`.
 ///
-/// `NOT_FOUND` where it isn't found; `value` is kept then. The archive must have been accepted.
+/// # Errors
+///
+/// - `NOT_FOUND`: the lookup doesn't find the key; `value` is unchanged then.
+///
+/// # Requires
+///
+/// - The archive is valid: `open_numbers` returned `DONE`.
 pub fn get_number(archive: &[u8], form: Form, key: u32, value: &mut u64) -> u32
     requires { IsNumberArchive form.long_values form.wide archive.now }
     ensures gives { GivesNumber form.long_values form.wide archive.now key value.old result
@@ -78,10 +94,18 @@ pub fn get_number(archive: &[u8], form: Form, key: u32, value: &mut u64) -> u32
     }
 }
 
-/// Writes the value of a key in place.
+/// Looks up a key, and overwrites its value in place. The archive stays valid.
 ///
-/// `VALUE_TOO_LARGE` where the map's values have 32 bits and this one more, `NOT_FOUND` where the
-/// key isn't found; no byte is changed then. The archive must have been accepted, and stays so.
+/// # Errors
+///
+/// - `VALUE_TOO_LARGE`: the values of the map have 32 bits and the new one has more.
+/// - `NOT_FOUND`: the lookup doesn't find the key.
+///
+/// After an error no byte is changed.
+///
+/// # Requires
+///
+/// - The archive is valid: `open_numbers` returned `DONE`.
 pub fn set_number(archive: &mut [u8], form: Form, key: u32, value: u64) -> u32
     requires { IsNumberArchive form.long_values form.wide archive.old }
     ensures kept { IsNumberArchive form.long_values form.wide archive.new }
@@ -97,7 +121,7 @@ pub fn set_number(archive: &mut [u8], form: Form, key: u32, value: u64) -> u32
     }
 }
 
-/// The key of the pair at a position.
+/// Returns the key of the pair at a position.
 fn key_in<V: Value>(archive: &[u8], pos: u64) -> u32
     requires { IsPairAt number_key V.encoding archive.now pos }
     ensures { result ≡ number_at w32 archive.now pos }
@@ -106,7 +130,7 @@ fn key_in<V: Value>(archive: &[u8], pos: u64) -> u32
     entry.key().to_native()
 }
 
-/// Takes the next pair of the map at the root of an archive.
+/// Stores the next pair of the map at the root of an archive, or returns `END`.
 fn next_in<V: Value, W: Width>(archive: &[u8], pair: &mut NumberPair) -> u32
     requires { IsMapArchive W.word W.LIMIT number_key V.encoding archive.now }
     ensures { NextNumber W.word V.encoding archive.now pair.old result pair.new }
@@ -126,9 +150,15 @@ fn next_in<V: Value, W: Width>(archive: &[u8], pair: &mut NumberPair) -> u32
     DONE
 }
 
-/// Takes the next pair, by ascending bucket.
+/// Stores the next pair, in bucket order, in `pair`.
 ///
-/// `END` where none is left; `pair` is kept then. The archive must have been accepted.
+/// # Errors
+///
+/// - `END`: no pair remains; `pair` is unchanged then.
+///
+/// # Requires
+///
+/// - The archive is valid: `open_numbers` returned `DONE`.
 pub fn next_number(archive: &[u8], form: Form, pair: &mut NumberPair) -> u32
     requires { IsNumberArchive form.long_values form.wide archive.now }
     ensures { StepsNumbers form.long_values form.wide archive.now pair.old result pair.new }

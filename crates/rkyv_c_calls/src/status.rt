@@ -1,4 +1,4 @@
-//! What a call answers: that it did what it says, or why not.
+//! The statuses that calls return.
 
 ghost use Rattle.std.specs.Prelude.{◌≡◌};
 ghost use Rattle.rkyv_c_calls.specs.Status.{refusal, write_refusal};
@@ -6,25 +6,25 @@ ghost use Rattle.rkyv_c_calls.specs.Status.{refusal, write_refusal};
 use rkyv_base::errors::{VerifyError, WriteError};
 use rkyv_base::writer::NoMemory;
 
-/// The call did what it says.
+/// The call succeeded.
 pub const DONE: u32 = 0;
 
-/// The key isn't found.
+/// The lookup doesn't find the key.
 pub const NOT_FOUND: u32 = 1;
 
-/// No pair is left.
+/// No pair remains.
 pub const END: u32 = 2;
 
-/// The value has more than the 32 bits of the map's values.
+/// The value has more bits than the values of the map.
 pub const VALUE_TOO_LARGE: u32 = 3;
 
-/// The key is no text: its bytes aren't UTF-8.
+/// The key isn't a text: its bytes aren't UTF-8.
 pub const NOT_TEXT: u32 = 4;
 
-/// A growth of the memory that a call takes was refused.
+/// An allocation failed.
 pub const NO_MEMORY: u32 = 12;
 
-/// Why bytes are no archive: from 16 on.
+/// Returns the status of a validation error: 16 to 23.
 #[tactic(auto, unfolding(crate::specs::Status::refusal))]
 pub(crate) fn refusal(error: &VerifyError) -> u32
     ensures { result ≡ refusal error.now }
@@ -41,7 +41,7 @@ pub(crate) fn refusal(error: &VerifyError) -> u32
     }
 }
 
-/// Why no archive was made: that there is no memory, or one of the causes from 23 on.
+/// Returns the status of a write error: `NO_MEMORY`, or 23 to 29.
 #[tactic(auto, unfolding(crate::specs::Status::write_refusal))]
 pub(crate) fn write_refusal(error: &WriteError<NoMemory>) -> u32
     ensures { result ≡ write_refusal error.now }

@@ -1,4 +1,4 @@
-//! Archives of pairs of texts.
+//! Archives of pairs of texts and numbers.
 
 ghost use Rattle.std.specs.Prelude.{MatchResult};
 ghost use Rattle.rkyv_c_calls.specs.Items.{IsArchiveOfTexts, NoArchiveOfTexts};
@@ -13,15 +13,17 @@ use crate::value::Value;
 use rkyv_base::width::{Narrow, Wide, Width};
 use std::alloc::Global;
 
-/// A pair that is to be archived, of a key that may be no text.
+/// A pair to be archived.
 #[repr(C)]
 #[derive(Clone, Copy)]
 pub struct TextItem<'a> {
+    /// The key, which `build_texts` rejects if it isn't UTF-8.
     pub key: &'a [u8],
+    /// The value, which `build_texts` rejects if it has more bits than the values of the map.
     pub value: u64,
 }
 
-/// The pairs of the items.
+/// Returns the pairs of the items.
 fn pairs_of<'a, V: Value>(alloc: Global, items: &[TextItem<'a>]) -> Result<Vec<(&'a str, V)>, u32>
     ensures { MatchResult result
         (λ pairs. ArePairsOfTexts V.encoding items.now pairs.items)
@@ -48,7 +50,7 @@ fn pairs_of<'a, V: Value>(alloc: Global, items: &[TextItem<'a>]) -> Result<Vec<(
     Ok(pairs)
 }
 
-/// The archive of the items.
+/// Writes the archive of the items.
 fn archive_in<V: Value, W: Width>(alloc: Global, items: &[TextItem<'_>]) -> Result<Vec<u8>, u32>
     ensures { MatchResult result
         (λ v. TextsMade W.word V.encoding W.LIMIT W.MAX_CAPACITY items.now v.items)
@@ -64,7 +66,7 @@ fn archive_in<V: Value, W: Width>(alloc: Global, items: &[TextItem<'_>]) -> Resu
     }
 }
 
-/// The archive of the items, in one of the forms.
+/// Writes the archive of the items in the form.
 fn archive_by(alloc: Global, items: &[TextItem<'_>], form: Form) -> Result<Vec<u8>, u32>
     ensures { MatchResult result
         (λ v. IsArchiveOfTexts form.long_values form.wide items.now v.items)
@@ -78,11 +80,18 @@ fn archive_by(alloc: Global, items: &[TextItem<'_>], form: Form) -> Result<Vec<u
     }
 }
 
-/// Makes the archive of the items, in their order, as a map under the load factor 7 / 8, and hands
-/// out its bytes.
+/// Writes the archive of the items, in insertion order, and leaks its bytes into `built`.
 ///
-/// `NOT_TEXT` where a key isn't UTF-8, `VALUE_TOO_LARGE` where a value has too many bits,
-/// `NO_MEMORY` where a growth is refused, and each other cause of a write; `built` is kept then.
+/// The archive is a map under the load factor 7 / 8.
+///
+/// # Errors
+///
+/// - `NO_MEMORY`: an allocation fails.
+/// - `NOT_TEXT`: a key isn't UTF-8.
+/// - `VALUE_TOO_LARGE`: a value has more bits than the values of the map.
+/// - A status from 23 on: the write fails.
+///
+/// After an error `built` is unchanged.
 pub fn build_texts(alloc: Global, items: &[TextItem<'_>], form: Form, built: &mut Built<'_>) -> u32
     ensures { HandsOut (IsArchiveOfTexts form.long_values form.wide items.now)
         (NoArchiveOfTexts form.long_values form.wide items.now) built.old result built.new }

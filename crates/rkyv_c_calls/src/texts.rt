@@ -1,4 +1,6 @@
-//! Maps of texts.
+//! Maps whose keys are texts.
+//!
+//! `open_texts` validates an archive; all other calls but `is_text` require a valid one.
 
 ghost use Rattle.std.specs.Prelude.{IsTrue, ◌↔◌, MatchOption, ◌≡◌};
 ghost use Rattle.std.specs.Str.{IsUtf8};
@@ -22,17 +24,19 @@ use rkyv_base::text::Text;
 use rkyv_base::view::View;
 use rkyv_base::width::{Narrow, Wide, Width};
 
-/// A pair of a map, and the bucket from which on the next one is looked for: 0 before the first.
-/// The key is a part of the archive.
+/// A pair of a map, and the bucket at which a walk continues.
 #[repr(C)]
 #[derive(Clone, Copy)]
 pub struct TextPair<'a> {
+    /// The bucket at which the walk continues: 0 at the beginning.
     pub next: u64,
+    /// The value of the pair.
     pub value: u64,
+    /// The bytes of the key, which are borrowed from the archive.
     pub key: &'a [u8],
 }
 
-/// The text of some bytes, where they are one.
+/// Returns the bytes as a text, or `None` if they aren't UTF-8.
 pub(crate) fn text_of(bytes: &[u8]) -> Option<&str>
     ensures { MatchOption result (IsUtf8 bytes.now → ⊥)
         (λ text. IsUtf8 bytes.now × (text.now ≡ bytes.now)) }
@@ -43,7 +47,7 @@ pub(crate) fn text_of(bytes: &[u8]) -> Option<&str>
     }
 }
 
-/// Whether the bytes are a text: UTF-8.
+/// Returns whether the bytes are a text: UTF-8.
 pub fn is_text(bytes: &[u8]) -> bool
     ensures { IsTrue result ↔ IsUtf8 bytes.now }
 {
@@ -53,8 +57,11 @@ pub fn is_text(bytes: &[u8]) -> bool
     }
 }
 
-/// Whether the bytes are the archive of such a map: `DONE`, or from 16 on the first point at which
-/// they are none.
+/// Validates the archive of a map of texts.
+///
+/// # Errors
+///
+/// - The status of the first validation error: 16 to 23.
 pub fn open_texts(archive: &[u8], form: Form) -> u32
     ensures told { Opens (limit_of form.wide) (text_map form.long_values form.wide) archive.now
         result }
@@ -68,9 +75,11 @@ pub fn open_texts(archive: &[u8], form: Form) -> u32
     }
 }
 
-/// How many pairs the map has.
+/// Returns the number of pairs of the map.
 ///
-/// The archive must have been accepted: `open_texts` answered `DONE`.
+/// # Requires
+///
+/// - The archive is valid: `open_texts` returned `DONE`.
 pub fn count_texts(archive: &[u8], form: Form) -> usize
     requires { IsTextArchive form.long_values form.wide archive.now }
     ensures { Counts (word_of form.wide) (text_key form.wide) (value_shape form.long_values)
@@ -84,7 +93,7 @@ pub fn count_texts(archive: &[u8], form: Form) -> usize
     }
 }
 
-/// Gives the value of a text.
+/// Looks up a text, and stores its value in `value`.
 fn get_of(archive: &[u8], form: Form, key: &str, value: &mut u64) -> u32
     requires { IsTextArchive form.long_values form.wide archive.now }
     ensures gives { Gives (word_of form.long_values) archive.now
@@ -100,10 +109,18 @@ fn get_of(archive: &[u8], form: Form, key: &str, value: &mut u64) -> u32
     }
 }
 
-/// Gives the value of a key.
+/// Looks up a key, and stores its value in `value`.
 ///
-/// `NOT_TEXT` where its bytes aren't UTF-8, `NOT_FOUND` where it isn't found; `value` is kept then.
-/// The archive must have been accepted.
+/// # Errors
+///
+/// - `NOT_TEXT`: the bytes of the key aren't UTF-8.
+/// - `NOT_FOUND`: the lookup doesn't find the key.
+///
+/// After an error `value` is unchanged.
+///
+/// # Requires
+///
+/// - The archive is valid: `open_texts` returned `DONE`.
 pub fn get_text(archive: &[u8], form: Form, key: &[u8], value: &mut u64) -> u32
     requires { IsTextArchive form.long_values form.wide archive.now }
     ensures gives { GivesText form.long_values form.wide archive.now key.now value.old result
@@ -117,7 +134,7 @@ pub fn get_text(archive: &[u8], form: Form, key: &[u8], value: &mut u64) -> u32
     }
 }
 
-/// Writes the value of a text in place.
+/// Looks up a text, and overwrites its value in place.
 fn set_of(archive: &mut [u8], form: Form, key: &str, value: u64) -> u32
     requires { IsTextArchive form.long_values form.wide archive.old }
     ensures kept { IsTextArchive form.long_values form.wide archive.new }
@@ -134,11 +151,19 @@ fn set_of(archive: &mut [u8], form: Form, key: &str, value: u64) -> u32
     }
 }
 
-/// Writes the value of a key in place.
+/// Looks up a key, and overwrites its value in place. The archive stays valid.
 ///
-/// `NOT_TEXT` where the key's bytes aren't UTF-8, `VALUE_TOO_LARGE` where the map's values have 32
-/// bits and this one more, `NOT_FOUND` where the key isn't found; no byte is changed then. The
-/// archive must have been accepted, and stays so.
+/// # Errors
+///
+/// - `NOT_TEXT`: the bytes of the key aren't UTF-8.
+/// - `VALUE_TOO_LARGE`: the values of the map have 32 bits and the new one has more.
+/// - `NOT_FOUND`: the lookup doesn't find the key.
+///
+/// After an error no byte is changed.
+///
+/// # Requires
+///
+/// - The archive is valid: `open_texts` returned `DONE`.
 pub fn set_text(archive: &mut [u8], form: Form, key: &[u8], value: u64) -> u32
     requires { IsTextArchive form.long_values form.wide archive.old }
     ensures kept { IsTextArchive form.long_values form.wide archive.new }
@@ -153,7 +178,7 @@ pub fn set_text(archive: &mut [u8], form: Form, key: &[u8], value: u64) -> u32
     }
 }
 
-/// The key of the pair at a position.
+/// Returns the bytes of the key of the pair at a position.
 fn key_in<V: Value, W: Width>(archive: &[u8], pos: u64) -> &[u8]
     requires { IsPairAt (text_shape W.word) V.encoding archive.now pos }
     ensures { result.now ≡ text_at W.word archive.now pos }
@@ -162,7 +187,7 @@ fn key_in<V: Value, W: Width>(archive: &[u8], pos: u64) -> &[u8]
     entry.key().as_str().as_bytes()
 }
 
-/// Takes the next pair of the map at the root of an archive.
+/// Stores the next pair of the map at the root of an archive, or returns `END`.
 fn next_in<'a, V: Value, W: Width>(archive: &'a [u8], pair: &mut TextPair<'a>) -> u32
     requires { IsMapArchive W.word W.LIMIT (text_shape W.word) V.encoding archive.now }
     ensures { NextText W.word V.encoding archive.now pair.old result pair.new }
@@ -182,9 +207,15 @@ fn next_in<'a, V: Value, W: Width>(archive: &'a [u8], pair: &mut TextPair<'a>) -
     DONE
 }
 
-/// Takes the next pair, by ascending bucket.
+/// Stores the next pair, in bucket order, in `pair`.
 ///
-/// `END` where none is left; `pair` is kept then. The archive must have been accepted.
+/// # Errors
+///
+/// - `END`: no pair remains; `pair` is unchanged then.
+///
+/// # Requires
+///
+/// - The archive is valid: `open_texts` returned `DONE`.
 pub fn next_text<'a>(archive: &'a [u8], form: Form, pair: &mut TextPair<'a>) -> u32
     requires { IsTextArchive form.long_values form.wide archive.now }
     ensures { StepsTexts form.long_values form.wide archive.now pair.old result pair.new }

@@ -5,13 +5,13 @@ ghost use mir.Val.{bits};
 
 use rkyv_base::scalars::Scalar;
 
-/// A number that is the value of a key.
+/// The value of a key, which is a number.
 pub(crate) trait Value: Scalar {
-    /// The number.
+    /// Returns the value as a number.
     fn to_number(self) -> u64
         ensures { (n : ℕ) → Self.encoding.value n ≡ self → result ≡ n };
 
-    /// The value that is a number, where it has no more bits.
+    /// Returns the value of a number, or `None` if the number has more bits than values.
     fn of_number(number: u64) -> Option<Self>
         ensures told { MatchOption result (2 ^ bits Self.encoding.word ≤ number)
             (λ value. Self.encoding.code value ≡ number) }

@@ -1,4 +1,4 @@
-//! Walking over the pairs of a map, from any bucket on.
+//! A walk over the pairs of a map, from any bucket on.
 
 ghost use Rattle.std.specs.Prelude.{IfSome, length, pos as int, slice_range, unsigned_abs, ℕ, ◌*◌};
 ghost use Rattle.std.specs.Prelude.{◌+ℤ◌, ◌+◌, ◌-◌, ◌<◌, ◌^◌, ◌≡◌, ◌≤◌};
@@ -22,20 +22,20 @@ use rkyv_collections::map::ArchivedHashMap;
 use rkyv_table::controls::numbers::control_count;
 use rkyv_table::controls::walk::next_full;
 
-/// A full bucket, and where the pair in it stands.
+/// A full bucket, and the position of the pair in it.
 #[derive(Clone, Copy)]
 pub(crate) struct Place {
     pub(crate) bucket: u64,
     pub(crate) pos: u64,
 }
 
-/// How far the first control stands from a header, in bytes.
+/// The distance from a header to the first control byte, in bytes.
 #[derive(Clone, Copy)]
 struct Distance {
     told: i64,
 }
 
-/// The distance that the header at `root` tells.
+/// Reads the distance of the header at `root`.
 #[inline]
 fn distance_at<W: Width>(archive: &[u8], root: u64) -> Distance
     requires { root + byte_len W.word ≤ length archive.now }
@@ -46,7 +46,7 @@ fn distance_at<W: Width>(archive: &[u8], root: u64) -> Distance
     }
 }
 
-/// Where the first control stands, of a header at `root` that tells this distance.
+/// Returns the position of the first control byte: `root` plus the distance.
 #[inline]
 fn controls_begin(root: u64, distance: Distance) -> usize
     requires { (place : ℕ) × (int place ≡ int root +ℤ distance.told) × (place < 2 ^ 64) }
@@ -55,7 +55,7 @@ fn controls_begin(root: u64, distance: Distance) -> usize
     (i128::from(root) + i128::from(distance.told)) as usize
 }
 
-/// How many buckets the map at `root` has.
+/// Returns the number of buckets of the map at `root`.
 #[inline]
 fn bucket_count<K: Element, V: Element, W: Width>(archive: &[u8], root: u64) -> usize
     requires { IsMapAt W.word K.shape V.shape archive.now root }
@@ -64,7 +64,7 @@ fn bucket_count<K: Element, V: Element, W: Width>(archive: &[u8], root: u64) -> 
     ArchivedHashMap::<K, V, FxHasher64, W>::of(View::new(archive, root)).capacity()
 }
 
-/// Where the first of the controls of the map at `root` stands, which has buckets.
+/// Returns the position of the first control byte of the map at `root`, which has buckets.
 #[inline]
 fn controls_in<K: Element, V: Element, W: Width>(archive: &[u8], root: u64, cap: usize) -> usize
     requires map { IsMapAt W.word K.shape V.shape archive.now root }
@@ -76,7 +76,7 @@ fn controls_in<K: Element, V: Element, W: Width>(archive: &[u8], root: u64, cap:
     controls_begin(root, distance_at::<W>(archive, root))
 }
 
-/// The controls of `cap` buckets, from `place` on.
+/// Returns all control bytes of `cap` buckets, from position `place` on.
 #[inline]
 fn controls_from(bytes: &[u8], place: usize, cap: usize) -> &[u8]
     requires { place + control_count cap ≤ length bytes.now }
@@ -85,7 +85,7 @@ fn controls_from(bytes: &[u8], place: usize, cap: usize) -> &[u8]
     &bytes[place..place + control_count(cap)]
 }
 
-/// Where a bucket stands before the first control.
+/// Returns the position of a bucket of `size` bytes, before the first control byte at `place`.
 #[inline]
 fn pos_before(place: usize, bucket: usize, size: usize) -> u64
     requires small { bucket + 1 < 2 ^ 64 }
@@ -95,7 +95,7 @@ fn pos_before(place: usize, bucket: usize, size: usize) -> u64
     (place - (bucket + 1) * size) as u64
 }
 
-/// The first full bucket from `from` on of the map at `root`, and where the pair in it stands.
+/// Returns the first full bucket from `from` on, in the map at `root`, with its pair's position.
 #[inline]
 pub(crate) fn next_place<K: Element, V: Element, W: Width>(
     archive: &[u8],
@@ -124,7 +124,7 @@ pub(crate) fn next_place<K: Element, V: Element, W: Width>(
     }
 }
 
-/// The value of the pair at a position, as a number of 64 bits.
+/// Returns the value of the pair at a position, as a number of 64 bits.
 #[inline]
 pub(crate) fn value_in<K: Element, V: Value>(archive: &[u8], pos: u64) -> u64
     requires { IsPairAt K.shape V.encoding archive.now pos }

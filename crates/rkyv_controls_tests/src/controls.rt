@@ -1,4 +1,4 @@
-//! The controls of tables, with each kind of group.
+//! The control bytes of tables, with each kind of group.
 ghost use Rattle.std.specs.Prelude.{IfSome, length, ◌<◌, ◌≤◌, ◌^◌};
 ghost use Rattle.rkyv_table.specs.Controls.Numbers.{control_count};
 ghost use Rattle.rkyv_table.specs.Controls.Shown.{IsFullBucket};
@@ -22,7 +22,7 @@ const NARROW: u64 = 4_294_967_295;
 
 const WIDE: u64 = 4_611_686_018_427_387_904;
 
-// The controls of a written table, and where its items stand.
+// The control bytes of a written table, and the buckets of its items.
 #[derive(Drop)]
 struct Table {
     cap: usize,
@@ -47,7 +47,7 @@ impl Table {
         })
     }
 
-    // The bucket that is found, and how many strides were read.
+    // Returns the bucket that a lookup finds, and the number of strides that it reads.
     fn asked<G: GroupKind, F: Fn(usize) -> bool>(&self, hash: u64, cmp: F) -> (Option<usize>, u64)
         requires { F.IsAlwaysCallable cmp }
     {
@@ -64,7 +64,7 @@ impl Table {
     }
 }
 
-// A bucket whose item may have the hash.
+// Returns a bucket whose item may have the hash.
 fn candidate(controls: &[u8], cap: usize, len: usize, hash: u64) -> Option<usize>
     requires { Accepted cap len controls.now }
     ensures { IfSome result (IsFullBucket cap controls.now) }
@@ -79,7 +79,7 @@ fn hash_of(key: i8) -> u64 {
     hasher.finish()
 }
 
-// The capacities in narrow archives, of these lengths under the load factor 7 / 8.
+// Returns the capacity of a narrow archive for the length, under the load factor 7 / 8.
 fn usual(len: usize) -> Result<usize, CapacityError> {
     capacity(len, (7, 8), NARROW)
 }
@@ -158,7 +158,7 @@ fn numbers(rt: HostRuntime) {
     );
 }
 
-// The first four places of a probe sequence.
+// Returns the first four indices of a probe sequence.
 fn four_places(start: u64, cap: usize) -> [Option<usize>; 4]
     requires some { 0 < cap }
     requires fits { control_count cap ≤ 2 ^ 63 }
@@ -195,7 +195,7 @@ fn sixteen_buckets_are_one_place(rt: HostRuntime) {
     assert!(rt; right);
 }
 
-// Whether each of these controls is empty.
+// Returns whether all controls are empty.
 fn are_empty(controls: &[u8]) -> bool {
     for control in controls {
         if *control != 0xff {
@@ -205,7 +205,7 @@ fn are_empty(controls: &[u8]) -> bool {
     true
 }
 
-// Whether the controls begin with these bytes and are ff from there on.
+// Returns whether the controls are `front`, then bytes 0xff.
 fn is_then_empty(controls: &[u8], front: &[u8]) -> bool {
     match controls.split_at_checked(front.len()) {
         Some((first, others)) => first == front && are_empty(others),
@@ -213,8 +213,7 @@ fn is_then_empty(controls: &[u8], front: &[u8]) -> bool {
     }
 }
 
-// Whether the items stand at these buckets, and the controls begin with these bytes and are ff
-// from there on.
+// Returns whether the items are in these buckets, and the controls are `front`, then bytes 0xff.
 fn is_written<G: GroupKind>(
     alloc: Global,
     cap: usize,
@@ -232,7 +231,7 @@ fn is_written<G: GroupKind>(
     table.homes.as_slice() == homes && is_then_empty(table.controls.as_slice(), front)
 }
 
-// By each kind of group.
+// Returns `is_written` for all kinds of group.
 fn all_write(alloc: Global, cap: usize, hashes: &[u64], homes: &[usize], front: &[u8]) -> bool
     requires room { length hashes.now < cap }
     requires small { cap < 2 ^ 16 }
@@ -283,7 +282,7 @@ fn places_one(rt: HostRuntime) {
     assert_eq!(rt; (bucket, written), (1, true));
 }
 
-// What a table of three items answers: that the asked bucket is found in the strides counted.
+// Returns whether lookups in four tables find the expected buckets in the expected strides.
 fn finds<G: GroupKind>(alloc: Global) -> Result<bool, AllocError> {
     let two = Table::written::<G>(alloc, 3, &[2, 2])?;
     let wrapped = Table::written::<G>(alloc, 17, &[16; 16])?;
@@ -326,7 +325,7 @@ fn finds_by_each_kind(rt: HostRuntime) {
     assert_eq!(rt; right, [Some(true); 3]);
 }
 
-// The eight wide word marks a tag that differs in the lowest bit behind one that is equal.
+// The word of eight controls also marks a tag that differs in the lowest bit, behind an equal one.
 #[test]
 fn finds_by_false_marks(rt: HostRuntime) -> Result<(), AllocError> {
     let hash = 0x5000_0000_0000_0001;
@@ -340,7 +339,7 @@ fn finds_by_false_marks(rt: HostRuntime) -> Result<(), AllocError> {
     Ok(())
 }
 
-// The buckets that are asked where none is accepted: the first stride and then the second.
+// Returns whether a lookup that accepts no bucket tries those of the first stride, then the second.
 fn asks_in_order<G: GroupKind>(alloc: Global) -> Result<bool, AllocError> {
     let table = Table::written::<G>(alloc, 17, &[16; 16])?;
     let asks = Cell::new(0usize);
@@ -369,7 +368,7 @@ fn asks_each_stride(rt: HostRuntime) {
     assert_eq!(rt; right, [Some(true); 3]);
 }
 
-// A comparison that answers no at its first call and yes from then on.
+// A comparison that returns `false` at its first call, and `true` from then on.
 #[test]
 fn asks_again(rt: HostRuntime) -> Result<(), AllocError> {
     let table = Table::written::<generic::Group>(rt.alloc(), 3, &[2, 2])?;

@@ -1,4 +1,4 @@
--- A text grows by an answer.
+-- Appending an output to a text.
 use Rattle.std.proofs.Common.{◌≡◌, ℕ, List, [], ◌++◌, Ok, Err, Result, sym, subst}
 use Rattle.std.specs.Prelude.{OnOk}
 use Rattle.std.proofs.lemmas.List.{append-nil}
@@ -18,7 +18,7 @@ adds_none text answers h = record { answer = []; added = sym (append-nil text); 
 pub adds_this : {T E : Type 0} (r : Result T E) (old now answer : List ℕ) (answers : List ℕ → Type 0) → OnOk r (now ≡ old ++ answer) → answers answer → OnOk r (Adds old now answers)
 adds_this r old now answer answers added h = on_ok_map r (now ≡ old ++ answer) (Adds old now answers) (λ e. record { answer = answer; added = e; answered = h }) added
 
--- what a command does, where it is known which one it is
+-- the output of a command that equals a known one
 pub adds_as : (old now : List ℕ) (s s' : State) (command known : Command) → command ≡ known
     → Adds old now (λ answer. Does s (request_seen known) answer s') → Adds old now (λ answer. Does s (request_seen command) answer s')
 adds_as old now s s' command known is h = subst (λ (k : Command). Adds old now (λ answer. Does s (request_seen k) answer s')) (sym is) h

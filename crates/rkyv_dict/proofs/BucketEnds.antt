@@ -1,4 +1,4 @@
--- Writing the buckets of a table ends in one way.
+-- The write of a table's buckets ends in one way.
 use Rattle.std.proofs.Common.{◌≡◌, ℕ, zero, suc, ◌+◌, ◌-◌, ◌*◌, ◌<◌, ◌≤◌, ◌∙◌, refl, sym, ap, subst, arith, inl, inr, List, [], ◌∷◌, ◌++◌, length, drop, take, Option, None, Some, append-nil, append_assoc, length-append}
 use Rattle.std.specs.Prelude.{◌⊎◌, slice_get}
 use Rattle.std.proofs.lemmas.List.{length-replicate}
@@ -23,7 +23,7 @@ same_head x y xs ys e = cc
 same_tail : {A : Type 0} (x y : A) (xs ys : List A) → x ∷ xs ≡ y ∷ ys → xs ≡ ys
 same_tail x y xs ys e = cc
 
--- a value's own bytes, or that a distance from it is too large
+-- the fixed bytes of a value, or a distance from it that is too large
 module _ {V R : Type 0} (size : ℕ) (f : Format V R) (whole : (v : V) (r : R) (p : ℕ) (out : List ℕ) → f.image v r p out → length out ≡ size)
     (clear : (v : V) (r : R) (p : ℕ) (out : List ℕ) → f.image v r p out → f.far v r p → ⊥) (v : V) (r : R) (p : ℕ) where
   abbrev pub OwnNext : List ℕ → Step → Type 0
@@ -52,7 +52,7 @@ module _ {V R : Type 0} (size : ℕ) (f : Format V R) (whole : (v : V) (r : R) (
 
 module _ {X R : Type 0} (size : ℕ) (f : Format X R) (whole : (x : X) (r : R) (p : ℕ) (out : List ℕ) → f.image x r p out → length out ≡ size)
     (clear : (x : X) (r : R) (p : ℕ) (out : List ℕ) → f.image x r p out → f.far x r p → ⊥) (p : ℕ) where
-  -- the buckets of the slots from position p on, those of the later slots before that of the first
+  -- the buckets of the slots from position `p` on, in reverse order of the slots
   abbrev Images : List (Option X) → List R → List ℕ → Type 0
   Images [] rs out = (rs ≡ []) × (out ≡ [])
   Images (None ∷ ss) rs out = (a : List ℕ) × (u : Unit {0}) × (b : List ℕ) × Images ss rs a × (b ≡ zeros size) × (out ≡ a ++ b)
@@ -94,7 +94,7 @@ module _ {X R : Type 0} (size : ℕ) (f : Format X R) (whole : (x : X) (r : R) (
       (ends_as (ImagesNext ss rs) (ImagesNext ss rs) (Images ss rs) (λ a. (u : Unit {0}) × Images ss rs a) rule (λ front step known h. h) (λ part h. h.1))
       (λ a u m. own_ends size f whole clear x r (p + length a))
 
-  -- what is said with the position behind the buckets
+  -- the images of the slots, stated without the position behind the buckets
   images_of : (ss : List (Option X)) (rs : List R) (z : ℕ) (out : List ℕ) → z ≡ p + length out → SlotImages size f ss rs z out → Images ss rs out
   images_of [] rs z out e h = h
   images_of (None ∷ ss) rs z out e h =
@@ -112,7 +112,7 @@ module _ {X R : Type 0} (size : ℕ) (f : Format X R) (whole : (x : X) (r : R) (
       let others : SlotImages size f ss rs (z - size) h.2 = subst (λ (k : List R). SlotImages size f ss k (z - size) h.2) tail h.6 in
       (h.2, tt, h.3, images_of ss rs (z - size) h.2 at others, one, h.7)
 
-  -- a slot with an item leaves the others with one item fewer
+  -- slots from index `i` on have at most as many items as all slots
   fewer : (ss : List (Option X)) (i : ℕ) → filled (drop i ss) ≤ filled ss
   fewer ss zero = omega arith
   fewer [] (suc i) = omega arith

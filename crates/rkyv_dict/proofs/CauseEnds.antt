@@ -1,4 +1,4 @@
--- What a refused root tells.
+-- The error of a root whose write fails.
 use Rattle.std.proofs.Common.{◌≡◌, ℕ, ◌+◌, ◌-◌, ◌*◌, ◌<◌, ◌≤◌, ◌∙◌, refl, sym, ap, subst, arith, inl, inr, List, [], ◌∷◌, ◌++◌, length, true, false}
 use Rattle.std.specs.Prelude.{◌⊎◌, codes}
 use Rattle.rkyv_base.specs.Root.{fresh}
@@ -8,7 +8,7 @@ use Rattle.rkyv_base.specs.declared.errors.WriteError.TheVariants.{InvalidLoadFa
 use Rattle.rkyv_dict.specs.Errors.{cause_told, wants_memory}
 use Rattle.rkyv_dict.proofs.Ends.{Ends, IsKnown}
 
--- how a refusal is told
+-- the number and the name of an error
 abbrev told_of : Refusal → List ℕ
 told_of (load_factor n d) = codes "1 InvalidLoadFactor"
 told_of (mismatch n m) = codes "2 IteratorLengthMismatch"
@@ -19,7 +19,7 @@ told_of no_memory = codes "8 Memory"
 told_of (refused n) = codes "9 Refused"
 
 module _ (limit : ℕ) (next : List ℕ → Step → Type 0) where
-  -- a refusal came within the limit, or a piece that passes it
+  -- the error of a step within the limit, or of a piece that passes the limit
   abbrev pub Why : List ℕ → Type 0
   Why told =
       ((c : Refusal) × IsKnown c × (front : List ℕ) × (length front ≤ limit) × next front (refusal c) × (told ≡ told_of c))

@@ -1,4 +1,4 @@
--- A list is cut at the first place that passes.
+-- Splits of a list at the first item that passes a test.
 use Rattle.std.proofs.Common.{◌≡◌, ◌==◌, ℕ, ◌+◌, ◌<◌, Bool, true, List, [], ◌∷◌, Option, length, take, drop, Some, None, refl, sym, ◌∙◌, subst, arith, ltb, ⊎_elim}
 use Rattle.std.specs.List.{slice_split, position, position_or_len}
 use Rattle.std.proofs.lemmas.List.Splits.{slice_split_first, slice_split_none, length-slice_split}
@@ -18,7 +18,7 @@ cut_at p xs i e =
     let split : slice_split p xs ≡ take (position_or_len p xs) xs ∷ slice_split p (drop (position_or_len p xs + 1) xs) = slice_split_first p xs 0 inside in
     subst (λ (n : ℕ). slice_split p xs ≡ take n xs ∷ slice_split p (drop (n + 1) xs)) here split
 
--- the same, of the whole list
+-- a list without such an item is one part
 pub cut_none : (p : ℕ → Bool) (xs : List ℕ) → position p xs ≡ None → slice_split p xs ≡ xs ∷ []
 cut_none p [] e = refl
 cut_none p (x ∷ xs) e = ⊎_elim
@@ -28,7 +28,7 @@ cut_none p (x ∷ xs) e = ⊎_elim
     (λ h. slice_split_none p (x ∷ xs) (λ k d below. fails_before_first p (x ∷ xs) k d (omega arith)))
     (cases_lt (position_or_len p (x ∷ xs)) (length (x ∷ xs)))
 
--- a list has a first part
+-- a list with at least one part has a first part
 cons_of : (parts : List (List ℕ)) → 0 < length parts → (first : List ℕ) × (others : List (List ℕ)) × (parts ≡ first ∷ others)
 cons_of [] h = absurd (omega arith)
 cons_of (first ∷ others) h = (first, others, refl)
@@ -45,7 +45,7 @@ two_of_more first second rest = let s = split_cons (λ b. b == 32) rest in rw s.
 pub bare_of_more : (request : Request) (rest : List ℕ) → bare_of request (parts_of 32 rest) ≡ None
 bare_of_more request rest = let s = split_cons (λ b. b == 32) rest in rw s.2 refl
 
--- a text is cut at its first space
+-- a text is split at its first space
 pub cut_first : (bs : List ℕ) (r : Option (Bor (List ℕ) × Bor (List ℕ))) → IsSplitOnceResult 32 bs r
     → MatchOption r (parts_of 32 bs ≡ bs ∷ []) (λ x. parts_of 32 bs ≡ x.0.now ∷ parts_of 32 x.1.now)
 cut_first bs None h =

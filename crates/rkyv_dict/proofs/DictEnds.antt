@@ -1,4 +1,4 @@
--- Writing a table of some pairs ends in one way.
+-- The write of a table of pairs ends in one way.
 use Rattle.std.proofs.Common.{◌≡◌, ℕ, zero, suc, ◌+◌, ◌-◌, ◌*◌, ◌<◌, ◌≤◌, ◌∙◌, refl, sym, ap, subst, arith, inl, inr, List, [], ◌∷◌, ◌++◌, length, Option, None, Some, Bool, true, false, eqb, get_or}
 use Rattle.std.specs.Prelude.{◌⊎◌, slice_get, slice_index}
 use Rattle.std.specs.Int.{Width, w32}
@@ -28,7 +28,7 @@ within [] i h = absurd (omega (arith, h))
 within (x ∷ xs) zero h = (x, refl)
 within (x ∷ xs) (suc i) h = within xs i (omega (arith, h))
 
--- slots that have the same items in the same homes
+-- two lists of slots with the same items in the same homes
 module _ {X : Type 0} (cap : ℕ) (xs : List ℕ) (items : List X) (ss ts : List (Option X)) (s : Slotted cap xs items ss) (t : Slotted cap xs items ts) where
   slot_one : (b : ℕ) → b < cap → slice_get ss b ≡ slice_get ts b
   slot_one b h =
@@ -50,7 +50,7 @@ module _ {X : Type 0} (cap : ℕ) (xs : List ℕ) (items : List X) (ss ts : List
       ext_get_or None ss ts (omega arith) (λ b h.
       sym (unwrap_or-slice_get ss b None) ∙ ap (λ (o : Option (Option X)). unwrap_or o None) (slot_one b (omega arith)) ∙ unwrap_or-slice_get ts b None)
 
--- where the pairs are placed is told by the pairs
+-- the slots and controls depend only on the pairs
 module _ {X : Type 0} (cap : ℕ) (pairs : List (ℕ × X)) (ss ts : List (Option X)) (c d : List ℕ) (full : 0 < length pairs) (x : Placed cap pairs ss c) (y : Placed cap pairs ts d) where
   some_bucket : 0 < cap
   some_bucket =

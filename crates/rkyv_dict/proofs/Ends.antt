@@ -1,14 +1,14 @@
--- A write is refused for one cause, want of memory aside, and what is refused isn't written.
+-- A write fails with one error, except for allocation failures, and doesn't succeed as well.
 use Rattle.std.proofs.Common.{◌≡◌, ℕ, zero, suc, ◌+◌, ◌-◌, ◌*◌, ◌<◌, ◌≤◌, ◌∙◌, refl, sym, ap, subst, arith, inl, inr, List, [], ◌∷◌, ◌++◌, length, drop, take, Option, None, Some, append-nil, append_assoc, length-append}
 use Rattle.std.specs.Prelude.{◌⊎◌, slice_get}
 use Rattle.rkyv_base.specs.Writing.{Refusal, Step, no_memory, piece, refusal}
 
--- a refusal that isn't for want of memory
+-- an error that isn't an allocation failure
 abbrev pub IsKnown : Refusal → Type 0
 IsKnown c = c ≡ no_memory → ⊥
 
--- `next front step`: after front was appended, step comes next; `made part`: all is done after part. One refusal comes, the
--- pieces come before it, and they are in what is made; where one comes nothing is made.
+-- `next front step`: `step` follows the pieces `front`; `made part`: the write ends with `part`.
+-- There is one error, all pieces lie before it, and with an error no write is complete.
 pub record Ends (next : List ℕ → Step → Type 0) (made : List ℕ → Type 0) : Type 0 where
   pub refusals : (front front' : List ℕ) (c c' : Refusal) → IsKnown c → IsKnown c' → next front (refusal c) → next front' (refusal c') → c ≡ c'
   pub before : (front front' bytes : List ℕ) (c : Refusal) → IsKnown c → next front (piece bytes) → next front' (refusal c) → length front + length bytes ≤ length front'
@@ -24,7 +24,7 @@ same_piece a b e = cc
 pub no_piece : (c : Refusal) (a : List ℕ) → refusal c ≡ piece a → ⊥
 no_piece c a e = cc
 
--- nothing comes next
+-- a write of no step
 pub ends_at_once : (made : List ℕ → Type 0) → Ends (λ front step. ⊥) made
 ends_at_once made = record {
   refusals = λ front front' c c' k k' x y. absurd x;
@@ -33,7 +33,7 @@ ends_at_once made = record {
   clear = λ front part c k x y. x;
 }
 
--- one piece
+-- a write of one piece
 pub ends_by_piece : (whole : List ℕ) → Ends (λ front step. (front ≡ []) × (step ≡ piece whole)) (λ part. part ≡ whole)
 ends_by_piece whole = record {
   refusals = λ front front' c c' k k' x y. absurd (no_piece c whole x.1);
@@ -42,7 +42,7 @@ ends_by_piece whole = record {
   clear = λ front part c k x y. no_piece c whole x.1;
 }
 
--- what another rule of the same steps and the same whole says
+-- a write with the same steps and the same whole
 pub ends_as : (next next' : List ℕ → Step → Type 0) (made made' : List ℕ → Type 0) → Ends next made
     → ((front : List ℕ) (step : Step) → (step ≡ refusal no_memory → ⊥) → next' front step → next front step)
     → ((part : List ℕ) → made' part → made part) → Ends next' made'
@@ -56,7 +56,7 @@ ends_as next next' made made' ends into done =
       clear = λ front part c k x y. ends.clear front part c k (into front (refusal c) (known c k) x) (done part y);
     }
 
--- one after the other, where the second is told by the length of the first and what the first answers
+-- two writes in turn, the second with the length and the result of the first
 module _ {R : Type 0} (next : List ℕ → Step → Type 0) (made : List ℕ → R → Type 0) (next' : ℕ → R → List ℕ → Step → Type 0) (made' : ℕ → R → List ℕ → Type 0) where
   abbrev pub ThenNext : List ℕ → Step → Type 0
   ThenNext front step = next front step ⊎ ((a : List ℕ) × (r : R) × (rest : List ℕ) × made a r × next' (length a) r rest step × (front ≡ a ++ rest))

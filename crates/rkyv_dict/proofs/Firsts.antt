@@ -1,4 +1,4 @@
--- The first pair whose key is accepted: by the places of a map that was written, and in the list of which it was.
+-- The first pair with an accepted key, by the positions of a written map and in its list.
 use Rattle.std.proofs.Common.{◌≡◌, ℕ, suc, ◌+◌, ◌==◌, refl, ap, sym, ◌∙◌, arith, inl, inr, Bool, List, [], ◌∷◌, length, slice_get, slice_index, Option, None, Some}
 use Rattle.std.specs.Int.{w32}
 use Rattle.std.specs.Option.{option_map}
@@ -23,7 +23,7 @@ use Rattle.rkyv_dict.specs.declared.form.Form.{Form}
 use Rattle.rkyv_dict.specs.declared.form.Kind.{Kind}
 use Rattle.rkyv_dict.specs.declared.form.Kind.TheVariants.{Num, Text}
 
--- lists whose items answer alike have first accepted items that show alike
+-- lists whose items agree on both functions have first accepted items that agree
 firsts_alike : {Y U : Type 0} (fits : ℕ → Bool) (asks : Y → Bool) (shown : ℕ → U) (show : Y → U) (xs : List ℕ) (ys : List Y) → length xs ≡ length ys
     → ((i : ℕ) (y : Y) → slice_get ys i ≡ Some y → (fits (slice_index xs i) ≡ asks y) × (shown (slice_index xs i) ≡ show y))
     → option_map shown (find fits xs) ≡ option_map show (find asks ys)
@@ -58,12 +58,12 @@ shown_first : {A B U : Type 0} (show : B → U) (o : Option (A × B)) → option
 shown_first show None = refl
 shown_first show (Some pair) = refl
 
--- a form is its kind and its width
+-- a form equals the record of its kind and its width
 pub form_is : (form : Form) (kind : Kind) (bits : Bits) → form.kind ≡ kind → form.bits ≡ bits → form ≡ record { kind = kind; bits = bits }
 form_is form kind bits e d = ap {B = Form} (λ k. record { kind = k; bits = form.bits }) e ∙ ap {B = Form} (λ b. record { kind = kind; bits = b }) d
 
 module _ (bits : Bits) (factor : ℕ × ℕ) (b : List ℕ) where
-  -- in a map of numbers, and in one of texts
+  -- the first pair of a map of numbers, and of a map of texts
   pub first_number : (pairs : Pairs) (n : ℕ) → Holds (record { kind = Num; bits = bits }) factor b pairs
       → (homes : List ℕ) × HasHomes (number_parts bits) b homes
       × (first_under (number_parts bits) b homes (λ q. n == number_at w32 b q) ≡ first_value pairs (asked_number n))

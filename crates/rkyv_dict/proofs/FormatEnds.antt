@@ -15,7 +15,7 @@ use Rattle.rkyv_base.specs.Writing.{Refusal, Step, distance, long_text, no_memor
 use Rattle.rkyv_table.specs.Table.OneWay.{WritesOneWay}
 use Rattle.rkyv_dict.proofs.Ends.{Ends, IsKnown, ThenMade, ThenNext, ends_as, ends_at_once, no_piece, same_piece, same_refusal, then_ends}
 
--- serializing ends in one way
+-- serialization ends in one way
 pub record EndsOneWay {V R : Type 0} (f : Format V R) : Type 0 where
   pub ends : (v : V) (p : ℕ) → Ends (f.next v p) (λ part. (r : R) × f.parts v p part r)
 

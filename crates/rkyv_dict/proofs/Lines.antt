@@ -1,4 +1,4 @@
--- The lines of the pairs of a map, one after the other.
+-- The lines of the pairs of a map, in turn.
 use Rattle.std.proofs.Common.{◌≡◌, ℕ, ◌+◌, ap, sym, subst, ◌∙◌, append_assoc, List, ◌∷◌, ◌++◌, Result, Ok, Err, OnOk}
 use Rattle.std.specs.Borrow.{Bor}
 use Rattle.std.specs.List.{All, flat_map}
@@ -18,7 +18,7 @@ ok_map (Err e) f h = h
 
 module _ {K V : Type 0} (s : Shape) (text : List ℕ → ℕ → List ℕ) (archive : Bor (List ℕ)) (before after : ItemsLeft) (key : View K) (value : View V) (same : before.archive ≡ archive)
     (takes : TakesFirst before key.pos after) (k : ViewsAt s before key.pos key) (v : ViewsAt s before (key.pos + value_offset s s) value) where
-  -- the line of the pair that is taken
+  -- the line of the current pair
   taken_line : line (at_view text key ++ codes " " ++ at_view text value) ≡ line_at s text archive.now key.pos
   unfolding line_at
   taken_line =

@@ -1,4 +1,4 @@
--- Pairs have one archive, and a check one outcome.
+-- Pairs have one archive, and a validation has one outcome.
 use Rattle.std.proofs.Common.{◌≡◌, ℕ, ◌+◌, ◌-◌, ◌∙◌, refl, sym, ap, subst, arith, inl, inr, List, ◌++◌, length}
 use Rattle.std.specs.Int.{w32}
 use Rattle.rkyv_base.specs.Access.{Accepted, AccessFails}
@@ -31,7 +31,7 @@ use Rattle.rkyv_table.specs.Lemmas.TableLaws.{table_element}
 use Rattle.rkyv_table.specs.Table.OneWay.{WritesOneWay}
 use Rattle.rkyv_table.specs.Table.TableFormat.{table_format}
 
--- the words of both widths
+-- the word of each width is an archive word
 pub is_word : (bits : Bits) → IsArchiveWord (word_of bits)
 is_word Bits32 = inl refl
 is_word Bits64 = inr refl
@@ -86,7 +86,7 @@ built_one Text bits factor (numbers pairs) a b x y = absurd x
 pub builds_are_one : BuildsAreOne
 builds_are_one form factor pairs a b x y = built_one form.kind form.bits factor pairs a b x y
 
--- ---- checks
+-- ---- validations
 
 access_clear : (limit : ℕ) (s : Shape) → IsElement s → (b : List ℕ) (e : VerifyError) → AccessFails limit s b e → Accepted limit s b → ⊥
 access_clear limit s laws b e (inl (inl low, q)) a = omega (arith, low, a.inside)

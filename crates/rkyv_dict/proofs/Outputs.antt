@@ -12,7 +12,7 @@ use Rattle.rkyv_dict.specs.State.{Archived, State, form_of}
 use Rattle.rkyv_dict.proofs.Once.{builds_are_one, checks_are_one}
 use Rattle.rkyv_dict.proofs.Refused.{refused_builds_are_one}
 
--- the state with this archive, which was built of its list
+-- the state with the archive `b`, built from its list
 built_state : State → List ℕ → State
 built_state s b = record s { archive = Some (record { bytes = b; built_of = Some s.pairs }) }
 

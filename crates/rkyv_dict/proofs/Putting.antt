@@ -1,4 +1,4 @@
--- A list of pairs grows while the archive of its first ones stays.
+-- A list of pairs is extended, and the archive of its first pairs is unchanged.
 use Rattle.std.proofs.Common.{◌≡◌, ℕ, ◌≤◌, Option, Some, None, refl, ap}
 use Rattle.std.specs.Option.{ForSome, option_map}
 use Rattle.rkyv_dict.specs.declared.dict.Stored.{Stored}

@@ -1,4 +1,4 @@
--- A refused build has one cause, want of memory aside, and its pairs have no archive.
+-- A failed build has one error, except for allocation failures, and its pairs have no archive.
 use Rattle.std.proofs.Common.{◌≡◌, ℕ, ◌+◌, ◌-◌, ◌<◌, ◌≤◌, ◌∙◌, refl, sym, ap, subst, arith, inl, inr, List, [], ◌∷◌, ◌++◌, length, false}
 use Rattle.std.specs.Prelude.{◌⊎◌}
 use Rattle.std.specs.Int.{w32}

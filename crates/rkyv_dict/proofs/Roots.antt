@@ -1,4 +1,4 @@
--- The root of an archive of a map, and what is read there.
+-- The root of an archive of a map, and its values.
 use Rattle.std.proofs.Common.{◌≡◌, ℕ, ◌+◌, refl, ap, ◌∙◌, List, Option, Some, None, IfSome, subst, sym}
 use Rattle.std.specs.Borrow.{Bor}
 use Rattle.std.specs.Option.{option_map}
@@ -20,11 +20,11 @@ module _ (k : Parts) (b : List ℕ) where
   pub root_stands : IsMapArchive k b → Viewed (header_shape k) b (root k b)
   root_stands h = root_viewed k.limit (header_shape k) b (accepted h)
 
--- what is read where a view is
+-- a function of the bytes and position of a view is that of the archive and `p`
 pub read_at : {X T : Type 0} (f : List ℕ → ℕ → X) (v : View T) (archive : Bor (List ℕ)) (p : ℕ) → IsAt v archive p → f (bytes_of v) (pos_of v) ≡ f archive.now p
 read_at f v archive p h = ap (λ (a : Bor (List ℕ)). f a.now v.pos) h.0 ∙ ap (f archive.now) h.1
 
--- and back
+-- a property of the archive at `p` is one of the view
 pub back_at : {T : Type 0} (P : List ℕ → ℕ → Type 0) (v : View T) (archive : Bor (List ℕ)) (p : ℕ) → IsAt v archive p → P archive.now p → P (bytes_of v) (pos_of v)
 back_at P v archive p h x = subst (λ (a : Bor (List ℕ)). P a.now v.pos) (sym h.0) (subst (P archive.now) (sym h.1) x)
 
@@ -32,7 +32,7 @@ pub some_map : {X : Type 0} {P Q : X → Type 0} (o : Option X) → ((x : X) →
 some_map None f h = h
 some_map (Some x) f h = f x h
 
--- the text of a value that may have been found, by the place of its key
+-- the text of a value that may be found, by the position of its key
 text_found : {V : Type 0} (text : List ℕ → ℕ → List ℕ) (b : List ℕ) (off : ℕ) (value : Option (View V)) (place : Option ℕ) → IfSome value (λ v. bytes_of v ≡ b)
     → pos_of_found value ≡ option_map (λ q. q + off) place → option_map (at_view text) value ≡ option_map (λ q. text b (q + off)) place
 text_found text b off None None same e = refl
@@ -40,7 +40,7 @@ text_found text b off None (Some q) same e = absurd cc
 text_found text b off (Some v) None same e = absurd cc
 text_found text b off (Some v) (Some q) same e = ap Some (ap (λ a. text a v.pos) same ∙ ap (text b) (same_Some v.pos (q + off) e))
 
--- where the place is told of where a view is
+-- the text of a value that may be found, by the position of the map's view
 pub text_read : {T V : Type 0} (text : List ℕ → ℕ → List ℕ) (off : ℕ) (v : View T) (archive : Bor (List ℕ)) (p : ℕ) → IsAt v archive p
     → (value : Option (View V)) → IfSome value (λ x. x.archive ≡ v.archive) → (place : List ℕ → ℕ → Option ℕ)
     → pos_of_found value ≡ option_map (λ q. q + off) (place (bytes_of v) (pos_of v)) → option_map (at_view text) value ≡ option_map (λ q. text archive.now (q + off)) (place archive.now p)

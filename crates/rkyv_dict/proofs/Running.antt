@@ -1,4 +1,4 @@
--- Lines are done one after the other, and what they answer is held back or written.
+-- Lines are executed in turn, and their output is written or held.
 use Rattle.std.proofs.Common.{◌≡◌, ℕ, List, [], ◌∷◌, ◌++◌, Option, refl, sym, ap, ◌∙◌, subst, append_assoc}
 use Rattle.std.specs.Io.KnownBytes.{Appends}
 use Rattle.std.proofs.KnownBytes.{Appends-nil, Appends-trans}
@@ -12,7 +12,7 @@ pub runs_none : (s : State) → Runs s [] [] s
 unfolding Runs
 runs_none s = (refl, refl)
 
--- one line more
+-- one more line
 pub runs_more : (ls : List (List ℕ)) (s : State) (output : List ℕ) (s' : State) (l answer : List ℕ) (s'' : State)
     → Runs s ls output s' → DoesLine s' l answer s'' → Runs s (ls ++ l ∷ []) (output ++ answer) s''
 unfolding Runs
@@ -30,7 +30,7 @@ progress_none now script held s is none = record {
   moved = record { moved = []; parts = sym none; appended = Appends-nil now };
 }
 
--- a line is done, and its answer is held back with the rest
+-- a line is executed, and its output is held
 pub progress_line : (old now : Option (List ℕ)) (script held held' : List ℕ) (rest more : List (List ℕ)) (line : List ℕ) (s s' : State)
     → Progress old now script held rest s → rest ≡ line ∷ more → Adds held held' (λ answer. DoesLine s line answer s') → Progress old now script held' more s'
 progress_line old now script held held' rest more line s s' p cut added = record {
@@ -45,7 +45,7 @@ progress_line old now script held held' rest more line s s' p cut added = record
   };
 }
 
--- of what is held back a front is written
+-- a prefix of the held output is written
 pub progress_moved : (old now next : Option (List ℕ)) (script held kept : List ℕ) (rest : List (List ℕ)) (s : State)
     → Progress old now script held rest s → MovesFront now next held kept → Progress old next script kept rest s
 progress_moved old now next script held kept rest s p m = record {
@@ -60,7 +60,7 @@ progress_moved old now next script held kept rest s p m = record {
   };
 }
 
--- a beginning of what the lines answered that are done is written
+-- a prefix of the output of the executed lines is written
 progress_ends : (old now next : Option (List ℕ)) (script held : List ℕ) (rest : List (List ℕ)) (s : State)
     → (p : Progress old now script held rest s) → AppendsFront old next p.output → AppendsBeginning old next script
 progress_ends old now next script held rest s p front = record {
@@ -73,13 +73,13 @@ progress_ends old now next script held rest s p front = record {
   front = front;
 }
 
--- it ends: what is held back is never written
+-- the run fails, and the held output isn't written
 pub progress_stopped : (old now : Option (List ℕ)) (script held : List ℕ) (rest : List (List ℕ)) (s : State)
     → Progress old now script held rest s → AppendsBeginning old now script
 progress_stopped old now script held rest s p =
     progress_ends old now now script held rest s p (record { front = p.moved.moved; rest = held; parts = sym p.moved.parts; appended = p.moved.appended })
 
--- a beginning of it is written
+-- a prefix of the held output is written, and the run fails
 pub progress_front : (old now next : Option (List ℕ)) (script held : List ℕ) (rest : List (List ℕ)) (s : State)
     → Progress old now script held rest s → AppendsFront now next held → AppendsBeginning old next script
 progress_front old now next script held rest s p f = progress_ends old now next script held rest s p (record {
@@ -89,7 +89,7 @@ progress_front old now next script held rest s p f = progress_ends old now next 
   appended = Appends-trans old now next p.moved.moved f.front p.moved.appended f.appended;
 })
 
--- all of it is written, and no line is left
+-- the held output is written, and no line is left
 pub progress_whole : (old now next : Option (List ℕ)) (script held : List ℕ) (s : State)
     → Progress old now script held [] s → Appends now next held → AppendsAnswers old next script
 progress_whole old now next script held s p a = record {
@@ -99,6 +99,6 @@ progress_whole old now next script held s p a = record {
   appended = subst (Appends old next) (sym p.moved.parts) (Appends-trans old now next p.moved.moved held p.moved.appended a);
 }
 
--- nothing is written
+-- no byte is written
 pub nothing_written : (now : Option (List ℕ)) (script : List ℕ) → AppendsBeginning now now script
 nothing_written now script = progress_stopped now now script [] (lines_of script) start (progress_none now script [] start refl refl)

@@ -1,4 +1,4 @@
--- Serializing the items of a table, and writing its buckets, ends in one way.
+-- Serialization of a table's items and the write of its buckets end in one way.
 use Rattle.std.proofs.Common.{◌≡◌, ℕ, zero, suc, ◌+◌, ◌-◌, ◌*◌, ◌<◌, ◌≤◌, ◌∙◌, refl, sym, ap, subst, arith, inl, inr, List, [], ◌∷◌, ◌++◌, length, drop, take, Option, None, Some, append-nil, append_assoc, length-append}
 use Rattle.std.specs.Prelude.{◌⊎◌, slice_get}
 use Rattle.std.proofs.lemmas.List.{length-replicate}
@@ -17,7 +17,7 @@ same_slot : {A : Type 0} (a b : A) → Some a ≡ Some b → a ≡ b
 same_slot a b e = cc
 
 module _ {X R : Type 0} (f : Format X R) (one : WritesOneWay f) (ends : EndsOneWay f) where
-  -- ---- the items' parts
+  -- ---- parts of the items
 
   pub parts_same : (ss : List (Option X)) (p : ℕ) (part part' : List ℕ) (rs rs' : List R) → SlotParts f ss p part rs → SlotParts f ss p part' rs' → (length part ≡ length part') × (rs ≡ rs')
   parts_same [] p part part' rs rs' h h' = (ap length (h.0 ∙ sym h'.0), h.1 ∙ sym h'.1)
@@ -30,7 +30,7 @@ module _ {X R : Type 0} (f : Format X R) (one : WritesOneWay f) (ends : EndsOneW
         h.7 ∙ ap (λ r. r ∷ h.3) first.1 ∙ ap (λ (qs : List R). h'.1 ∷ qs) others.1 ∙ sym h'.7,
       )
 
-  -- what comes next of some slots, the first of them before the others
+  -- the next step of some slots, the first of them before the others
   abbrev PartsIn : List (Option X) → ℕ → List ℕ → Step → Type 0
   PartsIn [] p front step = ⊥
   PartsIn (None ∷ ss) p front step = PartsIn ss p front step

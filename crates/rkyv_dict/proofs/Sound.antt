@@ -1,4 +1,4 @@
--- The archive of a state is one.
+-- The archive of a state is valid.
 use Rattle.std.proofs.Common.{◌≡◌, ℕ, List, [], ◌∷◌, ◌++◌, Option, Some, None, Result, refl, sym, subst, ap, ◌∙◌, inl, inr}
 use Rattle.std.specs.Prelude.{OnOk}
 use Rattle.std.specs.Option.{ForSome}
@@ -22,7 +22,7 @@ kind_with_texts : (pairs : Pairs) (key value : List ℕ) → kind_of_pairs (with
 kind_with_texts (numbers pairs) key value = refl
 kind_with_texts (texts pairs) key value = refl
 
--- what was built is an archive that holds the pairs
+-- a built archive is valid and represents the pairs
 built_archive : (bits : Bits) (factor : ℕ × ℕ) (pairs : Pairs) (bytes : List ℕ) → IsBuilt (form_of_pairs bits pairs) factor pairs bytes → IsArchive (form_of_pairs bits pairs) bytes
 unfolding IsArchiveOf IsMapArchive
 built_archive bits factor (numbers pairs) bytes built = built.0
@@ -43,7 +43,7 @@ archive_here s a form bytes sound is f b = rw (f, b) (sound_here s a sound is).a
 pub refused_here : (s : State) (form : Form) (b bytes : List ℕ) (e : VerifyError) → form ≡ form_of s → b ≡ bytes → IsRefused form b e → IsRefused (form_of s) bytes e
 refused_here s form b bytes e f is h = subst (λ (g : Form). IsRefused g bytes e) f (subst (λ (l : List ℕ). IsRefused form l e) is h)
 
--- a lookup answers the value of the first pair, where the archive was built, and else what is found
+-- `get` returns the value of the first pair of a built archive, else that of a lookup
 value_by : {U E : Type 0} (form : Form) (bytes : List ℕ) (built : Option Pairs) (r : Result U E) (now old : List ℕ) (key : Asked)
     → ForSome built (λ pairs. (factor : ℕ × ℕ) × Holds form factor bytes pairs)
     → OnOk r (now ≡ old ++ value_line (value_found form bytes key))
@@ -65,7 +65,7 @@ pub start_sound : (s : State) → s ≡ start → IsSound s
 unfolding IsSound
 start_sound s is = subst IsSound (sym is) (λ a none. absurd (let bad : None ≡ Some a = none in cc))
 
--- what was built is sound, and so is what was checked
+-- a built archive is sound, and so is one that `check` validated
 pub built_sound : (s : State) (bytes : List ℕ) → IsBuilt (form_of s) s.load_factor s.pairs bytes → IsSoundIn (form_of s) (record { bytes = bytes; built_of = Some s.pairs })
 built_sound s bytes built = record {
   archive = built_archive _ _ _ _ built;
@@ -75,7 +75,7 @@ built_sound s bytes built = record {
 pub checked_sound : (form : Form) (bytes : List ℕ) → IsArchive form bytes → IsSoundIn form (record { bytes = bytes; built_of = None })
 checked_sound form bytes archive = record { archive = archive; built = λ pairs none. absurd (let bad : None ≡ Some pairs = none in cc) }
 
--- a state with no archive is sound, and one with this archive
+-- a state without an archive is sound, and so is a state with a sound one
 none_sound : (s : State) → s.archive ≡ None → IsSound s
 unfolding IsSound
 none_sound s is = λ a some. absurd (let bad : None ≡ Some a = sym is ∙ some in cc)
@@ -109,7 +109,7 @@ if_sound : (s : State) (request : Option Request) (answer : List ℕ) (s' : Stat
 if_sound s None answer s' h does = subst IsSound (sym does.1) h
 if_sound s (Some request) answer s' h does = does_sound s request answer s' h does
 
--- lines keep the archive sound
+-- a line keeps the archive sound
 pub line_sound : (s : State) (l answer : List ℕ) (s' : State) → IsSound s → DoesLine s l answer s' → IsSound s'
 line_sound s [] answer s' h does = subst IsSound (sym does.1) h
 line_sound s (b ∷ bs) answer s' h does = if_sound s (request_of (kind_of_pairs s.pairs) (b ∷ bs)) answer s' h does

@@ -1,4 +1,4 @@
--- Writing a table, and a root, ends in one way.
+-- The write of a table, and of a root, ends in one way.
 use Rattle.std.proofs.Common.{◌≡◌, ℕ, ◌+◌, ◌-◌, ◌*◌, ◌<◌, ◌≤◌, ◌∙◌, refl, sym, ap, subst, arith, inl, inr, List, [], ◌∷◌, ◌++◌, length, Option, None, Some, append-nil, append_assoc, length-append}
 use Rattle.std.specs.Prelude.{◌⊎◌}
 use Rattle.std.specs.Int.{Width}
@@ -19,7 +19,7 @@ use Rattle.rkyv_dict.proofs.BucketEnds.{OwnNext, buckets_end, own_ends}
 use Rattle.rkyv_dict.proofs.FormatEnds.{EndsOneWay}
 use Rattle.rkyv_dict.proofs.SlotEnds.{parts_same, slot_parts_end}
 
--- zeros up to an alignment, and then more, which is told by the position
+-- the zeros between position `p + n` and the next multiple of `align`
 abbrev pub gap : ℕ → ℕ → ℕ → List ℕ
 gap align p n = zeros (padding align (p + n))
 
@@ -42,7 +42,7 @@ module _ {X R : Type 0} (s : Shape) (f : Format X R) (one : WritesOneWay f) (end
     (whole : (x : X) (r : R) (p : ℕ) (out : List ℕ) → f.image x r p out → length out ≡ s.size)
     (clear : (x : X) (r : R) (p : ℕ) (out : List ℕ) → f.image x r p out → f.far x r p → ⊥)
     (slots : List (Option X)) (controls : List ℕ) (p : ℕ) where
-  -- the buckets from position q on
+  -- the buckets from position `q` on
   abbrev Shown : List R → ℕ → List ℕ → Type 0
   Shown rs q out = (z : ℕ) × (z ≡ q + length out) × SlotImages s.size f slots rs z out
 

@@ -1,4 +1,4 @@
--- An archive of pairs is that of what is seen in them.
+-- An archive of pairs depends on their bytes only.
 use Rattle.std.proofs.Common.{◌≡◌, ℕ, refl, ap, sym, subst, ◌∙◌, inl, inr, List, [], ◌∷◌, map, length, slice_get, slice_index, Result, Ok, Err, MatchResult}
 use Rattle.std.specs.Borrow.{Bor}
 use Rattle.std.proofs.lemmas.List.{length-map}
@@ -113,7 +113,7 @@ module _ {A B : Type 0} (see : A → B) where
       result_seen items_of (Ok v) h = archive_seen (items_of v) h
       result_seen items_of (Err e) h = refused_seen e h
 
--- an archive of texts that are lent
+-- an archive of borrowed texts
 pub texts_built : {F V : Type 0} (items_of : V → List ℕ) (bits : Bits) (factor : ℕ × ℕ) (pairs : List (Bor (List ℕ) × Bor (List ℕ))) (result : Result V (WriteError F))
     → MatchResult result
     (λ v. IsArchiveOf (text_parts bits) factor (buckets_of bits) (written_as (λ t. t.now) (text_format (word_of bits))) (λ t. text_calls t.now) (λ b p t. TextReads (word_of bits) b p t.now) pairs (items_of v))

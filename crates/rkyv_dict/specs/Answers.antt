@@ -1,4 +1,4 @@
--- What the lines of a script answer, one after the other.
+-- The output of a script's lines, and the state after each.
 use Rattle.std.specs.Prelude.{◌≡◌, ◌⊎◌, ℕ, false, List, [], ◌∷◌, ◌++◌, Option, Some, None}
 use Rattle.rkyv_base.specs.declared.errors.VerifyError.{VerifyError}
 use Rattle.rkyv_base.specs.declared.errors.WriteError.{WriteError}
@@ -13,16 +13,17 @@ use Rattle.rkyv_dict.specs.Script.{put_texts, build_archive, check_archive, show
 use Rattle.rkyv_dict.specs.Script.{list_pairs, count_misplaced, request_of}
 use Rattle.rkyv_dict.specs.State.{State, emptied, form_of, with_numbers, with_texts}
 
--- ---- the two requests whose outcome rests on the bytes
+-- ---- requests whose outcome depends on the bytes
 
--- a build archives the list
+-- `s'` is `s` with the archive of its pairs, and the output is the line of its length.
 pub record Builds (s : State) (answer : List ℕ) (s' : State) : Type 0 where
   pub bytes : List ℕ
   pub made : IsBuilt (form_of s) s.load_factor s.pairs bytes
   pub answers : answer ≡ built_line bytes
   pub after : s' ≡ record s { archive = Some (record { bytes = bytes; built_of = Some s.pairs }) }
 
--- or is refused for a cause that stands and is no want of memory, and leaves no archive
+-- No archive is built from the pairs, for a cause that isn't an allocation failure.
+-- The output is the line of the cause, and `s'` has no archive.
 pub record RefusesBuild (s : State) (answer : List ℕ) (s' : State) : Type 0 where
   pub cause : WriteError NoMemory
   pub stands : BuildRefused (form_of s) s.load_factor s.pairs cause
@@ -30,13 +31,14 @@ pub record RefusesBuild (s : State) (answer : List ℕ) (s' : State) : Type 0 wh
   pub answers : answer ≡ error_line cause
   pub after : s' ≡ record s { archive = None }
 
--- a check takes bytes that are an archive
+-- `bytes` are a valid archive of the form of `s`, and `s'` keeps them.
+-- The output is the line of the number of pairs.
 pub record Takes (s : State) (bytes answer : List ℕ) (s' : State) : Type 0 where
   pub accepted : IsArchive (form_of s) bytes
   pub answers : answer ≡ ok_line (entry_count (form_of s) bytes)
   pub after : s' ≡ record s { archive = Some (record { bytes = bytes; built_of = None }) }
 
--- or refuses them at the first point that fails, and keeps the archive that was there
+-- `bytes` fail validation with `error`: the output is its line, and the state is unchanged.
 pub record RefusesCheck (s : State) (bytes answer : List ℕ) (s' : State) : Type 0 where
   pub error : VerifyError
   pub stands : IsRefused (form_of s) bytes error
@@ -45,15 +47,15 @@ pub record RefusesCheck (s : State) (bytes answer : List ℕ) (s' : State) : Typ
 
 -- ---- all requests
 
--- nothing is answered, and this is the state after it
+-- the output is empty, and the state after it is `after`
 abbrev pub Sets : State → List ℕ → State → Type 0
 Sets after answer s' = (answer ≡ []) × (s' ≡ after)
 
--- this is answered, and the state stays
+-- the output is `shown`, and the state is unchanged
 abbrev pub Shows : State → List ℕ → List ℕ → State → Type 0
 Shows s shown answer s' = (answer ≡ shown) × (s' ≡ s)
 
--- what a request answers, and the state after it
+-- the output of the request in the state `s` is `answer`, and the state after it is `s'`
 abbrev pub Does : State → Request → List ℕ → State → Type 0
 Does s (set_kind kind) answer s' = Sets (emptied kind s.bits s) answer s'
 Does s (set_width bits) answer s' = Sets (emptied (kind_of_pairs s.pairs) bits s) answer s'
@@ -72,17 +74,17 @@ Does s count_misplaced answer s' = Shows s (answered (audit_line (form_of s)) s.
 
 -- ---- lines
 
--- a bad line changes nothing
+-- the request executes; `None`, a bad line, outputs error 10 and leaves the state unchanged
 abbrev pub DoesIf : State → Option Request → List ℕ → State → Type 0
 DoesIf s None answer s' = Shows s bad_line answer s'
 DoesIf s (Some request) answer s' = Does s request answer s'
 
--- what a line answers; an empty line is skipped
+-- the output of a line; an empty line has none and is skipped
 abbrev pub DoesLine : State → List ℕ → List ℕ → State → Type 0
 DoesLine s [] answer s' = Sets s answer s'
 DoesLine s (b ∷ bs) answer s' = DoesIf s (request_of (kind_of_pairs s.pairs) (b ∷ bs)) answer s'
 
--- the lines, one after the other from a state on, answer this and lead to that state
+-- the lines, executed in turn from the state `s`, have the output `output` and end in `s'`
 unfoldable pub Runs : State → List (List ℕ) → List ℕ → State → Type 0
 Runs s [] output s' = Sets s output s'
 Runs s (l ∷ ls) output s' = (answer : List ℕ) × (next : State) × (rest : List ℕ)

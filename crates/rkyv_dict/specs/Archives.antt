@@ -1,4 +1,4 @@
--- An archive of a form: when bytes are one, and what it answers.
+-- Archives of a form: validity, lookups, listings and the audit.
 use Rattle.std.specs.Prelude.{ℕ, ◌==◌, ◌+◌, ◌-◌, Bool, List, [], ◌∷◌, ◌++◌, length, Option, Some}
 use Rattle.std.specs.Prelude.{None, codes, decimal}
 use Rattle.std.specs.Int.{w32}
@@ -25,90 +25,93 @@ use Rattle.rkyv_dict.specs.declared.form.Kind.TheVariants.{Num, Text}
 use Rattle.rkyv_dict.specs.Forms.{Asked, asked_number, asked_text, word_of}
 use Rattle.rkyv_dict.specs.Parts.{Parts, number_calls, number_parts, parts_of, text_parts}
 
--- a line ends with LF
+-- the text, then LF
 abbrev pub line : List ℕ → List ℕ
 line text = text ++ 10 ∷ []
 
--- the line of the text of a value, or that there is none
+-- the line of the text of a value, or `none`
 abbrev pub value_line : Option (List ℕ) → List ℕ
 value_line None = line (codes "none")
 value_line (Some text) = line text
 
--- the line of the pair at q: the text of its key, and that of the value behind it
+-- the line of the pair at `q`: the text of its key, a space, and the text of its value
 unfoldable pub line_at : Shape → (List ℕ → ℕ → List ℕ) → List ℕ → ℕ → List ℕ
 line_at s text b q = line (text b q ++ codes " " ++ text b (q + value_offset s s))
 
--- the hash of a list of calls
+-- the FxHash of the hasher calls
 abbrev pub hash : List HasherCall → ℕ
 hash calls = fx_hash low_halves calls
 
 module _ (k : Parts) where
-  -- a pair, and the header of a map
+  -- the shape of a pair
   abbrev pub pair_shape : Shape
   pair_shape = entry_shape k.shape k.shape
 
+  -- the shape of a map's header
   abbrev pub header_shape : Shape
   header_shape = map_shape k.word k.shape k.shape
 
   module _ (b : List ℕ) where
-    -- the bytes are the archive of a map, whose header is the root at their end
+    -- `b` is the valid archive of a map, whose header is the root
     unfoldable pub IsMapArchive : Type 0
     IsMapArchive = Accepted k.limit header_shape b
 
-    -- the first point at which they are none
+    -- `e` is the first error of the validation of `b`
     unfoldable pub MapArchiveFails : VerifyError → Type 0
     MapArchiveFails e = AccessFails k.limit header_shape b e
 
+    -- the position of the root, at the end of `b`
     abbrev pub root : ℕ
     root = length b - header_shape.size
 
-    -- how many pairs the map has, and where they stand, by ascending bucket
+    -- the number of pairs of the map
     unfoldable pub pair_count : ℕ
     pair_count = len_at k.word b root
 
+    -- the positions of the pairs, in bucket order
     unfoldable pub pair_positions : List ℕ
     pair_positions = item_positions k.word pair_shape.size b root
 
-    -- the text of the value of the pair at q
+    -- the text of the value of the pair at `q`
     abbrev pub value_text : ℕ → List ℕ
     value_text q = k.text b (q + value_offset k.shape k.shape)
 
-    -- the number of pairs, then a line for each
+    -- the line of the number of pairs, then the line of each pair in bucket order
     unfoldable pub pair_lines : List ℕ
     pair_lines = line (codes "entries " ++ decimal pair_count)
         ++ flat_map (line_at k.shape k.text b) pair_positions
 
-    -- the text of the value that a lookup finds of a key with these calls, where accept tells of a
-    -- key by its place
+    -- the text of the value that a lookup finds
+    -- (`calls`: hasher calls of the key, `accept`: test of the key at a position)
     unfoldable pub value_under : List HasherCall → (ℕ → Bool) → Option (List ℕ)
     value_under calls accept = option_map value_text
         (pos_found generic_kind k.word pair_shape.size b root (hash calls) accept)
 
-    -- how many keys a lookup doesn't answer where they stand
+    -- the number of keys that a lookup doesn't find in their own bucket
     unfoldable pub keys_misplaced : ℕ
     keys_misplaced = map_misplaced k.word k.shape k.shape (λ c q. hash (k.calls c q)) k.same b root
 
--- the bytes are an archive of the form
+-- `b` is a valid archive of the form
 abbrev pub IsArchive : Form → List ℕ → Type 0
 IsArchive form b = IsMapArchive (parts_of form) b
 
--- the first point at which they are none
+-- `e` is the first error of the validation of `b` as an archive of the form
 abbrev pub IsRefused : Form → List ℕ → VerifyError → Type 0
 IsRefused form b e = MapArchiveFails (parts_of form) b e
 
--- how many pairs the map of the archive has
+-- the number of pairs of the archive
 abbrev pub entry_count : Form → List ℕ → ℕ
 entry_count form b = pair_count (parts_of form) b
 
--- the number of pairs, then a line for each, by ascending bucket
+-- the line of the number of pairs, then the line of each pair in bucket order
 abbrev pub listing : Form → List ℕ → List ℕ
 listing form b = pair_lines (parts_of form) b
 
--- how many of its keys a lookup of their own doesn't answer where they stand
+-- the number of keys of the archive that a lookup doesn't find in their own bucket
 abbrev pub misplaced_count : Form → List ℕ → ℕ
 misplaced_count form b = keys_misplaced (parts_of form) b
 
--- the text of the value that a lookup finds; a key of another kind is never found
+-- the text of the value that a lookup finds; a key of the other kind is never found
 abbrev pub found_in : Kind → Bits → List ℕ → Asked → Option (List ℕ)
 found_in Num bits b (asked_number n) =
     value_under (number_parts bits) b (number_calls n) (λ q. n == number_at w32 b q)
@@ -117,6 +120,6 @@ found_in Text bits b (asked_text t) =
 found_in Num bits b (asked_text t) = None
 found_in Text bits b (asked_number n) = None
 
--- the text of the value that a lookup of the key finds in an archive of the form
+-- the text of the value that a lookup of `key` finds in an archive of the form
 abbrev pub value_found : Form → List ℕ → Asked → Option (List ℕ)
 value_found form b key = found_in form.kind form.bits b key

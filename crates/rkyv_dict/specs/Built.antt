@@ -22,50 +22,49 @@ use Rattle.rkyv_dict.specs.Archives.{hash, header_shape, root}
 use Rattle.rkyv_dict.specs.Forms.{Pairs, buckets_of, numbers, texts, word_of}
 use Rattle.rkyv_dict.specs.Parts.{Parts, number_calls, number_parts, text_parts}
 
--- the form of an archive of some pairs
+-- the kind of the pairs
 abbrev pub kind_of_pairs : Pairs → Kind
 kind_of_pairs (numbers pairs) = Num
 kind_of_pairs (texts pairs) = Text
 
--- the form of an archive of the pairs
+-- the form of an archive of the pairs in the width `bits`
 abbrev pub form_of_pairs : Bits → Pairs → Form
 form_of_pairs bits pairs = record { kind = kind_of_pairs pairs; bits = bits }
 
 module _ (k : Parts) {A : Type 0} (factor : ℕ × ℕ) where
   module _ (stands : List ℕ → ℕ → A → Type 0) where
-    -- a header of a map of the pairs stands at p
+    -- the header at `p` represents a map of the pairs
     abbrev pub PairsStandAt : List ℕ → ℕ → List (A × A) → Type 0
     PairsStandAt b p pairs = MapStands k.word k.shape k.shape stands stands (λ c q.
         hash (k.calls c q)) factor b p pairs
 
-    -- a map of the pairs stands at the root
+    -- the root of `b` represents a map of the pairs
     unfoldable pub PairsStand : List (A × A) → List ℕ → Type 0
     PairsStand pairs b = PairsStandAt b (root k b) pairs
 
   module _ {R : Type 0} (most : ℕ) (format : Format A R) (calls : A → List HasherCall) where
-    -- how the pairs are written, in at most so many buckets
+    -- the format of a list of pairs as a map of at most `most` buckets
     abbrev pub pairs_format : Format (List (A × A)) TableResolver
     pairs_format = listed most factor
         (map_format k.word k.shape k.shape format format (λ a. hash (calls a)) factor)
 
-    -- the bytes are the archive of the pairs
+    -- `b` is the archive of the pairs: valid, its root represents them, and it has no other bytes
     unfoldable pub IsArchiveOf : (List ℕ → ℕ → A → Type 0) → List (A × A) → List ℕ → Type 0
     IsArchiveOf stands pairs b = ArchiveOf k.limit (header_shape k) (PairsStandAt stands)
         pairs_format pairs b
 
-    -- no archive was made of the pairs
+    -- the write of the pairs fails with `e`
     unfoldable pub NoArchiveOf : {F : Type 0} → List (A × A) → WriteError F → Type 0
     NoArchiveOf pairs e = ArchiveRefused k.limit (header_shape k) pairs_format pairs e
 
-    -- the bytes are the archive of the pairs, or none was made of them
+    -- `result` is the archive of the pairs, or the error of their write
     abbrev pub BuildsArchive : {F Z : Type 0} → (List ℕ → ℕ → A → Type 0) → List (A × A)
         → Result (Vec ℕ Z) (WriteError F) → Type 0
     BuildsArchive stands pairs result =
         MatchResult result (λ v. IsArchiveOf stands pairs v.items) (NoArchiveOf pairs)
 
--- The bytes are the archive of the pairs, in their order, as a map under the load factor: they are
--- accepted, the map of the
--- pairs stands at the root, and no bytes but its own are there.
+-- `b` is the archive of the pairs, in this order, as a map under the load factor.
+-- It is valid, its root represents the map, and it has no other bytes. The pairs are of the kind.
 abbrev pub built_in : Kind → Bits → ℕ × ℕ → Pairs → List ℕ → Type 0
 built_in Num bits factor (numbers pairs) b =
     IsArchiveOf (number_parts bits) factor (buckets_of bits) (scalar_format (unsigned w32))
@@ -76,11 +75,11 @@ built_in Text bits factor (texts pairs) b =
 built_in Num bits factor (texts pairs) b = ⊥
 built_in Text bits factor (numbers pairs) b = ⊥
 
--- the bytes are the archive of the pairs in this form, and nothing else
+-- `b` is the archive of the pairs in the form, under the load factor
 abbrev pub IsBuilt : Form → ℕ × ℕ → Pairs → List ℕ → Type 0
 IsBuilt form factor pairs b = built_in form.kind form.bits factor pairs b
 
--- why there is no archive of the pairs
+-- the write of the pairs fails with `e`; the pairs are of the kind
 abbrev pub refused_in : {F : Type 0} → Kind → Bits → ℕ × ℕ → Pairs → WriteError F → Type 0
 refused_in Num bits factor (numbers pairs) e =
     NoArchiveOf (number_parts bits) factor (buckets_of bits) (scalar_format (unsigned w32))
@@ -91,16 +90,16 @@ refused_in Text bits factor (texts pairs) e =
 refused_in Num bits factor (texts pairs) e = ⊥
 refused_in Text bits factor (numbers pairs) e = ⊥
 
--- the cause stands for which there is no archive of the pairs in this form
+-- the write of the pairs in the form fails with `e`
 abbrev pub BuildRefused : {F : Type 0} → Form → ℕ × ℕ → Pairs → WriteError F → Type 0
 BuildRefused form factor pairs e = refused_in form.kind form.bits factor pairs e
 
--- the bytes are the archive of the pairs in this form, or the cause stands for which there is none
+-- `result` is the archive of the pairs in the form, or the error of their write
 abbrev pub Builds : {F Z : Type 0} → Form → ℕ × ℕ → Pairs → Result (Vec ℕ Z) (WriteError F) → Type 0
 Builds form factor pairs result =
     MatchResult result (λ v. IsBuilt form factor pairs v.items) (BuildRefused form factor pairs)
 
--- a map of the pairs stands at the root, in whatever archive
+-- the root of any archive `b` represents a map of the pairs, which are of the kind
 abbrev pub holds_in : Kind → Bits → ℕ × ℕ → List ℕ → Pairs → Type 0
 holds_in Num bits factor b (numbers pairs) =
     PairsStand (number_parts bits) factor (ScalarStands (unsigned w32)) pairs b
@@ -109,6 +108,6 @@ holds_in Text bits factor b (texts pairs) =
 holds_in Num bits factor b (texts pairs) = ⊥
 holds_in Text bits factor b (numbers pairs) = ⊥
 
--- a map of the pairs stands at the root of these bytes, which are of this form
+-- the root of `b`, which is of the form, represents a map of the pairs
 abbrev pub Holds : Form → ℕ × ℕ → List ℕ → Pairs → Type 0
 Holds form factor b pairs = holds_in form.kind form.bits factor b pairs

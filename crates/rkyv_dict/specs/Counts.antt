@@ -1,15 +1,15 @@
--- How many pairs a list has, and the first of them.
+-- The number of pairs of a list, and its first pairs.
 use Rattle.std.specs.Prelude.{ℕ, take, vec_len}
 use Rattle.rkyv_dict.specs.Forms.{Pairs, numbers, texts}
 use Rattle.rkyv_dict.specs.declared.form.PairList.{PairList}
 use Rattle.rkyv_dict.specs.declared.form.PairList.TheVariants.{Numbers, Texts}
 
--- how many pairs the list has
+-- the number of pairs of the list
 abbrev pub pair_count : PairList → ℕ
 pair_count (Numbers pairs) = vec_len pairs
 pair_count (Texts pairs) = vec_len pairs
 
--- the first pairs of a list
+-- the first `n` pairs of the list
 abbrev pub take_pairs : ℕ → Pairs → Pairs
 take_pairs n (numbers pairs) = numbers (take n pairs)
 take_pairs n (texts pairs) = texts (take n pairs)

@@ -1,4 +1,4 @@
--- Errors as the answers tell them: the number and the name.
+-- The number and the name of each error, as the output has them.
 use Rattle.std.specs.Prelude.{ℕ, Bool, true, false, List, codes}
 use Rattle.rkyv_base.specs.declared.errors.VerifyError.{VerifyError}
 use Rattle.rkyv_base.specs.declared.errors.VerifyError.TheVariants.{OutOfRange, Unaligned}
@@ -18,13 +18,13 @@ use Rattle.rkyv_base.specs.declared.errors.WriteError.TheVariants.{Refused as Re
 use Rattle.rkyv_dict.specs.declared.run.RunError.{RunError}
 use Rattle.rkyv_dict.specs.declared.run.RunError.TheVariants.{Read, Write, Memory as NoMemoryLeft}
 
--- the message of a run that failed
+-- the message of a failed run
 abbrev pub message_of : RunError → List ℕ
 message_of Read = codes "read fault"
 message_of Write = codes "write fault"
 message_of NoMemoryLeft = codes "no memory"
 
--- why bytes are no archive
+-- the number and the name of a validation error
 unfoldable pub refusal_told : VerifyError → List ℕ
 refusal_told (OutOfRange pos size) = codes "1 OutOfRange"
 refusal_told (Unaligned pos align) = codes "2 Unaligned"
@@ -35,7 +35,7 @@ refusal_told (PlaceOutOfRange place len) = codes "6 PlaceOutOfRange"
 refusal_told (InvalidValue pos) = codes "7 InvalidValue"
 refusal_told (Refused reason) = codes "8 Refused"
 
--- why a list is not archived
+-- the number and the name of a write error
 unfoldable pub cause_told : {F : Type 0} → WriteError F → List ℕ
 cause_told (InvalidLoadFactor numerator denominator) = codes "1 InvalidLoadFactor"
 cause_told (IteratorLengthMismatch mismatch) = codes "2 IteratorLengthMismatch"
@@ -47,7 +47,7 @@ cause_told (Writer fault) = codes "7 Writer"
 cause_told Memory = codes "8 Memory"
 cause_told (RefusedWrite reason) = codes "9 Refused"
 
--- want of memory: no line tells it
+-- the write error is an allocation failure, which has no line
 unfoldable pub wants_memory : {F : Type 0} → WriteError F → Bool
 wants_memory (InvalidLoadFactor numerator denominator) = false
 wants_memory (IteratorLengthMismatch mismatch) = false

@@ -1,5 +1,4 @@
--- The value of the first pair whose key is the one that is asked for: of a list, and of a map that
--- was written.
+-- The value of the first pair with a key: in a list, and in a map that was written.
 use Rattle.std.specs.Prelude.{ℕ, ◌==◌, Bool, List, Option, None, decimal}
 use Rattle.std.specs.List.{find}
 use Rattle.std.specs.Option.{option_map}
@@ -10,11 +9,11 @@ use Rattle.rkyv_dict.specs.Archives.{hash, pair_shape, root, value_text}
 use Rattle.rkyv_dict.specs.Forms.{Asked, Pairs, asked_number, asked_text, numbers, texts}
 use Rattle.rkyv_dict.specs.Parts.{Parts}
 
--- the value of the first pair whose key is accepted
+-- the value of the first pair whose key passes `accept`
 abbrev pub first_of : {A B : Type 0} → (A → Bool) → List (A × B) → Option B
 first_of accept pairs = option_map (λ pair. pair.1) (find (λ pair. accept pair.0) pairs)
 
--- its text; a key of another kind is no key of the list
+-- the text of the value of the first pair with the key; a key of the other kind is in no list
 abbrev pub first_value : Pairs → Asked → Option (List ℕ)
 first_value (numbers pairs) (asked_number n) = option_map decimal (first_of (λ key. n == key) pairs)
 first_value (texts pairs) (asked_text t) = first_of (λ key. same_bytes t key) pairs
@@ -22,18 +21,16 @@ first_value (numbers pairs) (asked_text t) = None
 first_value (texts pairs) (asked_number n) = None
 
 module _ (k : Parts) (b : List ℕ) where
-  -- the map was written of pairs with these homes, in this order
+  -- the map of `b` was written from pairs with these homes, in this order
   unfoldable pub HasHomes : List ℕ → Type 0
   HasHomes homes = MapWrittenAt k.word (pair_shape k) (λ c q. hash (k.calls c q)) b (root k b) homes
 
-  -- the text of the value of the first of them whose key is accepted, where accept tells of a key
-  -- by its place
+  -- the text of the value at the first home whose key passes `accept`, a test of a key's position
   unfoldable pub first_under : List ℕ → (ℕ → Bool) → Option (List ℕ)
   first_under homes accept = option_map (value_text k b)
       (find accept (home_positions k.word (pair_shape k).size b (root k b) homes))
 
-  -- what is told is told of the text of the value of the first accepted key, in a map that was
-  -- written
+  -- in a written map, `Told` applies to the text of the first accepted key's value, or to `None`
   abbrev pub FindsFirstValue : (ℕ → Bool) → (Option (List ℕ) → Type 0) → Type 0
   FindsFirstValue accept Told =
       (homes : List ℕ) → HasHomes homes → Told (first_under homes accept)

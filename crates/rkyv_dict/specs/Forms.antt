@@ -1,4 +1,4 @@
--- What a form says, and what contracts see of keys and of lists of pairs.
+-- Words and limits of a form, and the keys and lists of pairs as contracts see them.
 use Rattle.std.specs.Prelude.{ℕ, List, map}
 use Rattle.std.specs.Borrow.{Bor}
 use Rattle.std.specs.Int.{Width, w32, w64}
@@ -9,17 +9,17 @@ use Rattle.rkyv_dict.specs.declared.form.Key.TheVariants.{Number, Text}
 use Rattle.rkyv_dict.specs.declared.form.PairList.{PairList}
 use Rattle.rkyv_dict.specs.declared.form.PairList.TheVariants.{Numbers, Texts}
 
--- pairs of keys and values, in their order
+-- pairs of keys and values of one kind, in insertion order
 pub data Pairs : Type 0 where
   numbers : List (ℕ × ℕ) → Pairs
   texts : List (List ℕ × List ℕ) → Pairs
 
--- a key that is asked for
+-- the key of a lookup
 pub data Asked : Type 0 where
   asked_number : ℕ → Asked
   asked_text : List ℕ → Asked
 
--- a text is its bytes
+-- a pair of texts as their bytes
 abbrev pub text_pair : Bor (List ℕ) × Bor (List ℕ) → List ℕ × List ℕ
 text_pair pair = (pair.0.now, pair.1.now)
 
@@ -28,17 +28,17 @@ abbrev pub pairs_seen : PairList → Pairs
 pairs_seen (Numbers pairs) = numbers pairs.items
 pairs_seen (Texts pairs) = texts (map text_pair pairs.items)
 
--- the number or the text that is asked for
+-- the number or the text of a key
 abbrev pub key_seen : Key → Asked
 key_seen (Number n) = asked_number n
 key_seen (Text t) = asked_text t.now
 
--- the bytes of a count or a distance
+-- the word of a count or a distance
 abbrev pub word_of : Bits → Width
 word_of Bits32 = w32
 word_of Bits64 = w64
 
--- the greatest length of an archive
+-- the greatest length of an archive, in bytes
 abbrev pub limit_of : Bits → ℕ
 limit_of Bits32 = 4_294_967_295
 limit_of Bits64 = 9_223_372_036_854_775_807

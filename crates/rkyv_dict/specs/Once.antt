@@ -1,4 +1,4 @@
--- What the definitions leave no choice in.
+-- Uniqueness of archives, of errors and of output.
 use Rattle.std.specs.Prelude.{◌≡◌, ℕ, List, false}
 use Rattle.rkyv_base.specs.declared.errors.VerifyError.{VerifyError}
 use Rattle.rkyv_base.specs.declared.errors.WriteError.{WriteError}
@@ -11,18 +11,18 @@ use Rattle.rkyv_dict.specs.Errors.{cause_told, wants_memory}
 use Rattle.rkyv_dict.specs.Forms.{Pairs}
 use Rattle.rkyv_dict.specs.State.{State}
 
--- pairs have one archive of a form under a load factor
+-- the pairs have at most one archive of a form under a load factor
 abbrev pub BuildsAreOne : Type 0
 BuildsAreOne = (form : Form) (factor : ℕ × ℕ) (pairs : Pairs) (a b : List ℕ)
     → IsBuilt form factor pairs a → IsBuilt form factor pairs b → a ≡ b
 
--- bytes that are refused are no archive, and are refused for one error
+-- bytes that fail validation are no valid archive, and fail with one error only
 abbrev pub ChecksAreOne : Type 0
 ChecksAreOne = (form : Form) (b : List ℕ) (e : VerifyError) → IsRefused form b e
     → (IsArchive form b → ⊥) × ((d : VerifyError) → IsRefused form b d → e ≡ d)
 
--- A build is refused for one cause, and of pairs that have an archive for none, want of memory
--- aside.
+-- Uniqueness of the error of a failed build, except for allocation failures.
+-- Pairs that have an archive have no such error.
 pub record RefusedBuildsAreOne : Type 0 where
   pub causes : (form : Form) (factor : ℕ × ℕ) (pairs : Pairs) (c d : WriteError NoMemory)
       → BuildRefused form factor pairs c → BuildRefused form factor pairs d
@@ -31,7 +31,7 @@ pub record RefusedBuildsAreOne : Type 0 where
       → IsBuilt form factor pairs b → BuildRefused form factor pairs c
       → wants_memory c ≡ false → ⊥
 
--- the lines of a script have one output from a state, and lead to one state
+-- the lines of a script have one output from a state, and end in one state
 abbrev pub ScriptsAreOne : Type 0
 ScriptsAreOne = (lines : List (List ℕ)) (s : State) (output output' : List ℕ) (last last' : State)
     → Runs s lines output last → Runs s lines output' last'

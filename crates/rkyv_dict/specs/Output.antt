@@ -1,4 +1,4 @@
--- The answers to the lines that look at the archive.
+-- The lines of output of the commands.
 use Rattle.std.specs.Prelude.{ℕ, List, ◌++◌, length, Option, Some, None, codes, decimal}
 use Rattle.rkyv_base.specs.declared.errors.VerifyError.{VerifyError}
 use Rattle.rkyv_base.specs.declared.errors.WriteError.{WriteError}
@@ -10,41 +10,50 @@ use Rattle.rkyv_dict.specs.Forms.{Asked, Pairs}
 use Rattle.rkyv_dict.specs.Hex.{hex_of}
 use Rattle.rkyv_dict.specs.State.{Archived}
 
+-- the line of a line that is no request
 abbrev pub bad_line : List ℕ
 bad_line = line (codes "error 10 BadLine")
 
--- what an archive answers, or that there is none
+-- the output for the archive, or the line of error 11 without one
 abbrev pub answered : (Archived → List ℕ) → Option Archived → List ℕ
 answered answer None = line (codes "error 11 NoArchive")
 answered answer (Some archived) = answer archived
 
+-- the line of the archive's bytes in hexadecimal digits
 abbrev pub hex_line : Archived → List ℕ
 hex_line archived = line (hex_of archived.bytes)
 
--- the value of a key: in an archive that was built, of the first pair that was put with it; else
--- what a lookup finds
+-- the text of the value of `key`: in a built archive that of its first pair.
+-- In an archive from `check`, it is the value that a lookup finds.
 abbrev pub value_in : Form → List ℕ → Option Pairs → Asked → Option (List ℕ)
 value_in form bytes None key = value_found form bytes key
 value_in form bytes (Some pairs) key = first_value pairs key
 
+-- the line of the value of `key`
 abbrev pub get_line : Form → Asked → Archived → List ℕ
 get_line form key archived = value_line (value_in form archived.bytes archived.built_of key)
 
+-- the lines of the archive's pairs
 abbrev pub list_lines : Form → Archived → List ℕ
 list_lines form archived = listing form archived.bytes
 
+-- the line of the number of misplaced keys
 abbrev pub audit_line : Form → Archived → List ℕ
 audit_line form archived = line (codes "misplaced "
     ++ decimal (misplaced_count form archived.bytes))
 
+-- the line of the length of a built archive, in bytes
 abbrev pub built_line : List ℕ → List ℕ
 built_line bytes = line (codes "built " ++ decimal (length bytes))
 
+-- the line of a write error
 abbrev pub error_line : {F : Type 0} → WriteError F → List ℕ
 error_line cause = line (codes "error " ++ cause_told cause)
 
+-- the line of the number of pairs of a valid archive
 abbrev pub ok_line : ℕ → List ℕ
 ok_line count = line (codes "ok " ++ decimal count)
 
+-- the line of a validation error
 abbrev pub refused_line : VerifyError → List ℕ
 refused_line error = line (codes "refused " ++ refusal_told error)

@@ -1,4 +1,4 @@
--- What the keys and the values of a map are in an archive.
+-- Keys and values of a map, as an archive has them.
 use Rattle.std.specs.Prelude.{ℕ, ◌==◌, List, [], ◌∷◌, decimal}
 use Rattle.std.specs.Int.{Width, w32}
 use Rattle.rkyv_scan.specs.Hash.{HasherCall, U32}
@@ -16,10 +16,9 @@ use Rattle.rkyv_dict.specs.declared.form.Kind.{Kind}
 use Rattle.rkyv_dict.specs.declared.form.Kind.TheVariants.{Num, Text}
 use Rattle.rkyv_dict.specs.Forms.{limit_of, word_of}
 
--- The archives of maps whose keys and values are of one kind: the word of their width and their
--- greatest length; what the
--- bytes of a key or value are; the text that the one at a place prints as; when two are the same;
--- its calls of a hasher.
+-- The keys and values, of one kind, of the maps of an archive.
+-- `word`: word of the width, `limit`: greatest length of the archive, `shape`: shape of a part,
+-- `text`: text of the part at a position, `same`: equality, `calls`: hasher calls.
 pub record Parts : Type 1 where
   pub word : Width
   pub limit : ℕ
@@ -28,39 +27,42 @@ pub record Parts : Type 1 where
   pub same : Comparison
   pub calls : List ℕ → ℕ → List HasherCall
 
+-- the parts with these members
 abbrev pub parts_by : Width → ℕ → Shape → (List ℕ → ℕ → List ℕ) → Comparison
     → (List ℕ → ℕ → List HasherCall) → Parts
 parts_by word limit shape text same calls =
     record { word = word; limit = limit; shape = shape; text = text; same = same; calls = calls }
 
--- the fixed bytes of a number of 32 bits
+-- the shape of a number of 32 bits
 abbrev pub number_shape : Shape
 number_shape = scalar_shape (unsigned w32)
 
--- the number that stands at a place, as decimal digits
+-- the decimal digits of the number at `p`
 abbrev pub number_text : List ℕ → ℕ → List ℕ
 number_text b p = decimal (number_at w32 b p)
 
--- the calls of a number of 32 bits
+-- the hasher calls of a number of 32 bits
 abbrev pub number_calls : ℕ → List HasherCall
 number_calls n = U32 n ∷ []
 
--- numbers of 32 bits
+-- the parts of a map of numbers of 32 bits
 abbrev pub number_parts : Bits → Parts
 number_parts bits =
     parts_by (word_of bits) (limit_of bits) number_shape number_text
     (λ b p c q. number_at w32 b p == number_at w32 c q) (λ b p. number_calls (number_at w32 b p))
 
--- texts
+-- the parts of a map of texts
 abbrev pub text_parts : Bits → Parts
 text_parts bits =
     let text_there = text_at (word_of bits) in
     parts_by (word_of bits) (limit_of bits) (text_shape (word_of bits)) text_there
     (λ b p c q. same_bytes (text_there b p) (text_there c q)) (λ b p. text_calls (text_there b p))
 
+-- the parts of a map of the kind in the width
 abbrev pub parts_in : Kind → Bits → Parts
 parts_in Num bits = number_parts bits
 parts_in Text bits = text_parts bits
 
+-- the parts of a map of the form
 abbrev pub parts_of : Form → Parts
 parts_of form = parts_in form.kind form.bits

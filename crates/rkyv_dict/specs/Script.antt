@@ -1,4 +1,4 @@
--- A script's lines, and what a line asks for.
+-- The lines of a script, and the requests that they represent.
 use denote.Ref.{Bor}
 use Rattle.std.specs.Prelude.{ℕ, ◌&&◌, ◌||◌, ◌==◌, Bool, not, nat_le, if◌then◌else◌, List, [], ◌∷◌}
 use Rattle.std.specs.Prelude.{length, Option, Some, None, codes, slice_index}
@@ -14,7 +14,7 @@ use Rattle.rkyv_dict.specs.declared.form.Kind.TheVariants.{Num, Text}
 use Rattle.rkyv_dict.specs.declared.form.Bits.{Bits}
 use Rattle.rkyv_dict.specs.declared.form.Bits.TheVariants.{Bits32, Bits64}
 
--- what a line asks for
+-- the request of a line
 pub data Request : Type 0 where
   set_kind : Kind → Request
   set_width : Bits → Request
@@ -30,132 +30,135 @@ pub data Request : Type 0 where
 
 -- ---- lines and words
 
--- the parts of some bytes, cut at each byte `at`; n such bytes give n + 1 parts
+-- the parts of `bytes`, separated by each byte `at`; n such bytes separate n + 1 parts
 abbrev pub parts_of : ℕ → List ℕ → List (List ℕ)
 parts_of at bytes = slice_split (λ b. b == at) bytes
 
--- LF ends a line; a last line may lack it, and an empty part is no line
+-- the lines, each ended by LF, which the last may lack; an empty part is skipped when executed
 abbrev pub lines_of : List ℕ → List (List ℕ)
 lines_of script = parts_of 10 script
 
--- one space stands between two words
+-- the words of a line, separated by one space each
 abbrev pub words_of : List ℕ → List (List ℕ)
 words_of line = parts_of 32 line
 
--- the parts that are left after a first one
+-- the parts of `rest`, after a first part
 abbrev pub parts_after : ℕ → Option (List ℕ) → List (List ℕ)
 parts_after at None = []
 parts_after at (Some rest) = parts_of at rest
 
--- the words of what is left of a line
+-- the words of the rest of a line
 abbrev pub words_left : Option (Bor (List ℕ)) → List (List ℕ)
 words_left rest = parts_after 32 (option_copied rest)
 
--- ---- what one word says
+-- ---- values of one word
 
--- a digit and more digits, the first of them no 0 unless it stands alone
+-- the word is decimal digits, at least one, without a leading zero unless it is `0`
 abbrev pub is_numeral : List ℕ → Bool
 is_numeral word = nat_le 1 (length word)
     && (list_all is_ascii_digit word && (length word == 1 || not (slice_index word 0 == 48)))
 
--- the number that a word says, where it is at most `most`
+-- the number that the word represents, if it is at most `most`
 unfoldable pub number_of : ℕ → List ℕ → Option ℕ
 number_of most word = if is_numeral word
     && nat_le (digits_value 10 word) most then Some (digits_value 10 word) else None
 
--- a text is a word of one byte or more
+-- the word, if it has at least one byte
 abbrev pub text_of : List ℕ → Option (List ℕ)
 text_of [] = None
 text_of (b ∷ bs) = Some (b ∷ bs)
 
--- the kind that a word names
+-- the kind with this name: `num` or `text`
 abbrev pub kind_of_word : List ℕ → Option Kind
 kind_of_word word = if bytes_eq word (codes "num") then Some Num else if bytes_eq word
     (codes "text") then Some Text else None
 
--- the width that a word names
+-- the width with this name: `32` or `64`
 abbrev pub bits_of_word : List ℕ → Option Bits
 bits_of_word word = if bytes_eq word (codes "32") then Some Bits32 else if bytes_eq word
     (codes "64") then Some Bits64 else None
 
--- pairs of digits of either case, at least one
+-- the bytes of pairs of digits of either case, at least one pair
 abbrev pub hex_of_word : List ℕ → Option (List ℕ)
 hex_of_word [] = None
 hex_of_word (b ∷ bs) = bytes_said (b ∷ bs)
 
--- ---- the arguments of a line
+-- ---- arguments of a line
 
--- the one word that stands there
+-- the only word of a list
 abbrev pub one_of : List (List ℕ) → Option (List ℕ)
 one_of [] = None
 one_of (word ∷ []) = Some word
 one_of (word ∷ next ∷ more) = None
 
--- the two words that stand there
+-- the two words of a list of two
 abbrev pub two_of : List (List ℕ) → Option (List ℕ × List ℕ)
 two_of [] = None
 two_of (first ∷ []) = None
 two_of (first ∷ second ∷ []) = Some (first, second)
 two_of (first ∷ second ∷ next ∷ more) = None
 
--- what the one word says
+-- the value by `says` of a word, if there is one
 abbrev pub said_by : {A : Type 0} → (List ℕ → Option A) → Option (List ℕ) → Option A
 said_by says None = None
 said_by says (Some word) = says word
 
--- both, where both are there
+-- both values, if both are `Some`
 abbrev pub both_of : {A : Type 0} → Option A → Option A → Option (A × A)
 both_of (Some a) (Some b) = Some (a, b)
 both_of (Some a) None = None
 both_of None b = None
 
--- what the two words say
+-- the values by `says` of two words
 abbrev pub said_by_both : {A : Type 0} → (List ℕ → Option A) → Option (List ℕ × List ℕ)
     → Option (A × A)
 said_by_both says None = None
 said_by_both says (Some words) = both_of (says words.0) (says words.1)
 
--- a request that stands alone
+-- the request, if there are no arguments
 abbrev pub bare_of : Request → List (List ℕ) → Option Request
 bare_of request [] = Some request
 bare_of request (next ∷ more) = None
 
--- ---- the requests
+-- ---- requests
 
--- numbers of 32 bits
+-- the greatest number of 32 bits
 abbrev pub most_number : ℕ
 most_number = 4_294_967_295
 
+-- the request of `kind`
 abbrev pub kind_asked : List (List ℕ) → Option Request
 kind_asked arguments = option_map (λ k. set_kind k) (said_by kind_of_word (one_of arguments))
 
+-- the request of `width`
 abbrev pub width_asked : List (List ℕ) → Option Request
 width_asked arguments = option_map (λ b. set_width b) (said_by bits_of_word (one_of arguments))
 
--- two numbers of 64 bits
+-- the request of `lf`, with two numbers of 64 bits
 abbrev pub load_factor_asked : List (List ℕ) → Option Request
 load_factor_asked arguments = option_map (λ p. set_load_factor p.0 p.1)
     (said_by_both (number_of 18_446_744_073_709_551_615) (two_of arguments))
 
--- a key and a value of this kind
+-- the request of `put`, with a key and a value of the kind
 abbrev pub put_asked : Kind → List (List ℕ) → Option Request
 put_asked Num arguments = option_map (λ p. put_numbers p.0 p.1)
     (said_by_both (number_of most_number) (two_of arguments))
 put_asked Text arguments = option_map (λ p. put_texts p.0 p.1)
     (said_by_both text_of (two_of arguments))
 
--- a key of this kind
+-- the request of `get`, with a key of the kind
 abbrev pub get_asked : Kind → List (List ℕ) → Option Request
 get_asked Num arguments = option_map (λ k. get_value (asked_number k))
     (said_by (number_of most_number) (one_of arguments))
 get_asked Text arguments = option_map (λ t. get_value (asked_text t))
     (said_by text_of (one_of arguments))
 
+-- the request of `check`, with pairs of hexadecimal digits
 abbrev pub check_asked : List (List ℕ) → Option Request
 check_asked arguments = option_map (λ bytes. check_archive bytes)
     (said_by hex_of_word (one_of arguments))
 
--- what a verb and its arguments ask for
+-- the request of the verb and its arguments
 unfoldable pub request_by : Kind → List ℕ → List (List ℕ) → Option Request
 request_by kind verb arguments =
     if bytes_eq verb (codes "kind") then kind_asked arguments
@@ -170,11 +173,11 @@ request_by kind verb arguments =
     else if bytes_eq verb (codes "audit") then bare_of count_misplaced arguments
     else None
 
--- what the words of a line ask for; the first is the verb
+-- the request of the words of a line, the first of them its verb
 abbrev pub request_of_words : Kind → List (List ℕ) → Option Request
 request_of_words kind [] = None
 request_of_words kind (verb ∷ arguments) = request_by kind verb arguments
 
--- what a line asks for, where it is UTF-8 and reads as one of the requests; else it is a bad line
+-- the request of a line, or `None` for a bad line: not UTF-8, or not a request of the kind
 unfoldable pub request_of : Kind → List ℕ → Option Request
 request_of kind line = if is_utf8 line then request_of_words kind (words_of line) else None

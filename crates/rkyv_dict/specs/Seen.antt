@@ -1,4 +1,4 @@
--- What contracts see of commands.
+-- Commands as contracts see them.
 use Rattle.rkyv_dict.specs.Forms.{key_seen}
 use Rattle.rkyv_dict.specs.Script.{Request, set_kind, set_width, set_load_factor, put_numbers}
 use Rattle.rkyv_dict.specs.Script.{put_texts, build_archive, check_archive, show_hex, get_value}
@@ -8,7 +8,7 @@ use Rattle.rkyv_dict.specs.declared.script.Command.TheVariants.{SetKind, SetWidt
 use Rattle.rkyv_dict.specs.declared.script.Command.TheVariants.{PutNumbers, PutTexts, Build, Check}
 use Rattle.rkyv_dict.specs.declared.script.Command.TheVariants.{Hex, Get, ListPairs, Audit}
 
--- a command as what its line asks for
+-- the request of a command
 abbrev pub request_seen : Command → Request
 request_seen (SetKind kind) = set_kind kind
 request_seen (SetWidth bits) = set_width bits

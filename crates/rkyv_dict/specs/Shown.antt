@@ -1,4 +1,4 @@
--- What contracts see of a dictionary.
+-- Dictionaries as contracts see them.
 use Rattle.std.specs.Option.{option_map}
 use Rattle.rkyv_dict.specs.declared.dict.Dict.{Dict}
 use Rattle.rkyv_dict.specs.declared.dict.Stored.{Stored}
@@ -6,7 +6,7 @@ use Rattle.rkyv_dict.specs.Counts.{take_pairs}
 use Rattle.rkyv_dict.specs.Forms.{Pairs, pairs_seen}
 use Rattle.rkyv_dict.specs.State.{Archived, State}
 
--- an archive that was built, was built of the first pairs of the list
+-- an archive and its pairs: those of a built one are the first `handed` pairs of the list
 abbrev pub archived_seen : Pairs → Stored → Archived
 archived_seen pairs stored = record {
   bytes = stored.bytes.items;
@@ -14,7 +14,7 @@ archived_seen pairs stored = record {
       option_map (λ n. take_pairs n pairs) stored.handed;
 }
 
--- a dictionary as the state that a script has set
+-- the state of a script that a dictionary has
 abbrev pub state_seen : Dict → State
 state_seen dict = record {
   bits = dict.bits;

@@ -1,4 +1,4 @@
--- What a script has set so far.
+-- The state of a script.
 use Rattle.std.specs.Prelude.{ℕ, List, [], ◌∷◌, ◌++◌, Option, None}
 use Rattle.std.specs.Option.{ForSome}
 use Rattle.rkyv_dict.specs.declared.form.Bits.{Bits}
@@ -10,33 +10,33 @@ use Rattle.rkyv_dict.specs.Archives.{IsArchive}
 use Rattle.rkyv_dict.specs.Built.{Holds, form_of_pairs}
 use Rattle.rkyv_dict.specs.Forms.{Pairs, numbers, texts}
 
--- an archive: its bytes, and the pairs that it was built of, unless it came by `check`
+-- an archive: its bytes, and the pairs that it was built from, or `None` after `check`
 pub record Archived : Type 0 where
   pub bytes : List ℕ
   pub built_of : Option Pairs
 
--- the width, the load factor, the list of pairs, whose kind is the one that is set, and the
--- archive, if there is one
+-- the state: width, load factor, list of pairs, and archive, if any.
+-- The kind of the list is the kind that is set.
 pub record State : Type 0 where
   pub bits : Bits
   pub load_factor : ℕ × ℕ
   pub pairs : Pairs
   pub archive : Option Archived
 
--- the empty list of a kind
+-- the empty list of the kind
 abbrev pub no_pairs : Kind → Pairs
 no_pairs Num = numbers []
 no_pairs Text = texts []
 
--- the form of its archive
+-- the form of the archive of `s`
 abbrev pub form_of : State → Form
 form_of s = form_of_pairs s.bits s.pairs
 
--- before the first line
+-- the state before the first line
 abbrev pub start : State
 start = record { bits = Bits32; load_factor = (7, 8); pairs = no_pairs Num; archive = None }
 
--- another form: the list and the archive are emptied, and the load factor is kept
+-- `s` in another form, with the list and the archive emptied and the load factor unchanged
 abbrev pub emptied : Kind → Bits → State → State
 emptied kind bits s = record {
   bits = bits;
@@ -46,22 +46,23 @@ emptied kind bits s = record {
   archive = None;
 }
 
--- a pair more at the end; a pair of the other kind is never put
+-- the list of numbers with a pair appended; a list of texts is unchanged
 abbrev pub with_numbers : Pairs → ℕ → ℕ → Pairs
 with_numbers (numbers pairs) key value = numbers (pairs ++ (key, value) ∷ [])
 with_numbers (texts pairs) key value = texts pairs
 
--- the list with a pair of texts at its end
+-- the list of texts with a pair appended; a list of numbers is unchanged
 abbrev pub with_texts : Pairs → List ℕ → List ℕ → Pairs
 with_texts (numbers pairs) key value = numbers pairs
 with_texts (texts pairs) key value = texts (pairs ++ (key, value) ∷ [])
 
--- an archive of this form; what was built holds the pairs that it was built of
+-- `archived` is a valid archive of `form`.
+-- If it was built, its root represents the pairs that it was built from.
 pub record IsSoundIn (form : Form) (archived : Archived) : Type 0 where
   pub archive : IsArchive form archived.bytes
   pub built : ForSome archived.built_of (λ pairs. (factor : ℕ × ℕ)
       × Holds form factor archived.bytes pairs)
 
--- the archive of a state, if there is one, is one
+-- the archive of `s`, if any, is valid in its form; a built one represents its pairs
 unfoldable pub IsSound : State → Type 0
 IsSound s = ForSome s.archive (IsSoundIn (form_of s))

@@ -1,4 +1,4 @@
-//! The archives of a dictionary: checking, looking up, listing, counting and building.
+//! Archives of a dictionary: validation, lookup, listing, audit and writing.
 
 ghost use Rattle.std.specs.Prelude.{ℕ, ◌≡◌, ◌++◌, IfSome, MatchResult, codes, decimal};
 ghost use Rattle.std.specs.List.{flat_map};
@@ -30,14 +30,14 @@ use rkyv_collections::map::{ArchivedHashMap, HashMapOf};
 use rkyv_collections::{FxHasher64, MapPairs, NativeKey, Query};
 use std::alloc::{AllocError, Global};
 
-/// Appends a line.
+/// Appends the text and a line feed.
 pub(crate) fn push_line(out: &mut String, text: &str) -> Result<(), AllocError>
     ensures { Pushes result out.old out.new (line text.now) }
 {
     write!(out, "{text}\n")
 }
 
-/// Whether the bytes are the archive of a map: its length.
+/// Validates the archive of a map, and returns the number of its pairs.
 fn check_map<P: Part, W: Width>(bytes: &[u8]) -> Result<usize, VerifyError>
     ensures { let m = parts_by W.word W.LIMIT P.shape P.text P.same P.key_calls in
         MatchResult result
@@ -50,7 +50,7 @@ fn check_map<P: Part, W: Width>(bytes: &[u8]) -> Result<usize, VerifyError>
     }
 }
 
-/// The map of an archive.
+/// Returns a view of the map in a valid archive.
 fn map_of<'a, P: Part, W: Width>(bytes: &'a [u8]) -> ArchivedHashMap<'a, P, P, FxHasher64, W>
     requires { let m = parts_by W.word W.LIMIT P.shape P.text P.same P.key_calls in
         IsMapArchive m bytes.now }
@@ -61,7 +61,7 @@ fn map_of<'a, P: Part, W: Width>(bytes: &'a [u8]) -> ArchivedHashMap<'a, P, P, F
     ArchivedHashMap::of(access_unchecked(bytes))
 }
 
-/// Appends the line of a value, or that there is none.
+/// Appends the line of the value, or the line `none` without one.
 fn push_text<P: Part>(value: Option<View<'_, P>>, out: &mut String) -> Result<(), AllocError>
     requires { IfSome value (IsView P.shape) }
     ensures { Pushes result out.old out.new (value_line (option_map (at_view P.text) value.entry)) }
@@ -75,7 +75,7 @@ fn push_text<P: Part>(value: Option<View<'_, P>>, out: &mut String) -> Result<()
     }
 }
 
-/// Appends the line of the value that is found of a key, or that there is none.
+/// Appends the line of the value that a lookup of the key finds, or the line `none`.
 fn push_found<P: Part, W: Width, Q: Query<P>>(
     bytes: &[u8],
     key: &Q,
@@ -94,7 +94,7 @@ fn push_found<P: Part, W: Width, Q: Query<P>>(
     push_text(map_of::<P, W>(bytes).get(key), out)
 }
 
-/// Appends the line of a pair.
+/// Appends the line of a pair: its key, a space and its value.
 fn push_pair<P: Part>(
     key: View<'_, P>,
     value: View<'_, P>,
@@ -118,7 +118,7 @@ fn push_count(count: usize, out: &mut String) -> Result<(), AllocError>
     write!(out, "entries {count}\n")
 }
 
-/// Appends a line for each pair, by ascending bucket.
+/// Appends a line for each pair, in bucket order.
 fn push_lines<P: Part, W: Width>(
     map: ArchivedHashMap<'_, P, P, FxHasher64, W>,
     out: &mut String,
@@ -133,7 +133,7 @@ fn push_lines<P: Part, W: Width>(
     Ok(())
 }
 
-/// Appends the number of pairs, and a line for each.
+/// Appends the line of the number of pairs, then a line for each pair.
 fn push_map<P: Part, W: Width>(bytes: &[u8], out: &mut String) -> Result<(), AllocError>
     requires { let m = parts_by W.word W.LIMIT P.shape P.text P.same P.key_calls in
         IsMapArchive m bytes.now }
@@ -145,7 +145,7 @@ fn push_map<P: Part, W: Width>(bytes: &[u8], out: &mut String) -> Result<(), All
     push_lines(map, out)
 }
 
-/// How many keys a lookup doesn't answer where they stand.
+/// Returns the number of keys that a lookup doesn't find in their own bucket.
 fn count_misplaced<P: Part, W: Width>(bytes: &[u8]) -> usize
     requires { let m = parts_by W.word W.LIMIT P.shape P.text P.same P.key_calls in
         IsMapArchive m bytes.now }
@@ -155,7 +155,7 @@ fn count_misplaced<P: Part, W: Width>(bytes: &[u8]) -> usize
     map_of::<P, W>(bytes).misplaced()
 }
 
-/// The archive of the pairs.
+/// Writes the archive of the pairs.
 fn build_map<A: NativeKey<A::Archived> + Serialize<VecWriter, W>, W: Width>(
     alloc: Global,
     pairs: &[(A, A)],
@@ -172,10 +172,13 @@ where
     to_bytes_in::<W, MapPairs<'_, A, A>>(alloc, &list)
 }
 
-/// Whether the bytes are an archive of the form: the length of its map.
+/// Validates an archive of the form, and returns the number of its pairs.
 ///
 /// # Errors
-/// The first point at which they are none.
+///
+/// - `OutOfRange`: the archive is shorter than a root or longer than the limit of its width.
+/// - `Unaligned`: the root isn't aligned.
+/// - The first error of the map at the root.
 pub fn check(form: Form, bytes: &[u8]) -> Result<usize, VerifyError>
     ensures { MatchResult result
         (λ n. IsArchive form bytes.now × (n ≡ entry_count form bytes.now))
@@ -189,11 +192,17 @@ pub fn check(form: Form, bytes: &[u8]) -> Result<usize, VerifyError>
     }
 }
 
-/// Appends the line of the value that is found of a key, or that there is none; a key of another
-/// kind is never found.
+/// Appends the line of the value that a lookup of the key finds, or the line `none`.
+///
+/// A key of the other kind is never found.
 ///
 /// # Errors
-/// Where a growth is refused.
+///
+/// - `AllocError`: `out` fails to allocate.
+///
+/// # Requires
+///
+/// - The bytes are a valid archive of the form.
 pub fn push_value(
     form: Form,
     bytes: &[u8],
@@ -219,10 +228,17 @@ pub fn push_value(
     }
 }
 
-/// Appends the number of pairs, and a line for each, its key and its value, by ascending bucket.
+/// Appends the line of the number of pairs, then the line of each pair in bucket order.
+///
+/// The line of a pair is its key, a space and its value.
 ///
 /// # Errors
-/// Where a growth is refused.
+///
+/// - `AllocError`: `out` fails to allocate.
+///
+/// # Requires
+///
+/// - The bytes are a valid archive of the form.
 pub fn push_pairs(form: Form, bytes: &[u8], out: &mut String) -> Result<(), AllocError>
     requires { IsArchive form bytes.now }
     ensures { Pushes result out.old out.new (listing form bytes.now) }
@@ -235,7 +251,11 @@ pub fn push_pairs(form: Form, bytes: &[u8], out: &mut String) -> Result<(), Allo
     }
 }
 
-/// How many keys a lookup doesn't answer where they stand.
+/// Returns the number of keys that a lookup doesn't find in their own bucket.
+///
+/// # Requires
+///
+/// - The bytes are a valid archive of the form.
 pub fn misplaced(form: Form, bytes: &[u8]) -> usize
     requires { IsArchive form bytes.now }
     ensures { result ≡ misplaced_count form bytes.now }
@@ -248,12 +268,18 @@ pub fn misplaced(form: Form, bytes: &[u8]) -> usize
     }
 }
 
-/// The archive of the pairs, in their order, as a map under a load factor.
+/// Writes the archive of the pairs, in insertion order, as a map under the load factor.
 ///
 /// # Errors
-/// Those of a map's `serialize_from_iter`; `TextTooLong`; `PositionTooLarge` and
-/// `DistanceTooLarge`, where the archive would pass what its width can tell; and `Memory` and
-/// `Writer`, where a growth is refused.
+///
+/// - `Memory`: the scratch space of the root fails to allocate.
+/// - The errors of a map's `serialize_from_iter`, in its order.
+/// - `TextTooLong`: a text is too long for the width.
+/// - `PositionTooLarge`: the archive would be longer than the limit of the width.
+/// - `Writer`: the vector of the archive fails to allocate.
+/// - `DistanceTooLarge`: a distance doesn't fit the width.
+///
+/// The last four are checked for each part, as it is written.
 pub fn build(
     alloc: Global,
     bits: Bits,

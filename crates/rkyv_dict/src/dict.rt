@@ -1,4 +1,4 @@
-//! The dictionary: its state, and what each command answers.
+//! The dictionary: its state, and the output of each command.
 ghost use Rattle.rkyv_dict.specs.Answers.{Does, DoesLine};
 ghost use Rattle.rkyv_dict.specs.Counts.{pair_count};
 ghost use Rattle.rkyv_dict.specs.Forms.{key_seen};
@@ -21,26 +21,27 @@ use rkyv_base::errors::{VerifyError, WriteError};
 use rkyv_base::writer::NoMemory;
 use std::alloc::{AllocError, Global};
 
-/// The bytes of an archive, and of how many pairs of the list they were built, unless they came by
-/// `check`.
+/// The bytes of an archive.
+///
+/// `handed` is the length of the list when it was built, or `None` after `check`.
 #[derive(Drop)]
 struct Stored {
     bytes: Vec<u8>,
     handed: Option<usize>,
 }
 
-/// What a script has set so far. Texts are lent from the script.
+/// The state of a script. Texts are borrowed from the script.
 #[derive(Drop)]
 pub struct Dict<'a> {
     bits: Bits,
     load_factor: (usize, usize),
     list: PairList<'a>,
     archive: Option<Stored>,
-    // What was handed in at the last build is there still.
+    // A built archive was built from at most as many pairs as the list has.
     ghost handed_in: { ForSome archive (λ a. ForSome a.handed (λ n. n ≤ pair_count list)) },
 }
 
-/// Appends why bytes are no archive.
+/// Appends the line of a validation error.
 fn push_refusal(out: &mut String, error: &VerifyError) -> Result<(), AllocError>
     ensures { Pushes result out.old out.new (refused_line error.now) }
 {
@@ -48,7 +49,7 @@ fn push_refusal(out: &mut String, error: &VerifyError) -> Result<(), AllocError>
     write!(out, "refused {told}\n")
 }
 
-/// Appends why a list is not archived.
+/// Appends the line of a write error.
 fn push_cause(out: &mut String, cause: &WriteError<NoMemory>) -> Result<(), AllocError>
     ensures { Pushes result out.old out.new (error_line cause.now) }
 {
@@ -60,7 +61,7 @@ impl<'a> Dict<'a> {
     ghost use Rattle.rkyv_dict.specs.Shown.{state_seen};
     ghost use Rattle.rkyv_dict.specs.Seen.{request_seen};
 
-    /// The state before the first line.
+    /// Returns the state before the first line.
     pub fn new(alloc: Global) -> Dict<'a>
         ensures { state_seen result ≡ start }
     {
@@ -72,7 +73,7 @@ impl<'a> Dict<'a> {
         }
     }
 
-    /// The form of the archive.
+    /// Returns the form of the archive.
     fn form(&self) -> Form
         ensures { result ≡ form_of (state_seen self.now) }
     {
@@ -82,7 +83,7 @@ impl<'a> Dict<'a> {
         }
     }
 
-    /// Appends what `hex` answers.
+    /// Appends the output of `hex`.
     fn push_hex(&self, out: &mut String) -> Result<(), AllocError>
         ensures { Pushes result out.old out.new (answered hex_line (state_seen self.now).archive) }
     {
@@ -93,7 +94,7 @@ impl<'a> Dict<'a> {
         push_line(out, "")
     }
 
-    /// Appends what `get` answers.
+    /// Appends the output of `get`.
     fn push_get(&self, key: Key<'_>, out: &mut String) -> Result<(), AllocError>
         requires { IsSound (state_seen self.now) }
         ensures { let s = state_seen self.now in let key = key_seen key.entry in
@@ -105,7 +106,7 @@ impl<'a> Dict<'a> {
         archives::push_value(self.form(), archive.bytes.as_slice(), key, out)
     }
 
-    /// Appends what `list` answers.
+    /// Appends the output of `list`.
     fn push_list(&self, out: &mut String) -> Result<(), AllocError>
         requires { IsSound (state_seen self.now) }
         ensures { let s = state_seen self.now in
@@ -117,7 +118,7 @@ impl<'a> Dict<'a> {
         archives::push_pairs(self.form(), archive.bytes.as_slice(), out)
     }
 
-    /// Appends what `audit` answers.
+    /// Appends the output of `audit`.
     fn push_audit(&self, out: &mut String) -> Result<(), AllocError>
         requires { IsSound (state_seen self.now) }
         ensures { let s = state_seen self.now in
@@ -130,7 +131,7 @@ impl<'a> Dict<'a> {
         write!(out, "misplaced {count}\n")
     }
 
-    /// Archives the list, and appends what that answers.
+    /// Archives the list, and appends the output of `build`.
     fn build(&mut self, alloc: Global, out: &mut String) -> Result<(), AllocError>
         ensures { OnOk result (Adds (string_bytes out.old) (string_bytes out.new) (λ answer.
             Does (state_seen self.old) build_archive answer (state_seen self.new))) }
@@ -152,7 +153,7 @@ impl<'a> Dict<'a> {
         }
     }
 
-    /// Takes the bytes as the archive, where they are one, and appends what that answers.
+    /// Keeps the bytes as the archive if they are valid, and appends the output of `check`.
     fn check(&mut self, bytes: Vec<u8>, out: &mut String) -> Result<(), AllocError>
         ensures { OnOk result (Adds (string_bytes out.old) (string_bytes out.new) (λ answer.
             Does (state_seen self.old) (check_archive bytes.items) answer (state_seen self.new))) }
@@ -169,7 +170,7 @@ impl<'a> Dict<'a> {
         }
     }
 
-    /// Empties the list and the archive, for a form.
+    /// Sets the form, and empties the list and the archive.
     fn empty(&mut self, alloc: Global, kind: Kind, bits: Bits)
         ensures { state_seen self.new ≡ emptied kind bits (state_seen self.old) }
     {
@@ -178,7 +179,7 @@ impl<'a> Dict<'a> {
         self.list = no_pairs(alloc, kind);
     }
 
-    /// Does a command, and appends what it answers.
+    /// Executes a command, and appends its output.
     fn apply(
         &mut self,
         alloc: Global,
@@ -215,10 +216,15 @@ impl<'a> Dict<'a> {
         }
     }
 
-    /// Does a line, and appends what it answers.
+    /// Executes a line, and appends its output.
     ///
     /// # Errors
-    /// Where a growth is refused; the state is then unknown.
+    ///
+    /// - `AllocError`: an allocation fails; the state is unspecified then.
+    ///
+    /// # Requires
+    ///
+    /// - The archive of the state, if any, is valid (`IsSound`).
     pub fn answer(
         &mut self,
         alloc: Global,

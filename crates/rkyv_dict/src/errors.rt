@@ -1,11 +1,11 @@
-//! Errors as the answers tell them.
+//! The number and the name of each error, as the output has them.
 ghost use Rattle.rkyv_dict.specs.Errors.{cause_told, refusal_told, wants_memory};
 ghost use Rattle.std.specs.Prelude.{◌≡◌};
 
 use rkyv_base::errors::{VerifyError, WriteError};
 use rkyv_base::writer::NoMemory;
 
-/// The number and the name of what is wrong with bytes.
+/// Returns the number and the name of a validation error.
 #[tactic(auto, unfolding(crate::specs::Errors::refusal_told))]
 pub fn refusal_told(error: &VerifyError) -> &'static str
     ensures { result.now ≡ refusal_told error.now }
@@ -22,7 +22,7 @@ pub fn refusal_told(error: &VerifyError) -> &'static str
     }
 }
 
-/// The number and the name of why a list is not archived.
+/// Returns the number and the name of a write error.
 #[tactic(auto, unfolding(crate::specs::Errors::cause_told))]
 pub fn cause_told(error: &WriteError<NoMemory>) -> &'static str
     ensures { result.now ≡ cause_told error.now }
@@ -40,7 +40,7 @@ pub fn cause_told(error: &WriteError<NoMemory>) -> &'static str
     }
 }
 
-/// Whether the list is not archived for want of memory.
+/// Returns whether a write error is an allocation failure.
 #[tactic(auto, unfolding(crate::specs::Errors::wants_memory))]
 pub fn wants_memory(error: &WriteError<NoMemory>) -> bool
     ensures { result ≡ wants_memory error.now }

@@ -1,6 +1,6 @@
-//! What an archive of a dictionary is of.
+//! The form of a dictionary's archive, its keys and its pairs.
 
-/// What keys and values are.
+/// The type of keys and values.
 #[derive(Clone, Copy, Debug, PartialEq, Eq)]
 pub enum Kind {
     /// Numbers of 32 bits.
@@ -9,7 +9,7 @@ pub enum Kind {
     Text,
 }
 
-/// How wide the positions and counts of an archive are.
+/// The width of the positions and counts of an archive.
 #[derive(Clone, Copy, Debug, PartialEq, Eq)]
 pub enum Bits {
     /// 32 bits.
@@ -18,27 +18,29 @@ pub enum Bits {
     Bits64,
 }
 
-/// The form of an archive: a map of keys and values of the kind, in a width.
+/// The form of an archive: a map whose keys and values have the kind, in the width.
 #[derive(Clone, Copy, Debug, PartialEq, Eq)]
 pub struct Form {
+    /// The type of keys and values.
     pub kind: Kind,
+    /// The width of positions and counts.
     pub bits: Bits,
 }
 
-/// A key that is asked for.
+/// The key of a lookup.
 #[derive(Clone, Copy, Debug, PartialEq, Eq)]
 pub enum Key<'a> {
-    /// Of a map of numbers.
+    /// A key of a map of numbers.
     Number(u32),
-    /// Of a map of texts.
+    /// A key of a map of texts.
     Text(&'a str),
 }
 
-/// Pairs of keys and values in their order, all of one kind.
+/// Pairs of keys and values of one kind, in insertion order.
 #[derive(Drop)]
 pub enum PairList<'a> {
-    /// Of a map of numbers.
+    /// The pairs of a map of numbers.
     Numbers(Vec<(u32, u32)>),
-    /// Of a map of texts.
+    /// The pairs of a map of texts.
     Texts(Vec<(&'a str, &'a str)>),
 }

@@ -1,4 +1,4 @@
-//! Bytes as text, and back.
+//! Bytes as hexadecimal digits, and back.
 ghost use Rattle.rkyv_dict.specs.Hex.{byte_said, bytes_said, hex_of, hex_of_byte};
 ghost use Rattle.std.specs.Char.{digit_value, is_ascii_hexdigit};
 ghost use Rattle.std.specs.Option.{option_map};
@@ -18,7 +18,8 @@ fn push_byte(text: &mut String, byte: u8) -> Result<(), AllocError>
 /// Appends each byte as two lower case digits.
 ///
 /// # Errors
-/// Where a growth is refused.
+///
+/// - `AllocError`: `text` fails to allocate.
 pub fn push_hex(text: &mut String, bytes: &[u8]) -> Result<(), AllocError>
     ensures { OnOk result (string_bytes text.new ≡ string_bytes text.old ++ hex_of bytes.now) }
 {
@@ -28,7 +29,7 @@ pub fn push_hex(text: &mut String, bytes: &[u8]) -> Result<(), AllocError>
     Ok(())
 }
 
-/// The value of a digit of either case.
+/// Returns the value of a hexadecimal digit of either case.
 fn digit(glyph: u8) -> Option<u8>
     ensures value { result
         ≡ (if is_ascii_hexdigit glyph then Some (digit_value glyph) else None) }
@@ -42,7 +43,7 @@ fn digit(glyph: u8) -> Option<u8>
     }
 }
 
-/// The byte that two digits say.
+/// Returns the byte of two hexadecimal digits.
 #[tactic(auto, unfolding(crate::specs::Hex::byte_said))]
 fn byte_of(high: u8, low: u8) -> Option<u8>
     ensures { result ≡ byte_said high low }
@@ -52,10 +53,11 @@ fn byte_of(high: u8, low: u8) -> Option<u8>
     Some(high * 16 + low)
 }
 
-/// The bytes that pairs of digits of either case say; `None` where they aren't such pairs.
+/// Returns the bytes of pairs of digits of either case, or `None` if the input isn't such pairs.
 ///
 /// # Errors
-/// Where a growth is refused.
+///
+/// - `AllocError`: the vector of the bytes fails to allocate.
 pub fn read_hex(alloc: Global, digits: &[u8]) -> Result<Option<Vec<u8>>, AllocError>
     ensures { IfOk result (λ bytes. option_map (λ v. v.items) bytes ≡ bytes_said digits.now) }
 {

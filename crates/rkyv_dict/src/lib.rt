@@ -1,4 +1,9 @@
-//! A dictionary of numbers or of texts that is archived as a hash table, driven by a script.
+//! A dictionary of numbers or texts, archived as a hash table and driven by a script.
+//!
+//! - `run` reads a script from a reader and writes its output to a writer.
+//! - `dict` executes one line at a time; `script` and `words` parse it.
+//! - `archives` writes, validates and reads the archives.
+//! - `laws` states that builds, checks and scripts are deterministic.
 #![tactic(auto)]
 
 pub mod archives;

@@ -1,4 +1,4 @@
-//! The list of pairs that a script puts.
+//! The list of the pairs that a script puts.
 ghost use Rattle.rkyv_dict.specs.Built.{kind_of_pairs};
 ghost use Rattle.rkyv_dict.specs.Counts.{pair_count, take_pairs};
 ghost use Rattle.rkyv_dict.specs.Forms.{pairs_seen};
@@ -8,7 +8,7 @@ ghost use Rattle.std.specs.Prelude.{◌≡◌, ◌≤◌, ℕ, OnOk};
 use crate::form::{Kind, PairList};
 use std::alloc::{AllocError, Global};
 
-/// The list of no pair of this kind.
+/// Returns an empty list of the kind.
 pub fn no_pairs<'a>(alloc: Global, kind: Kind) -> PairList<'a>
     ensures { pairs_seen result ≡ no_pairs kind }
 {
@@ -18,7 +18,7 @@ pub fn no_pairs<'a>(alloc: Global, kind: Kind) -> PairList<'a>
     }
 }
 
-/// What the pairs are.
+/// Returns the kind of the pairs.
 pub fn kind_of(list: &PairList<'_>) -> Kind
     ensures { result ≡ kind_of_pairs (pairs_seen list.now) }
 {
@@ -28,7 +28,7 @@ pub fn kind_of(list: &PairList<'_>) -> Kind
     }
 }
 
-/// How many pairs there are.
+/// Returns the number of pairs.
 pub fn count_of(list: &PairList<'_>) -> usize
     ensures { result ≡ pair_count list.now }
 {
@@ -38,10 +38,11 @@ pub fn count_of(list: &PairList<'_>) -> usize
     }
 }
 
-/// Adds a pair of numbers at the end of a list of numbers.
+/// Appends a pair of numbers to a list of numbers, and leaves a list of texts unchanged.
 ///
 /// # Errors
-/// Where a growth is refused; the pairs that were there stay.
+///
+/// - `AllocError`: the list fails to allocate; its pairs are unchanged then.
 pub fn put_numbers(list: &mut PairList<'_>, key: u32, value: u32) -> Result<(), AllocError>
     ensures added { OnOk result
         (pairs_seen list.new ≡ with_numbers (pairs_seen list.old) key value) }
@@ -58,10 +59,11 @@ pub fn put_numbers(list: &mut PairList<'_>, key: u32, value: u32) -> Result<(), 
     }
 }
 
-/// Adds a pair of texts at the end of a list of texts.
+/// Appends a pair of texts to a list of texts, and leaves a list of numbers unchanged.
 ///
 /// # Errors
-/// Where a growth is refused; the pairs that were there stay.
+///
+/// - `AllocError`: the list fails to allocate; its pairs are unchanged then.
 pub fn put_texts<'a>(
     list: &mut PairList<'a>,
     key: &'a str,

@@ -1,4 +1,4 @@
-//! The keys and values of a dictionary's archives, and how they are printed.
+//! The keys and values of a dictionary's archives, and their text.
 
 ghost use Rattle.std.specs.Prelude.{ℕ, List};
 ghost use Rattle.rkyv_base.specs.Text.{text_at, text_shape};
@@ -13,15 +13,20 @@ use rkyv_base::width::Width;
 use rkyv_collections::KeyElement;
 use std::alloc::AllocError;
 
-/// What keys and values are in an archive.
+/// A key or a value in an archive.
 pub trait Part: KeyElement {
-    // The text that the one at a place prints as.
+    // The text of the part at a position of the bytes.
     ghost text: { List ℕ → ℕ → List ℕ };
 
-    /// Appends the text.
+    /// Appends the text of the part.
     ///
     /// # Errors
-    /// Where a growth is refused.
+    ///
+    /// - `AllocError`: `out` fails to allocate.
+    ///
+    /// # Requires
+    ///
+    /// - A valid part is at the position of the view.
     fn push(view: View<'_, Self>, out: &mut String) -> Result<(), AllocError>
         requires { IsView Self.shape view }
         ensures { Pushes result out.old out.new (at_view text view.entry) };

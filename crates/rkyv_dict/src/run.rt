@@ -1,4 +1,4 @@
-//! Runs a script from a reader, and writes its answers to a writer.
+//! Reads a script from a reader, and writes its output to a writer.
 ghost use Rattle.rkyv_dict.specs.Run.{AppendsAnswers, AppendsBeginning, AppendsFront, Gathers};
 ghost use Rattle.rkyv_dict.specs.Run.{MovesFront};
 ghost use Rattle.rkyv_dict.specs.Errors.{message_of};
@@ -14,14 +14,14 @@ use std::error::Error;
 use std::fmt;
 use std::io::{Read, Write};
 
-/// Why a run ended before its time.
+/// The reason why a run failed.
 #[derive(Debug, Drop)]
 pub enum RunError {
-    /// A read failed, or 9,223,372,036,854,775,807 reads met no end; nothing was written.
+    /// A read failed, or 9,223,372,036,854,775,807 reads met no end. Nothing is written.
     Read,
-    /// A write failed, or took no byte of a piece; a beginning of the output was written.
+    /// A write failed, or wrote no byte of a piece. A prefix of the output may be written.
     Write,
-    /// A growth was refused; a beginning of the output was written.
+    /// An allocation failed. A prefix of the output may be written.
     Memory,
 }
 
@@ -39,7 +39,7 @@ impl fmt::Display for RunError {
 
 impl Error for RunError {}
 
-/// The status that a program ends with after a run.
+/// Returns the exit status of a program: 0 for `Ok`, 2 for `Read`, 3 for `Write`, 4 for `Memory`.
 pub fn exit_status(outcome: &Result<(), RunError>) -> u8
     ensures success { OnOk outcome.now (result ≡ 0) }
     ensures read { IsErrOf outcome.now RunError.Read → result ≡ 2 }
@@ -62,13 +62,13 @@ impl From<AllocError> for RunError {
     }
 }
 
-/// How many bytes are asked for in one read, and held back before a write.
+/// The most bytes that one read asks for, and the number of held bytes that causes a write.
 const PIECE: usize = 65_536;
 
-/// How many reads there are at most.
+/// The greatest number of reads.
 const MOST_READS: u64 = 9_223_372_036_854_775_807;
 
-/// Reads a piece onto the input, and says whether the end was met.
+/// Appends the bytes of one read to the input, and returns `true` only at the reader's end.
 fn read_piece<R: Read>(
     reader: &mut R,
     piece: &mut [u8],
@@ -78,7 +78,7 @@ fn read_piece<R: Read>(
     ensures gathers { OnOk result (Gathers (R.remaining reader.old) (R.remaining reader.new)
         input.old.items input.new.items) }
     ensures end { IfOk result (λ ended. IsTrue ended → IsAtEnd (R.remaining reader.new)) }
-    // Only a read that gives bytes leads to another.
+    // A read that isn't at the end appends at least one byte.
     ensures more { IfOk result (λ ended. ended ≡ false → vec_len input.old < vec_len input.new) }
     ensures causes { IfErr result (λ e. e ≢ RunError.Write) }
 {
@@ -92,14 +92,14 @@ fn read_piece<R: Read>(
     }
 }
 
-/// Room for a piece.
+/// Returns a vector of `len` bytes.
 fn room(alloc: Global, len: usize) -> Result<Vec<u8>, AllocError>
     ensures { IfOk result (λ v. vec_len v ≡ len) }
 {
     vec![in alloc; 0u8; len]
 }
 
-/// Reads all there is.
+/// Reads to the end of the reader.
 #[tactic(auto, using(crate::proofs::Writing::gathers_more))]
 fn read_input<R: Read>(alloc: Global, reader: &mut R) -> Result<Vec<u8>, RunError>
     ensures whole { IfOk result (λ input.
@@ -135,7 +135,7 @@ fn write_piece<W: Write>(writer: &mut W, piece: &[u8]) -> Result<(), RunError>
     Ok(())
 }
 
-/// Writes what is held back, where it is much.
+/// Writes the held output and empties it, if it has at least `PIECE` bytes.
 fn write_much<W: Write>(writer: &mut W, held: &mut String) -> Result<(), RunError>
     ensures ok { OnOk result (MovesFront (W.contents writer.old) (W.contents writer.new)
         (string_bytes held.old) (string_bytes held.new)) }
@@ -150,7 +150,7 @@ fn write_much<W: Write>(writer: &mut W, held: &mut String) -> Result<(), RunErro
     Ok(())
 }
 
-/// Writes what the script answers.
+/// Executes the script, and writes its output.
 fn write_answers<W: Write>(alloc: Global, script: &[u8], writer: &mut W) -> Result<(), RunError>
     ensures ok { OnOk result
         (AppendsAnswers (W.contents writer.old) (W.contents writer.new) script.now) }
@@ -170,21 +170,25 @@ fn write_answers<W: Write>(alloc: Global, script: &[u8], writer: &mut W) -> Resu
     write_piece(writer, held.as_bytes())
 }
 
-/// Reads a script to its end, and writes its answers and nothing else.
+/// Reads a script to its end, then writes its output and nothing else.
 ///
-/// Lines end with LF; the last may lack it. Empty lines are skipped.
+/// A line ends with LF, which the last line may lack. Empty lines are skipped.
 ///
 /// # Errors
-/// `Read` where reading fails, and nothing is written; `Write` where writing fails and `Memory`
-/// where a growth is refused, after a beginning of what the script's first lines answer.
+///
+/// - `Read`: a read fails; nothing is written then.
+/// - `Memory`: an allocation fails.
+/// - `Write`: a write fails or writes no byte.
+///
+/// After `Memory` and `Write`, a prefix of the output of the first lines is written.
 pub fn run<R: Read, W: Write>(alloc: Global, reader: &mut R, writer: &mut W) -> Result<(), RunError>
-    // What is written answers the script that is read, and all of it is read.
+    // On success the bytes written are the output of the whole input, which is read to its end.
     ensures ok { OnOk result (IfSome (R.remaining reader.old) (λ script.
         AppendsAnswers (W.contents writer.old) (W.contents writer.new) script)) }
     ensures end { OnOk result (IsAtEnd (R.remaining reader.new)) }
-    // Where reading fails nothing is written.
+    // After `Read` the writer is unchanged.
     ensures read { IsErrOf result RunError.Read → writer.new ≡ writer.old }
-    // Any other failure comes after a beginning of what the script's first lines answer.
+    // After an error, a prefix of the output of the first lines is written.
     ensures front { OnErr result (IfSome (R.remaining reader.old) (λ script.
         AppendsBeginning (W.contents writer.old) (W.contents writer.new) script)) }
 {

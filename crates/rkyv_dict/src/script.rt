@@ -1,4 +1,4 @@
-//! The lines of a script: what a line asks for.
+//! The commands of a script, and the parser of a line.
 ghost use Rattle.rkyv_dict.specs.Script.{bare_of, check_asked, get_asked, kind_asked};
 ghost use Rattle.rkyv_dict.specs.Script.{load_factor_asked, put_asked, request_by, request_of};
 ghost use Rattle.rkyv_dict.specs.Script.{width_asked, words_left};
@@ -15,7 +15,7 @@ use crate::words::{
 use std::alloc::{AllocError, Global};
 use std::str;
 
-/// What a line asks for. Texts are lent from the line.
+/// The command of a line. Texts are borrowed from the line.
 #[derive(Debug, Drop)]
 pub enum Command<'a> {
     /// Sets the kind, and empties the list and the archive.
@@ -24,25 +24,25 @@ pub enum Command<'a> {
     SetWidth(Bits),
     /// Sets the load factor: its numerator and its denominator.
     SetLoadFactor(u64, u64),
-    /// Adds a pair of numbers at the end of the list: its key and its value.
+    /// Appends a pair of numbers to the list: its key and its value.
     PutNumbers(u32, u32),
-    /// Adds a pair of texts at the end of the list: its key and its value.
+    /// Appends a pair of texts to the list: its key and its value.
     PutTexts(&'a str, &'a str),
     /// Archives the list.
     Build,
-    /// Checks these bytes, and keeps them as the archive where they are one.
+    /// Validates these bytes, and keeps them as the archive if they are valid.
     Check(Vec<u8>),
-    /// Shows the archive's bytes.
+    /// Shows the bytes of the archive.
     Hex,
-    /// Looks a key up in the archive.
+    /// Looks up a key in the archive.
     Get(Key<'a>),
-    /// Shows the archive's pairs.
+    /// Shows the pairs of the archive.
     ListPairs,
-    /// Counts the pairs of the archive that a lookup of their own key doesn't find.
+    /// Counts the keys of the archive that a lookup doesn't find in their own bucket.
     Audit,
 }
 
-/// The command, where no argument stands after it.
+/// Returns the command if there are no arguments.
 #[tactic(auto, using(crate::proofs::Cuts::bare_of_more))]
 fn bare<'a>(command: Command<'a>, arguments: Option<&str>) -> Option<Command<'a>>
     ensures { option_map request_seen result
@@ -54,21 +54,21 @@ fn bare<'a>(command: Command<'a>, arguments: Option<&str>) -> Option<Command<'a>
     }
 }
 
-/// The kind that is to be set.
+/// Parses the arguments of `kind`.
 fn set_kind(arguments: Option<&str>) -> Option<Command<'_>>
     ensures { option_map request_seen result ≡ kind_asked (words_left arguments.entry) }
 {
     Some(Command::SetKind(kind_by_name(one_word(arguments)?)?))
 }
 
-/// The width that is to be set.
+/// Parses the arguments of `width`.
 fn set_width(arguments: Option<&str>) -> Option<Command<'_>>
     ensures { option_map request_seen result ≡ width_asked (words_left arguments.entry) }
 {
     Some(Command::SetWidth(bits_by_name(one_word(arguments)?)?))
 }
 
-/// The load factor that is to be set.
+/// Parses the arguments of `lf`: two numbers of 64 bits.
 fn set_load_factor(arguments: Option<&str>) -> Option<Command<'_>>
     ensures { option_map request_seen result ≡ load_factor_asked (words_left arguments.entry) }
 {
@@ -76,7 +76,7 @@ fn set_load_factor(arguments: Option<&str>) -> Option<Command<'_>>
     Some(Command::SetLoadFactor(numerator, denominator))
 }
 
-/// The pair of this kind that is to be added.
+/// Parses the arguments of `put`: a key and a value of the kind.
 fn put(kind: Kind, arguments: Option<&str>) -> Option<Command<'_>>
     ensures { option_map request_seen result ≡ put_asked kind (words_left arguments.entry) }
 {
@@ -92,7 +92,7 @@ fn put(kind: Kind, arguments: Option<&str>) -> Option<Command<'_>>
     }
 }
 
-/// The key of this kind that is to be looked up.
+/// Parses the argument of `get`: a key of the kind.
 fn get(kind: Kind, arguments: Option<&str>) -> Option<Command<'_>>
     ensures { option_map request_seen result ≡ get_asked kind (words_left arguments.entry) }
 {
@@ -105,7 +105,7 @@ fn get(kind: Kind, arguments: Option<&str>) -> Option<Command<'_>>
     }
 }
 
-/// The bytes that are to be checked.
+/// Parses the argument of `check`: pairs of hexadecimal digits.
 fn check(alloc: Global, arguments: Option<&str>) -> Result<Option<Command<'_>>, AllocError>
     ensures { IfOk result (λ command.
         option_map request_seen command ≡ check_asked (words_left arguments.entry)) }
@@ -122,7 +122,7 @@ fn check(alloc: Global, arguments: Option<&str>) -> Result<Option<Command<'_>>, 
     }
 }
 
-/// The command of this verb and these arguments.
+/// Returns the command of the verb and its arguments.
 #[tactic(auto, unfolding(crate::specs::Script::request_by))]
 fn by_verb<'a>(
     alloc: Global,
@@ -158,13 +158,16 @@ fn by_verb<'a>(
     }
 }
 
-/// The command of a line that isn't empty; `None` for a bad line.
+/// Parses a line that isn't empty; returns `None` for a bad line.
 ///
-/// One space stands between two words. A number is `0` or digits without a leading zero, a text is
-/// a word of one byte or more, and bytes are pairs of digits of either case.
+/// - One space separates two words.
+/// - A number is `0`, or decimal digits without a leading zero.
+/// - A text is a word of at least one byte.
+/// - Bytes are pairs of hexadecimal digits of either case.
 ///
 /// # Errors
-/// Where a growth is refused for the bytes of `check`.
+///
+/// - `AllocError`: the bytes of `check` fail to allocate.
 #[tactic(auto, unfolding(crate::specs::Script::request_of), using(crate::proofs::Texts::utf8_yes, crate::proofs::Texts::utf8_no))]
 pub fn read_command(
     alloc: Global,

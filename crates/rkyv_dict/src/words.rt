@@ -1,4 +1,4 @@
-//! The words of a line, and what each of them says.
+//! The words of a line, and the values that they represent.
 ghost use Rattle.rkyv_dict.specs.Script.{bits_of_word, is_numeral, kind_of_word, number_of, one_of};
 ghost use Rattle.rkyv_dict.specs.Script.{parts_after, parts_of, said_by, said_by_both, text_of};
 ghost use Rattle.rkyv_dict.specs.Script.{two_of, words_left, words_of};
@@ -10,14 +10,14 @@ ghost use Rattle.std.specs.Str.{bytes_eq};
 
 use crate::form::{Bits, Kind};
 
-/// The place of the first `at`.
+/// Returns the index of the first byte `at`.
 fn pos_of(bytes: &[u8], at: u8) -> Option<usize>
     ensures { result ≡ position (λ b. b == at) bytes.now }
 {
     bytes.iter().position(|b| *b == at)
 }
 
-/// The bytes before the first `at`, and those after it.
+/// Returns the bytes before the first byte `at`, and those after it.
 pub fn cut(bytes: &[u8], at: u8) -> (&[u8], Option<&[u8]>)
     ensures parts { parts_of at bytes.now
         ≡ result.0.now ∷ parts_after at (option_copied result.1) }
@@ -29,7 +29,7 @@ pub fn cut(bytes: &[u8], at: u8) -> (&[u8], Option<&[u8]>)
     }
 }
 
-/// The text before the first space, and the text after it.
+/// Returns the text before the first space, and the text after it.
 pub fn cut_word(text: &str) -> (&str, Option<&str>)
     ensures { words_of text.now ≡ result.0.now ∷ words_left result.1 }
 {
@@ -39,7 +39,7 @@ pub fn cut_word(text: &str) -> (&str, Option<&str>)
     }
 }
 
-/// The one word of the arguments.
+/// Returns the only word of the arguments, or `None` if they aren't one word.
 #[tactic(auto, using(crate::proofs::Cuts::one_of_more))]
 pub fn one_word(arguments: Option<&str>) -> Option<&str>
     ensures { option_copied result ≡ one_of (words_left arguments.entry) }
@@ -51,7 +51,7 @@ pub fn one_word(arguments: Option<&str>) -> Option<&str>
     }
 }
 
-/// The two words of the arguments.
+/// Returns the two words of the arguments, or `None` if they aren't two words.
 #[tactic(auto, using(crate::proofs::Cuts::two_of_more))]
 pub fn two_words(arguments: Option<&str>) -> Option<(&str, &str)>
     ensures { option_map (λ p. (p.0.now, p.1.now)) result ≡ two_of (words_left arguments.entry) }
@@ -64,21 +64,21 @@ pub fn two_words(arguments: Option<&str>) -> Option<(&str, &str)>
     }
 }
 
-/// Whether the word is this one.
+/// Returns whether the word equals the name.
 pub fn is_word(word: &str, name: &str) -> bool
     ensures { result ≡ bytes_eq word.now name.now }
 {
     word == name
 }
 
-/// Whether each byte is a decimal digit.
+/// Returns whether each byte is a decimal digit.
 fn all_digits(word: &[u8]) -> bool
     ensures { result ≡ list_all is_ascii_digit word.now }
 {
     word.iter().all(|b| b.is_ascii_digit())
 }
 
-/// Whether the word is a number in decimal digits without a leading zero.
+/// Returns whether the word is a number in decimal digits without a leading zero.
 fn is_numeral(word: &[u8]) -> bool
     ensures { result ≡ is_numeral word.now }
 {
@@ -88,7 +88,7 @@ fn is_numeral(word: &[u8]) -> bool
     word.len() == 1 || word[0] != b'0'
 }
 
-/// The digit's value.
+/// Returns the value of a decimal digit.
 fn digit(glyph: u8) -> u8
     requires { is_ascii_digit glyph ≡ true }
     ensures value { result ≡ digit_value glyph }
@@ -97,7 +97,7 @@ fn digit(glyph: u8) -> u8
     glyph - b'0'
 }
 
-/// The number that the word says, where it is at most `most`.
+/// Returns the number that the word represents, if it is at most `most`.
 pub fn number(word: &[u8], most: u64) -> Option<u64>
     ensures value { result ≡ number_of most word.now }
     ensures small { IfSome result (λ n. n ≤ most) }
@@ -116,7 +116,7 @@ pub fn number(word: &[u8], most: u64) -> Option<u64>
     Some(value)
 }
 
-/// The one number of the arguments.
+/// Returns the only argument as a number, if it is one of at most `most`.
 pub fn one_number(arguments: Option<&str>, most: u64) -> Option<u64>
     ensures value { result ≡ said_by (number_of most) (one_of (words_left arguments.entry)) }
     ensures small { IfSome result (λ n. n ≤ most) }
@@ -124,7 +124,7 @@ pub fn one_number(arguments: Option<&str>, most: u64) -> Option<u64>
     number(one_word(arguments)?.as_bytes(), most)
 }
 
-/// The two numbers of the arguments.
+/// Returns the two arguments as numbers, if they are two of at most `most`.
 pub fn two_numbers(arguments: Option<&str>, most: u64) -> Option<(u64, u64)>
     ensures value { result ≡ said_by_both (number_of most) (two_of (words_left arguments.entry)) }
     ensures small { IfSome result (λ p. (p.0 ≤ most) × (p.1 ≤ most)) }
@@ -135,21 +135,21 @@ pub fn two_numbers(arguments: Option<&str>, most: u64) -> Option<(u64, u64)>
     Some((a, b))
 }
 
-/// The word, where it is a text.
+/// Returns the word if it is a text: at least one byte.
 fn text(word: &str) -> Option<&str>
     ensures { option_copied result ≡ text_of word.now }
 {
     if word.is_empty() { None } else { Some(word) }
 }
 
-/// The one text of the arguments.
+/// Returns the only argument as a text of at least one byte.
 pub fn one_text(arguments: Option<&str>) -> Option<&str>
     ensures { option_copied result ≡ said_by text_of (one_of (words_left arguments.entry)) }
 {
     text(one_word(arguments)?)
 }
 
-/// The two texts of the arguments.
+/// Returns the two arguments as texts of at least one byte each.
 pub fn two_texts(arguments: Option<&str>) -> Option<(&str, &str)>
     ensures { option_map (λ p. (p.0.now, p.1.now)) result
         ≡ said_by_both text_of (two_of (words_left arguments.entry)) }
@@ -160,7 +160,7 @@ pub fn two_texts(arguments: Option<&str>) -> Option<(&str, &str)>
     Some((a, b))
 }
 
-/// The kind of this name.
+/// Returns the kind with the name `num` or `text`.
 pub fn kind_by_name(word: &str) -> Option<Kind>
     ensures { result ≡ kind_of_word word.now }
 {
@@ -173,7 +173,7 @@ pub fn kind_by_name(word: &str) -> Option<Kind>
     }
 }
 
-/// The width of this name.
+/// Returns the width with the name `32` or `64`.
 pub fn bits_by_name(word: &str) -> Option<Bits>
     ensures { result ≡ bits_of_word word.now }
 {

@@ -1,4 +1,4 @@
-//! Reads a script of commands on a dictionary from standard input, and writes its answers.
+//! Reads a script of commands on a dictionary from standard input, and prints its output.
 #![tactic(auto)]
 
 use rkyv_dict::run::{exit_status, run};

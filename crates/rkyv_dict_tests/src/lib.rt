@@ -1,5 +1,4 @@
-//! Tests of `rkyv_dict`: scripts and what they answer, archives of each form, and streams that
-//! fail.
+//! Tests of `rkyv_dict`: scripts and their output, archives of each form, and streams that fail.
 #![tactic(auto)]
 
 #[cfg(test)]

@@ -1,4 +1,4 @@
-//! The tests, by what they call.
+//! The tests, by the calls that they test.
 
 mod archives;
 mod errors;

@@ -1,4 +1,4 @@
-//! A first map: names with addresses, written, opened and looked up.
+//! A first map, of names to addresses: written by `write`, then validated and read by `look_up`.
 #![tactic(auto)]
 
 ghost use Rattle.std.specs.Int.{w64};
@@ -23,10 +23,11 @@ use rkyv_collections::map::{ArchivedHashMap, HashMapOf};
 use rkyv_collections::{FxHasher64, MapPairs};
 use std::alloc::Global;
 
-/// The archive of the symbols, each a name with its address.
+/// Writes the archive of the symbols, each a name with its address.
 ///
 /// # Errors
-/// Those of `to_bytes` of a map, as where a growth is refused.
+///
+/// The same as for `to_bytes` of a map.
 pub fn write(alloc: Global, symbols: &[(&str, u64)]) -> Result<Vec<u8>, WriteError<NoMemory>>
     ensures { TextMapResult (unsigned w64) symbols.now result }
 {
@@ -34,10 +35,14 @@ pub fn write(alloc: Global, symbols: &[(&str, u64)]) -> Result<Vec<u8>, WriteErr
     to_bytes(alloc, &list)
 }
 
-/// The address of the first symbol of the name, and none where there is none.
+/// Validates the table, and returns the address that a lookup of the name finds.
+///
+/// In the table of a list, it is the address of the first symbol with the name.
+/// It is `None` if the list has no such symbol.
 ///
 /// # Errors
-/// The first point at which the bytes are no archive of such a map.
+///
+/// The same as for `access`.
 pub fn look_up(table: &[u8], name: &str) -> Result<Option<u64>, VerifyError>
     ensures opened { OpensTextMap (unsigned w64) table.now result }
     ensures found { (symbols : TextPairs ℕ) → IsTextMap (unsigned w64) table.now symbols

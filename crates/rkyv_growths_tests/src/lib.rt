@@ -1,7 +1,9 @@
-//! Tests of what calls answer where a growth of memory is refused. Which one is, is up to who runs
-//! them: `tools/refuse-growths` refuses each in turn. What ends in `succeeds` passes only where
-//! none is: each test has one beside it that makes the same calls, so that a run in which all tests
-//! pass refused nothing.
+//! Tests of calls whose allocations fail.
+//!
+//! `tools/refuse-growths` runs them, and makes each allocation fail in turn.
+//!
+//! A test whose name ends in `succeeds` passes only if no allocation fails. Each other test has one
+//! beside it that makes the same calls. If all tests of a run pass, no allocation failed.
 #![tactic(auto)]
 
 #[cfg(test)]

@@ -1,4 +1,4 @@
--- What was found in a message is what stands in its list.
+-- The number that lookups find in a message is the number in its list.
 use Rattle.std.proofs.Common.{◌≡◌, ℕ, Bool, List, Option, None, Some, false, refl, ◌∙◌}
 use Rattle.std.specs.Borrow.{Bor}
 use Rattle.std.specs.Int.{w32}
@@ -34,7 +34,7 @@ some_either f None = refl
 some_either f (Some x) = refl
 
 module _ (b c : List ℕ) (part field : List ℕ) (number : ℕ) (parts : Parts) (p : ℕ) where
-  -- the number is set in the first part of the name, if there is one
+  -- the number is overwritten in the first part with the name, if there is one
   pub number_set : (found : Bool) (pos : ℕ) (o : Option (MapPairs (Bor (List ℕ)) ℕ ℕ)) → StandsIfFound b o (Some pos)
       → ((factor : ℕ × ℕ) (list : FieldList) → FieldsStand factor b pos list → (found ≡ is_some (first_pair (is_named field) list)) × FieldsStand factor c pos (with_first (is_named field) number list))
       → ((new : MapPairs (Bor (List ℕ)) ℕ ℕ) → PartStands c pos new → PartsStand (7, 8) c p (with_first (is_named part) new parts))
@@ -49,7 +49,7 @@ pub none_set : (b part field : List ℕ) (number : ℕ) (parts : Parts) (p : ℕ
 none_set b part field number parts p None s stands = (refl, stands)
 none_set b part field number parts p (Some fields) s stands = absurd s
 
--- what is written of a value that is found
+-- a write at the position that a lookup finds
 pub only_written : (b c : List ℕ) (p n : ℕ) (found : Bool) (place : Option ℕ) → SetsFound w32 name_shape (unsigned w32) name_hash b p n found c place
     → WritesIfFound place n b c found
 only_written b c p n found None h = h

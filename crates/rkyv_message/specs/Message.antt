@@ -1,4 +1,4 @@
--- Messages: what is one, which parts one stands for, and the number of a field of a part.
+-- Messages: validity, the list of parts that a message represents, and the number of a field.
 use Rattle.std.specs.Prelude.{◌≡◌, ℕ, ◌-◌, Bool, List, MatchOption, Option, None, Some}
 use Rattle.std.specs.Prelude.{false, length, true}
 use Rattle.std.specs.Borrow.{Bor}
@@ -34,39 +34,39 @@ use Rattle.rkyv_collections.specs.declared.lists.pairs.MapPairs.{MapPairs}
 abbrev pub FieldList : Type 0
 FieldList = List (Bor (List ℕ) × ℕ)
 
--- names, each with its fields, which have a load factor
+-- names, each with its fields and their load factor
 abbrev pub Parts : Type 0
 Parts = List (Bor (List ℕ) × MapPairs (Bor (List ℕ)) ℕ ℕ)
 
--- the fixed bytes of a name
+-- the shape of a name
 abbrev pub name_shape : Shape
 name_shape = text_shape w32
 
--- of a number
+-- the shape of a number
 abbrev pub number_shape : Shape
 number_shape = scalar_shape (unsigned w32)
 
--- of the header of the fields of a part
+-- the shape of the header of a part's fields
 abbrev pub fields_shape : Shape
 fields_shape = map_shape w32 name_shape number_shape
 
--- of the header of a message
+-- the shape of a message's header
 abbrev pub header_shape : Shape
 header_shape = map_shape w32 name_shape fields_shape
 
--- where the header stands
+-- the position of the header of `message`
 abbrev pub root : List ℕ → ℕ
 root message = length message - header_shape.size
 
--- the bytes are a message
+-- `message` is a valid message
 unfoldable pub IsMessage : List ℕ → Type 0
 IsMessage message = Accepted 4_294_967_295 header_shape message
 
--- the first point at which they are none
+-- `e` is the first error of the validation of `message`
 unfoldable pub IsRefused : List ℕ → VerifyError → Type 0
 IsRefused message e = AccessFails 4_294_967_295 header_shape message e
 
--- the name stands at the position
+-- the bytes at a position represent the name
 abbrev pub NameStands : List ℕ → ℕ → Bor (List ℕ) → Type 0
 NameStands = IsTextOf w32 (λ name. name.now)
 
@@ -74,144 +74,142 @@ NameStands = IsTextOf w32 (λ name. name.now)
 abbrev pub name_hash : List ℕ → ℕ → ℕ
 name_hash = hash_at (fx_hasher low_halves) (text_key_calls w32)
 
--- a map of fields stands at the position, whatever they are
+-- a valid map of fields is at position `p`
 abbrev pub IsFields : List ℕ → ℕ → Type 0
 IsFields b p = Viewed fields_shape b p
 
--- the map of these fields stands there, under a load factor
+-- the map at a position represents the fields, under the load factor
 abbrev pub FieldsStand : ℕ × ℕ → List ℕ → ℕ → FieldList → Type 0
 FieldsStand factor = MapStands w32 name_shape number_shape NameStands (ScalarStands (unsigned w32))
     name_hash factor
 
--- the fields of a part stand at the position
+-- the map at `p` represents the fields of `part`
 abbrev pub PartStands : List ℕ → ℕ → MapPairs (Bor (List ℕ)) ℕ ℕ → Type 0
 PartStands b p part = FieldsStand part.load_factor b p part.pairs.now
 
--- a map of the parts stands at the position, under a load factor
+-- the map at a position represents the parts, under the load factor
 abbrev pub PartsStand : ℕ × ℕ → List ℕ → ℕ → Parts → Type 0
 PartsStand factor = MapStands w32 name_shape fields_shape NameStands PartStands name_hash factor
 
--- the message stands for the parts
+-- `message` represents the parts
 unfoldable pub StandsFor : List ℕ → Parts → Type 0
 StandsFor message parts = PartsStand (7, 8) message (root message) parts
 
--- how a list of names is written, each with a value of the shape
+-- the format of a list of names, each with a value of the shape
 abbrev pub map_of_names : {B R : Type 0} → Shape → Format B R → ℕ × ℕ
     → Format (List (Bor (List ℕ) × B)) TableResolver
 map_of_names shape format factor = listed 4_294_967_295 factor (map_format w32 name_shape shape
     (written_as (λ name. name.now) (text_format w32)) format
     (hash_of (fx_hasher low_halves) (λ name. text_calls name.now)) factor)
 
--- how the fields of a part are written
+-- the format of the fields of a part
 abbrev pub part_format : Format (MapPairs (Bor (List ℕ)) ℕ ℕ) TableResolver
 part_format = written_under (λ part. part.pairs.now)
     (λ part. map_of_names number_shape (scalar_format (unsigned w32)) part.load_factor)
 
--- how the parts are written
+-- the format of the parts, under the load factor
 abbrev pub parts_format : ℕ × ℕ → Format Parts TableResolver
 parts_format factor = map_of_names fields_shape part_format factor
 
--- the bytes are the message of the parts, and nothing else
+-- `message` is the message of the parts: valid, it represents them, and it has no other bytes
 unfoldable pub IsMessageOf : Parts → List ℕ → Type 0
 IsMessageOf parts message =
     ArchiveOf 4_294_967_295 header_shape (PartsStand (7, 8)) (parts_format (7, 8)) parts message
 
--- why there is no message of the parts
+-- the write of the parts fails with `e`
 unfoldable pub NoMessageOf : {F : Type 0} → Parts → WriteError F → Type 0
 NoMessageOf parts e = ArchiveRefused 4_294_967_295 header_shape (parts_format (7, 8)) parts e
 
--- the name is this one
+-- `held` equals the name
 abbrev pub is_named : List ℕ → Bor (List ℕ) → Bool
 is_named name held = same_bytes name held.now
 
--- the number of the first field of the name
+-- the number of the first field with the name
 abbrev pub number_in : List ℕ → FieldList → Option ℕ
 number_in field fields = first_value (is_named field) fields
 
--- in the fields of a part, where there is one
+-- the number of the first field with the name in the fields of a part, if there is one
 abbrev pub number_of_part : List ℕ → Option (MapPairs (Bor (List ℕ)) ℕ ℕ) → Option ℕ
 number_of_part field None = None
 number_of_part field (Some part) = number_in field part.pairs.now
 
--- the number of the first field of the name in the first part of the name
+-- the number of the first field with the name, in the first part with the name
 abbrev pub first_number : List ℕ → List ℕ → Parts → Option ℕ
 first_number part field parts = number_of_part field (first_value (is_named part) parts)
 
--- the fields of the part stand at the position, or there is neither
+-- the map at the position represents the fields of the part, or both are `None`
 abbrev pub StandsIfFound : List ℕ → Option (MapPairs (Bor (List ℕ)) ℕ ℕ) → Option ℕ → Type 0
 StandsIfFound b None None = Unit {0}
 StandsIfFound b (Some part) (Some p) = PartStands b p part
 StandsIfFound b None (Some p) = ⊥
 StandsIfFound b (Some part) None = ⊥
 
--- the fields of the first part of the name stand at the position, or there is none
+-- the map at the position represents the fields of the first part with the name, or both are `None`
 abbrev pub ArePartsFields : List ℕ → List ℕ → Parts → Option ℕ → Type 0
 ArePartsFields b part parts p = StandsIfFound b (first_value (is_named part) parts) p
 
--- the name at the position is this one
+-- the name at position `q` equals `name`
 abbrev pub is_named_at : List ℕ → List ℕ → ℕ → Bool
 is_named_at name b q = same_bytes name (text_at w32 b q)
 
--- the fields of a part of the message stand at the position, behind its name
+-- `p` is the position of the fields of a part of the message, behind its name
 abbrev pub IsPartsPos : List ℕ → ℕ → Type 0
 IsPartsPos b p = (q : ℕ) × IsKeyPosAt w32 name_shape fields_shape b (root b) q
     × (p ≡ value_pos name_shape fields_shape q)
 
--- in a message that was written, the position is that of the fields of the first part whose name is
--- this one
+-- in a written message, `found` is the position of the fields of the first part with the name
 abbrev pub FindsFirstPart : List ℕ → List ℕ → Option ℕ → Type 0
 FindsFirstPart b part found = FindsFirstKeyAt w32 name_shape fields_shape b (root b) name_hash
     (is_named_at part b) (λ place. found ≡ option_map (value_pos name_shape fields_shape) place)
 
--- where the value stands behind the name that a lookup finds in the map at a position
+-- the position of the value whose name a lookup finds in the map at `p`
 abbrev pub value_found : Shape → List ℕ → List ℕ → ℕ → Option ℕ
 value_found shape name b p = option_map (value_pos name_shape shape)
     (pos_found generic_kind w32 (entry_shape name_shape shape).size b p
     (hash_of (fx_hasher low_halves) text_calls name) (is_named_at name b))
 
--- where the fields stand that a lookup of the part finds in the message, whoever made it
+-- the position of the fields that a lookup of the part finds in any valid message
 abbrev pub fields_found : List ℕ → List ℕ → Option ℕ
 fields_found part message = value_found fields_shape part message (root message)
 
--- where the number stands that a lookup of the field finds in the fields that stand there
+-- the position of the number that a lookup of the field finds in the fields at a position
 abbrev pub number_in_fields : List ℕ → List ℕ → Option ℕ → Option ℕ
 number_in_fields field message None = None
 number_in_fields field message (Some p) = value_found number_shape field message p
 
--- where the number stands that lookups of the part and of the field find in the message
+-- the position of the number that lookups of the part and the field find in the message
 abbrev pub number_found : List ℕ → List ℕ → List ℕ → Option ℕ
 number_found part field message = number_in_fields field message (fields_found part message)
 
--- No number was found, and no byte is changed; or the one at the place is written, and no byte but
--- its own is changed.
+-- `c` is `b` with the number at `place` overwritten, and `found` is `true`.
+-- At `None`, `c` is `b` and `found` is `false`.
 abbrev pub WritesIfFound : Option ℕ → ℕ → List ℕ → List ℕ → Bool → Type 0
 WritesIfFound place number b c found = MatchOption place ((found ≡ false) × (c ≡ b))
     (λ q. (found ≡ true) × (c ≡ with_value (unsigned w32) b q number))
 
--- it is told whether there is such a number in the message, and that one is written alone
+-- `c` is `b` with the number of the field overwritten if lookups find one; `found` is the result
 abbrev pub WritesNumber : List ℕ → List ℕ → ℕ → List ℕ → List ℕ → Bool → Type 0
 WritesNumber part field number b c found =
     WritesIfFound (number_found part field b) number b c found
 
--- the part, with this number in the first field of the name
+-- the part, with `number` in the first field with the name
 abbrev pub with_field : List ℕ → ℕ → MapPairs (Bor (List ℕ)) ℕ ℕ → MapPairs (Bor (List ℕ)) ℕ ℕ
 with_field field number part = record part {
   pairs = record part.pairs { now = with_first (is_named field) number part.pairs.now };
 }
 
--- the parts, with this number in the first part of the name, where there is one
+-- the parts, with `number` in the first part with the name, if there is one
 abbrev pub with_part : List ℕ → List ℕ → ℕ → Parts → Option (MapPairs (Bor (List ℕ)) ℕ ℕ) → Parts
 with_part part field number parts None = parts
 with_part part field number parts (Some fields) =
     with_first (is_named part) (with_field field number fields) parts
 
--- the parts, with this number in the first field of the name in the first part of the name
+-- the parts, with `number` in the first field with the name, in the first part with the name
 abbrev pub with_number : List ℕ → List ℕ → ℕ → Parts → Parts
 with_number part field number parts =
     with_part part field number parts (first_value (is_named part) parts)
 
--- it is told whether there is such a field, and the message stands for the parts with the new
--- number
+-- `found` is `true` if the parts have the field; `message` represents them with the new number
 abbrev pub SetsNumber : List ℕ → List ℕ → ℕ → Parts → List ℕ → Bool → Type 0
 SetsNumber part field number parts message found =
     (found ≡ is_some (first_number part field parts))

@@ -1,5 +1,4 @@
-//! Messages: named parts of named numbers, archived as a map of maps, read in place, and written in
-//! place.
+//! Messages: maps of named parts to maps of named numbers, read and overwritten in place.
 #![tactic(auto)]
 
 pub mod message;

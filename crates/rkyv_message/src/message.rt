@@ -1,4 +1,4 @@
-//! Writing a message, reading a number of it, and writing one in place.
+//! Messages: `archive` writes one, `number_of` reads a number, and `set_number` overwrites one.
 ghost use Rattle.std.specs.Option.{option_map};
 ghost use Rattle.std.specs.Prelude.{IfOk, IfSome, IsOk, MatchResult, ℕ, ◌≡◌};
 ghost use Rattle.rkyv_base.specs.Bytes.{number_at};
@@ -45,11 +45,12 @@ use std::alloc::Global;
 /// The fields of a part: names, each with a number.
 pub type Fields<'a> = MapPairs<'a, &'a str, u32>;
 
-/// The message of the parts, each a name with its fields, in their order.
+/// Writes the message of the parts, each a name with its fields, in insertion order.
 ///
 /// # Errors
-/// Those of `to_bytes` of a map: among them, that a load factor of some fields is none, and that a
-/// growth is refused.
+///
+/// - The errors of `to_bytes` of a map.
+/// - `InvalidLoadFactor`: the load factor of the fields of a part isn't in the range (0, 1].
 pub fn archive(alloc: Global, parts: &[(&str, Fields<'_>)]) -> Result<Vec<u8>, WriteError<NoMemory>>
     ensures whole { MatchResult result
         (λ message. IsMessageOf parts.now message.items)
@@ -61,7 +62,7 @@ pub fn archive(alloc: Global, parts: &[(&str, Fields<'_>)]) -> Result<Vec<u8>, W
     to_bytes(alloc, &list)
 }
 
-/// The number of a field in a map of fields.
+/// Returns the number that a lookup of the field finds in a map of fields.
 fn field_number(fields: ArchivedHashMap<'_, Text, u32>, field: &str) -> Option<u32>
     requires map { IsMap w32 name_shape number_shape fields }
     ensures found { result ≡ option_map (number_at w32 (map_bytes fields.entry))
@@ -77,7 +78,7 @@ fn field_number(fields: ArchivedHashMap<'_, Text, u32>, field: &str) -> Option<u
     }
 }
 
-/// Where the fields of a part stand.
+/// Validates a message, and returns the position of the fields that a lookup of the part finds.
 fn pos_of_part(message: &[u8], part: &str) -> Result<Option<u64>, VerifyError>
     ensures checked { MatchResult result (λ _. IsMessage message.now) (IsRefused message.now) }
     ensures accepts { IsMessage message.now → IsOk result }
@@ -100,11 +101,15 @@ fn pos_of_part(message: &[u8], part: &str) -> Result<Option<u64>, VerifyError>
     }
 }
 
-/// The number of a field of a part, or none: where a name stands more than once in the list, of the
-/// first.
+/// Validates a message, and returns the number of a field of a part.
+///
+/// The part and the field are those that lookups find.
+/// In the message of a list, they are the first part and the first field with these names.
+/// It is `None` if a lookup finds none.
 ///
 /// # Errors
-/// The first point at which the bytes are no message.
+///
+/// The same as for `access`.
 pub fn number_of(message: &[u8], part: &str, field: &str) -> Result<Option<u32>, VerifyError>
     ensures checked { MatchResult result (λ _. IsMessage message.now) (IsRefused message.now) }
     ensures accepts { IsMessage message.now → IsOk result }
@@ -120,11 +125,15 @@ pub fn number_of(message: &[u8], part: &str, field: &str) -> Result<Option<u32>,
     }
 }
 
-/// Writes the number of a field of a part in place, and tells whether it is there: where a name
-/// stands more than once in the list, of the first. Where it isn't, no byte is changed.
+/// Validates a message, and overwrites the number of a field of a part in place.
+///
+/// The part and the field are those that `number_of` finds.
+/// Returns `false`, and changes no byte, if a lookup finds none.
+/// Otherwise it returns `true`, and changes only the bytes of the number. The message stays valid.
 ///
 /// # Errors
-/// The first point at which the bytes are no message; no byte is changed.
+///
+/// The same as for `access`; no byte is changed then.
 pub fn set_number(
     message: &mut [u8],
     part: &str,

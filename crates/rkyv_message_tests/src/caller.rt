@@ -1,11 +1,11 @@
-//! The caller that the library's page shows.
+//! The caller in the library's README.
 
 use rkyv_collections::MapPairs;
 use rkyv_message::message::{archive, number_of, set_number};
 use std::alloc::Global;
 use std::test::Fail;
 
-// The count of a part, once it was written over in the message.
+// Returns the count of a part after its overwrite in the message.
 fn counted(alloc: Global, count: u32) -> Result<Option<u32>, Fail> {
     let fields = [("width", 80), ("count", 0)];
     let parts = [("head", MapPairs::new(&fields))];

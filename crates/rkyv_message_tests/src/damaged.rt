@@ -1,4 +1,4 @@
-//! Messages that are cut short, or of which a byte is changed.
+//! Messages without their last bytes, and messages with a changed byte.
 
 use rkyv_base::errors::VerifyError;
 use rkyv_collections::MapPairs;
@@ -7,14 +7,14 @@ use rkyv_testing::changes::answered_flips;
 use std::alloc::Global;
 use std::test::Fail;
 
-// The message of a part of two fields.
+// Returns the message of a part with two fields.
 fn message(alloc: Global) -> Result<Vec<u8>, Fail> {
     let fields = [("a field of some length", 7), ("b", 8)];
     let parts = [("head", MapPairs::new(&fields))];
     Ok(archive(alloc, &parts)?)
 }
 
-// Whether no number is told of a field or of a part that isn't there, and none is written.
+// Returns whether no number of a missing field or part is returned or overwritten.
 fn is_answered(bytes: &mut [u8]) -> bool {
     let field = number_of(bytes, "head", "none_such");
     let part = number_of(bytes, "none_such", "b");
@@ -22,8 +22,8 @@ fn is_answered(bytes: &mut [u8]) -> bool {
     !matches!(field, Ok(Some(_))) && !matches!(part, Ok(Some(_))) && !matches!(write, Ok(true))
 }
 
-// How many of the fronts are answered, and how many of those that are shorter than a header are
-// refused for that.
+// Returns the number of prefixes that pass `is_answered`.
+// It also returns the number of those shorter than a header that fail with `OutOfRange`.
 fn fronts(bytes: &mut [u8]) -> (usize, usize) {
     let mut answered = 0usize;
     let mut short = 0usize;

@@ -1,11 +1,12 @@
-//! A message that is read, and of which a number is written in place.
+//! A message whose numbers are read, and one of them overwritten in place.
 
 use rkyv_collections::MapPairs;
 use rkyv_message::message::{archive, number_of, set_number};
 use std::alloc::Global;
 use std::test::Fail;
 
-// The message of two parts; the second has a name twice. Both lend their fields from one list.
+// Returns the message of two parts, which borrow their fields from one list.
+// The second part has a name twice.
 fn message(alloc: Global) -> Result<Vec<u8>, Fail> {
     let fields = [("a field of some length", 7), ("b", 8), ("b", 9), ("b", 10)];
     let (head, tail) = fields.as_slice().split_at(2);
@@ -13,7 +14,7 @@ fn message(alloc: Global) -> Result<Vec<u8>, Fail> {
     Ok(archive(alloc, &parts)?)
 }
 
-// The numbers of five fields of some parts.
+// Returns the numbers of five fields of some parts.
 fn numbers(bytes: &[u8]) -> Result<[Option<u32>; 5], Fail> {
     Ok([
         number_of(bytes, "head", "a field of some length")?,
@@ -32,7 +33,7 @@ fn numbers_are_read(rt: HostRuntime) -> Result<(), Fail> {
     Ok(())
 }
 
-// What three writes tell, and the numbers after them.
+// Returns the results of three overwrites, and the numbers after them.
 fn written(alloc: Global) -> Result<([bool; 3], [Option<u32>; 5]), Fail> {
     let mut bytes = message(alloc)?;
     let told = [

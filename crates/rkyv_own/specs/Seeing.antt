@@ -1,4 +1,4 @@
--- Values of one type that are seen as those of another: as pairs, and as queries.
+-- Values that are archived and looked up as other values: as pairs, and as queries.
 use Rattle.std.specs.Prelude.{ℕ, Bool, List}
 use Rattle.rkyv_scan.specs.Hash.{HasherCall}
 use Rattle.rkyv_base.specs.Entry.{entry_shape}
@@ -14,7 +14,7 @@ use Rattle.rkyv_base.specs.Shape.{IsElement, Shape}
 use Rattle.rkyv_keys.specs.Equality.{Comparison}
 use Rattle.rkyv_keys.specs.Keys.{IsQuery}
 
--- what is written as a pair stands where the pair does
+-- the format laws of values that are written as the pair `seen x`
 pub pair_seen : {X A B R Q : Type 0} (seen : X → A × B) {k v : Shape} (kl : IsElement k)
     (vl : IsElement v) {key : List ℕ → ℕ → A → Type 0} {value : List ℕ → ℕ → B → Type 0}
     {kf : Format A R} {vf : Format B Q} → IsFormat k key kf → IsFormat v value vf
@@ -24,7 +24,7 @@ pair_seen seen {k} {v} kl vl {key} {value} {kf} {vf} kw vw =
     written_as-format seen (entry_shape k v) (PairStands k v key value) (pair_format k v kf vf)
     (pair_is_format k v kl vl key value kf vf kw vw)
 
--- what asks as another value does is a query where that one is
+-- the query laws of values that are looked up as `seen x`
 pub query_seen : {X Q : Type 0} (seen : X → Q) {s : Shape} {same : Comparison} {key_calls : List ℕ
     → ℕ → List HasherCall}
     {can_read : Q → Type 0} {calls : Q → List HasherCall} {fits : Q → List ℕ → ℕ → Bool}

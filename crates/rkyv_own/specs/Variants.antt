@@ -3,6 +3,6 @@ use Rattle.rkyv_keys.specs.Equality.{TellsApart}
 use denote.Enum.Bare.{Bare, same_true, sameb, true_same}
 use denote.Enum.Declared.{Declared}
 
--- what a key of one call wants of the derived `==` of an enum without fields, at its `the_type`
+-- the derived `==` of an enum without fields distinguishes its values; `D`: its declaration
 pub variants_tell : (D : Declared) → Bare D.parts → TellsApart (sameb D)
 variants_tell D bare v w = (same_true D bare v w, true_same D v w)

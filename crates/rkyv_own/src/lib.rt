@@ -1,4 +1,8 @@
-//! Types of a user's own that are archived by their parts.
+//! Types of a user's own that are archived as the pair of their parts.
+//!
+//! - `AsPair` and `Seen` are for types that return their parts by reference.
+//! - `AsTuple` and `Tupled` are for types that return copies of their parts.
+//! - `FromPair` and `FromTuple` are for deserialization.
 #![tactic(auto)]
 
 pub mod pair;

@@ -1,4 +1,4 @@
-//! Types that are archived as the pair of their parts, which they lend.
+//! Types that are archived as the pair of their parts, which they return by reference.
 
 ghost use Rattle.std.specs.Prelude.{◌≡◌};
 ghost use Rattle.rkyv_base.specs.Pairs.{PairStands, pair_format, pair_near, written_as};
@@ -13,7 +13,7 @@ use rkyv_base::width::Width;
 use rkyv_base::writer::Writer;
 use std::alloc::Global;
 
-/// A type that is seen as a pair of parts, which it lends.
+/// A type that returns its two parts by reference.
 pub trait AsPair {
     /// The type of the first part.
     type First;
@@ -21,21 +21,21 @@ pub trait AsPair {
     /// The type of the second part.
     type Second;
 
-    // Its parts.
+    // The two parts of a value.
     ghost pair: { Self → Self.First × Self.Second };
 
-    /// The first part.
+    /// Returns the first part.
     fn first(&self) -> &Self::First
         ensures { result.now ≡ (pair self.now).0 };
 
-    /// The second part.
+    /// Returns the second part.
     fn second(&self) -> &Self::Second
         ensures { result.now ≡ (pair self.now).1 };
 }
 
-/// A type that is made again of its parts, to be read back.
+/// A type that is rebuilt from its two parts by deserialization.
 pub trait FromPair: AsPair {
-    /// The value of these parts.
+    /// Returns a value with these parts.
     fn from_pair(first: Self::First, second: Self::Second) -> Self
         ensures { Self.pair result ≡ (first, second) };
 }

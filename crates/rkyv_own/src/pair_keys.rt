@@ -1,4 +1,4 @@
-//! Types that are seen as pairs, as keys.
+//! `Seen` as a key: equality, hashing, lookup and deserialization.
 
 ghost use Rattle.std.specs.Prelude.{◌&&◌, ◌↔◌, ◌≡◌, IsTrue, MatchResult};
 ghost use Rattle.std.specs.Cmp.{and_equiv, and_per, on_equiv, on_per};

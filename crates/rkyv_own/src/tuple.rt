@@ -12,7 +12,7 @@ use rkyv_base::width::Width;
 use rkyv_base::writer::Writer;
 use std::alloc::Global;
 
-/// A type that is seen as a tuple of copies of its parts: of three as `(A, (B, C))`.
+/// A type that returns copies of its parts as a tuple, which is `(A, (B, C))` for three parts.
 pub trait AsTuple {
     /// The type of the first part.
     type First;
@@ -20,17 +20,17 @@ pub trait AsTuple {
     /// The type of the second part, or of the pair of the parts behind the first.
     type Second;
 
-    // Its parts.
+    // The tuple of a value's parts.
     ghost tuple: { Self → Self.First × Self.Second };
 
-    /// The parts.
+    /// Returns the parts.
     fn tuple(&self) -> (Self::First, Self::Second)
         ensures { result ≡ tuple self.now };
 }
 
-/// A type that is made again of its tuple, to be read back.
+/// A type that is rebuilt from its tuple by deserialization.
 pub trait FromTuple: AsTuple {
-    /// The value of these parts.
+    /// Returns a value with these parts.
     fn from_tuple(first: Self::First, second: Self::Second) -> Self
         ensures { Self.tuple result ≡ (first, second) };
 }

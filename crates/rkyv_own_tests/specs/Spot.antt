@@ -1,4 +1,4 @@
--- How spots stand in an archive: as the entry of their two coordinates.
+-- The archived form of spots: the entry of their two coordinates.
 use Rattle.std.specs.Prelude.{ℕ, ℤ, List}
 use Rattle.std.proofs.Common.{inl, inr, refl}
 use Rattle.std.specs.Int.{w32}
@@ -13,9 +13,11 @@ use Rattle.rkyv_base.specs.Shape.{IsElement, Shape}
 use Rattle.rkyv_base.specs.declared.pairs.EntryResolver.{EntryResolver}
 use Rattle.rkyv_own_tests.specs.declared.spot.Spot.{Spot}
 
+-- the shape of a coordinate
 abbrev pub int_shape : Shape
 int_shape = scalar_shape (signed w32)
 
+-- the shape of a spot
 abbrev pub spot_shape : Shape
 spot_shape = entry_shape int_shape int_shape
 
@@ -28,10 +30,11 @@ int_element = scalar_element (signed w32) int_word
 pub spot_element : IsElement spot_shape
 spot_element = entry_element int_shape int_shape int_element int_element
 
+-- the coordinates of a spot, as a pair
 abbrev pub as_pair : Spot → ℤ × ℤ
 as_pair spot = (spot.x, spot.y)
 
--- the spot stands at p
+-- the bytes at `p` represent the spot
 abbrev pub SpotStands : List ℕ → ℕ → Spot → Type 0
 SpotStands b p spot = PairStands int_shape int_shape (ScalarStands (signed w32)) (ScalarStands
     (signed w32)) b p (as_pair spot)
@@ -41,6 +44,7 @@ spot_near spot = pair_near int_shape int_shape int_element int_element (ScalarSt
     (ScalarStands (signed w32))
     (scalar_near (signed w32) int_word) (scalar_near (signed w32) int_word) (as_pair spot)
 
+-- the format of a spot: that of the pair of its coordinates
 abbrev pub spot_format : Format Spot (EntryResolver Unit Unit)
 spot_format = written_as as_pair (pair_format int_shape int_shape (scalar_format (signed w32))
     (scalar_format (signed w32)))

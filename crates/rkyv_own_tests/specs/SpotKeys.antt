@@ -17,6 +17,7 @@ use Rattle.rkyv_own_tests.specs.declared.spot.Spot.{Spot}
 use Rattle.rkyv_own_tests.specs.Spot.{SpotStands, as_pair, int_element, int_shape, int_word}
 use Rattle.rkyv_own_tests.specs.Spot.{spot_shape}
 
+-- the equality of spots at two positions
 abbrev pub spot_same : Comparison
 spot_same = entry_same int_shape int_shape (scalar_same (signed w32) int_eq) (scalar_same (signed
     w32) int_eq)
@@ -25,11 +26,12 @@ pub spot_equivalence : IsEquivalence spot_shape spot_same
 spot_equivalence = entry_equivalence int_element int_element (scalar_equivalence (signed w32)
     int_eq signed_Decides) (scalar_equivalence (signed w32) int_eq signed_Decides)
 
--- the calls of the spot at a place, and of a spot
+-- the hasher calls of the spot at a position
 abbrev pub spot_key_calls : List ℕ → ℕ → List HasherCall
 spot_key_calls = entry_calls int_shape int_shape (scalar_calls (signed w32) I32) (scalar_calls
     (signed w32) I32)
 
+-- the hasher calls of a spot
 abbrev pub spot_calls : Spot → List HasherCall
 spot_calls spot = pair_calls (one_call I32) (one_call I32) (as_pair spot)
 
@@ -37,6 +39,7 @@ pub spot_key : IsKey spot_shape spot_same spot_key_calls
 spot_key = entry_key int_element int_element (scalar_key (signed w32) int_eq signed_Decides I32
     int_word) (scalar_key (signed w32) int_eq signed_Decides I32 int_word)
 
+-- the spot equals the one at a position
 abbrev pub spot_fits : Spot → List ℕ → ℕ → Bool
 spot_fits spot = entry_fits int_shape int_shape (scalar_fits (signed w32) int_eq) (scalar_fits
     (signed w32) int_eq) (as_pair spot)
@@ -50,6 +53,7 @@ spot_query =
       class = λ spot b c p r can h g f. q.class (as_pair spot) b c p r (tt, tt) h g f;
     }
 
+-- the equality of two spots
 abbrev pub spot_eq : Spot → Spot → Bool
 spot_eq a b = int_eq a.x b.x && int_eq a.y b.y
 

@@ -12,7 +12,7 @@ use rkyv_base::scalars::Scalar;
 use rkyv_keys::scalars::ScalarKey;
 use rkyv_scan::hash::KeyHasher;
 
-/// The number of a color.
+/// Returns the number of a color.
 fn number(color: Color) -> u8
     ensures { result ≡ code color }
 {

@@ -2,7 +2,7 @@
 
 use rkyv_own::tuple::{AsTuple, FromTuple};
 
-/// A pixel and how bright it is.
+/// A pixel: its brightness and its coordinates.
 #[derive(Clone, Copy, Debug, PartialEq, Eq)]
 pub struct Pixel {
     pub level: u8,

@@ -1,4 +1,4 @@
-//! How spots are archived.
+//! The archived form of spots.
 ghost use Rattle.std.specs.Prelude.{◌≡◌};
 ghost use Rattle.rkyv_base.specs.View.{IsView, StandsAt};
 ghost use Rattle.rkyv_own_tests.specs.Spot.{
@@ -75,14 +75,22 @@ impl<S: Writer, W: Width> Serialize<S, W> for Spot {
     }
 }
 
-/// Its coordinates.
+/// Returns the first coordinate of a spot.
+///
+/// # Requires
+///
+/// - A valid spot is at the position of the view.
 pub fn x(spot: View<'_, ArchivedSpot>) -> i32
     requires { IsView spot_shape spot }
 {
     spot.at::<Entry<i32, i32>>(spot.pos()).key().to_native()
 }
 
-/// The spot itself.
+/// Returns the spot.
+///
+/// # Requires
+///
+/// - A valid spot is at the position of the view.
 pub fn spot_of(spot: View<'_, ArchivedSpot>) -> Spot
     requires { IsView spot_shape spot }
     ensures { StandsAt SpotStands spot.entry result }

@@ -2,7 +2,7 @@
 
 use rkyv_own::pair::AsPair;
 
-/// A name and where it stands.
+/// A name and its address.
 #[derive(Debug, Drop)]
 pub struct Symbol {
     pub name: String,

@@ -1,4 +1,4 @@
-//! Types of one's own as values and as keys.
+//! Types of a user's own as values and as keys.
 
 mod as_keys;
 

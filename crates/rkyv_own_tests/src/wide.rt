@@ -11,12 +11,12 @@ use rkyv_base::writer::NoMemory;
 use rkyv_own::pair::Seen;
 use std::alloc::Global;
 
-/// The wide archive of a symbol.
+/// Returns the wide archive of a symbol.
 pub fn archive_wide(alloc: Global, symbol: &Seen<Symbol>) -> Result<Vec<u8>, WriteError<NoMemory>> {
     to_bytes_in::<Wide, Seen<Symbol>>(alloc, symbol)
 }
 
-/// The name in a wide archive, which is lent and not copied.
+/// Returns the name in a wide archive, borrowed from its bytes.
 pub fn wide_name(bytes: &[u8]) -> Result<&str, VerifyError> {
     let root = access_in::<Wide, Entry<Text<Wide>, u64>>(bytes)?;
     Ok(root.key().as_str())

@@ -1,4 +1,4 @@
--- Sixteen hexadecimal digits tell an address.
+-- Sixteen hexadecimal digits represent an address.
 use Rattle.std.proofs.Common.{◌≡◌, ℕ, ◌^◌, ◌<◌, true, List, [], ◌∷◌, length, take, get_or, arith, refl, subst}
 use Rattle.std.specs.Char.{digit_value, is_ascii_hexdigit}
 use Rattle.std.specs.List.{list_all}

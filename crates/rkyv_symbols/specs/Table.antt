@@ -1,4 +1,4 @@
--- Tables of symbols: what is one, which list one stands for, and the address of a name.
+-- Tables of symbols: validity, the list that a table represents, and the address of a name.
 use Rattle.std.specs.Prelude.{ℕ, ◌+◌, ◌-◌, List, length, Option}
 use Rattle.std.specs.Borrow.{Bor}
 use Rattle.std.specs.Int.{w32, w64}
@@ -31,59 +31,59 @@ use Rattle.rkyv_collections.specs.MapFormat.{MapStands, hash_of, map_format}
 abbrev pub Symbols : Type 0
 Symbols = List (Bor (List ℕ) × ℕ)
 
--- the fixed bytes of an address
+-- the shape of an address
 abbrev pub address_shape : Shape
 address_shape = scalar_shape (unsigned w64)
 
--- of a name
+-- the shape of a name
 abbrev pub name_shape : Shape
 name_shape = text_shape w32
 
--- of the header of a table
+-- the shape of a table's header
 abbrev pub header_shape : Shape
 header_shape = map_shape w32 name_shape address_shape
 
--- the bytes are a table
+-- `table` is a valid table
 unfoldable pub IsTable : List ℕ → Type 0
 IsTable table = Accepted 4_294_967_295 header_shape table
 
--- a map of the symbols stands at the position, under a load factor
+-- the map at a position represents the symbols, under the load factor
 abbrev pub SymbolsStand : ℕ × ℕ → List ℕ → ℕ → Symbols → Type 0
 SymbolsStand factor = MapStands w32 name_shape address_shape (IsTextOf w32 (λ name. name.now))
     (ScalarStands (unsigned w64)) (hash_at (fx_hasher low_halves) (text_key_calls w32)) factor
 
--- where the header of a table stands
+-- the position of the header of `table`
 abbrev pub root : List ℕ → ℕ
 root table = length table - header_shape.size
 
--- the table stands for the symbols
+-- `table` represents the symbols
 unfoldable pub StandsFor : List ℕ → Symbols → Type 0
 StandsFor table symbols = SymbolsStand (7, 8) table (root table) symbols
 
--- how the symbols are written
+-- the format of a list of symbols, under the load factor
 abbrev pub symbols_format : ℕ × ℕ → Format Symbols TableResolver
 symbols_format factor = listed 4_294_967_295 factor (map_format w32 name_shape address_shape
     (written_as (λ name. name.now) (text_format w32)) (scalar_format (unsigned w64))
     (hash_of (fx_hasher low_halves) (λ name. text_calls name.now)) factor)
 
--- the bytes are the table of the symbols, and nothing else
+-- `table` is the table of the symbols: valid, it represents them, and it has no other bytes
 unfoldable pub IsTableOf : Symbols → List ℕ → Type 0
 IsTableOf symbols table =
     ArchiveOf 4_294_967_295 header_shape (SymbolsStand (7, 8)) (symbols_format (7, 8)) symbols table
 
--- the first point at which bytes are no table
+-- `e` is the first error of the validation of `table`
 unfoldable pub IsRefused : List ℕ → VerifyError → Type 0
 IsRefused table e = AccessFails 4_294_967_295 header_shape table e
 
--- why there is no table of the symbols
+-- the write of the symbols fails with `e`
 unfoldable pub NoTableOf : {F : Type 0} → Symbols → WriteError F → Type 0
 NoTableOf symbols e = ArchiveRefused 4_294_967_295 header_shape (symbols_format (7, 8)) symbols e
 
--- the address of the first symbol of the name
+-- the address of the first symbol with the name
 abbrev pub first_address : List ℕ → Symbols → Option ℕ
 first_address name symbols = first_value (λ held. same_bytes name held.now) symbols
 
--- the address that a lookup finds in the bytes, whoever made them
+-- the address that a lookup of `name` finds in any valid table
 unfoldable pub address_found : List ℕ → List ℕ → Option ℕ
 address_found name table =
     option_map (λ q. number_at w64 table (q + value_offset name_shape address_shape))

@@ -1,5 +1,7 @@
-//! Symbol tables: the lines that `nm` prints, archived as a map of names to addresses, and looked
-//! up in place.
+//! Symbol tables: maps of names to addresses, archived and looked up in place.
+//!
+//! - `lines` parses the lines that `nm` prints.
+//! - `table` writes, validates and looks up the archives.
 #![tactic(auto)]
 
 pub mod lines;

@@ -1,4 +1,4 @@
-//! Lines that tell symbols.
+//! The symbols of lines that `nm` prints.
 ghost use Rattle.std.specs.List.{list_all};
 ghost use Rattle.std.specs.Option.{option_map, option_to_list};
 ghost use Rattle.std.specs.Char.{is_ascii_hexdigit};
@@ -7,21 +7,21 @@ ghost use Rattle.rkyv_symbols.specs.Lines.{seen, symbol_of, symbols_of, tells_sy
 
 use std::alloc::{AllocError, Global};
 
-/// Whether all are hexadecimal digits.
+/// Returns whether all bytes are hexadecimal digits.
 fn are_digits(bytes: &[u8]) -> bool
     ensures { result ≡ list_all is_ascii_hexdigit bytes.now }
 {
     bytes.iter().all(|byte| byte.is_ascii_hexdigit())
 }
 
-/// Whether the line tells a symbol with its address.
+/// Returns whether the line has a symbol with its address.
 fn tells_symbol(line: &[u8]) -> bool
     ensures { result ≡ tells_symbol line.now }
 {
     line.len() > 19 && line[16] == b' ' && line[18] == b' ' && are_digits(&line[..16])
 }
 
-/// The symbol that a line tells with its address.
+/// Returns the symbol of a line, with its address, or `None` if it has none.
 fn symbol(line: &str) -> Option<(&str, u64)>
     ensures { option_map seen result ≡ symbol_of line.now }
 {
@@ -34,7 +34,7 @@ fn symbol(line: &str) -> Option<(&str, u64)>
     }
 }
 
-/// Appends the symbol that a line tells, where it tells one.
+/// Appends the symbol of a line, if it has one.
 fn push_symbol<'a>(line: &'a str, symbols: &mut Vec<(&'a str, u64)>) -> Result<(), AllocError>
     ensures { OnOk result (map seen symbols.new.items
         ≡ map seen symbols.old.items ++ option_to_list (symbol_of line.now)) }
@@ -45,14 +45,19 @@ fn push_symbol<'a>(line: &'a str, symbols: &mut Vec<(&'a str, u64)>) -> Result<(
     Ok(())
 }
 
-/// The symbols of a text, in the order of its lines, each a name with its address.
+/// Returns the symbols of a text, in the order of its lines, each a name with its address.
 ///
-/// A line tells a symbol as `nm` prints one that has an address: sixteen hexadecimal digits, a
-/// space, a byte, as the letter of its type, a space, and the name, which has a byte or more. All
-/// other lines are skipped, as those of undefined symbols.
+/// A line with a symbol consists of:
+///
+/// - sixteen hexadecimal digits, which are the address,
+/// - a space, one byte for the type of the symbol, and a space,
+/// - the name, of at least one byte.
+///
+/// All other lines are skipped, as those of undefined symbols.
 ///
 /// # Errors
-/// Where a growth is refused.
+///
+/// - `AllocError`: the vector fails to allocate.
 pub fn parse(alloc: Global, text: &str) -> Result<Vec<(&str, u64)>, AllocError>
     ensures { IfOk result (λ symbols. map seen symbols.items ≡ symbols_of text.now) }
 {

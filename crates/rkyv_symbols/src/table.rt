@@ -1,4 +1,9 @@
 //! Tables of symbols: archives of maps of names to addresses.
+//!
+//! - `archive` writes a table.
+//! - `check` validates one.
+//! - `address_in` looks up a name in a valid table.
+//! - `address_of` validates a table, then looks up a name.
 ghost use Rattle.std.specs.Prelude.{IfOk, IsOk, MatchResult, ◌≡◌};
 ghost use Rattle.rkyv_symbols.specs.Table.{
   IsRefused,
@@ -22,10 +27,11 @@ use rkyv_collections::map::{ArchivedHashMap, HashMapOf};
 use rkyv_collections::{FxHasher64, MapPairs};
 use std::alloc::Global;
 
-/// The table of the symbols, in their order.
+/// Writes the table of the symbols, in insertion order.
 ///
 /// # Errors
-/// Those of `to_bytes` of a map, as where a growth is refused.
+///
+/// The same as for `to_bytes` of a map.
 pub fn archive(alloc: Global, symbols: &[(&str, u64)]) -> Result<Vec<u8>, WriteError<NoMemory>>
     ensures whole { MatchResult result
         (λ table. IsTableOf symbols.now table.items)
@@ -37,10 +43,11 @@ pub fn archive(alloc: Global, symbols: &[(&str, u64)]) -> Result<Vec<u8>, WriteE
     to_bytes(alloc, &list)
 }
 
-/// Whether the bytes are a table.
+/// Validates a table.
 ///
 /// # Errors
-/// The first point at which they are none.
+///
+/// The same as for `access`.
 pub fn check(table: &[u8]) -> Result<(), VerifyError>
     ensures checked { MatchResult result (λ _. IsTable table.now) (IsRefused table.now) }
     ensures accepts { IsTable table.now → IsOk result }
@@ -51,8 +58,14 @@ pub fn check(table: &[u8]) -> Result<(), VerifyError>
     }
 }
 
-/// The address of a name in a table, or none: in one that stands for a list of symbols, that of the
-/// first of this name. The bytes aren't checked again.
+/// Returns the address that a lookup of the name finds in a valid table, which isn't validated.
+///
+/// In the table of a list, it is the address of the first symbol with the name.
+/// It is `None` if the list has no such symbol.
+///
+/// # Requires
+///
+/// - The bytes are a valid table: `check` returns `Ok` for them.
 pub fn address_in(table: &[u8], name: &str) -> Option<u64>
     requires { IsTable table.now }
     ensures found { result ≡ address_found name.now table.now }
@@ -67,10 +80,11 @@ pub fn address_in(table: &[u8], name: &str) -> Option<u64>
     }
 }
 
-/// As `address_in`, of bytes that are checked first.
+/// Validates a table, and returns the address that `address_in` returns.
 ///
 /// # Errors
-/// The first point at which the bytes are no table.
+///
+/// The same as for `access`.
 pub fn address_of(table: &[u8], name: &str) -> Result<Option<u64>, VerifyError>
     ensures checked { MatchResult result
         (λ found. IsTable table.now × (found ≡ address_found name.now table.now))

@@ -1,4 +1,4 @@
--- Indexes of symbols: the symbols by ascending address, and the archive of them.
+-- Indexes of symbols: the symbols by ascending address, and their archive.
 use Rattle.rkyv_base.specs.declared.width.Word.{Ghosts as Words}
 use Rattle.std.specs.Prelude.{◌≡◌, ◌⊎◌, ◌-◌, ℕ, List, MatchResult, Result, length, map}
 use Rattle.std.specs.Borrow.{Bor}
@@ -27,17 +27,17 @@ use Rattle.rkyv_symbols.specs.Table.{Symbols, address_shape, name_shape}
 abbrev pub Row : Type 0
 Row = List (ℕ × Bor (List ℕ))
 
--- the symbols, in their order, each with its address first
+-- the symbols, in order, each with its address first
 abbrev pub turned : Symbols → Row
 turned symbols = map (λ symbol. (symbol.1, symbol.0)) symbols
 
--- the row has these entries by ascending address, and those of one address in their order
+-- `row` has the entries by ascending address, those of one address in their order
 pub record IsAscending (entries row : Row) : Type 0 where
   pub permutation : IsPermutation entries row
   pub sorted : IsNonDecreasingBy (λ entry. entry.0) row
   pub stable : IsStableByKey (λ entry. entry.0) nat_cmp entries row
 
--- the bytes are the archive of the symbols by ascending address, and nothing else
+-- `index` is the archive of the symbols by ascending address
 abbrev pub IsIndexOf : {R : Type 0} → Shape
     → (List ℕ → ℕ → OrderedPairs ℕ (Bor (List ℕ)) → Type 0)
     → Format (OrderedPairs ℕ (Bor (List ℕ))) R → Symbols → List ℕ → Type 0
@@ -45,15 +45,14 @@ IsIndexOf shape stands format symbols index =
     (pairs : OrderedPairs ℕ (Bor (List ℕ))) × IsAscending (turned symbols) pairs.0.items
     × ArchiveOf 4_294_967_295 shape stands format pairs index
 
--- no index was made of the symbols: memory for their row was refused, or writing its index gave up
+-- no index is written: the sorted list fails to allocate, or the write fails with `e`
 abbrev pub NoIndexOf : {F R : Type 0} → Shape → Format (OrderedPairs ℕ (Bor (List ℕ))) R → Symbols
     → WriteError F → Type 0
 NoIndexOf shape format symbols e = (e ≡ Memory)
     ⊎ ((pairs : OrderedPairs ℕ (Bor (List ℕ))) × IsAscending (turned symbols) pairs.0.items
     × ArchiveRefused 4_294_967_295 shape format pairs e)
 
--- the bytes are the archive of the symbols by ascending address, and nothing else; or none was
--- made, and the cause that is told stands
+-- `result` is the archive of the symbols by ascending address, or the error of its write
 abbrev pub IndexResult : {F R Z : Type 0} → Shape
     → (List ℕ → ℕ → OrderedPairs ℕ (Bor (List ℕ)) → Type 0)
     → Format (OrderedPairs ℕ (Bor (List ℕ))) R → Symbols → Result (Vec ℕ Z) (WriteError F)
@@ -62,8 +61,7 @@ IndexResult shape stands format symbols result =
     MatchResult result (λ index. IsIndexOf shape stands format symbols index.items)
     (NoIndexOf shape format symbols)
 
--- Any bytes are opened exactly where they are the archive of an index, and the index map that is
--- read is the one at their root; else the first point at which they are none is told.
+-- `result` is the index map at the root of `index`, which is valid, or the first validation error
 abbrev pub OpensIndex : {K V H W : Type 0} {wt : Words W} → Shape → Bor (List ℕ)
     → Result (ArchivedIndexMap K V H W wt) VerifyError → Type 0
 OpensIndex s index result = MatchResult result
@@ -71,7 +69,7 @@ OpensIndex s index result = MatchResult result
     × IsAt map.view index (length index.now - s.size))
     (AccessFails 4_294_967_295 s index.now)
 
--- the address and the name are those of a place of an index
+-- `entry` is the address and the name at index `place` of an index map
 abbrev pub IsEntryOf : {K V H W : Type 0} {wt : Words W} → ArchivedIndexMap K V H W wt → ℕ → ℕ × Bor (List ℕ)
     → Type 0
 IsEntryOf {K} {V} index place entry = (pair : View K × View V)

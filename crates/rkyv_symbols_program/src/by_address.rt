@@ -1,4 +1,4 @@
-//! Indexes of symbols: archives of index maps of addresses to names, in ascending order of address.
+//! Indexes of symbols: archived index maps of addresses to names, in ascending order of address.
 ghost use Rattle.std.specs.Int.{w32, w64};
 ghost use Rattle.std.specs.Prelude.{IfOk, IsOk, MatchOption, ◌≡◌, ◌≤◌};
 ghost use Rattle.rkyv_base.specs.Access.{Accepted};
@@ -20,13 +20,13 @@ use rkyv_base::writer::NoMemory;
 use rkyv_index::{ArchivedIndexMap, IndexMapOf, OrderedPairs};
 use std::alloc::{AllocError, Global};
 
-/// The lists that indexes are archived of.
+/// The lists that indexes are archived from.
 type Row<'a> = OrderedPairs<u64, &'a str>;
 
 /// The root of an index.
 type Index = IndexMapOf<u64, Text>;
 
-/// The addresses with their names, in the order of the list.
+/// Returns the addresses with their names, in the order of the list.
 fn turned<'a>(alloc: Global, symbols: &[(&'a str, u64)]) -> Result<Vec<(u64, &'a str)>, AllocError>
     ensures { IfOk result (λ row. row.items ≡ turned symbols.now) }
 {
@@ -36,8 +36,9 @@ fn turned<'a>(alloc: Global, symbols: &[(&'a str, u64)]) -> Result<Vec<(u64, &'a
         .collect(alloc)
 }
 
-/// The addresses with their names, by ascending address; names of one address in the order of the
-/// list.
+/// Returns the addresses with their names, by ascending address.
+///
+/// Names of one address are in the order of the list.
 fn ascending<'a>(
     alloc: Global,
     symbols: &[(&'a str, u64)],
@@ -49,10 +50,14 @@ fn ascending<'a>(
     Ok(row)
 }
 
-/// The index of the symbols, by ascending address; names of one address in the order of the list.
+/// Writes the index of the symbols, by ascending address.
+///
+/// Names of one address are in the order of the list.
 ///
 /// # Errors
-/// Those of `to_bytes` of an index map, as where a growth is refused.
+///
+/// - `Memory`: the sorted list fails to allocate.
+/// - The errors of `to_bytes` for an index map.
 pub fn archive(alloc: Global, symbols: &[(&str, u64)]) -> Result<Vec<u8>, WriteError<NoMemory>>
     ensures { IndexResult ⟦<Index as Element>⟧.shape ⟦<Index as StandsFor<Row<'static>>>⟧.stands
         ⟦<Row<'static> as Archive<Narrow>>⟧.format symbols.now result }
@@ -67,10 +72,11 @@ pub fn archive(alloc: Global, symbols: &[(&str, u64)]) -> Result<Vec<u8>, WriteE
     }
 }
 
-/// The index map in an index.
+/// Validates an index, and returns a view of its index map.
 ///
 /// # Errors
-/// The first point at which the bytes are no index.
+///
+/// The same as for `access`.
 pub fn open(index: &[u8]) -> Result<ArchivedIndexMap<'_, u64, Text>, VerifyError>
     ensures root { OpensIndex ⟦<Index as Element>⟧.shape index.entry result }
     ensures map { IfOk result (IsIndexMap w32 (scalar_shape (unsigned w64)) (text_shape w32)) }
@@ -82,7 +88,11 @@ pub fn open(index: &[u8]) -> Result<ArchivedIndexMap<'_, u64, Text>, VerifyError
     }
 }
 
-/// The address and the name at a place of an index map, or none from its length on.
+/// Returns the address and the name at index `place` of the map, or `None` from its length on.
+///
+/// # Requires
+///
+/// - The map is one in a valid index, as `open` returns it.
 pub fn entry<'a>(map: ArchivedIndexMap<'a, u64, Text>, place: usize) -> Option<(u64, &'a str)>
     requires { IsIndexMap w32 (scalar_shape (unsigned w64)) (text_shape w32) map }
     ensures { MatchOption result (index_len w32 map.entry ≤ place) (IsEntryOf map.entry place) }

@@ -1,4 +1,4 @@
-//! A symbol table of what `nm` prints: written to files, opened again, looked up, and listed.
+//! A symbol table of the output of `nm`: written to files, read back, looked up and listed.
 #![tactic(auto)]
 
 ghost use Rattle.std.specs.Prelude.{OnOk};
@@ -29,7 +29,7 @@ fn write(
     Ok(())
 }
 
-/// Prints the address of a name in a table, or that there is none.
+/// Prints the address of a name in a table, or a line with `none`.
 fn answer(rt: &HostRuntime, table: &[u8], name: &str) -> Result<(), SymbolsError>
     requires { IsTable table.now }
 {
@@ -40,7 +40,7 @@ fn answer(rt: &HostRuntime, table: &[u8], name: &str) -> Result<(), SymbolsError
     Ok(())
 }
 
-/// Looks whether the bytes are a table.
+/// Validates a table.
 fn opened(table: &[u8]) -> Result<(), SymbolsError>
     ensures { OnOk result (IsTable table.now) }
 {
@@ -50,8 +50,9 @@ fn opened(table: &[u8]) -> Result<(), SymbolsError>
     }
 }
 
-/// Prints the addresses of names in the table of a file: of those handed in, or where there are
-/// none, of the lines on standard input.
+/// Prints the addresses of names in the table of a file.
+///
+/// The names are the arguments, or the lines of standard input if there are no arguments.
 fn get(rt: &HostRuntime, table: &str, names: &[String]) -> Result<(), SymbolsError> {
     let bytes = fs::read(rt, table)?;
     opened(bytes.as_slice())?;
@@ -67,7 +68,7 @@ fn get(rt: &HostRuntime, table: &str, names: &[String]) -> Result<(), SymbolsErr
     Ok(())
 }
 
-/// Prints the names in the index of a file by ascending address.
+/// Prints the names in the index of a file, by ascending address.
 fn list(rt: &HostRuntime, index: &str) -> Result<(), SymbolsError> {
     let bytes = fs::read(rt, index)?;
     let map = match by_address::open(bytes.as_slice()) {
@@ -82,7 +83,7 @@ fn list(rt: &HostRuntime, index: &str) -> Result<(), SymbolsError> {
     Ok(())
 }
 
-/// Prints why a table without its last byte is refused.
+/// Validates a table without its last byte, and prints the result.
 fn cut_short(rt: &HostRuntime, table: &[u8]) -> Result<(), SymbolsError> {
     if let Some((_, front)) = table.split_last() {
         match check(front) {
@@ -93,9 +94,13 @@ fn cut_short(rt: &HostRuntime, table: &[u8]) -> Result<(), SymbolsError> {
     Ok(())
 }
 
-/// Writes the table and the index of the lines on standard input to files; and where `all` is true,
-/// opens the files again, prints the address of each name in the table, lists the index, and tells
-/// why a table that is cut short is refused.
+/// Writes the table and the index of the lines of standard input to files.
+///
+/// If `all` is `true`, it then reads the files back and prints:
+///
+/// - the address of each name in the table,
+/// - the entries of the index,
+/// - the validation error of the table without its last byte.
 fn build(rt: &HostRuntime, table: &str, index: &str, all: bool) -> Result<(), SymbolsError> {
     let text = io::read_to_string(rt.alloc(), rt.reader())?;
     let symbols = parse(rt.alloc(), text.as_str())?;
@@ -112,7 +117,7 @@ fn build(rt: &HostRuntime, table: &str, index: &str, all: bool) -> Result<(), Sy
     Ok(())
 }
 
-/// Does what the words of the command line ask for.
+/// Executes the command of the command line.
 fn run(rt: &HostRuntime) -> Result<(), SymbolsError> {
     let mut words: Vec<String> = Vec::new(rt.alloc());
     for word in env::args(rt)?.skip(1) {

@@ -1,11 +1,11 @@
-//! The caller that the library's page shows.
+//! The caller in the library's README.
 
 use rkyv_symbols::lines::parse;
 use rkyv_symbols::table::{address_of, archive};
 use std::alloc::Global;
 use std::test::Fail;
 
-// The address of a name, in the table of the lines.
+// Returns the address of a name, in the table of the symbols of the lines.
 fn address_among(alloc: Global, lines: &str, name: &str) -> Result<Option<u64>, Fail> {
     let symbols = parse(alloc, lines)?;
     let table = archive(alloc, symbols.as_slice())?;

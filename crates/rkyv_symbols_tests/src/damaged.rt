@@ -1,4 +1,4 @@
-//! Tables that are cut short, or of which a byte is changed.
+//! Tables without their last bytes, and tables with a changed byte.
 
 use rkyv_base::errors::VerifyError;
 use rkyv_symbols::table::{address_of, archive};
@@ -6,20 +6,20 @@ use rkyv_testing::changes::answered_flips;
 use std::alloc::Global;
 use std::test::Fail;
 
-// A table of two symbols, one with a name that stands elsewhere.
+// Returns a table of two symbols, one with an out of line name.
 fn table(alloc: Global) -> Result<Vec<u8>, Fail> {
     let symbols = [("main", 0x1139), ("a_name_of_some_length", 0x4010)];
     Ok(archive(alloc, &symbols)?)
 }
 
-// Whether the addresses differ in the bits of one byte at most.
+// Returns whether the addresses differ in the bits of at most one byte.
 fn is_near(one: u64, other: u64) -> bool {
     let bits = one ^ other;
     bits == 0 || bits.wrapping_shr(bits.trailing_zeros() / 8 * 8) <= 255
 }
 
-// Whether a lookup in the bytes tells what it may: the address of `main`, but for a changed byte,
-// or none, or a refusal; and no address of a name that isn't there.
+// Returns whether lookups in the bytes have a permitted result.
+// For `main`: its address except for a changed byte, `None` or an error. For no symbol: no address.
 fn is_answered(bytes: &[u8]) -> bool {
     let main = match address_of(bytes, "main") {
         Ok(Some(address)) => is_near(address, 0x1139),
@@ -28,8 +28,8 @@ fn is_answered(bytes: &[u8]) -> bool {
     main && !matches!(address_of(bytes, "none_such"), Ok(Some(_)))
 }
 
-// How many of the fronts are answered, and how many of those that are shorter than a header are
-// refused for that.
+// Returns the number of prefixes with permitted results.
+// It also returns the number of those shorter than a header that fail with `OutOfRange`.
 fn fronts(bytes: &[u8]) -> (usize, usize) {
     let mut answered = 0usize;
     let mut short = 0usize;

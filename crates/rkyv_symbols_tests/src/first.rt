@@ -4,8 +4,8 @@ use rkyv_first::{look_up, write};
 use std::alloc::Global;
 use std::test::Fail;
 
-// The addresses of a name that stands twice and of one that doesn't stand, and whether the table is
-// refused without its last byte.
+// Returns the addresses of a name that is in the list twice and of a name that isn't in it.
+// It also returns whether the table without its last byte is invalid.
 fn looked_up(alloc: Global) -> Result<(Option<u64>, Option<u64>, bool), Fail> {
     let symbols = [("main", 0x1139), ("top", u64::MAX), ("main", 1)];
     let table = write(alloc, &symbols)?;

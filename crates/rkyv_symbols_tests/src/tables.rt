@@ -1,12 +1,13 @@
-//! What lines tell, and the tables of them.
+//! The symbols of lines, and their tables.
 
 use rkyv_symbols::lines::parse;
 use rkyv_symbols::table::{address_of, archive};
 use std::alloc::Global;
 use std::test::Fail;
 
-// Three names are told, one of them twice; the other lines tell no symbol: two have no address, one
-// has fifteen digits, one has no name, one has a letter that is no digit, and one has no type.
+// Lines with four symbols, two of them of one name; all other lines have no symbol.
+// Two have no address, one has fifteen digits, one has no name, one has a letter that is no digit,
+// and one has no type.
 const LINES: &str = "                 U puts@GLIBC_2.2.5
 0000000000001139 T main
 0000000000004010 B a_name_of_some_length
@@ -19,7 +20,7 @@ ffffffffFFFFFFFF a top
 0000000000001139  no_type
 ";
 
-// How many symbols the lines tell, and the second of them.
+// Returns the number of the symbols, and whether the second one is as expected.
 fn told(alloc: Global) -> Result<(usize, bool), Fail> {
     let symbols = parse(alloc, LINES)?;
     let second = symbols.get(1) == Some(&("a_name_of_some_length", 0x4010));
@@ -33,7 +34,7 @@ fn lines_tell_symbols(rt: HostRuntime) -> Result<(), Fail> {
     Ok(())
 }
 
-// The addresses of some names in the table of the lines.
+// Returns the addresses of some names in the table of the lines.
 fn addresses(alloc: Global) -> Result<[Option<u64>; 5], Fail> {
     let symbols = parse(alloc, LINES)?;
     let table = archive(alloc, symbols.as_slice())?;

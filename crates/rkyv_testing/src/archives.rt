@@ -1,7 +1,13 @@
 //! Archives of known bytes.
+//!
+//! The comment of an archive has the position of each part. Empty control bytes are 0xff.
 ghost use Rattle.std.specs.Prelude.{◌+◌, ◌≤◌, length};
 
-/// So many bytes: this front, then controls of empty buckets, and this back.
+/// Returns `N` bytes: `front`, then bytes 0xff, then `back`.
+///
+/// # Requires
+///
+/// - `N` is at least the length of both.
 pub fn archive<const N: usize>(front: &[u8], back: &[u8]) -> [u8; N]
     requires { length front.now + length back.now ≤ N }
 {
@@ -12,12 +18,14 @@ pub fn archive<const N: usize>(front: &[u8], back: &[u8]) -> [u8; N]
     bytes
 }
 
-/// The empty table, map or set.
+/// Returns the empty table, map or set.
 pub fn no_items() -> [u8; 12] {
     [1, 0, 0, 0, 0, 0, 0, 0, 0, 0, 0, 0]
 }
 
-/// The map of 1 to 2, of eight bits each: buckets from 0 on, controls from 4 on, header at 36.
+/// Returns the map of 1 to 2, of 8 bits each.
+///
+/// Buckets from 0 on, controls from 4 on, header at 36.
 pub fn one_pair() -> [u8; 48] {
     archive(
         &[1, 2, 0, 0, 0xff, 0x28, 0xff, 0x28],
@@ -25,8 +33,9 @@ pub fn one_pair() -> [u8; 48] {
     )
 }
 
-/// The map of 1 to 2, 3 to 4, 5 to 6 and 7 to 8, handed in in this order: buckets from 0 on,
-/// controls from 10 on, header at 44.
+/// Returns the map of 1 to 2, 3 to 4, 5 to 6 and 7 to 8, inserted in this order.
+///
+/// Buckets from 0 on, controls from 10 on, header at 44.
 pub fn four_pairs() -> [u8; 56] {
     archive(
         &[
@@ -37,7 +46,7 @@ pub fn four_pairs() -> [u8; 56] {
     )
 }
 
-/// The same pairs, handed in backwards.
+/// Returns the map of the same four pairs, inserted in reverse order.
 pub fn four_pairs_backwards() -> [u8; 56] {
     archive(
         &[
@@ -48,7 +57,7 @@ pub fn four_pairs_backwards() -> [u8; 56] {
     )
 }
 
-/// The pairs 1 and 2, and 1 and 9.
+/// Returns the map of the pairs 1 and 2, and 1 and 9.
 pub fn one_key_twice() -> [u8; 52] {
     archive(
         &[0, 0, 1, 9, 1, 2, 0x28, 0x28, 0xff, 0x28, 0x28],
@@ -56,7 +65,9 @@ pub fn one_key_twice() -> [u8; 52] {
     )
 }
 
-/// The map of 1 to 2, of 32 bits each: buckets from 0 on, controls from 16 on, header at 48.
+/// Returns the map of 1 to 2, of 32 bits each.
+///
+/// Buckets from 0 on, controls from 16 on, header at 48.
 pub fn one_number() -> [u8; 60] {
     archive(
         &[
@@ -66,7 +77,7 @@ pub fn one_number() -> [u8; 60] {
     )
 }
 
-/// The same in a wide archive.
+/// Returns the wide map of 1 to 2, of 32 bits each.
 pub fn one_wide_number() -> [u8; 72] {
     archive(
         &[
@@ -79,8 +90,9 @@ pub fn one_wide_number() -> [u8; 72] {
     )
 }
 
-/// The map of 1 to the map of 1 to 2: that one from 0 on, buckets from 36 on, controls from 68 on,
-/// header at 100.
+/// Returns the map of 1 to the map of 1 to 2.
+///
+/// Inner map from 0 on, buckets from 36 on, controls from 68 on, header at 100.
 pub fn nested() -> [u8; 112] {
     let inner = archive::<36>(&[1, 2, 0, 0, 0xff, 0x28, 0xff, 0x28], &[0]);
     let outer = archive::<76>(
@@ -93,8 +105,9 @@ pub fn nested() -> [u8; 112] {
     archive(&inner, &outer)
 }
 
-/// The map of (1, 2) and (3, 4), each to the map of 1337 to 42: those from 0 and 40 on, buckets
-/// from 80 on, controls from 128 on, header at 160.
+/// Returns the map of (1, 2) and (3, 4), each to the map of 1337 to 42.
+///
+/// Inner maps from 0 and 40 on, buckets from 80 on, controls from 128 on, header at 160.
 pub fn two_maps() -> [u8; 172] {
     let inner = archive::<40>(
         &[0x39, 5, 0x2a, 0, 0, 0, 0, 0, 0xff, 0x4a, 0xff, 0x4a],
@@ -111,7 +124,9 @@ pub fn two_maps() -> [u8; 172] {
     archive(&archive::<80>(&inner, &inner), &outer)
 }
 
-/// The set of 1, 2 and 3: buckets from 0 on, controls from 4 on, header at 36.
+/// Returns the set of 1, 2 and 3.
+///
+/// Buckets from 0 on, controls from 4 on, header at 36.
 pub fn three_keys() -> [u8; 48] {
     archive(
         &[3, 2, 1, 0, 0xff, 0x28, 0x51, 0x7a, 0xff, 0x28, 0x51, 0x7a],
@@ -119,7 +134,9 @@ pub fn three_keys() -> [u8; 48] {
     )
 }
 
-/// The set of the unit value: no bytes of buckets, controls from 0 on, header at 32.
+/// Returns the set of the unit value.
+///
+/// The buckets have no bytes. Controls from 0 on, header at 32.
 pub fn one_unit() -> [u8; 44] {
     archive(
         &[0, 0xff, 0],
@@ -127,7 +144,7 @@ pub fn one_unit() -> [u8; 44] {
     )
 }
 
-/// The set of the unit value, handed in twice.
+/// Returns the set of the unit value, inserted twice.
 pub fn two_units() -> [u8; 44] {
     archive(
         &[0, 0, 0xff, 0, 0],
@@ -135,9 +152,10 @@ pub fn two_units() -> [u8; 44] {
     )
 }
 
-/// The wide map of 1 to the set of 1, under the hasher that feeds all bits: the set's bucket from 0
-/// on and its controls from 2 on, the map's buckets from 40 on, its controls from 104 on, header at
-/// 136.
+/// Returns the wide map of 1 to the set of 1, under the hasher that feeds all bits.
+///
+/// Bucket of the set from 0 on, its controls from 2 on.
+/// Buckets of the map from 40 on, its controls from 104 on, its header at 136.
 pub fn set_in_a_map() -> [u8; 160] {
     let inner = archive::<40>(&[1, 0, 0xff, 0x28, 0xff, 0x28], &[0, 0, 0, 0, 0, 0, 0]);
     let outer = archive::<120>(
@@ -154,7 +172,9 @@ pub fn set_in_a_map() -> [u8; 160] {
     archive(&inner, &outer)
 }
 
-/// The map of the text "main" to 4096: buckets from 0 on, controls from 32 on, header at 64.
+/// Returns the map of the text "main" to 4096.
+///
+/// Buckets from 0 on, controls from 32 on, header at 64.
 pub fn one_symbol() -> [u8; 76] {
     archive(
         &[
@@ -165,8 +185,9 @@ pub fn one_symbol() -> [u8; 76] {
     )
 }
 
-/// The index map of 1 to 2, 3 to 4, 5 to 6 and 7 to 8: places from 0 on, controls from 20 on,
-/// entries from 51 on, header at 60.
+/// Returns the index map of 1 to 2, 3 to 4, 5 to 6 and 7 to 8.
+///
+/// Buckets from 0 on, controls from 20 on, entries from 51 on, header at 60.
 pub fn four_entries() -> [u8; 76] {
     archive(
         &[
@@ -180,7 +201,9 @@ pub fn four_entries() -> [u8; 76] {
     )
 }
 
-/// The index set of 1: the place from 4 on, controls from 8 on, the key at 39, header at 40.
+/// Returns the index set of 1.
+///
+/// Full bucket from 4 on, controls from 8 on, key at 39, header at 40.
 pub fn one_index_key() -> [u8; 56] {
     archive(
         &[0, 0, 0, 0, 0, 0, 0, 0, 0xff, 0x28, 0xff, 0x28],

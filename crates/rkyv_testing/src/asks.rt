@@ -1,4 +1,4 @@
-//! How often the iterators of items are asked that calls write, and what these calls answer.
+//! The number of calls of the iterators whose items are written, and the outcomes of the writes.
 
 use rkyv_base::errors::{IteratorLengthMismatch, WriteError};
 use rkyv_base::width::Narrow;
@@ -9,29 +9,31 @@ use std::alloc::Global;
 use std::cell::Cell;
 use std::iter;
 
-/// Counts an ask of an iterator that gives so many items: whether it gives one more.
+/// Counts a call of an iterator of `items` items, and returns whether it yields one more.
 pub fn gives(asks: &Cell<usize>, items: usize) -> bool {
     let ask = asks.get();
     asks.set(ask.wrapping_add(1));
     ask < items
 }
 
-/// What came of a call that writes behind nothing.
+/// The outcome of a write with a writer that had no bytes before.
 #[derive(Clone, Copy, Debug, PartialEq, Eq)]
 pub enum Answer {
+    /// The write succeeds.
     Written,
-    /// So many items were claimed and so many counted, and no byte is written.
+    /// The claimed length differs from the counted one, and no byte is written.
     Mismatch(usize, usize),
-    /// The load factor was refused, and no byte is written.
+    /// The load factor, of this numerator and denominator, is invalid; no byte is written.
     LoadFactor(usize, usize),
-    /// Memory was wanted, and no byte is written.
+    /// An allocation fails, and no byte is written.
     Memory,
-    /// A growth was refused while bytes were written.
+    /// The writer fails, or an allocation fails after bytes are written.
     Growth,
+    /// Any other error.
     Other,
 }
 
-/// What came of a call that was given this writer, which had written nothing.
+/// Returns the outcome of a write with this writer, which had no bytes before.
 pub fn answer_of<R: Drop>(answer: Result<R, WriteError<NoMemory>>, writer: &VecWriter) -> Answer {
     let clean = writer.bytes().is_empty();
     match answer {
@@ -50,7 +52,7 @@ pub fn answer_of<R: Drop>(answer: Result<R, WriteError<NoMemory>>, writer: &VecW
     }
 }
 
-/// What should come of so many items under a claimed length.
+/// Returns the expected outcome of a write of `items` items under the claimed length `len`.
 pub fn wanted(items: usize, len: usize) -> Answer {
     if items < len {
         Answer::Mismatch(len, items)
@@ -61,8 +63,9 @@ pub fn wanted(items: usize, len: usize) -> Answer {
     }
 }
 
-/// How often an iterator of so many items may be asked at most: once more than was claimed, and
-/// never after its end.
+/// Returns the greatest number of calls of an iterator of `items` items.
+///
+/// It is one more than the items or than the claimed length `len`, whichever is less.
 pub fn most_asks(items: usize, len: usize) -> usize {
     if items < len {
         items.saturating_add(1)
@@ -71,8 +74,9 @@ pub fn most_asks(items: usize, len: usize) -> usize {
     }
 }
 
-/// Writes a table of so many items and so many hashes under a claimed length: the answer, and how
-/// often each iterator was asked.
+/// Writes a table of items and hashes under the claimed length `len`.
+///
+/// Returns the outcome, and the numbers of calls of the two iterators.
 pub fn asks_of_table(
     alloc: Global,
     items: usize,
@@ -100,7 +104,9 @@ pub fn asks_of_table(
     (answer_of(answer, &writer), of_items.get(), of_hashes.get())
 }
 
-/// The same of pairs of hash and item.
+/// Writes a table of pairs of hash and item under the claimed length `len`.
+///
+/// Returns the outcome, and the number of calls of the iterator.
 pub fn asks_of_pairs(alloc: Global, pairs: usize, len: usize) -> (Answer, usize) {
     let asks = Cell::new(0usize);
     let mut writer = VecWriter::new(alloc);

@@ -1,19 +1,27 @@
-//! Archives of which a byte is changed, and how they are answered.
+//! Archives with a changed byte, and the results for them.
 
 use rkyv_base::errors::VerifyError;
 
-/// How many archives were answered in each way.
+/// The numbers of changed archives, by the result for them.
 #[derive(Clone, Copy, Debug, PartialEq, Eq)]
 pub struct Answers {
-    /// What of the accepted ones is answered as the archive of so many items should be.
+    /// Valid archives with the expected contents.
     pub right: u32,
+    /// Valid archives.
     pub accepted: u32,
+    /// Errors `PlaceOutOfRange`.
     pub place_out_of_range: u32,
+    /// Errors `UnwrappedControlByte`.
     pub unwrapped: u32,
+    /// Errors `OutOfRange`.
     pub out_of_range: u32,
+    /// Errors `InvalidLength`.
     pub invalid_length: u32,
+    /// Errors `WrongNumberOfElements`.
     pub wrong_number: u32,
+    /// Errors `Unaligned`.
     pub unaligned: u32,
+    /// All other errors.
     pub other: u32,
 }
 
@@ -36,7 +44,7 @@ impl Answers {
         }
     }
 
-    // Counts what an archive is answered: whether it is right, where it is accepted.
+    // Counts one result; `Ok(true)` is a valid archive with the expected contents.
     fn count(&mut self, answer: Result<bool, VerifyError>) {
         match answer {
             Ok(right) => {
@@ -56,7 +64,11 @@ impl Answers {
     }
 }
 
-/// How the archives are answered that differ from this one in one byte.
+/// Counts the results for all archives that differ from this one in one byte.
+///
+/// # Requires
+///
+/// - `answer` is always callable.
 pub fn answers_to_changes<A: Fn(&[u8]) -> Result<bool, VerifyError>>(
     archive: &mut [u8],
     answer: A,
@@ -77,7 +89,11 @@ pub fn answers_to_changes<A: Fn(&[u8]) -> Result<bool, VerifyError>>(
     answers
 }
 
-/// How many archives are answered of those that differ from this one in all bits of one byte.
+/// Returns the number of archives that pass `is_answered`, of those with one byte inverted.
+///
+/// # Requires
+///
+/// - `is_answered` is always callable.
 pub fn answered_flips<A: Fn(&mut [u8]) -> bool>(archive: &mut [u8], is_answered: A) -> usize
     requires { A.IsAlwaysCallable is_answered }
 {

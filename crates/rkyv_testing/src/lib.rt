@@ -1,5 +1,9 @@
-//! What the tests of several crates need: archives of known bytes, writers that fail, iterators
-//! that count how often they are asked, and what is answered of changed bytes.
+//! Helpers for the tests of several crates.
+//!
+//! - `archives` returns archives of known bytes, and `written` compares archives with known bytes.
+//! - `writers` has writers that fail, or that are near the greatest position.
+//! - `asks` counts the calls of iterators whose items are written.
+//! - `changes` counts the results for archives with changed bytes.
 #![tactic(auto)]
 
 pub mod archives;

@@ -4,19 +4,19 @@ ghost use Rattle.std.specs.Prelude.{[]};
 use rkyv_base::writer::Writer;
 use std::alloc::Global;
 
-/// A writer into memory whose position begins at 4,294,967,290.
+/// A writer into memory whose first position is 4,294,967,290.
 #[derive(Drop)]
 pub struct LateWriter {
     bytes: Vec<u8>,
     failures: u64,
 }
 
-/// A growth was refused.
+/// The writer failed to allocate.
 #[derive(Debug, Drop)]
 pub struct NoRoom;
 
 impl LateWriter {
-    /// A writer that holds no bytes.
+    /// Returns a writer without bytes.
     pub fn new(alloc: Global) -> LateWriter {
         LateWriter {
             bytes: Vec::new(alloc),
@@ -24,7 +24,7 @@ impl LateWriter {
         }
     }
 
-    /// What was written.
+    /// Returns the written bytes.
     pub fn bytes(&self) -> &[u8] {
         self.bytes.as_slice()
     }
@@ -61,24 +61,24 @@ impl Writer for LateWriter {
     }
 }
 
-/// A writer that fails at every write, and counts how often it was asked.
+/// A writer that fails at every write, and counts the writes.
 #[derive(Drop)]
 pub struct BrokenWriter {
     failures: u64,
     asked: u8,
 }
 
-/// Nothing was written.
+/// A write failed; no byte is written.
 #[derive(Debug, Drop)]
 pub struct Broken;
 
 impl BrokenWriter {
-    /// A writer that has failed so often.
+    /// Returns a writer with a number of earlier failures.
     pub fn new(failures: u64) -> BrokenWriter {
         BrokenWriter { failures, asked: 0 }
     }
 
-    /// How often it was asked to write.
+    /// Returns the number of writes, at most 255.
     pub fn asked(&self) -> u8 {
         self.asked
     }

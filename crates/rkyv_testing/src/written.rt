@@ -1,4 +1,4 @@
-//! Whether bytes are what should be written.
+//! Comparisons of archives with known bytes.
 
 use rkyv_base::archive::Serialize;
 use rkyv_base::root::to_bytes;
@@ -6,7 +6,7 @@ use rkyv_base::width::Narrow;
 use rkyv_base::writer::VecWriter;
 use std::alloc::Global;
 
-/// Whether a value is archived as these bytes.
+/// Returns whether the narrow archive of a value has these bytes.
 pub fn is_archived_as<V: Serialize<VecWriter, Narrow>>(
     alloc: Global,
     value: &V,
@@ -18,7 +18,7 @@ pub fn is_archived_as<V: Serialize<VecWriter, Narrow>>(
     }
 }
 
-// Whether each of these controls is empty.
+// Returns whether all controls are empty.
 fn are_empty(controls: &[u8]) -> bool {
     for control in controls {
         if *control != 0xff {
@@ -28,7 +28,7 @@ fn are_empty(controls: &[u8]) -> bool {
     true
 }
 
-/// Whether the bytes are these, and then so many empty controls.
+/// Returns whether the bytes are `front`, then `empty` empty controls.
 pub fn is_then_empty(bytes: &[u8], front: &[u8], empty: usize) -> bool {
     match bytes.split_at_checked(front.len()) {
         Some((first, others)) => first == front && others.len() == empty && are_empty(others),

@@ -1,4 +1,4 @@
-//! Archives of each form, from their pairs and back.
+//! Archives of each form, written from pairs and read.
 
 use rkyv_base::errors::{VerifyError, WriteError};
 use rkyv_dict::archives::{build, check, misplaced, push_pairs, push_value};
@@ -6,13 +6,13 @@ use rkyv_dict::form::{Bits, Form, Key, Kind, PairList};
 use std::alloc::Global;
 use std::test::Fail;
 
-// The form of narrow and of wide archives of a kind.
+// Returns the form of narrow or wide archives of a kind.
 fn form(kind: Kind, bits: Bits) -> Form {
     Form { kind, bits }
 }
 
-// The length of the archive of the pairs, its number of misplaced keys, and its lines, its own and
-// then those of the keys.
+// Returns the length of the archive of the pairs, the number of its misplaced keys, and its lines.
+// The lines are those of its pairs, then those of lookups of the keys.
 fn shown(
     alloc: Global,
     form: Form,
@@ -30,7 +30,7 @@ fn shown(
     Some((bytes.len(), misplaced(form, bytes), out))
 }
 
-// Whether it shows this.
+// Returns whether `shown` returns `want`.
 fn shows(
     alloc: Global,
     form: Form,
@@ -44,8 +44,8 @@ fn shows(
     }
 }
 
-// Whether the narrow and the wide archive of the pairs have these lengths, no misplaced key, and
-// these lines.
+// Returns whether the narrow and the wide archive of the pairs have these lengths and lines.
+// Both have no misplaced key.
 fn both_show(
     alloc: Global,
     kind: Kind,

@@ -1,4 +1,4 @@
-//! The numbers and names of errors, and which of them end a run.
+//! The numbers and names of errors, and the errors that end a run.
 
 use rkyv_base::{IteratorLengthMismatch, NoMemory, VerifyError, WriteError};
 use rkyv_dict::errors::{cause_told, refusal_told, wants_memory};

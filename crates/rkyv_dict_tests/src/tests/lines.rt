@@ -1,4 +1,4 @@
-//! Lines that are bad, and lines that are skipped.
+//! Bad lines, and lines that are skipped.
 use crate::tests::scripts::{answers, first_wrong};
 
 #[test]

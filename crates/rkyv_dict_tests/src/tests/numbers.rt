@@ -74,7 +74,7 @@ fn archives_many(rt: HostRuntime) {
     assert_eq!(rt; wrong, None);
 }
 
-// A script of 20,000 pairs, with a lookup of each key and of one more.
+// Returns a script of 20,000 pairs, with a lookup of each key and of one more.
 fn many_lookups(alloc: Global) -> Result<String, AllocError> {
     let mut script = puts(alloc, "", 20_000, "build\n")?;
     for key in 0..20_000u32 {
@@ -84,7 +84,7 @@ fn many_lookups(alloc: Global) -> Result<String, AllocError> {
     Ok(script)
 }
 
-// What it answers.
+// Returns the output of `many_lookups`.
 fn many_values(alloc: Global) -> Result<String, AllocError> {
     let mut want = String::new(alloc);
     want.push_str("built 205748\n")?;

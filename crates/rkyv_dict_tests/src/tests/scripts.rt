@@ -1,20 +1,20 @@
-//! Scripts, and whether they answer what they should.
+//! Scripts, and comparisons of their output with the expected one.
 
 use rkyv_dict::run::run;
 use std::alloc::{AllocError, Global};
 
-/// The archive of the one pair 1 2.
+/// The archive of the pair 1 and 2.
 pub(crate) const ONE: &str =
     "01000000020000000000000000000000ff28ff28ffffffffffffffffffffffffffffffffffffffffffffffffffffff00e0ffffff0100000002000000";
 
 /// A script.
 pub(crate) const SCRIPT: &[u8] = b"put 1 2\nbuild\nhex\nget 1\nget 2\nlist\n";
 
-/// What it answers.
+/// The output of the script.
 pub(crate) const ANSWERS: &str =
     "built 60\n01000000020000000000000000000000ff28ff28ffffffffffffffffffffffffffffffffffffffffffffffffffffff00e0ffffff0100000002000000\n2\nnone\nentries 1\n1 2\n";
 
-/// Whether a script answers this.
+/// Returns whether the output of a script is `want`.
 pub(crate) fn answers(alloc: Global, script: &[u8], want: &str) -> bool {
     let mut reader = script;
     let mut out = Vec::new(alloc);
@@ -22,7 +22,7 @@ pub(crate) fn answers(alloc: Global, script: &[u8], want: &str) -> bool {
     outcome.is_ok() && out.as_slice() == want.as_bytes()
 }
 
-/// The first script that doesn't answer what stands beside it.
+/// Returns the first script whose output isn't the text beside it.
 pub(crate) fn first_wrong<'a>(alloc: Global, rows: &[(&'a str, &str)]) -> Option<&'a str> {
     for (script, want) in rows {
         if !answers(alloc, script.as_bytes(), want) {
@@ -32,7 +32,7 @@ pub(crate) fn first_wrong<'a>(alloc: Global, rows: &[(&'a str, &str)]) -> Option
     None
 }
 
-/// A script of a head, `put K 0` for the keys below `count`, and a tail.
+/// Returns a script of a head, `put K 0` for the keys below `count`, and a tail.
 pub(crate) fn puts(
     alloc: Global,
     head: &str,
@@ -48,7 +48,7 @@ pub(crate) fn puts(
     Ok(script)
 }
 
-/// Whether such a script answers this.
+/// Returns whether the output of a script from `puts` is `want`.
 pub(crate) fn answers_puts(alloc: Global, head: &str, count: u32, tail: &str, want: &str) -> bool {
     match puts(alloc, head, count, tail) {
         Ok(script) => answers(alloc, script.as_bytes(), want),
@@ -56,8 +56,9 @@ pub(crate) fn answers_puts(alloc: Global, head: &str, count: u32, tail: &str, wa
     }
 }
 
-/// The digits of the first row whose script doesn't answer what stands last: a head, `check` with
-/// the digits, and a tail.
+/// Returns the digits of the first row whose output isn't the last text of the row.
+///
+/// The script of a row is its head, `check` with its digits, and its tail.
 pub(crate) fn first_wrong_check<'a>(
     alloc: Global,
     rows: &[(&str, &'a str, &str, &str)],

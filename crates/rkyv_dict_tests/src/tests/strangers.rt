@@ -1,4 +1,4 @@
-//! Archives that come by `check`.
+//! Untrusted archives, from `check`.
 use crate::tests::scripts::{ONE, first_wrong, first_wrong_check};
 
 #[test]
@@ -12,7 +12,7 @@ fn takes_an_archive(rt: HostRuntime) {
     assert_eq!(rt; first_wrong_check(rt.alloc(), &rows), None);
 }
 
-// A key that doesn't stand where its hash leads: it is walked, and no lookup finds it.
+// A key that isn't in a bucket of its hash: a walk visits it, and no lookup finds it.
 #[test]
 fn audits_an_archive(rt: HostRuntime) {
     let rows = [(
@@ -76,7 +76,7 @@ fn a_refused_check_keeps_the_archive(rt: HostRuntime) {
     assert_eq!(rt; first_wrong(rt.alloc(), &rows), None);
 }
 
-// The texts of a stranger's archive may hold LF or a space, or be empty.
+// The texts of an untrusted archive may have LF or a space, or be empty.
 #[test]
 fn prints_texts_as_they_are(rt: HostRuntime) {
     let rows = [

@@ -1,4 +1,4 @@
-//! Readers and writers that fail, and the status that a run ends with.
+//! Readers and writers that fail, and the exit status of the run.
 
 use crate::tests::scripts::{ANSWERS, SCRIPT, answers};
 use rkyv_dict::run::{RunError, exit_status, run};
@@ -6,7 +6,7 @@ use std::alloc::{AllocError, Global};
 use std::io;
 use std::io::{Read, Write};
 
-/// A reader that gives at most `most` bytes at a time, and fails once, where so many are left.
+/// A reader of at most `most` bytes at a time, which fails once with `fails_at` bytes left.
 #[derive(Drop)]
 struct Slow<'a> {
     rest: &'a [u8],
@@ -28,7 +28,7 @@ impl Read for Slow<'_> {
     }
 }
 
-/// A writer that takes at most `most` bytes of a piece, and fails once `left` are taken.
+/// A writer of at most `most` bytes of a piece, which fails after `left` bytes.
 #[derive(Drop)]
 struct Short {
     taken: Vec<u8>,
@@ -52,8 +52,8 @@ impl Write for Short {
     }
 }
 
-// The status of a run of the script from a reader that fails once where so many bytes are left, and
-// what is written.
+// Runs the script from a reader that fails once with `left` bytes left.
+// Returns the exit status and the written bytes.
 fn read_fails(alloc: Global, most: usize, left: usize) -> (u8, Vec<u8>) {
     let mut out = Vec::new(alloc);
     let mut reader = Slow {
@@ -65,8 +65,8 @@ fn read_fails(alloc: Global, most: usize, left: usize) -> (u8, Vec<u8>) {
     (exit_status(&outcome), out)
 }
 
-// The status of a run of the script into a writer that fails once so many bytes are taken, and what
-// it took.
+// Runs the script into a writer that fails after `left` bytes.
+// Returns the exit status and the written bytes.
 fn write_fails(alloc: Global, most: usize, left: usize) -> (u8, Vec<u8>) {
     let mut writer = Short {
         taken: Vec::new(alloc),
@@ -78,7 +78,7 @@ fn write_fails(alloc: Global, most: usize, left: usize) -> (u8, Vec<u8>) {
     (exit_status(&outcome), writer.taken)
 }
 
-// Whether a run into a writer that fails once so many bytes are taken leaves just these.
+// Returns whether a run into a writer that fails after `left` bytes writes just these bytes.
 fn leaves_a_beginning(alloc: Global, most: usize, left: usize) -> bool {
     let (status, taken) = write_fails(alloc, most, left);
     match ANSWERS.as_bytes().get(..left) {
@@ -87,7 +87,7 @@ fn leaves_a_beginning(alloc: Global, most: usize, left: usize) -> bool {
     }
 }
 
-// The script behind so many empty lines.
+// Returns the script after `count` empty lines.
 fn behind_empty_lines(alloc: Global, count: u32) -> Result<Vec<u8>, AllocError> {
     let mut script = Vec::new(alloc);
     for _ in 0..count {
@@ -97,7 +97,7 @@ fn behind_empty_lines(alloc: Global, count: u32) -> Result<Vec<u8>, AllocError> 
     Ok(script)
 }
 
-// The messages of all errors, and the statuses of all outcomes.
+// Returns the messages of all errors, and the exit statuses of all outcomes.
 fn told(alloc: Global) -> Result<(String, [u8; 4]), AllocError> {
     let (read, write, memory) = (RunError::Read, RunError::Write, RunError::Memory);
     let text = format!(in alloc; "{read}, {write}, {memory}")?;

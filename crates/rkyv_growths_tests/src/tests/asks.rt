@@ -1,4 +1,4 @@
-//! Iterators that nothing is taken from before the growths.
+//! Iterators, which are called only after the allocations.
 
 use rkyv_base::width::Narrow;
 use rkyv_base::writer::VecWriter;
@@ -14,8 +14,8 @@ type Numbers = ArchivedHashMap<'static, i8, i8, FxHasher64, Narrow>;
 
 type Keys = ArchivedHashSet<'static, i8, FxHasher64, Narrow>;
 
-// Whether an iterator of two items that was asked so often fits the answer: not at all where memory
-// was wanted, and else for both items and for that there is no third.
+// Returns whether the number of calls of an iterator of two items fits the outcome.
+// There is no call if an allocation fails first, and else one for each item and one for the end.
 fn fits(answer: Answer, asks: usize) -> bool {
     match answer {
         Answer::Memory => asks == 0,
@@ -24,20 +24,20 @@ fn fits(answer: Answer, asks: usize) -> bool {
     }
 }
 
-// Writes a table of two items and two hashes: the answer, and whether both iterators were asked as
-// often as fits it.
+// Writes a table of two items and two hashes.
+// Returns the outcome, and whether the calls of both iterators fit it.
 fn table(alloc: Global) -> (Answer, bool) {
     let (answer, items, hashes) = asks_of_table(alloc, 2, 2, 2);
     (answer, fits(answer, items) && fits(answer, hashes))
 }
 
-// The same of pairs of hash and item.
+// Writes a table of two pairs of hash and item, as `table` does.
 fn table_of_pairs(alloc: Global) -> (Answer, bool) {
     let (answer, asks) = asks_of_pairs(alloc, 2, 2);
     (answer, fits(answer, asks))
 }
 
-// The same of the pairs of a map.
+// Writes a map of two pairs, as `table` does.
 fn map(alloc: Global) -> (Answer, bool) {
     let asks = Cell::new(0usize);
     let mut writer = VecWriter::new(alloc);
@@ -56,7 +56,7 @@ fn map(alloc: Global) -> (Answer, bool) {
     (answer, fits(answer, asks.get()))
 }
 
-// The same of the keys of a set.
+// Writes a set of two keys, as `table` does.
 fn set(alloc: Global) -> (Answer, bool) {
     let asks = Cell::new(0usize);
     let mut writer = VecWriter::new(alloc);

@@ -8,7 +8,7 @@ use rkyv_dict::form::{Bits, PairList};
 use rkyv_testing::archives::archive;
 use std::alloc::Global;
 
-// The map of the text a to the text b.
+// Returns the map of the text a to the text b.
 fn one_text() -> [u8; 76] {
     archive(
         &[
@@ -19,7 +19,7 @@ fn one_text() -> [u8; 76] {
     )
 }
 
-// The archive of the one pair of texts a and b, if there is memory for their list.
+// Returns the archive of the texts a and b, or `None` if their list fails to allocate.
 fn built(alloc: Global) -> Option<Result<Vec<u8>, WriteError<NoMemory>>> {
     let list = PairList::Texts(vec![in alloc; ("a", "b")].ok()?);
     Some(build(alloc, Bits::Bits32, &list, (7, 8)))

@@ -12,24 +12,24 @@ use rkyv_scan::hash::FxHasher64;
 use rkyv_testing::archives::{four_entries, one_index_key};
 use std::alloc::Global;
 
-// The four pairs, if there is memory for them.
+// Returns the four pairs, or `None` if their list fails to allocate.
 fn four(alloc: Global) -> Option<Vec<(i8, i8)>> {
     vec![in alloc; (1i8, 2i8), (3, 4), (5, 6), (7, 8)].ok()
 }
 
-// Their archive.
+// Returns the archive of the four pairs, or `None` if their list fails to allocate.
 fn four_built(alloc: Global) -> Option<Result<Vec<u8>, WriteError<NoMemory>>> {
     let list = OrderedPairs(four(alloc)?);
     Some(to_bytes(alloc, &list))
 }
 
-// The archive of the set of 1, if there is memory for its list.
+// Returns the archive of the set of 1, or `None` if its list fails to allocate.
 fn one_built(alloc: Global) -> Option<Result<Vec<u8>, WriteError<NoMemory>>> {
     let list = OrderedItems(vec![in alloc; 1i8].ok()?);
     Some(to_bytes(alloc, &list))
 }
 
-// Whether these bytes were built, or memory was wanted.
+// Returns whether these bytes are built, or an allocation fails.
 fn is_whole_or_wants_memory(
     built: Option<Result<Vec<u8>, WriteError<NoMemory>>>,
     bytes: &[u8],
@@ -43,7 +43,7 @@ fn is_whole_or_wants_memory(
     }
 }
 
-// Whether these bytes were built.
+// Returns whether these bytes are built.
 fn is_whole(built: Option<Result<Vec<u8>, WriteError<NoMemory>>>, bytes: &[u8]) -> bool {
     match built {
         Some(Ok(built)) => built.as_slice() == bytes,
@@ -73,9 +73,9 @@ fn a_set_succeeds(rt: HostRuntime) {
     assert!(rt; is_whole(one_built(rt.alloc()), &one_index_key()));
 }
 
-// Writes the four pairs behind a nine, if there is memory for it and for their list: whether they
-// are written, and whether what is answered `Memory` wrote nothing, and a nine stands in front in
-// any case.
+// Writes the four pairs behind a byte 9, or returns `None` if either fails to allocate.
+// Returns whether they are written, and whether the byte 9 is unchanged.
+// After `Memory`, no byte may be behind it.
 fn behind_a_nine(alloc: Global) -> Option<(bool, bool)> {
     let pairs = four(alloc)?;
     let mut writer = VecWriter::new(alloc);
@@ -112,7 +112,7 @@ fn a_map_behind_a_byte_succeeds(rt: HostRuntime) {
     assert_eq!(rt; behind_a_nine(rt.alloc()), Some((true, true)));
 }
 
-// Whether the four pairs are read back from their archive, or why they aren't.
+// Returns whether the four pairs are read back from their archive, or the error.
 fn pairs_back(alloc: Global) -> Result<Result<bool, ReadError>, VerifyError> {
     let bytes = four_entries();
     let root = ArchivedIndexMap::of(access::<IndexMapOf<i8, i8>>(&bytes)?);
@@ -123,7 +123,7 @@ fn pairs_back(alloc: Global) -> Result<Result<bool, ReadError>, VerifyError> {
     }
 }
 
-// Whether the one key is read back from its archive, or why it isn't.
+// Returns whether the one key is read back from its archive, or the error.
 fn items_back(alloc: Global) -> Result<Result<bool, ReadError>, VerifyError> {
     let bytes = one_index_key();
     let root = ArchivedIndexSet::of(access::<IndexSetOf<i8>>(&bytes)?);
@@ -134,7 +134,7 @@ fn items_back(alloc: Global) -> Result<Result<bool, ReadError>, VerifyError> {
     }
 }
 
-// Whether the list is whole, or memory was wanted for it.
+// Returns whether the list is whole, or its allocation fails.
 fn is_back_or_wants_memory(back: Result<Result<bool, ReadError>, VerifyError>) -> bool {
     match back {
         Ok(Ok(whole)) => whole,

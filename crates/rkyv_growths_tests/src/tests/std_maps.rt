@@ -1,4 +1,4 @@
-//! Maps of std's that are archived, and read back.
+//! Maps of std that are archived, and read back.
 
 use rkyv_base::access::access;
 use rkyv_base::entry::Entry;
@@ -14,14 +14,14 @@ use std::hash::BuildHasherDefault;
 
 type Pairs = Hashed<HashMap<(u8, u8), Hashed<HashMap<u16, u16>>>>;
 
-// The map of 1337 to 42.
+// Returns the map of 1337 to 42.
 fn one_number(alloc: Global) -> Result<Hashed<HashMap<u16, u16>>, AllocError> {
     let mut map = HashMap::new(alloc);
     map.insert(1337, 42)?;
     Ok(Hashed::new(map))
 }
 
-// The map of (1, 2) and (3, 4), each to the map of 1337 to 42.
+// Returns the map of (1, 2) and (3, 4), each to the map of 1337 to 42.
 fn two_maps(alloc: Global) -> Result<Pairs, AllocError> {
     let mut pairs = HashMap::new(alloc);
     pairs.insert((1, 2), one_number(alloc)?)?;
@@ -29,7 +29,7 @@ fn two_maps(alloc: Global) -> Result<Pairs, AllocError> {
     Ok(Hashed::new(pairs))
 }
 
-// Whether the archive is accepted, and its map equals the one that it was written of.
+// Returns whether the archive is valid, and its map equals `map`.
 fn is_the_same(bytes: &[u8], map: &Pairs) -> bool {
     match access::<HashMapOf<Entry<u8, u8>, HashMapOf<u16, u16>>>(bytes) {
         Ok(root) => {
@@ -40,7 +40,8 @@ fn is_the_same(bytes: &[u8], map: &Pairs) -> bool {
     }
 }
 
-// Whether its archive is written as it should be, or why it isn't, if there is memory for the map.
+// Returns whether the archive of the map is right, or the error of its write.
+// It is `None` if the map fails to allocate.
 fn written(alloc: Global) -> Option<Result<bool, WriteError<NoMemory>>> {
     let map = two_maps(alloc).ok()?;
     match to_bytes(alloc, &map) {
@@ -65,7 +66,7 @@ fn an_archive_succeeds(rt: HostRuntime) {
     assert!(rt; whole);
 }
 
-// Whether the map of std's that is read back has the four pairs, or why there is none.
+// Returns whether the map of std that is read back has the four pairs, or the error.
 fn read_back(alloc: Global) -> Result<Result<bool, ReadError>, VerifyError> {
     let bytes = four_pairs();
     let root = ArchivedHashMap::of(access::<HashMapOf<i8, i8>>(&bytes)?);

@@ -1,4 +1,4 @@
-//! Types of one's own as the keys of a map.
+//! Types of a user's own as the keys of a map.
 
 use crate::point::Point;
 use rkyv_base::access::access;
@@ -12,13 +12,13 @@ use std::alloc::Global;
 
 type Heights = HashMapOf<Entry<i32, i32>, u8>;
 
-// The archive of the heights of some points.
+// Returns the archive of the heights of some points.
 fn archive_of(alloc: Global, heights: &[(Seen<Point>, u8)]) -> Option<Vec<u8>> {
     let list: MapPairs<'_, Seen<Point>, u8> = MapPairs::new(heights);
     to_bytes(alloc, &list).ok()
 }
 
-// The height of a point.
+// Returns the height of a point.
 fn height_of(bytes: &[u8], point: Point) -> Result<Option<u8>, VerifyError> {
     let map = ArchivedHashMap::of(access::<Heights>(bytes)?);
     match map.get(&Seen(point)) {
@@ -27,8 +27,7 @@ fn height_of(bytes: &[u8], point: Point) -> Result<Option<u8>, VerifyError> {
     }
 }
 
-// How many bytes the archive of two heights has, and what is found in it of these points and of a
-// third.
+// Returns the length of the archive of two heights, and the heights of its points and of a third.
 fn two_heights(alloc: Global) -> Option<(usize, [Option<Option<u8>>; 3])> {
     let (first, second) = (Point { x: -2, y: 3 }, Point { x: 3, y: -2 });
     let bytes = archive_of(alloc, &[(Seen(first), 7), (Seen(second), 9)])?;
@@ -40,7 +39,7 @@ fn two_heights(alloc: Global) -> Option<(usize, [Option<Option<u8>>; 3])> {
     Some((bytes.len(), found))
 }
 
-// Three buckets of twelve bytes, 31 controls, a zero, and the header of twelve.
+// Three buckets of 12 bytes, 31 control bytes, a zero, and the header of 12 bytes.
 #[test]
 fn points_are_the_keys_of_a_map(rt: HostRuntime) {
     assert_eq!(rt;

@@ -9,7 +9,7 @@ use Rattle.rkyv_table.specs.Table.Header.{cap_at, controls_pos}
 use Rattle.rkyv_table.proofs.Items.{controls_inside}
 use Rattle.rkyv_c_calls.proofs.walk.controls_in.Goals as goal
 
--- the controls lie inside the bytes, and begin where the header tells
+-- the control bytes lie inside the bytes, at the header's distance
 inside : (w : Width) (k v : Shape) → IsElement k → IsElement v → (b : List ℕ) (p cap : ℕ) → Viewed (map_shape w k v) b p → cap ≡ cap_at w b p → 0 < cap
     → (controls_pos w b p + control_count cap ≤ length b) × (pos (controls_pos w b p) ≡ pos p +ℤ signed_at w b p)
 inside w k v kl vl b p cap map same some =

@@ -9,7 +9,7 @@ use Rattle.rkyv_dict.specs.declared.form.PairList.{PairList}
 use Rattle.rkyv_dict.proofs.TextLists.{texts_built}
 use Rattle.rkyv_dict.proofs.archives.build.Goals as goal
 
--- what is built of a list and a width that are known is built of these
+-- a build of a list and a width that equal known ones
 of_known : {F Z : Type 0} (factor : ℕ × ℕ) (result : Result (Vec ℕ Z) (WriteError F)) (bits width : Bits) (list known : PairList) → bits ≡ width → list ≡ known
     → Builds (form_of_pairs width (pairs_seen known)) factor (pairs_seen known) result → Builds (form_of_pairs bits (pairs_seen list)) factor (pairs_seen list) result
 of_known factor result bits width list known e h built =

@@ -6,7 +6,7 @@ use Rattle.rkyv_collections.specs.Map.{key_positions, map_archive, map_bytes}
 use Rattle.rkyv_dict.specs.Archives.{line_at}
 use Rattle.rkyv_dict.proofs.archives.push_lines.Given as goal
 
--- the pairs that are left stand in the map, and their lines are what is left of all lines
+-- the remaining pairs are in the map, and their lines are the remaining lines
 abbrev pub invariant-loop-key : goal.invariant-loop-key
 invariant-loop-key g l =
     let s = g.P.Element.shape in

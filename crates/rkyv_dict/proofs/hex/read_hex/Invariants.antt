@@ -3,7 +3,7 @@ use Rattle.std.specs.Option.{option_map}
 use Rattle.rkyv_dict.specs.Hex.{bytes_said}
 use Rattle.rkyv_dict.proofs.hex.read_hex.Given as goal
 
--- what is read, and then what the rest says, is what all digits say
+-- the bytes that are read, then those of the remaining digits, are the bytes of all digits
 abbrev pub invariant-loop-rest : goal.invariant-loop-rest
 invariant-loop-rest l = bytes_said l.digits ≡ option_map (λ more. l.bytes.items ++ more) (bytes_said l.rest)
 

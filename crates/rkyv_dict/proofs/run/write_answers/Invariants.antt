@@ -6,7 +6,7 @@ use Rattle.rkyv_dict.specs.Shown.{state_seen}
 use Rattle.rkyv_dict.specs.State.{IsSound}
 use Rattle.rkyv_dict.proofs.run.write_answers.Given as goal
 
--- some lines are done, and the others are left
+-- the first lines are executed, and the others remain
 abbrev pub invariant-loop-rest : goal.invariant-loop-rest
 invariant-loop-rest g l = record {
   progress : Progress (g.W.Write.contents l.initial.writer) (g.W.Write.contents l.writer) l.script (string_bytes l.held) (parts_after 10 (option_copied l.rest)) (state_seen l.dict);

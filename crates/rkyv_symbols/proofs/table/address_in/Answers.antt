@@ -19,7 +19,7 @@ use Rattle.rkyv_symbols.specs.Table.{IsTable, StandsFor, SymbolsStand, address_f
 use Rattle.rkyv_symbols.proofs.Found.{none_read, number_read}
 use Rattle.rkyv_symbols.proofs.table.address_in.Goals as goal
 
--- the value behind the key that a lookup of the name finds in some bytes
+-- the position of the value whose key a lookup of the name finds in some bytes
 abbrev place : List ℕ → List ℕ → ℕ → Option ℕ
 place name b p = option_map (λ q. q + value_offset name_shape address_shape)
     (pos_found generic_kind w32 (entry_shape name_shape address_shape).size b p (hash_of (fx_hasher low_halves) text_calls name) (λ q. same_bytes name (text_at w32 b q)))
