@@ -2,10 +2,9 @@
  *
  *     compare BEFORE.so AFTER.so [--keep-memory]
  *
- * In each round every measure is taken of both, the first of them in turn: so what else the machine
- * does falls on both alike. A row has the median ratio of the rounds. Lookups by a finder are
- * compared with those without one where the build before has none. With `--keep-memory`, what is
- * freed stays with the program. */
+ * Each round of a measure runs both builds, and the build that is first alternates. So other work
+ * of the machine slows both alike. A row has the median ratio of the rounds. With `--keep-memory`,
+ * freed memory stays with the program. */
 #define _GNU_SOURCE
 #include <dlfcn.h>
 #include <malloc.h>
@@ -21,16 +20,13 @@ static const size_t COUNTS[] = {1000, 100000, 1000000};
 enum { COUNT_COUNT = sizeof COUNTS / sizeof COUNTS[0] };
 
 enum measure {
-    BUILD, HITS, MISSES, HITS_BY_FINDER, MISSES_BY_FINDER, ACCESS, WALK,
-    BUILD_TEXT, HITS_TEXT, MISSES_TEXT, HITS_TEXT_BY_FINDER, MISSES_TEXT_BY_FINDER, ACCESS_TEXT,
-    WALK_TEXT, MEASURES
+    BUILD, HITS, MISSES, ACCESS, WALK,
+    BUILD_TEXT, HITS_TEXT, MISSES_TEXT, ACCESS_TEXT, WALK_TEXT, MEASURES
 };
 
 static const char *const NAMES[MEASURES] = {
-    "u32 | build", "u32 | lookup, found", "u32 | lookup, not found",
-    "u32 | lookup by a finder, found", "u32 | lookup by a finder, not found", "u32 | access",
-    "u32 | walk", "text | build", "text | lookup, found", "text | lookup, not found",
-    "text | lookup by a finder, found", "text | lookup by a finder, not found", "text | access",
+    "u32 | build", "u32 | lookup, found", "u32 | lookup, not found", "u32 | access", "u32 | walk",
+    "text | build", "text | lookup, found", "text | lookup, not found", "text | access",
     "text | walk",
 };
 
@@ -43,9 +39,6 @@ struct library {
     uint64_t (*lookup)(const uint8_t *, size_t, const uint32_t *, size_t);
     uint64_t (*lookup_text)(const uint8_t *, size_t, const uint8_t *, size_t, const uint32_t *,
                             size_t);
-    uint64_t (*find)(const uint8_t *, size_t, const uint32_t *, size_t);
-    uint64_t (*find_text)(const uint8_t *, size_t, const uint8_t *, size_t, const uint32_t *,
-                          size_t);
     uint64_t (*walk)(const uint8_t *, size_t);
     uint64_t (*walk_text)(const uint8_t *, size_t);
 };
@@ -78,10 +71,8 @@ static void *room_for(size_t bytes) {
     return room;
 }
 
-static void *found_in(void *handle, const char *name, const char *instead) {
+static void *found_in(void *handle, const char *name) {
     void *function = dlsym(handle, name);
-    if (function == NULL && instead != NULL)
-        function = dlsym(handle, instead);
     if (function == NULL)
         stop(name);
     return function;
@@ -92,18 +83,14 @@ static struct library opened(const char *file) {
     if (handle == NULL)
         stop(dlerror());
     struct library it;
-    *(void **)&it.build = found_in(handle, "rkyv_bench_build_u32", NULL);
-    *(void **)&it.build_text = found_in(handle, "rkyv_bench_build_text", NULL);
-    *(void **)&it.access = found_in(handle, "rkyv_bench_access_u32", NULL);
-    *(void **)&it.access_text = found_in(handle, "rkyv_bench_access_text", NULL);
-    *(void **)&it.lookup = found_in(handle, "rkyv_bench_lookup_u32", NULL);
-    *(void **)&it.lookup_text = found_in(handle, "rkyv_bench_lookup_text", NULL);
-    *(void **)&it.find =
-        found_in(handle, "rkyv_bench_lookup_u32_by_finder", "rkyv_bench_lookup_u32");
-    *(void **)&it.find_text =
-        found_in(handle, "rkyv_bench_lookup_text_by_finder", "rkyv_bench_lookup_text");
-    *(void **)&it.walk = found_in(handle, "rkyv_bench_walk_u32", NULL);
-    *(void **)&it.walk_text = found_in(handle, "rkyv_bench_walk_text", NULL);
+    *(void **)&it.build = found_in(handle, "rkyv_bench_build_u32");
+    *(void **)&it.build_text = found_in(handle, "rkyv_bench_build_text");
+    *(void **)&it.access = found_in(handle, "rkyv_bench_access_u32");
+    *(void **)&it.access_text = found_in(handle, "rkyv_bench_access_text");
+    *(void **)&it.lookup = found_in(handle, "rkyv_bench_lookup_u32");
+    *(void **)&it.lookup_text = found_in(handle, "rkyv_bench_lookup_text");
+    *(void **)&it.walk = found_in(handle, "rkyv_bench_walk_u32");
+    *(void **)&it.walk_text = found_in(handle, "rkyv_bench_walk_text");
     return it;
 }
 
@@ -160,10 +147,10 @@ static uint64_t build_text(const struct library *it, const struct workload *w, u
                           out, w->room);
 }
 
-static uint64_t ask_texts(uint64_t (*lookup)(const uint8_t *, size_t, const uint8_t *, size_t,
-                                             const uint32_t *, size_t),
-                          const struct workload *w, const struct keys *k) {
-    return lookup(w->text_archive, w->text_len, k->bytes, k->ends[w->count - 1], k->ends, w->count);
+static uint64_t lookup_text(const struct library *it, const struct workload *w,
+                            const struct keys *k) {
+    return it->lookup_text(w->text_archive, w->text_len, k->bytes, k->ends[w->count - 1], k->ends,
+                           w->count);
 }
 
 /* One turn of a measure, and its sum. */
@@ -172,15 +159,11 @@ static uint64_t turn(enum measure measure, const struct library *it, const struc
     case BUILD: return build(it, w, w->out);
     case HITS: return it->lookup(w->archive, w->len, w->found.numbers, w->count);
     case MISSES: return it->lookup(w->archive, w->len, w->missing.numbers, w->count);
-    case HITS_BY_FINDER: return it->find(w->archive, w->len, w->found.numbers, w->count);
-    case MISSES_BY_FINDER: return it->find(w->archive, w->len, w->missing.numbers, w->count);
     case ACCESS: return it->access(w->archive, w->len);
     case WALK: return it->walk(w->archive, w->len);
     case BUILD_TEXT: return build_text(it, w, w->out);
-    case HITS_TEXT: return ask_texts(it->lookup_text, w, &w->found);
-    case MISSES_TEXT: return ask_texts(it->lookup_text, w, &w->missing);
-    case HITS_TEXT_BY_FINDER: return ask_texts(it->find_text, w, &w->found);
-    case MISSES_TEXT_BY_FINDER: return ask_texts(it->find_text, w, &w->missing);
+    case HITS_TEXT: return lookup_text(it, w, &w->found);
+    case MISSES_TEXT: return lookup_text(it, w, &w->missing);
     case ACCESS_TEXT: return it->access_text(w->text_archive, w->text_len);
     case WALK_TEXT: return it->walk_text(w->text_archive, w->text_len);
     case MEASURES: break;

@@ -44,22 +44,6 @@ unsafe extern "C" {
         ends: *const u32,
         count: usize,
     ) -> u64;
-    #[cfg_attr(feature = "older", link_name = "rkyv_bench_lookup_u32")]
-    fn rkyv_bench_lookup_u32_by_finder(
-        archive: *const u8,
-        len: usize,
-        keys: *const u32,
-        key_count: usize,
-    ) -> u64;
-    #[cfg_attr(feature = "older", link_name = "rkyv_bench_lookup_text")]
-    fn rkyv_bench_lookup_text_by_finder(
-        archive: *const u8,
-        archive_len: usize,
-        bytes: *const u8,
-        len: usize,
-        ends: *const u32,
-        count: usize,
-    ) -> u64;
     fn rkyv_bench_walk_u32(archive: *const u8, len: usize) -> u64;
     fn rkyv_bench_build_index_u32(
         keys: *const u32,
@@ -71,12 +55,6 @@ unsafe extern "C" {
     ) -> usize;
     fn rkyv_bench_access_index_u32(archive: *const u8, len: usize) -> usize;
     fn rkyv_bench_lookup_index_u32(
-        archive: *const u8,
-        len: usize,
-        keys: *const u32,
-        key_count: usize,
-    ) -> u64;
-    fn rkyv_bench_lookup_index_u32_by_finder(
         archive: *const u8,
         len: usize,
         keys: *const u32,
@@ -166,9 +144,6 @@ pub trait Keys {
     /// The sum of the values that are found, and of 2^32 for each key that isn't.
     fn lookup(&self, archive: &Accepted<'_, Self>) -> u64;
 
-    /// The same by a finder of the map, which each call makes once.
-    fn lookup_by_finder(&self, archive: &Accepted<'_, Self>) -> u64;
-
     /// The sum of all pairs of an archive.
     fn walk(archive: &Accepted<'_, Self>) -> u64;
 
@@ -233,19 +208,6 @@ impl Keys for Numbers {
         }
     }
 
-    fn lookup_by_finder(&self, archive: &Accepted<'_, Self>) -> u64 {
-        let archive = archive.archive;
-        // SAFETY: as above, and the archive was accepted.
-        unsafe {
-            rkyv_bench_lookup_u32_by_finder(
-                archive.as_ptr(),
-                archive.len(),
-                self.0.as_ptr(),
-                self.0.len(),
-            )
-        }
-    }
-
     fn walk(archive: &Accepted<'_, Self>) -> u64 {
         // SAFETY: as above, and the archive was accepted.
         unsafe { rkyv_bench_walk_u32(archive.archive.as_ptr(), archive.archive.len()) }
@@ -290,19 +252,6 @@ impl Keys for Ordered {
         // SAFETY: as above, and the archive was accepted.
         unsafe {
             rkyv_bench_lookup_index_u32(archive.as_ptr(), archive.len(), keys.as_ptr(), keys.len())
-        }
-    }
-
-    fn lookup_by_finder(&self, archive: &Accepted<'_, Self>) -> u64 {
-        let (archive, keys) = (archive.archive, &self.0 .0);
-        // SAFETY: as above, and the archive was accepted.
-        unsafe {
-            rkyv_bench_lookup_index_u32_by_finder(
-                archive.as_ptr(),
-                archive.len(),
-                keys.as_ptr(),
-                keys.len(),
-            )
         }
     }
 
@@ -355,10 +304,6 @@ impl Keys for InStd {
 
     fn lookup(&self, archive: &Accepted<'_, Self>) -> u64 {
         self.0.lookup(&archive.as_map())
-    }
-
-    fn lookup_by_finder(&self, archive: &Accepted<'_, Self>) -> u64 {
-        self.0.lookup_by_finder(&archive.as_map())
     }
 
     fn walk(archive: &Accepted<'_, Self>) -> u64 {
@@ -438,20 +383,6 @@ impl Keys for Texts {
         // SAFETY: as above, and the archive was accepted.
         unsafe {
             rkyv_bench_lookup_text(
-                archive.archive.as_ptr(),
-                archive.archive.len(),
-                self.bytes.as_ptr(),
-                self.bytes.len(),
-                self.ends.as_ptr(),
-                self.ends.len(),
-            )
-        }
-    }
-
-    fn lookup_by_finder(&self, archive: &Accepted<'_, Self>) -> u64 {
-        // SAFETY: as above, and the archive was accepted.
-        unsafe {
-            rkyv_bench_lookup_text_by_finder(
                 archive.archive.as_ptr(),
                 archive.archive.len(),
                 self.bytes.as_ptr(),

@@ -34,9 +34,6 @@ enum Measure {
     Access,
     Hits,
     Misses,
-    // As `Hits` and `Misses`, but by a finder, where std's map is asked as before.
-    HitsByFinder,
-    MissesByFinder,
     Walk,
     // An archive is read back into a map of std's, where std's map is filled anew.
     ReadBack,
@@ -50,10 +47,6 @@ const OF_NUMBERS: &[Measure] = &[
     Measure::Access,
     Measure::Hits,
     Measure::Misses,
-    #[cfg(not(feature = "older"))]
-    Measure::HitsByFinder,
-    #[cfg(not(feature = "older"))]
-    Measure::MissesByFinder,
     Measure::Walk,
 ];
 
@@ -64,10 +57,6 @@ const OF_TEXTS: &[Measure] = &[
     Measure::Access,
     Measure::Hits,
     Measure::Misses,
-    #[cfg(not(feature = "older"))]
-    Measure::HitsByFinder,
-    #[cfg(not(feature = "older"))]
-    Measure::MissesByFinder,
     Measure::Walk,
 ];
 
@@ -77,8 +66,6 @@ const OF_INDEX_MAPS: &[Measure] = &[
     Measure::Access,
     Measure::Hits,
     Measure::Misses,
-    Measure::HitsByFinder,
-    Measure::MissesByFinder,
     Measure::Walk,
 ];
 
@@ -94,8 +81,6 @@ impl Measure {
             Measure::Access => "access",
             Measure::Hits => "lookup, found",
             Measure::Misses => "lookup, not found",
-            Measure::HitsByFinder => "lookup by a finder, found",
-            Measure::MissesByFinder => "lookup by a finder, not found",
             Measure::Walk => "walk",
             Measure::ReadBack => "read back",
         }
@@ -263,10 +248,8 @@ fn measure_std<Q: Key, K, S: BuildHasher + Default>(
             (time_build(times, build).0, count)
         }
         Measure::Access => unreachable!("it has no counterpart"),
-        Measure::Hits | Measure::HitsByFinder => time(times, || lookup(black_box(work.hit_list))),
-        Measure::Misses | Measure::MissesByFinder => {
-            time(times, || lookup(black_box(work.miss_list)))
-        }
+        Measure::Hits => time(times, || lookup(black_box(work.hit_list))),
+        Measure::Misses => time(times, || lookup(black_box(work.miss_list))),
         Measure::Walk => time(times, || {
             sum(black_box(map)
                 .iter()
@@ -298,10 +281,6 @@ fn measure_ours<Q, K: Keys>(
         Measure::Access => time(times, || K::access(black_box(archive)) as u64),
         Measure::Hits => time(times, || black_box(work.hits).lookup(accepted)),
         Measure::Misses => time(times, || black_box(work.misses).lookup(accepted)),
-        Measure::HitsByFinder => time(times, || black_box(work.hits).lookup_by_finder(accepted)),
-        Measure::MissesByFinder => {
-            time(times, || black_box(work.misses).lookup_by_finder(accepted))
-        }
         Measure::Walk => time(times, || K::walk(black_box(accepted))),
         Measure::ReadBack => time(times, || K::read_back(black_box(accepted)) as u64),
     }
@@ -362,8 +341,8 @@ fn run<Q: Key, K: Keys>(
                 Measure::Hash => hash_sum,
                 Measure::Build | Measure::BuildBorrowed | Measure::ReadBack => count as u64,
                 Measure::Access => count as u64 + 1,
-                Measure::Hits | Measure::HitsByFinder => hit_sum,
-                Measure::Misses | Measure::MissesByFinder => MISS * count as u64,
+                Measure::Hits => hit_sum,
+                Measure::Misses => MISS * count as u64,
                 Measure::Walk => walk_sum,
             };
             assert_eq!(answer, expected, "{}: another answer", measure.name());

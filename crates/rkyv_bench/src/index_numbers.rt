@@ -7,7 +7,7 @@ ghost use Rattle.rkyv_bench_calls.specs.Index.{index_number_looked_up, index_wal
 ghost use Rattle.rkyv_bench_calls.specs.Totals.{total};
 
 use rkyv_bench_calls::index_numbers::{
-    access_index_u32, build_index_u32, lookup_index_u32, lookup_index_u32_by_finder, walk_index_u32,
+    access_index_u32, build_index_u32, lookup_index_u32, walk_index_u32,
 };
 use std::alloc::Global;
 
@@ -48,17 +48,6 @@ pub extern "C" fn rkyv_bench_lookup_index_u32(archive: &[u8], keys: &[u32]) -> u
     ensures { result ≡ total (index_number_looked_up archive.now) keys.now }
 {
     lookup_index_u32(archive, keys)
-}
-
-/// As `rkyv_bench_lookup_index_u32`, by a finder of the index map.
-///
-/// The archive must have been accepted: `rkyv_bench_access_index_u32` answered more than 0.
-#[unsafe(no_mangle)]
-pub extern "C" fn rkyv_bench_lookup_index_u32_by_finder(archive: &[u8], keys: &[u32]) -> u64
-    requires { IsIndexArchive archive.now }
-    ensures { result ≡ total (index_number_looked_up archive.now) keys.now }
-{
-    lookup_index_u32_by_finder(archive, keys)
 }
 
 /// Returns the sum modulo 2^64 of all keys and all values.

@@ -6,9 +6,7 @@ ghost use Rattle.rkyv_bench_calls.specs.Building.{IsBuilt, MapsNumbers};
 ghost use Rattle.rkyv_bench_calls.specs.Totals.{number_hash, number_looked_up, number_weight};
 ghost use Rattle.rkyv_bench_calls.specs.Totals.{total, walk_total};
 
-use rkyv_bench_calls::numbers::{
-    access_u32, build_u32, hash_u32, lookup_u32, lookup_u32_by_finder, walk_u32,
-};
+use rkyv_bench_calls::numbers::{access_u32, build_u32, hash_u32, lookup_u32, walk_u32};
 use std::alloc::Global;
 
 /// Returns the sum modulo 2^64 of the hashes of the keys.
@@ -56,17 +54,6 @@ pub extern "C" fn rkyv_bench_lookup_u32(archive: &[u8], keys: &[u32]) -> u64
     ensures { result ≡ total (number_looked_up archive.now) keys.now }
 {
     lookup_u32(archive, keys)
-}
-
-/// As `rkyv_bench_lookup_u32`, by a finder of the map.
-///
-/// The archive must have been accepted: `rkyv_bench_access_u32` answered more than 0.
-#[unsafe(no_mangle)]
-pub extern "C" fn rkyv_bench_lookup_u32_by_finder(archive: &[u8], keys: &[u32]) -> u64
-    requires { IsArchive number_shape archive.now }
-    ensures { result ≡ total (number_looked_up archive.now) keys.now }
-{
-    lookup_u32_by_finder(archive, keys)
 }
 
 /// Returns the sum modulo 2^64 of all keys and all values.

@@ -7,9 +7,7 @@ ghost use Rattle.rkyv_bench_calls.specs.Cuts.{AreTexts, texts};
 ghost use Rattle.rkyv_bench_calls.specs.Totals.{text_hash, text_looked_up, text_weight, total};
 ghost use Rattle.rkyv_bench_calls.specs.Totals.{walk_total};
 
-use rkyv_bench_calls::texts::{
-    access_text, build_text, hash_text, lookup_text, lookup_text_by_finder, walk_text,
-};
+use rkyv_bench_calls::texts::{access_text, build_text, hash_text, lookup_text, walk_text};
 use std::alloc::Global;
 
 /// Returns the sum modulo 2^64 of the hashes of the texts.
@@ -70,22 +68,6 @@ pub extern "C" fn rkyv_bench_lookup_text(archive: &[u8], bytes: &[u8], ends: &[u
     ensures { result ≡ total (text_looked_up archive.now) (texts bytes.now ends.now) }
 {
     lookup_text(archive, bytes, ends)
-}
-
-/// As `rkyv_bench_lookup_text`, by a finder of the map.
-///
-/// The archive must have been accepted: `rkyv_bench_access_text` answered more than 0.
-#[unsafe(no_mangle)]
-pub extern "C" fn rkyv_bench_lookup_text_by_finder(
-    archive: &[u8],
-    bytes: &[u8],
-    ends: &[u32],
-) -> u64
-    requires archive { IsArchive short_text archive.now }
-    requires texts { AreTexts bytes.now ends.now }
-    ensures { result ≡ total (text_looked_up archive.now) (texts bytes.now ends.now) }
-{
-    lookup_text_by_finder(archive, bytes, ends)
 }
 
 /// Returns the sum modulo 2^64 of the lengths of all keys, in bytes, and of all values.

@@ -7,16 +7,11 @@ use Rattle.std.specs.Prelude.{IfSome, List}
 use Rattle.rkyv_base.specs.Bytes.{number_at}
 use Rattle.rkyv_base.specs.Entry.{value_offset}
 use Rattle.rkyv_base.specs.Shape.{Shape}
-use Rattle.rkyv_base.specs.View.{IsView}
 use Rattle.rkyv_base.specs.declared.view.View.{View}
 use Rattle.rkyv_collections.specs.Map.{IsValueAt, IsValueIn, map_bytes}
 use Rattle.rkyv_collections.specs.declared.map.ArchivedHashMap.{ArchivedHashMap}
 use Rattle.rkyv_bench_calls.specs.Archives.{number_shape}
 use Rattle.rkyv_bench_calls.specs.Totals.{number_seen, value_or_miss}
-
-pub found_viewed : {K V H W : Type 0} {wt : Words W} (key : Shape) (m : ArchivedHashMap K V H W wt) (found : Option (View V)) → IfSome found (IsValueIn w32 key number_shape m) → IfSome found (IsView number_shape)
-found_viewed key m None walked = walked
-found_viewed key m (Some value) walked = walked.viewed
 
 pub found_seen : {K V H W : Type 0} {wt : Words W} (key : Shape) (m : ArchivedHashMap K V H W wt) (found : Option (View V)) (place : Option ℕ) → IfSome found (IsValueIn w32 key number_shape m) → IsValueAt key number_shape found place
     → number_seen found ≡ value_or_miss key (map_bytes m) place

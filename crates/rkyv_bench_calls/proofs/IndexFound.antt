@@ -3,21 +3,15 @@ use Rattle.rkyv_base.specs.declared.width.Word.{Ghosts as Words}
 use Rattle.std.proofs.Common.{◌≡◌, ℕ, ◌∙◌, ap, List, Option, None, Some}
 use Rattle.std.specs.Borrow.{Bor}
 use Rattle.std.specs.Int.{w32}
-use Rattle.std.specs.Prelude.{IfSome}
 use Rattle.rkyv_base.specs.Bytes.{number_at}
 use Rattle.rkyv_base.specs.Shape.{Shape}
-use Rattle.rkyv_base.specs.View.{IsView, pos_of}
+use Rattle.rkyv_base.specs.View.{pos_of}
 use Rattle.rkyv_base.specs.declared.view.View.{View}
-use Rattle.rkyv_index.specs.Index.{IsValueAt, IsValueOf, index_bytes, index_pos}
+use Rattle.rkyv_index.specs.Index.{IsValueAt, index_bytes, index_pos}
 use Rattle.rkyv_index.specs.declared.map.ArchivedIndexMap.{ArchivedIndexMap}
 use Rattle.rkyv_bench_calls.specs.Archives.{number_shape}
 use Rattle.rkyv_bench_calls.specs.Index.{place_or_miss}
 use Rattle.rkyv_bench_calls.specs.Totals.{number_seen}
-
-pub index_found_viewed : {K V H W : Type 0} {wt : Words W} (key : Shape) (m : ArchivedIndexMap K V H W wt) (Held : ℕ → Type 0) (found : Option (View V))
-    → IfSome found (λ v. (i : ℕ) × Held i × IsValueOf w32 key number_shape m i v) → IfSome found (IsView number_shape)
-index_found_viewed key m Held None walked = walked
-index_found_viewed key m Held (Some value) walked = walked.2.viewed
 
 pub index_found_seen : {K V H W : Type 0} {wt : Words W} (key : Shape) (m : ArchivedIndexMap K V H W wt) (found : Option (View V)) (place : Option ℕ) → IsValueAt w32 key number_shape m found place
     → number_seen found ≡ place_or_miss key (index_bytes m) (index_pos m) place

@@ -63,16 +63,6 @@ pub fn lookup_index_u32(archive: &[u8], keys: &[u32]) -> u64
     lookup_total::<u32, u32, _, _, _>(index_in(archive), keys.iter())
 }
 
-/// As `lookup_index_u32`, by a finder of the index map.
-///
-/// The archive must have been accepted: `access_index_u32` answered more than 0.
-pub fn lookup_index_u32_by_finder(archive: &[u8], keys: &[u32]) -> u64
-    requires { IsIndexArchive archive.now }
-    ensures { result ≡ total (index_number_looked_up archive.now) keys.now }
-{
-    lookup_total::<u32, u32, _, _, _>(index_in(archive).finder(), keys.iter())
-}
-
 /// Returns the sum modulo 2^64 of all keys and all values.
 ///
 /// # Requires

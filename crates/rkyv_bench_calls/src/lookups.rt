@@ -1,26 +1,22 @@
-//! Maps and finders in which keys are looked up.
+//! Lookups of keys in maps and index maps.
 
 ghost use Rattle.std.specs.Prelude.{IfSome, List, ℕ, Bool, ◌≡◌};
 ghost use Rattle.std.specs.Int.{w32};
 ghost use Rattle.rkyv_scan.specs.Hash.{HasherCall};
-ghost use Rattle.rkyv_base.specs.Numbers.{unsigned};
 ghost use Rattle.rkyv_base.specs.View.{IsView};
 ghost use Rattle.rkyv_keys.specs.Places.{at_view};
 ghost use Rattle.rkyv_collections.specs.Map.{IsMap};
-ghost use Rattle.rkyv_collections.specs.MapFinder.{IsMapFinder, map_of};
 ghost use Rattle.rkyv_index.specs.Index.{IsIndexMap};
-ghost use Rattle.rkyv_index.specs.IndexMapFinder.{IsIndexMapFinder, map_of as index_of};
 ghost use Rattle.rkyv_bench_calls.specs.Archives.{number_shape};
 ghost use Rattle.rkyv_bench_calls.specs.Index.{index_answer};
 ghost use Rattle.rkyv_bench_calls.specs.Totals.{map_answer, number_seen, number_weight};
 
 use rkyv_base::view::View;
 use rkyv_collections::map::ArchivedHashMap;
-use rkyv_collections::map::finder::MapFinder;
-use rkyv_index::{ArchivedIndexMap, IndexMapFinder};
+use rkyv_index::ArchivedIndexMap;
 use rkyv_keys::keys::{KeyElement, Query};
 
-/// A map or an index map to numbers, or a finder of one.
+/// A map or an index map to numbers.
 pub(crate) trait Lookup<K: KeyElement>: Copy + Drop {
     // The condition under which keys can be looked up.
     ghost ready: { Self → Type 0 };
@@ -67,32 +63,10 @@ impl<'a, K: KeyElement> Lookup<K> for ArchivedHashMap<'a, K, u32> {
     }
 }
 
-impl<'a, K: KeyElement> Lookup<K> for MapFinder<'a, K, u32> {
-    ghost ready = { IsMapFinder w32 K.shape number_shape };
-
-    ghost answer = { λ finder. map_answer K.shape (map_of finder) };
-
-    #[inline]
-    fn value_or_miss<Q: Query<K>>(&self, key: &Q) -> u64 {
-        number_or_miss(self.get(key))
-    }
-}
-
 impl<'a, K: KeyElement> Lookup<K> for ArchivedIndexMap<'a, K, u32> {
     ghost ready = { IsIndexMap w32 K.shape number_shape };
 
     ghost answer = { index_answer K.shape };
-
-    #[inline]
-    fn value_or_miss<Q: Query<K>>(&self, key: &Q) -> u64 {
-        number_or_miss(self.get(key))
-    }
-}
-
-impl<'a, K: KeyElement> Lookup<K> for IndexMapFinder<'a, K, u32> {
-    ghost ready = { IsIndexMapFinder w32 (unsigned w32) K.shape number_shape };
-
-    ghost answer = { λ finder. index_answer K.shape (index_of finder) };
 
     #[inline]
     fn value_or_miss<Q: Query<K>>(&self, key: &Q) -> u64 {

@@ -51,16 +51,6 @@ pub fn lookup_u32(archive: &[u8], keys: &[u32]) -> u64
     lookup_total::<u32, u32, _, _, _>(map_in(archive), keys.iter())
 }
 
-/// As `lookup_u32`, by a finder of the map.
-///
-/// The archive must have been accepted: `access_u32` answered more than 0.
-pub fn lookup_u32_by_finder(archive: &[u8], keys: &[u32]) -> u64
-    requires { IsArchive number_shape archive.now }
-    ensures { result ≡ total (number_looked_up archive.now) keys.now }
-{
-    lookup_total::<u32, u32, _, _, _>(map_in(archive).finder(), keys.iter())
-}
-
 /// Returns the sum modulo 2^64 of all keys and all values.
 ///
 /// # Requires

@@ -76,17 +76,6 @@ pub fn lookup_text(archive: &[u8], bytes: &[u8], ends: &[u32]) -> u64
     lookup_total::<Text, &str, _, _, _>(map_in(archive), cut(bytes, ends))
 }
 
-/// As `lookup_text`, by a finder of the map.
-///
-/// The archive must have been accepted: `access_text` answered more than 0.
-pub fn lookup_text_by_finder(archive: &[u8], bytes: &[u8], ends: &[u32]) -> u64
-    requires archive { IsArchive short_text archive.now }
-    requires texts { AreTexts bytes.now ends.now }
-    ensures { result ≡ total (text_looked_up archive.now) (texts bytes.now ends.now) }
-{
-    lookup_total::<Text, &str, _, _, _>(map_in(archive).finder(), cut(bytes, ends))
-}
-
 /// Returns the sum modulo 2^64 of the lengths of all keys, in bytes, and of all values.
 ///
 /// # Requires

@@ -2,8 +2,6 @@
 #![tactic(auto)]
 
 #[cfg(test)]
-mod finders;
-#[cfg(test)]
 mod index_maps;
 #[cfg(test)]
 mod maps;

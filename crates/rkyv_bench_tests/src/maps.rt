@@ -35,8 +35,8 @@ fn texts_read(archive: &[u8], text: &str) -> Option<(u64, u64)>
     Some((found, walk_text(archive)))
 }
 
-/// Returns the end of a single text.
-pub(crate) fn end_of(text: &str) -> [u32; 1]
+// Returns the end of a single text.
+fn end_of(text: &str) -> [u32; 1]
     requires { length text.now < 2 ^ 32 }
     ensures { AreTexts text.now result }
 {
