@@ -14,7 +14,7 @@ pub record IsDecoded (w : Width) (b : List ℕ) (p : ℕ) (header : Decoded) : T
   pub controls_pos : 0 < header.cap → header.controls_pos ≡ controls_pos w b p
   pub divisor : 0 < header.cap → header.reciprocal.divisor ≡ header.cap
 
--- it is a proposition
+-- `IsDecoded` is a proposition
 pub decoded_prop : (w : Width) (b : List ℕ) (p : ℕ) (header : Decoded)
     → IsProp (IsDecoded w b p header)
 decoded_prop w b p header = hlevel props
