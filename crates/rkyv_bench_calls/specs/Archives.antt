@@ -34,7 +34,8 @@ abbrev pub root : List ℕ → ℕ
 root b = length b - 12
 
 -- `m` is the map at the root of the archive
-abbrev pub IsMapAtRoot : {K V H W : Type 0} {wt : Words W} → ArchivedHashMap K V H W wt → Bor (List ℕ) → Type 0
+abbrev pub IsMapAtRoot : {K V H W : Type 0} {wt : Words W} → ArchivedHashMap K V H W wt
+    → Bor (List ℕ) → Type 0
 IsMapAtRoot m archive = IsAt m.view archive (root archive.now)
 
 -- `n` is `length` plus 1 if `IsOne` is true, and else 0

@@ -37,7 +37,8 @@ abbrev pub index_root : List ℕ → ℕ
 index_root b = length b - 16
 
 -- `m` is the index map at the root of the archive
-abbrev pub IsIndexAtRoot : {K V H W : Type 0} {wt : Words W} → ArchivedIndexMap K V H W wt → Bor (List ℕ) → Type 0
+abbrev pub IsIndexAtRoot : {K V H W : Type 0} {wt : Words W} → ArchivedIndexMap K V H W wt
+    → Bor (List ℕ) → Type 0
 IsIndexAtRoot m archive = IsAt m.view archive (index_root archive.now)
 
 -- `n` is the length of the index map plus 1 if `b` is a valid archive, and else 0
@@ -61,8 +62,8 @@ index_looked_up key b p calls fits = place_or_miss key b p
     (index_found w32 b p (hash_by calls) (λ i. fits b (index_key_pos key b p i)))
 
 -- the value of the entry that a lookup finds in the index map `m`, or 2 ^ 32
-abbrev pub index_answer : {K V H W : Type 0} {wt : Words W} → Shape → ArchivedIndexMap K V H W wt → List HasherCall
-    → (List ℕ → ℕ → Bool) → ℕ
+abbrev pub index_answer : {K V H W : Type 0} {wt : Words W} → Shape
+    → ArchivedIndexMap K V H W wt → List HasherCall → (List ℕ → ℕ → Bool) → ℕ
 index_answer key m = index_looked_up key (index_bytes m) (index_pos m)
 
 -- the value that a lookup of `number` finds in the index map at `p`, or 2 ^ 32

@@ -62,8 +62,8 @@ looked_up key b p calls fits = value_or_miss key b
     (pos_found generic_kind w32 (entry_shape key number_shape).size b p (hash_by calls) (fits b))
 
 -- the value that a lookup finds in the map `m`, or 2 ^ 32
-abbrev pub map_answer : {K V H W : Type 0} {wt : Words W} → Shape → ArchivedHashMap K V H W wt → List HasherCall
-    → (List ℕ → ℕ → Bool) → ℕ
+abbrev pub map_answer : {K V H W : Type 0} {wt : Words W} → Shape → ArchivedHashMap K V H W wt
+    → List HasherCall → (List ℕ → ℕ → Bool) → ℕ
 map_answer key m = looked_up key (map_bytes m) (map_pos m)
 
 -- the value that a lookup of `number` finds in the map at `p`, or 2 ^ 32

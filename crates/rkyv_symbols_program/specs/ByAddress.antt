@@ -70,8 +70,8 @@ OpensIndex s index result = MatchResult result
     (AccessFails 4_294_967_295 s index.now)
 
 -- `entry` is the address and the name at index `place` of an index map
-abbrev pub IsEntryOf : {K V H W : Type 0} {wt : Words W} → ArchivedIndexMap K V H W wt → ℕ → ℕ × Bor (List ℕ)
-    → Type 0
+abbrev pub IsEntryOf : {K V H W : Type 0} {wt : Words W} → ArchivedIndexMap K V H W wt → ℕ
+    → ℕ × Bor (List ℕ) → Type 0
 IsEntryOf {K} {V} index place entry = (pair : View K × View V)
     × IsPairOf w32 address_shape name_shape index place pair
     × StandsAt (ScalarStands (unsigned w64)) pair.0 entry.0

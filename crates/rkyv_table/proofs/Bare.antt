@@ -1,4 +1,4 @@
--- What is asked of a table that is read is asked of its bytes.
+-- Lookups in a table that is read are lookups in its bytes.
 use Rattle.rkyv_base.specs.declared.width.Word.{Ghosts as Words}
 use Rattle.std.proofs.Common.{◌≡◌, ℕ, ◌+◌, zero-add, sym, ap, subst, ◌∙◌, Bool, List, Option, None, Some}
 use Rattle.std.specs.Int.{Width}
@@ -16,7 +16,7 @@ use Rattle.rkyv_table.proofs.SealedTable.{table_kept}
 use Rattle.rkyv_table.specs.declared.table.ArchivedHashTable.{ArchivedHashTable}
 
 module _ {T W : Type 0} {wt : Words W} (w : Width) (s : Shape) (b : List ℕ) (p : ℕ) (t : ArchivedHashTable T W wt) (bytes : t.view.archive.now ≡ b) (place : t.view.pos ≡ p) where
-  -- what stands in the bytes stands in the table
+  -- a valid table in the bytes is the table that is read
   pub table_of : Viewed (table_shape w s) b p → IsTable w s t
   table_of stands = subst (λ (c : List ℕ). Viewed (table_shape w s) c t.view.pos) (sym bytes) (subst (Viewed (table_shape w s) b) (sym place) stands)
 
@@ -58,7 +58,7 @@ module _ {T W : Type 0} {wt : Words W} (w : Width) (s : Shape) (b : List ℕ) (p
             let P = λ (c : List ℕ) (q : ℕ). WrittenAt w c q hashes homes → IsUnderHash hash hashes (home_positions w s.size c q homes) accept → found ≡ find accept (home_positions w s.size c q homes) in
             subst (P b) place (subst (λ (c : List ℕ). P c t.view.pos) bytes (λ x y. first hashes homes accept x (answers_of accept answers) y)) written under
 
-    -- what a lookup answers in the table it answers in the bytes
+    -- a lookup in the table has the same result in the bytes
     pub looks_up_none : (kind : Kind) (hash : ℕ) → FindsFound post kind w s t hash None → FindsFirst post w s t hash None → LooksUp post kind w s b p hash None
     looks_up_none kind hash finds first = record { accepted = tt; answer = found_of kind hash None finds; first = first_of kind hash None finds first }
 
@@ -73,7 +73,7 @@ module _ {T W : Type 0} {wt : Words W} (w : Width) (s : Shape) (b : List ℕ) (p
         subst (P b) place (subst (λ (c : List ℕ). P c t.view.pos) bytes
         (counts accept (answers_of accept answers) ∙ ap (λ n. n + lookup_end kind w s.size t.view.archive.now t.view.pos hash accept) none ∙ zero-add _))
 
-  -- where an item of the table stands, each write of it alone that keeps it keeps the table
+  -- each write of an item of the table alone that keeps it valid keeps the table
   pub item_at_found : IsElement s → Viewed (table_shape w s) b p → (q : ℕ) → IsItemPos w s t q → (i : ℕ) × IsItemAt w s b p i q
   item_at_found law stands q is =
       let i = is.0 in

@@ -20,7 +20,7 @@ none_left [] h = refl
 none_left (x ∷ xs) h = absurd (omega arith)
 
 module _ {X R : Type 0} (size limit : ℕ) (f : Format X R) (slots : List (Option X)) (rs : List R) (o : Output) where
-  -- the buckets from i on stand, and left resolves the items of the others
+  -- the buckets from `i` on are written, and `left` are the resolvers of the other items
   pub record Down (i : ℕ) (left : List R) (o1 : Output) : Type 0 where
     pub out : List ℕ
     pub done : List R
@@ -56,7 +56,7 @@ module _ {X R : Type 0} (size limit : ℕ) (f : Format X R) (slots : List (Optio
           within = lim;
         }
 
-    -- there is a resolver for it
+    -- a resolver is left for the item
     pub down_room : (x : X) → get_or slots i None ≡ Some x → 0 < length left
     down_room x e =
         let q : i < length slots = omega (arith, d.inside) in

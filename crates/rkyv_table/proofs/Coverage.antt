@@ -1,4 +1,5 @@
--- Strides are the places below the probe capacity congruent to the start modulo 16, each once. Shown names every bucket.
+-- The strides of a hash begin at the indices congruent to the start modulo 16, each once. They show
+-- every bucket.
 use Rattle.std.proofs.Common.{◌≡◌, ℕ, ◌+◌, ◌*◌, ◌-◌, ◌/◌, ◌%◌, ◌^◌, ◌<◌, ◌≤◌, inl, inr, refl, sym, ap, ◌∙◌, arith, List, Bool, true, false, ◌&&◌, eqb, ltb, length, map}
 use Rattle.std.specs.List.{list_any, range_with_len, IsDistinct}
 use Rattle.std.proofs.Math.Nat.{mod-eq_of_lt, mod-add-mod, add-mul-mod_self_right}
@@ -13,7 +14,7 @@ use Rattle.rkyv_table.proofs.Triangle.{triangle, hits, hits_once}
 use Rattle.rkyv_table.proofs.Lists.{any_filter, any_map_range, from_map_range, distinct_filter, distinct_map_range}
 use Rattle.rkyv_table.proofs.Modulus.{modulus_power}
 
--- the k-th place, where the modulus is 16 n
+-- the index with the number `k`, if the modulus is `16 * n`
 pub place_is : (s n k : ℕ) → 0 < n → probe_place s (16 * n) k ≡ 16 * ((s / 16 + triangle k) % n) + s % 16
 place_is s n k pos =
     let r = (s / 16 + triangle k) % n in
@@ -25,7 +26,7 @@ place_is s n k pos =
     let m = mod-mul-add q (16 * n) (16 * r + s % 16) small in
     rw e at m
 
--- a + t is j modulo n, where t is j - a
+-- `a + t` is `j` modulo `n`, if `t` is `j - a`
 turn : (a t j n : ℕ) → j < n → t % n ≡ (j + (n - a % n)) % n → (a + t) % n ≡ j
 turn a t j n h e =
     let la : a % n < n = mod_below a n (omega arith) in
@@ -53,7 +54,7 @@ unturn a t u n pos e =
     let p' = mod-add-mod (a + u) n b in
     sym ft ∙ sym p ∙ ap (λ w. (w + b) % n) e ∙ p' ∙ fu
 
--- each residue is a place, and only one
+-- each residue is that of exactly one index
 place_hit : (s n j : ℕ) → j < 2 ^ n → (k : ℕ) × (k < 2 ^ n) × (probe_place s (16 * 2 ^ n) k ≡ 16 * j + s % 16)
 place_hit s n j h =
     let pos : 0 < 2 ^ n = pow_pos n in
@@ -76,7 +77,7 @@ same_tests true c f g = sym (f refl)
 same_tests false true f g = g refl
 same_tests false false f g = refl
 
--- all places, below the modulus or not
+-- all indices, below the probe capacity or not
 places : ℕ → ℕ → List ℕ
 places s m = map (probe_place s m) (range_with_len 0 (m / 16))
 
@@ -104,7 +105,8 @@ distinct_places s m n e =
     let len : m / 16 ≡ 2 ^ n = omega arith in
     rw (len, e) (distinct_map_range (probe_place s (16 * 2 ^ n)) (2 ^ n) (λ i j hi hj q. place_once s n i j hi hj q))
 
--- a place is in the strides exactly where it is below the probe capacity and congruent to the start modulo 16
+-- an index is in the strides if and only if it is below the probe capacity and congruent
+-- to the start modulo 16
 pub has_stride : (h cap p : ℕ) → 0 < cap → list_any (eqb p) (strides h cap) ≡ (ltb p (probe_capacity cap) && eqb (p % 16) (start h cap % 16))
 unfolding strides places
 has_stride h cap p pos =
@@ -125,14 +127,14 @@ has_stride h cap p pos =
 pub stride_below : (h cap p : ℕ) → 0 < cap → list_any (eqb p) (strides h cap) ≡ true → p < probe_capacity cap
 stride_below h cap p pos m = ltb-true p (probe_capacity cap) (and_parts (ltb p (probe_capacity cap)) (eqb (p % 16) (start h cap % 16)) (sym (has_stride h cap p pos) ∙ m)).0
 
--- each once
+-- each index is in the strides once
 pub distinct_strides : (h cap : ℕ) → 0 < cap → IsDistinct eqb (strides h cap)
 unfolding strides places
 distinct_strides h cap pos =
     let w = modulus_power cap pos in
     distinct_filter (λ x. ltb x (probe_capacity cap)) (places (start h cap) (modulus cap)) (distinct_places (start h cap) (modulus cap) w.0 w.1)
 
--- so there are P / 16 of them
+-- the number of strides is a sixteenth of the probe capacity
 pub count_strides : (h cap : ℕ) → 0 < cap → length (strides h cap) ≡ probe_capacity cap / 16
 count_strides h cap pos =
     let s = start h cap % 16 in
@@ -158,7 +160,7 @@ count_strides h cap pos =
 pub mod_more : (b c : ℕ) → b < c → (b + c) % c ≡ b
 mod_more b c h = let m = mod-mul-add 1 c b h in let e : 1 * c + b ≡ b + c = omega arith in rw e at m
 
--- every bucket is at a place of some stride
+-- every bucket is at an index of some stride
 pub covered : (h cap b : ℕ) → b < cap → (p : ℕ) × (q : ℕ) × (list_any (eqb p) (strides h cap) ≡ true) × (p ≤ q) × (q < p + 16) × (q < 2 * cap) × (q % cap ≡ b)
 covered h cap b hb =
     let s = start h cap in

@@ -12,7 +12,8 @@ use Rattle.rkyv_table.specs.Table.Reading.{WrittenAt, home_positions, item_at, p
 use Rattle.rkyv_table.proofs.Written.{found_first}
 
 module _ (kind : Kind) (law : IsKind kind) (w : Width) (size : ℕ) (b : List ℕ) (p hash : ℕ) where
-  -- where only items under the asked hash are accepted, the answer is the first accepted one in the order handed in
+  -- if only items under the hash are accepted, the result is the first accepted
+  -- one in insertion order
   pub first_found : hash < 2 ^ 64 → (hashes homes : List ℕ) (accept : ℕ → Bool) → WrittenAt w b p hashes homes
       → IsUnderHash hash hashes (home_positions w size b p homes) accept → pos_found kind w size b p hash accept ≡ find accept (home_positions w size b p homes)
   first_found fits hashes homes accept written under = elim written.placed [

@@ -1,4 +1,4 @@
--- Placing: the first empty place of a stride, and the first of all strides.
+-- Placing: the first empty index of a stride, and the first of all strides.
 use Rattle.std.proofs.Common.{◌≡◌, ℕ, zero, suc, ◌+◌, ◌*◌, ◌-◌, ◌%◌, ◌<◌, ◌≤◌, ◌⊎◌, inl, inr, refl, sym, ap, ◌∙◌, arith, List, [], ◌∷◌, Bool, true, false, ◌&&◌, eqb, leb, ltb, length, get_or, take, drop, set, filter, Option, Some, None}
 use Rattle.std.specs.List.{find, list_any, range_with_len, flat_map, slice_get}
 use Rattle.std.specs.Option.{option_map}
@@ -30,7 +30,7 @@ find_shift P P' c i (suc n) h =
     let ih = find_shift P P' c (i + 1) n (λ j lo hi. h j (omega arith) (omega arith)) in
     elim (cases_Bool (P' i)) [ inl t ↦ rw (e, t) refl | inr t ↦ rw (e, t, f, ih) refl ]
 
--- one group more: g is its controls, i its number
+-- one group more. `g`: its control bytes, `i`: its number
 pub more_places : (controls g : List ℕ) (p i w : ℕ) (r : Option ℕ) → g ≡ take w (drop (p + i * w) controls) → find (is_empty_at controls) (range_with_len p (i * w)) ≡ None
     → r ≡ slice_get (filter (λ j. leb 128 (get_or g j 0)) (range_with_len 0 w)) 0
     → find (is_empty_at controls) (range_with_len p ((i + 1) * w)) ≡ option_map (λ j. p + i * w + j) r
@@ -51,7 +51,7 @@ whole_stride P p n q le h =
     let e : 16 ≡ n + (16 - n) = omega arith in
     ap (λ z. find P (range_with_len p z)) e ∙ ap (find P) (range_append p n (16 - n)) ∙ find-append P (range_with_len p n) (range_with_len (p + n) (16 - n)) ∙ rw h refl
 
--- the first marked place of a group lies in it
+-- the first marked index of a group is inside it
 pub place_inside : (P : ℕ → Bool) (n j : ℕ) (ps : List ℕ) → ps ≡ places_where P n → Some j ≡ slice_get ps 0 → j < n
 unfolding places_where
 place_inside P n j ps e h =
@@ -60,11 +60,11 @@ place_inside P n j ps e h =
 
 -- ---- all strides
 
--- the place's control is that of its bucket
+-- the control byte at an index is that of its bucket
 same_test : (cap : ℕ) (controls : List ℕ) (q : ℕ) → 0 < cap → Repeats cap controls → q < 2 * cap → q < control_count cap → is_empty_at controls q ≡ is_empty_at controls (q % cap)
 same_test cap controls q pos r two c = ap (leb 128) (control_of cap controls q pos r two c)
 
--- a stride with no empty place shows no free bucket
+-- a stride without an empty index shows no free bucket
 pub none_shown : (cap : ℕ) (controls : List ℕ) (p : ℕ) → 0 < cap → Repeats cap controls → p < probe_capacity cap → find (is_empty_at controls) (range_with_len p 16) ≡ None → list_any (is_empty_at controls) (buckets_at cap p) ≡ false
 unfolding buckets_at
 none_shown cap controls p pos r lp h =
@@ -79,7 +79,7 @@ none_shown cap controls p pos r lp h =
           (any_range (is_empty_at controls) p 16 q lo hi (same_test cap controls q pos r l (omega arith) ∙ t))))
     ])
 
--- the first empty place of a stride is that of the first free bucket that the stride shows
+-- the first empty index of a stride is that of the first free bucket that the stride shows
 pub some_shown : (h cap : ℕ) (controls : List ℕ) (p q b : ℕ) → Repeats cap controls → b < cap → is_empty_at controls b ≡ true
     → list_any (eqb p) (strides h cap) ≡ true → p < probe_capacity cap
     → (list_any (is_empty_at controls) (buckets_at cap (start h cap)) ≡ false) ⊎ (p ≡ start h cap)
@@ -164,7 +164,7 @@ member_front p ps qs e = ap (list_any (eqb p)) e ∙ or_left (eqb p p) (list_any
 pub member_rest : (p x : ℕ) (ps qs : List ℕ) → qs ≡ p ∷ ps → list_any (eqb x) ps ≡ true → list_any (eqb x) qs ≡ true
 member_rest p x ps qs e m = ap (list_any (eqb x)) e ∙ or_right (eqb x p) (list_any (eqb x) ps) m
 
--- the strides can't run out where a bucket is free
+-- the strides don't end before a free bucket
 pub runs_out : (h cap b : ℕ) (free : ℕ → Bool) (qs : List ℕ) → b < cap → free b ≡ true → qs ≡ [] → find free (shown h cap) ≡ find free (flat_map (buckets_at cap) qs) → ⊥
 runs_out h cap b free qs hb fb e same =
     let n : find free (shown h cap) ≡ None = same ∙ ap (λ xs. find free (flat_map (buckets_at cap) xs)) e in
@@ -177,6 +177,6 @@ empty_place_is controls p = refl
 pub no_range : (P : ℕ → Bool) (p n : ℕ) → n ≡ 0 → find P (range_with_len p n) ≡ None
 no_range P p n e = rw e refl
 
--- the two writes of a bucket's control
+-- the two writes of a bucket's control byte
 pub one_write : (controls : List ℕ) (cap b t : ℕ) → length controls ≤ cap + b → set controls b t ≡ with_control controls cap b t
 one_write controls cap b t h = let l = length-set controls b t in sym (set_past (set controls b t) (cap + b) t (omega arith))

@@ -1,4 +1,4 @@
--- A lookup in a written table answers the first accepted item of the list.
+-- A lookup in a written table finds the first accepted item of the list.
 use Rattle.std.proofs.Common.{◌≡◌, ℕ, suc, ◌∙◌, inl, inr, refl, sym, ap, subst, arith, Bool, true, List, [], ◌∷◌, length, slice_get, slice_index, Some}
 use Rattle.std.specs.Int.{Width}
 use Rattle.std.specs.List.{find}
@@ -15,7 +15,7 @@ use Rattle.rkyv_table.specs.Table.WrittenTables.{IsWrittenOf}
 use Rattle.rkyv_table.proofs.FirstFound.{first_found}
 use Rattle.rkyv_table.proofs.WrittenTables.{home_count, table_written}
 
--- the first position that is told is that of the first item that is accepted
+-- the first accepted position is that of the first accepted item
 first_along : {X : Type 0} (stands : List ℕ → ℕ → X → Type 0) (c : List ℕ) (accept : X → Bool) (told : ℕ → Bool) (items : List X) (qs : List ℕ)
     → length items ≡ length qs → ((i : ℕ) (x : X) → slice_get items i ≡ Some x → stands c (slice_index qs i) x)
     → TellsOf stands c accept items told → IsFirstOf stands c accept items (find told qs)
@@ -41,7 +41,7 @@ module _ {X : Type 0} (w : Width) (size : ℕ) (stands : List ℕ → ℕ → X 
   places_count : length (items_of pairs) ≡ length places
   places_count = length-map pairs (λ (y : ℕ × X). y.1) ∙ sym hashes_count ∙ sym (home_count w c p (hashes_of pairs) written.homes written.written) ∙ sym (length-map written.homes _)
 
-  -- only positions of items under the hash are told
+  -- only positions of items under the hash are accepted
   pub told_under : IsUnderHash hash (hashes_of pairs) places told
   told_under i below t = elim (slice_get_cases pairs i).1 [
     | inl e ↦
@@ -53,11 +53,11 @@ module _ {X : Type 0} (w : Width) (size : ℕ) (stands : List ℕ → ℕ → X 
     | inr past ↦ absurd (omega (arith, past.0, below, hashes_count))
   ]
 
-  -- what is found first among the positions
+  -- the first accepted one of the positions
   pub first_at_home : IsFirstOf stands c accept (items_of pairs) (find told places)
   first_at_home = first_along stands c accept told (items_of pairs) places places_count written.at tells
 
--- on a written table a lookup answers the first accepted item of the list
+-- a lookup in a written table finds the first accepted item of the list
 pub answers_first : {X : Type 0} (w : Width) (s : Shape) (stands : List ℕ → ℕ → X → Type 0) (factor : ℕ × ℕ) → AnswersFirst w s stands factor
 answers_first w s stands factor kind c p hash pairs accept told law fits t under tells =
     let written = table_written w s stands factor c p pairs t in

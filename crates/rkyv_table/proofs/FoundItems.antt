@@ -1,4 +1,4 @@
--- What a lookup says of the item that it answers, from what it says of the bucket.
+-- The item that a lookup finds, by its bucket.
 use Rattle.rkyv_base.specs.declared.width.Word.{Ghosts as Words}
 use Rattle.std.proofs.Common.{◌≡◌, ℕ, ◌+◌, ◌%◌, ◌<◌, ◌^◌, ◌∙◌, Bool, List, None, Option, Some, ap, refl, subst, sym, true}
 use Rattle.std.specs.Int.{Width}
@@ -24,12 +24,12 @@ start_read {wt = wt} s t items are same hash start begins =
     subst (λ n. 0 < n → start ≡ hash % n) (sym e) begins
 
 module _ {T W : Type 0} {wt : Words W} (post : View T → Bool → Type 0) (w : Width) (s : Shape) (t : ArchivedHashTable T W wt) (hash : ℕ) where
-  -- what the controls lead to is the first accepted item of a written table
+  -- the control bytes lead to the first accepted item of a written table
   pub finds_first : (kind : Kind) → IsKind kind → hash < 2 ^ 64 → (found : Option ℕ) → FindsFound post kind w s t hash found → FindsFirst post w s t hash found
   finds_first kind law fits found finds = λ hashes homes accept written alone under.
       finds accept alone ∙ first_found kind law w s.size (table_bytes t) (table_pos t) hash fits hashes homes accept written under
 
-  -- a lookup by sixteen wide groups with the eight wide group's marks in each half is one by the eight wide group
+  -- a lookup by groups of sixteen as two halves is one by groups of eight
   pub found_by_halves : (result : Option (View T)) → FindsItem post halves_kind w s t hash result → FindsItem post generic_kind w s t hash result
   found_by_halves result h =
       let b = table_bytes t in
@@ -51,12 +51,12 @@ module _ {T W : Type 0} {wt : Words W} (post : View T → Bool → Type 0) (w : 
         counted = λ accept alone. h.counted accept alone ∙ ap (λ n. before + n) (end_halves (table_controls w b p) (cap_at w b p) (len_at w b p) hash (λ i. accept (item_at w s.size b p i)));
       }
 
-  -- what is said of the item is said of its position
+  -- the position of a found item
   pub pos_of_item : (kind : Kind) (result : Option (View T)) → FindsItem post kind w s t hash result → FindsItemPos post kind w s t hash (pos_of_found result)
   pos_of_item kind (Some v) h = record { walked = (h.walked.0, h.walked.1.walked, h.walked.1.place); accepted = (v, h.walked, refl, h.accepted); answer = h.answer; first = h.first }
   pos_of_item kind None h = record { walked = tt; accepted = tt; answer = h.answer; first = h.first }
 
--- a lookup in the controls that were read, of which each answer is one of the comparison for the bucket's item
+-- a lookup in the control bytes that were read, with the comparison called for items of buckets
 module _ {T W : Type 0} {wt : Words W} (post : View T → Bool → Type 0) (kind : Kind) (law : IsKind kind) (w : Width) (s : Shape) (element : IsElement s) (items : Items T W wt) (are : AreItems w s items)
     (hash : ℕ) (fits : hash < 2 ^ 64) (before after : ℕ)
     (asked : ℕ → Bool → Type 0) (meets : (i : ℕ) (r : Bool) → asked i r → (v : View T) × IsItemIn w s items.table i v × post v r) (found : Option ℕ)

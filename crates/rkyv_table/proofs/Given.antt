@@ -1,4 +1,4 @@
--- What placing and writing answers, as what the whole call answers.
+-- The result of writing a table, by the results of placing and writing.
 use Rattle.std.proofs.Common.{arith, inl, inr, refl, sym}
 use Rattle.std.specs.Prelude.{◌≡◌, ℕ, ◌^◌, ◌<◌, List, [], ◌∷◌, length}
 use Rattle.std.specs.Int.{Width}
@@ -16,7 +16,7 @@ use Rattle.rkyv_table.specs.Table.Slots.{TableNext}
 use Rattle.rkyv_table.specs.Table.TableFormat.{InBuckets, PairsNext, table_format}
 use Rattle.rkyv_table.specs.Table.Taking.{Placed}
 
--- a capacity that is had fits in a word
+-- a capacity within the limit fits in a word
 pub capacity_fits : {word : Width} {limit table index align text text_limit : ℕ} (len : ℕ) (load_factor : ℕ × ℕ) (max : ℕ) → IsLayout word limit max table index align text text_limit
     → HasCapacity len load_factor max → capacity len load_factor < 2 ^ bits word
 capacity_fits len load_factor max l has = omega (arith, has.1, l.capacity_small, l.limit_fits)
@@ -27,7 +27,7 @@ no_pairs (x ∷ xs) e = absurd (omega (arith, e))
 
 module _ {X R : Type 0} (gave : List (ℕ × X) → Type 0) (len : ℕ) (load_factor : ℕ × ℕ) (max : ℕ) (w : Width) (s : Shape) (f : Format X R) (o o' : Output) (limit : ℕ)
     (has : HasCapacity len load_factor max) where
-  -- nothing was written of no pairs
+  -- nothing was written for no pairs
   pub wrote_none : len ≡ 0 → gave [] → o' ≡ o → capacity len load_factor < 2 ^ bits w → WroteItems gave len load_factor max (table_format w s f load_factor) o o' limit (record { pos = 0; len = len; load_factor = load_factor })
   wrote_none none g same fits = (
     has,

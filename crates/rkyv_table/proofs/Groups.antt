@@ -1,4 +1,4 @@
--- A stride, group after group.
+-- A stride, group by group.
 use Rattle.std.proofs.Common.{◌≡◌, ◌↔◌, ℕ, zero, suc, ◌+◌, ◌*◌, ◌-◌, ◌/◌, ◌%◌, ◌^◌, ◌<◌, ◌≤◌, inl, inr, refl, sym, ap, ◌∙◌, arith, List, [], ◌∷◌, ◌++◌, Bool, true, false, ◌||◌, leb, length, map, filter, drop, take, get_or, Option, Some, None, get_or-take, get_or-drop}
 use Rattle.std.specs.List.{find, list_any, range_with_len}
 use Rattle.std.proofs.lemmas.List.{map-append, drop-take, take-take, drop-drop}
@@ -16,7 +16,7 @@ pub range_append : (a m n : ℕ) → range_with_len a (m + n) ≡ range_with_len
 range_append a zero n = let e : a + 0 ≡ a = omega arith in let f : 0 + n ≡ n = omega arith in rw (e, f) refl
 range_append a (suc m) n = let e : suc m + n ≡ suc (m + n) = omega arith in let f : a + suc m ≡ a + 1 + m = omega arith in rw (e, f, range_append (a + 1) m n) refl
 
--- a test of the places from c on, as one of the offsets
+-- a test of the indices from `c` on, as one of the offsets
 pub filter_shift : (m m' : ℕ → Bool) (c i n : ℕ) → ((j : ℕ) → i ≤ j → j < i + n → m (c + j) ≡ m' j) → filter m (range_with_len (c + i) n) ≡ map (λ j. c + j) (filter m' (range_with_len i n))
 filter_shift m m' c i zero h = refl
 filter_shift m m' c i (suc n) h =
@@ -37,7 +37,7 @@ map_map : (f g : ℕ → ℕ) (xs : List ℕ) → map f (map g xs) ≡ map (λ x
 map_map f g [] = refl
 map_map f g (x ∷ xs) = ap (λ ys. f (g x) ∷ ys) (map_map f g xs)
 
--- the buckets of the marked places among the first n of a stride
+-- the buckets of the marked indices among the first `n` of a stride
 unfoldable pub candidates_in : Kind → List ℕ → ℕ → ℕ → ℕ → ℕ → List ℕ
 candidates_in kind controls cap t p n = map (λ q. q % cap) (filter (marked kind controls t p) (range_with_len p n))
 
@@ -60,7 +60,7 @@ pub no_empty : (controls : List ℕ) (p : ℕ) → empty_in controls p 0 ≡ fal
 unfolding empty_in
 no_empty controls p = refl
 
--- one group more: g is its controls, i its number
+-- one group more. `g`: its control bytes, `i`: its number
 pub more_candidates : (kind : Kind) (controls g : List ℕ) (cap t p i : ℕ) → 0 < kind.width → g ≡ take kind.width (drop (p + i * kind.width) controls)
     → candidates_in kind controls cap t p ((i + 1) * kind.width) ≡ candidates_in kind controls cap t p (i * kind.width) ++ map (λ j. (p + i * kind.width + j) % cap) (filter (kind.marks g t) (range_with_len 0 kind.width))
 unfolding candidates_in
@@ -81,7 +81,7 @@ more_candidates kind controls g cap t p i pos e =
     let s' = rw z at s in
     rw (len, range_append p a w, filter-append, map-append, s', map_map) refl
 
--- a control of a group is one of the controls
+-- a control byte of a group is one of the control bytes
 pub same_control : (controls g : List ℕ) (q w j : ℕ) → g ≡ take w (drop q controls) → j < w → get_or g j 0 ≡ get_or controls (q + j) 0
 same_control controls g q w j e h = ap (λ xs. get_or xs j 0) e ∙ get_or-take w (drop q controls) j 0 h ∙ get_or-drop q controls j 0
 
@@ -96,7 +96,7 @@ more_empty controls g p i w e =
     let s' = rw z at s in
     rw (len, range_append p a w, list_any-append, s') refl
 
--- whether a mask has a place
+-- a list with a kept element has one that passes
 any_kept : (P : ℕ → Bool) (xs : List ℕ) → 0 < length (filter P xs) → list_any P xs ≡ true
 any_kept P [] h = absurd (omega arith)
 any_kept P (x ∷ xs) h = elim (cases_Bool (P x)) [ inl t ↦ or_left (P x) (list_any P xs) t | inr f ↦ let h' = rw f at h in or_right (P x) (list_any P xs) (any_kept P xs h') ]
@@ -111,7 +111,7 @@ mark_told told P xs h =
     (λ t. any_kept P xs (h.0 t))
     (λ t. h.1 (kept_any P xs t))
 
--- a group of a stride, as one of the controls
+-- a group of a stride, as one of the control bytes
 pub group_of : (controls s : List ℕ) (p a w : ℕ) → a + w ≤ 16 → s ≡ take 16 (drop p controls) → take w (drop a s) ≡ take w (drop (p + a) controls)
 group_of controls s p a w le e =
     let n : 16 ≡ a + (16 - a) = omega arith in
@@ -145,7 +145,7 @@ found_whole kind controls cap t p n b accept le h =
     ∙ find-append accept (map (λ q. q % cap) (filter m (range_with_len p n))) (map (λ q. q % cap) (filter m (range_with_len (p + n) (16 - n))))
     ∙ rw h refl
 
--- the groups of a stride
+-- the width of a group divides sixteen
 pub width_divides : (kind : Kind) → IsKind kind → 16 % kind.width ≡ 0
 width_divides kind law =
     let k = law.power.0 in

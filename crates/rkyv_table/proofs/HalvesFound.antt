@@ -1,4 +1,4 @@
--- What a lookup finds by sixteen wide groups with the eight wide group's marks in each half is what it finds by the eight wide group.
+-- A lookup by groups of sixteen as two halves has the result of one by groups of eight.
 use Rattle.std.proofs.Common.{◌≡◌, ℕ, suc, ◌+◌, ◌-◌, ◌*◌, ◌/◌, ◌%◌, ◌<◌, ◌≤◌, Bool, ◌||◌, cond, eqb, refl, ap, ◌∙◌, arith, List, drop, map, take, None}
 use Rattle.std.specs.List.{find, list_any, position_or_len}
 use Rattle.std.specs.Option.{option_and_then}

@@ -1,4 +1,4 @@
--- Homes, and the controls of a written table, are lists that capacity and hashes determine.
+-- The capacity and the hashes determine the home buckets and the written control bytes.
 use Rattle.std.proofs.Common.{◌≡◌, ℕ, zero, suc, ◌+◌, ◌*◌, ◌%◌, ◌<◌, ◌≤◌, inl, inr, refl, sym, ap, ◌∙◌, arith, List, [], ◌∷◌, ◌++◌, Bool, true, false, cond, eqb, ltb, length, get_or, take, map, Some, length-take}
 use Rattle.std.specs.List.{list_any, find, fold, range_with_len, position_or_len}
 use Rattle.std.specs.Option.{unwrap_or}
@@ -16,7 +16,7 @@ use Rattle.rkyv_table.proofs.Search.{cases_option, control_of}
 use Rattle.rkyv_table.proofs.Written.{first_within}
 use Rattle.rkyv_table.proofs.WrittenStep.{free_bucket, homes_more}
 
--- ---- homes
+-- ---- home buckets
 
 with_home_is : (cap h b : ℕ) (taken : List ℕ) → find (is_free taken) (shown h cap) ≡ Some b → with_home cap taken h ≡ taken ++ b ∷ []
 unfolding with_home
@@ -40,7 +40,7 @@ homes_one_list cap hashes xs p =
     let f = front_homes cap hashes xs p (length hashes) (omega arith) in
     sym (take_all (length hashes) xs (omega arith)) ∙ sym f ∙ ap (homes cap) (take_all (length hashes) hashes (omega arith))
 
--- fewer homes than buckets leave one for the next item
+-- fewer items than buckets leave a home bucket for the next item
 next_home : (cap h : ℕ) (taken : List ℕ) → length taken < cap → (b : ℕ) × (find (is_free taken) (shown h cap) ≡ Some b)
 next_home cap h taken room =
     let f = free_bucket cap taken room in
@@ -65,7 +65,7 @@ homes_stand cap hashes room =
     let f = front_exist cap hashes room (length hashes) (omega arith) in
     rw (take_all (length hashes) hashes (omega arith)) at f
 
--- ---- written controls
+-- ---- written control bytes
 
 none_within : (P : ℕ → Bool) (xs : List ℕ) → list_any P xs ≡ false → length xs ≤ position_or_len P xs
 none_within P [] h = omega arith

@@ -1,4 +1,4 @@
--- Checking the items, one after the other.
+-- Validating the items in order.
 use Rattle.std.proofs.Common.{◌≡◌, ℕ, ◌+◌, ◌-◌, ◌<◌, ◌≤◌, inl, inr, refl, sym, ap, subst, ◌∙◌, arith, List, [], ◌∷◌, ◌++◌, ltb, map, filter, drop, take, length, get_or, Some, None}
 use Rattle.std.specs.List.{range_with_len, slice_get}
 use Rattle.std.proofs.lemmas.Option.{none-some, same_Some}
@@ -13,7 +13,8 @@ use Rattle.rkyv_table.specs.Controls.Walking.{full_from}
 use Rattle.rkyv_table.proofs.RawSteps.{group_cut, group_read}
 use Rattle.rkyv_table.proofs.Walks.{walk_small, whole_walk}
 
--- the items in the buckets `rest` are still to be checked, from `low` on, after `count` that hold
+-- the items in the buckets `rest` are still to be validated, from `low` on, after `count`
+-- valid ones
 pub record Goes (s : Shape) (begin cap : ℕ) (b controls : List ℕ) (lo : ℕ) (rest : List ℕ) (low count : ℕ) : Type 0 where
   pub ordered : low ≤ begin
   pub counted : count + length rest ≡ length (walk controls cap)
@@ -39,7 +40,7 @@ module _ (s : Shape) (begin cap : ℕ) (b controls : List ℕ) (lo : ℕ) where
   pub goes_small : (i : ℕ) (rest : List ℕ) (low count : ℕ) → Goes s begin cap b controls lo (i ∷ rest) low count → count + 1 ≤ cap
   goes_small i rest low count g = omega (arith, g.counted, walk_small controls cap)
 
--- ---- a group's marks and what is behind it
+-- ---- the marks of a group, and the buckets after it
 
 abbrev pub marks_and_rest : List ℕ → ℕ → ℕ → ℕ → List ℕ → List ℕ
 marks_and_rest controls cap base width marks = map (λ j. base + j) marks ++ full_from controls cap (base + width)

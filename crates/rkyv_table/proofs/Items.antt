@@ -1,4 +1,4 @@
--- What an accepted table gives to its readers.
+-- The facts about a valid table that its readers need.
 use Rattle.rkyv_base.specs.declared.width.Word.{Ghosts as Words}
 use Rattle.std.proofs.Common.{◌≡◌, ℕ, ◌+◌, ◌*◌, ◌%◌, ◌<◌, ◌≤◌, inl, inr, refl, sym, ap, subst, ◌∙◌, arith, List, Bool, length, slice_range, pos, ◌+ℤ◌}
 use Rattle.std.specs.Int.{Width}
@@ -25,17 +25,17 @@ range_count : (b : List ℕ) (at n : ℕ) → at + n ≤ length b → length (sl
 range_count b at n inside = grind (arith, common_steps)
 
 module _ (w : Width) (s : Shape) (law : IsElement s) (b : List ℕ) (p : ℕ) (v : Viewed (table_shape w s) b p) where
-  -- the part of a table with buckets
+  -- the buckets and control bytes of a table with buckets
   pub part_of : 0 < cap_at w b p → HeldPart w s b p 0 p v.stands.0
   part_of h = holds_at w s law b p 0 p v.stands.0 v.stands.1 h
 
-  -- its controls are accepted ones
+  -- its control bytes are valid
   pub controls_accepted : 0 < cap_at w b p → Accepted (cap_at w b p) (len_at w b p) (table_controls w b p)
   controls_accepted h =
       let t = part_of h in
       subst (Accepted (cap_at w b p) (len_at w b p)) (sym (told_controls w s.size b p t.begin t.part.begins)) t.is.controls
 
-  -- where they end, and where they begin
+  -- the end and the begin of its control bytes
   pub controls_inside : 0 < cap_at w b p → (controls_pos w b p + control_count (cap_at w b p) ≤ length b) × (pos (controls_pos w b p) ≡ pos p +ℤ signed_at w b p)
   controls_inside h =
       let t = part_of h in
@@ -53,7 +53,7 @@ module _ (w : Width) (s : Shape) (law : IsElement s) (b : List ℕ) (p : ℕ) (v
       let e : length (table_controls w b p) ≡ n = range_count b (controls_pos w b p) n u.0 in
       omega (arith, e)
 
-  -- a bucket stands before them
+  -- a bucket is before the control bytes
   pub item_before : (i : ℕ) → i < cap_at w b p → (i + 1) * s.size ≤ controls_pos w b p
   item_before i h =
       let t = part_of (omega arith) in
@@ -61,7 +61,7 @@ module _ (w : Width) (s : Shape) (law : IsElement s) (b : List ℕ) (p : ℕ) (v
       let m : (i + 1) * s.size ≤ cap_at w b p * s.size = mul-le-mul_right s.size (omega arith) in
       omega arith
 
-  -- in a full bucket an item stands
+  -- a full bucket has a valid item
   pub item_viewed : (i : ℕ) → IsWalked w b p i → Viewed s b (item_at w s.size b p i)
   item_viewed i walked =
       let t = part_of (omega (arith, walked.0)) in
@@ -83,14 +83,14 @@ module _ (w : Width) (s : Shape) (law : IsElement s) (b : List ℕ) (p : ℕ) (v
     | inr t ↦ let r = t.2.controls.room in omega arith
   ]
 
-  -- and one without buckets has no items
+  -- a table without buckets has no items
   pub no_items : cap_at w b p ≡ 0 → len_at w b p ≡ 0
   no_items h = elim v.stands.1 [
     | inl e ↦ e.0
     | inr t ↦ let r = t.2.controls.room in absurd (omega arith)
   ]
 
--- what was read of a header serves as what the header tells
+-- the numbers that were read of a header are those of the header
 module _ {T W : Type 0} {wt : Words W} (w : Width) (s : Shape) (law : IsElement s) (items : Items T W wt) (are : AreItems w s items) where
   pub read_accepted : 0 < items.len → Accepted items.cap items.len items.controls.now
   read_accepted some =
@@ -102,8 +102,8 @@ module _ {T W : Type 0} {wt : Words W} (w : Width) (s : Shape) (law : IsElement 
   pub read_walked : (i : ℕ) → IsFullBucket items.cap items.controls.now i → IsWalked w (table_bytes items.table) (table_pos items.table) i
   read_walked i full = rw (are.controls (omega (arith, full.0)), are.cap) at full
 
-  -- what is told of controls, capacity and length, and not of the first two where there are no
-  -- items, is told of those that were read
+  -- a function of the control bytes, the capacity and the length is the same of those that were
+  -- read. Without items it doesn't depend on the first two
   read_same : {A : Type 0} (f : List ℕ → ℕ → ℕ → A) → ((c d : List ℕ) (m n : ℕ) → f c m 0 ≡ f d n 0) → f items.controls.now items.cap items.len
       ≡ f (table_controls w (table_bytes items.table) (table_pos items.table)) (cap_at w (table_bytes items.table) (table_pos items.table)) (len_at w (table_bytes items.table) (table_pos items.table))
   read_same f none_alike = elim (cases_eq items.cap 0) [

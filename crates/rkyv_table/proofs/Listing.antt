@@ -1,4 +1,4 @@
--- What writing exactly the items of a list answers.
+-- The result of writing exactly the items of a list.
 use Rattle.std.proofs.Common.{◌≡◌, ℕ, ◌<◌, refl, sym, ap, subst, ◌∙◌, arith, inl, inr, List, [], ◌∷◌, ◌++◌, map, length, length-append, Result, Ok, Err, MatchResult}
 use Rattle.std.specs.Iterator.{Drains, Yields, YieldsFirstBy}
 use Rattle.std.proofs.lemmas.List.{append-nil, length-map}
@@ -13,7 +13,7 @@ use Rattle.rkyv_table.specs.Controls.Numbers.{capacity}
 use Rattle.rkyv_table.specs.Table.Listed.{listed}
 use Rattle.rkyv_table.specs.Table.Serializing.{HasCapacity, NoItems, OwnCause, WroteItems}
 
--- an iterator whose state shows the list of what is left
+-- an iterator whose state shows the items that remain
 module _ {S A B : Type 0} (view : A → B) (rest : S → List B) where
   left_after : (xs : List A) (s t : S) → Yields (YieldsFirstBy view rest) s xs t → rest s ≡ map view xs ++ rest t
   left_after [] s t e = ap rest e
@@ -35,7 +35,7 @@ module _ {S A B : Type 0} (view : A → B) (rest : S → List B) where
             omega (arith, h.0.1, d.0, count, l, a, e)
       ]
 
--- the items that come are those of the list, and as many as claimed
+-- the input has the items of the list, as many as claimed
 module _ {X V R : Type 0} (gave : List X → Type 0) (other : ℕ → Type 0) (seen : List X → List V) (values : List V) (all : (items : List X) → gave items → seen items ≡ values)
     (none : (n : ℕ) → other n → ⊥) (len : ℕ) (count : len ≡ length values) (factor : ℕ × ℕ) (max limit : ℕ) (f : Format (List V) R) (o o' : Output) where
   abbrev Whole : Format (List V) R

@@ -1,4 +1,5 @@
--- Lists made by `filter`, `map` and `range_with_len`: membership, distinctness, and the first that passes.
+-- Lists made by `filter`, `map` and `range_with_len`: membership, distinctness, and
+-- the first that passes.
 use Rattle.std.proofs.Common.{◌≡◌, ◌≢◌, ℕ, zero, suc, ◌+◌, ◌<◌, ◌≤◌, inl, inr, refl, sym, ap, subst, ◌∙◌, arith, List, [], ◌∷◌, Bool, true, false, ◌&&◌, ◌||◌, eqb, filter, get_or, length, map, Some, None}
 use Rattle.std.specs.Prelude.{slice_get, slice_set}
 use Rattle.std.specs.List.{list_any, Contains, find, range_with_len, flat_map, IsDistinct, AllByRecursion}
@@ -32,7 +33,7 @@ any_filter x p (y ∷ ys) =
       ]
     ]
 
--- an element of a list, by test and by place
+-- an element of a list, by a test and by its index
 pub member_contains : (x : ℕ) (xs : List ℕ) → list_any (eqb x) xs ≡ true → Contains xs x
 member_contains x xs h =
     let a = Any-from_list_any (eqb x) xs h in
@@ -148,7 +149,7 @@ find_map_filter P m f (x ∷ xs) = let ih = find_map_filter P m f xs in
       | inr e ↦ rw (e, ih) refl
     ]
 
--- the first of a range
+-- the first element of a range that passes
 pub record FirstIn (P : ℕ → Bool) (a n q : ℕ) : Type 0 where
   pub from : a ≤ q
   pub to : q < a + n
@@ -176,7 +177,7 @@ range_first P a (suc n) q f = elim (cases_eq a q) [
       rw t (range_first P (a + 1) n q (record { from = omega arith; to = omega arith; yes = f.yes; no = λ i l u. f.no i (omega arith) u }))
 ]
 
--- of a list of which one item is set, what holds of the new item and of all others holds of each
+-- a property of the new item and of all others is one of each item, after one item is set
 pub set_each : {X : Type 0} (P : ℕ → X → Type 0) (xs : List X) (n : ℕ) (y : X) → n < length xs → P n y → ((j : ℕ) (x : X) → slice_get xs j ≡ Some x → j ≢ n → P j x)
     → (j : ℕ) (x : X) → slice_get (slice_set xs n y) j ≡ Some x → P j x
 set_each P xs n y inside own others j x e =

@@ -1,4 +1,4 @@
--- The steps of a lookup over the strides, and that an accepted table ends it.
+-- The steps of a lookup over the strides, which ends in valid control bytes.
 use Rattle.std.proofs.Common.{◌≡◌, ℕ, suc, ◌+◌, ◌*◌, ◌/◌, ◌%◌, ◌^◌, ◌<◌, ◌≤◌, inl, inr, refl, sym, ap, ◌∙◌, arith, List, [], ◌∷◌, Bool, true, false, not, eqb, leb, ltb, length, get_or, filter, take, drop, get_or-take, get_or-drop, Some, None}
 use Rattle.std.specs.List.{find, list_any, Contains, range_with_len, position_or_len}
 use Rattle.std.proofs.lemmas.List.FromFn.{length-range_with_len, get_or-range_with_len}
@@ -42,7 +42,7 @@ module _ (kind : Kind) (controls : List ℕ) (cap t : ℕ) (accept : ℕ → Boo
       let e : ends_at kind controls cap t accept p ≡ false = or_from (list_any accept (candidates kind controls cap t p)) (shows_empty controls p) k s in
       rw q (answer_cons kind controls cap t accept p ps ∙ rw e refl, rw e refl)
 
--- ---- an accepted table has an empty bucket, so some stride ends the search
+-- ---- valid control bytes have an empty bucket, so some stride ends the search
 
 full_filter : (P : ℕ → Bool) (xs : List ℕ) → list_any (λ x. not (P x)) xs ≡ false → length (filter P xs) ≡ length xs
 full_filter P [] h = refl
@@ -85,7 +85,7 @@ ends_somewhere kind controls cap len h t accept a =
     let d = or_right (list_any accept (candidates kind controls cap t p)) (shows_empty controls p) s in
     first_within (ends_at kind controls cap t accept) (strides h cap) (any_member (ends_at kind controls cap t accept) p (strides h cap) v.2 d)
 
--- a full control of a stride is that of a full bucket
+-- a full control byte of a stride is that of a full bucket
 pub stride_full : (cap len : ℕ) (controls stride : List ℕ) (p q : ℕ) → Accepted cap len controls → p < probe_capacity cap → q < 16 → stride ≡ take 16 (drop p controls) → get_or stride q 0 < 128
     → (p + q < 2 * cap) × IsFullBucket cap controls ((p + q) % cap)
 stride_full cap len controls stride p q a lp lq e f =
@@ -99,7 +99,7 @@ stride_full cap len controls stride p q a lp lq e f =
       | inr over ↦ let n : 128 ≤ get_or controls (p + q) 0 = a.repeats.past (p + q) over inside in absurd (omega arith)
     ]
 
--- the bucket of a full control of a stride
+-- the bucket of a full control byte of a stride
 pub shown_full : (cap len : ℕ) (controls stride : List ℕ) (p : ℕ) → Accepted cap len controls → p < probe_capacity cap → stride ≡ take 16 (drop p controls) → (b : ℕ) → IsShown stride p cap b → IsFullBucket cap controls b
 shown_full cap len controls stride p a lp e b s = let k = stride_full cap len controls stride p s.0 a lp s.1 e s.2 in rw s.3 (k.1)
 
@@ -109,11 +109,11 @@ found_is kind controls cap len h accept n = rw (ne_eqb len 0 n) refl
 pub end_is : (kind : Kind) (controls : List ℕ) (cap len h : ℕ) (accept : ℕ → Bool) → (len ≡ 0 → ⊥) → end kind controls cap len h accept ≡ suc (place kind controls cap (tag h) accept (strides h cap))
 end_is kind controls cap len h accept n = rw (ne_eqb len 0 n) refl
 
--- there are few strides
+-- the number of strides is below 2^60
 pub few_strides : (h cap : ℕ) → 0 < cap → control_count cap < 2 ^ 64 → length (strides h cap) < 2 ^ 60
 few_strides h cap pos c = let n = count_strides h cap pos in omega arith
 
--- the bound: at most one stride per sixteen places
+-- the bound: at most one stride for sixteen indices
 pub end_within : (kind : Kind) (controls : List ℕ) (cap len h : ℕ) (accept : ℕ → Bool) → (0 < len → Accepted cap len controls) → end kind controls cap len h accept ≤ probe_capacity cap / 16
 end_within kind controls cap len h accept a = elim (cases_eq len 0) [
   | inl z ↦ rw (eq-eqb len 0 z) (omega arith)
@@ -126,7 +126,7 @@ end_within kind controls cap len h accept a = elim (cases_eq len 0) [
       omega arith
 ]
 
--- the bucket of a marked place is a walked one
+-- the bucket of a marked index is in the walk
 pub marked_walked : (kind : Kind) (cap len h t p q : ℕ) (controls : List ℕ) → IsKind kind → Accepted cap len controls → t < 128 → Contains (strides h cap) p → p ≤ q → q < p + 16
     → marked kind controls t p q ≡ true → (q < 2 * cap) × Contains (walk controls cap) (q % cap)
 marked_walked kind cap len h t p q controls law a small here lo hi mark =

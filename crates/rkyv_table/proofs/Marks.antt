@@ -1,4 +1,4 @@
--- A mask's first place, and the others.
+-- The first index of a mask, and the others.
 use Rattle.std.proofs.Common.{◌≡◌, ◌∙◌, ℕ, zero, suc, ◌+◌, ◌%◌, ◌<◌, ◌≤◌, inl, inr, refl, sym, ap, arith, List, [], ◌∷◌, Bool, true, false, map, filter, drop, take, length, get_or, get_or-take, get_or-drop, Some, None}
 use Rattle.rkyv_scan.specs.Groups.{Kind, IsKind, places_where}
 use Rattle.std.proofs.lemmas.Bool.{cases_Bool}
@@ -18,14 +18,14 @@ pub head_skipped : (f : ℕ → ℕ) (accept : ℕ → Bool) (xs : List ℕ) (j 
 head_skipped f accept [] j e t = absurd (none-some j (sym e))
 head_skipped f accept (x ∷ xs) j e t = let s = same_Some j x e in let t' : accept (f x) ≡ false = rw s at t in rw t' refl
 
--- the first of those that are left, as one of all
+-- the first of the remaining indices, as one of all
 pub head_at : (ps : List ℕ) (n j : ℕ) → Some j ≡ slice_get (drop n ps) 0 → (n < length ps) × (get_or ps n 0 ≡ j)
 head_at [] zero j e = absurd (none-some j (sym e))
 head_at [] (suc n) j e = absurd (none-some j (sym e))
 head_at (x ∷ xs) zero j e = (omega arith, sym (same_Some j x e))
 head_at (x ∷ xs) (suc n) j e = let ih = head_at xs n j e in (omega (arith, ih.0), ih.1)
 
--- an item of the places that pass
+-- an index that passes the test
 pub in_filter : (P : ℕ → Bool) (a n k : ℕ) → k < length (filter P (range_with_len a n)) → (get_or (filter P (range_with_len a n)) k 0 < a + n) × (P (get_or (filter P (range_with_len a n)) k 0) ≡ true)
 in_filter P a zero k h = absurd (omega arith)
 in_filter P a (suc n) zero h = elim (cases_Bool (P a)) [
@@ -46,7 +46,7 @@ in_filter P a (suc n) (suc k) h = elim (cases_Bool (P a)) [
       rw f (omega (arith, r.0), r.1)
 ]
 
--- a marked place of the group at `at` is full
+-- a marked index of the group at `at` is full
 pub place_full : (kind : Kind) → IsKind kind → (t : ℕ) (stride shows ps : List ℕ) (at k : ℕ) → t < 128 → shows ≡ take kind.width (drop at stride)
     → ps ≡ places_where (kind.marks shows t) kind.width → k < length ps → (get_or ps k 0 < kind.width) × (get_or stride (at + get_or ps k 0) 0 < 128)
 unfolding places_where
@@ -59,7 +59,7 @@ place_full kind law t stride shows ps at k ht e p h =
     let at_place : get_or shows j 0 ≡ get_or stride (at + j) 0 = ap (λ xs. get_or xs j 0) e ∙ get_or-take kind.width (drop at stride) j 0 lt ∙ get_or-drop at stride j 0 in
     rw p (lt, rw at_place at full)
 
--- the bucket of a marked place is that of a full control of the stride
+-- the bucket of a marked index is that of a full control byte of the stride
 pub marked_shown : (kind : Kind) → IsKind kind → (t p cap at : ℕ) (stride shows ps : List ℕ) → t < 128 → at + kind.width ≤ 16 → shows ≡ take kind.width (drop at stride)
     → ps ≡ places_where (kind.marks shows t) kind.width → (b : ℕ) → IsMarked (p + at) cap ps b → IsShown stride p cap b
 marked_shown kind law t p cap at stride shows ps ht fits e m b k =

@@ -1,4 +1,4 @@
--- Items that a lookup of their own doesn't answer.
+-- Items that a lookup of their own doesn't find.
 use Rattle.std.proofs.Common.{◌≡◌, ℕ, suc, ◌+◌, ◌%◌, ◌^◌, ◌<◌, ◌≤◌, inl, inr, refl, sym, ap, subst, ◌∙◌, arith, List, [], ◌∷◌, Bool, true, false, not, ◌&&◌, eqb, length, filter, get_or, map, take, Option, Some, None, get_or-take, length-take}
 use Rattle.std.specs.Prelude.{MatchOption}
 use Rattle.std.specs.List.{find, list_any, Contains, IsDistinct, range_with_len, position_or_len}
@@ -23,7 +23,7 @@ use Rattle.rkyv_table.proofs.Walks.{filter_agree_range}
 use Rattle.rkyv_table.proofs.Written.{first_within, found_written}
 use Rattle.rkyv_table.proofs.WrittenAccepted.{distinct_homes, distinct_range, full_home, homes_apart}
 
--- ---- what is found is a walked bucket that is accepted
+-- ---- a found bucket is full and accepted
 
 tag_below : (h : ℕ) → h < 2 ^ 64 → tag h < 128
 tag_below h l = omega arith
@@ -84,7 +84,7 @@ module _ (kind : Kind) (cap len h : ℕ) (controls : List ℕ) (law : IsKind kin
     | inr n ↦ answer_walked accept b (strides h cap) (λ p m. m) (sym (found_is kind controls cap len h accept n) ∙ e)
   ]
 
-  -- ---- a lookup rests on what is accepted of the walked buckets alone
+  -- ---- a lookup depends only on the accepted ones of the full buckets
 
   abbrev Agree : (ℕ → Bool) → (ℕ → Bool) → Type 0
   Agree P Q = (b : ℕ) → Contains (walk controls cap) b → P b ≡ Q b
@@ -105,7 +105,7 @@ module _ (kind : Kind) (cap len h : ℕ) (controls : List ℕ) (law : IsKind kin
     | inr n ↦ found_is kind controls cap len h P n ∙ answers_agree P Q same (strides h cap) (λ p m. m) ∙ sym (found_is kind controls cap len h Q n)
   ]
 
--- ---- where none is misplaced
+-- ---- tables without misplaced items
 
 none_filtered : (P : ℕ → Bool) (xs : List ℕ) (x : ℕ) → length (filter P xs) ≡ 0 → list_any (eqb x) xs ≡ true → P x ≡ false
 none_filtered P xs x e m = elim (cases_Bool (P x)) [
@@ -147,7 +147,7 @@ module _ (kind : Kind) (cap len hash : ℕ) (controls : List ℕ) (accept : ℕ 
         })
   ]
 
--- ---- on written controls
+-- ---- written control bytes
 
 filter_map_length : (P : ℕ → Bool) (f : ℕ → ℕ) (xs : List ℕ) → length (filter P (map f xs)) ≡ length (filter (λ x. P (f x)) xs)
 filter_map_length P f [] = refl
@@ -156,7 +156,7 @@ filter_map_length P f (x ∷ xs) = elim (cases_Bool (P (f x))) [
   | inr e ↦ rw e (filter_map_length P f xs)
 ]
 
--- a list by its places
+-- a list by its indices
 by_places : (xs : List ℕ) → xs ≡ map (λ i. get_or xs i 0) (range_with_len 0 (length xs))
 by_places xs =
     let f = λ (i : ℕ). get_or xs i 0 in
@@ -173,7 +173,7 @@ module _ (kind : Kind) (cap : ℕ) (hashes homes controls : List ℕ) (hash_at :
   home_in : (i : ℕ) → i < length homes → Contains homes (get_or homes i 0)
   home_in i h = (i, h, get_or_default homes i (get_or homes i 0) 0 h)
 
-  -- the first home whose item is the same as the i-th
+  -- the first home bucket whose item is the same as the one with the number `i`
   own_first : (i : ℕ) → i < length homes → (k : ℕ) × (k ≤ i) × (same_at (get_or homes i 0) (get_or homes k 0) ≡ true) × (found kind controls cap (length hashes) (hash_at (get_or homes i 0)) (same_at (get_or homes i 0)) ≡ Some (get_or homes k 0))
       × ((j : ℕ) → j < k → same_at (get_or homes i 0) (get_or homes j 0) ≡ false)
   own_first i h =

@@ -16,7 +16,7 @@ count_taken P x xs rest e t = ap (λ ys. length (filter P ys)) e ∙ rw t refl
 pub count_passed : (P : ℕ → Bool) (x : ℕ) (xs rest : List ℕ) → xs ≡ x ∷ rest → P x ≡ false → length (filter P xs) ≡ length (filter P rest)
 count_passed P x xs rest e f = ap (λ ys. length (filter P ys)) e ∙ rw f refl
 
--- what one lookup tells of its bucket
+-- the result of one lookup of a bucket's own item
 module _ {T W : Type 0} {wt : Words W} (kind : Kind) (w : Width) (s : Shape) (read self : ArchivedHashTable T W wt) (one : read ≡ self) (hashes : View T → ℕ → Type 0) (compares : View T → View T → Bool → Type 0)
     (bucket hash : ℕ) (item : View T) (is : IsItemIn w s read bucket item) (hashed : hashes item hash) (result : Option ℕ) (finds : FindsOwn compares kind w s read hash bucket result) where
   pub bucket_told : (hash_of : ℕ → ℕ) (same : ℕ → ℕ → Bool) → HashesAs hashes w s self hash_of → ComparesAs compares w s self same
@@ -28,13 +28,13 @@ module _ {T W : Type 0} {wt : Words W} (kind : Kind) (w : Width) (s : Shape) (re
       let under : hash ≡ hash_of (at bucket) = hash_as item hash (bucket, here) hashed ∙ ap hash_of here.place in
       ap (λ o. not (is_answer bucket o)) (found ∙ ap (λ z. bucket_found kind w s.size (table_bytes self) (table_pos self) z (same (at bucket))) under)
 
--- what is counted and what is left make up all misplaced items
+-- the counted items and those of the remaining buckets are all misplaced items
 module _ {T W : Type 0} {wt : Words W} (kind : Kind) (w : Width) (s : Shape) (t : ArchivedHashTable T W wt) (hashes : View T → ℕ → Type 0) (compares : View T → View T → Bool → Type 0) where
   abbrev pub Counting : ℕ → List ℕ → Type 0
   Counting count left = (hash_of : ℕ → ℕ) (same : ℕ → ℕ → Bool) → HashesAs hashes w s t hash_of → ComparesAs compares w s t same
       → count + length (filter (bucket_misplaced kind w s t hash_of same) left) ≡ table_misplaced kind w s t hash_of same
 
-  -- the answer tells whether the bucket's item is misplaced
+  -- the result is `true` if and only if the item of the bucket is misplaced
   abbrev pub TellsMisplaced : ℕ → Bool → Type 0
   TellsMisplaced bucket told = (hash_of : ℕ → ℕ) (same : ℕ → ℕ → Bool) → HashesAs hashes w s t hash_of → ComparesAs compares w s t same
       → told ≡ bucket_misplaced kind w s t hash_of same bucket

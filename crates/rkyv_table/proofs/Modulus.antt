@@ -1,4 +1,5 @@
--- The modulus is the least power of two that is at least the number of controls, and 16 times a power of two.
+-- The modulus is the least power of two that is at least the number of control bytes, and 16 times
+-- a power of two.
 use Rattle.std.proofs.Common.{◌≡◌, ℕ, zero, suc, ◌+◌, ◌*◌, ◌-◌, ◌^◌, ◌<◌, ◌≤◌, inl, inr, sym, ap, ◌∙◌, arith, zero-add, leb, get_or}
 use Rattle.std.specs.List.{range_with_len, position_or_len}
 use Rattle.std.specs.Int.{IsNextPowerOfTwo}
@@ -14,7 +15,7 @@ below_pow : (n : ℕ) → n < 2 ^ n
 below_pow zero = omega arith
 below_pow (suc n) = let ih = below_pow n in let e = two-pow-succ n in omega arith
 
--- the least exponent reaches c
+-- the least exponent reaches `c`
 reaches : (c : ℕ) → c ≤ 2 ^ position_or_len (λ k. leb c (2 ^ k)) (range_with_len 0 c)
 reaches c =
     let p = λ (k : ℕ). leb c (2 ^ k) in
@@ -30,7 +31,7 @@ reaches c =
       | inr b ↦ let u = below_pow e in omega arith
     ]
 
--- the modulus, as 16 times a power of two that reaches past the controls
+-- the modulus is 16 times a power of two, and at least the number of control bytes
 pub modulus_power : (cap : ℕ) → 0 < cap → (n : ℕ) × (modulus cap ≡ 16 * 2 ^ n) × (control_count cap ≤ modulus cap)
 unfolding modulus
 modulus_power cap pos =
@@ -46,7 +47,7 @@ modulus_power cap pos =
           (e - 4, s', r)
     ]
 
--- what `next_power_of_two` answers
+-- the result of `next_power_of_two`
 pub modulus_is : (cap m : ℕ) → 0 < cap → IsNextPowerOfTwo (control_count cap) m → m ≡ modulus cap
 unfolding modulus
 modulus_is cap m pos h =

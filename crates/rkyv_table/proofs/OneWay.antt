@@ -1,4 +1,4 @@
--- Where items are written in one way alone, so are tables of them.
+-- If items are written in one way alone, so are tables of them.
 use Rattle.std.proofs.Common.{◌≡◌, ℕ, ◌+◌, ◌-◌, ◌*◌, ◌<◌, ◌∙◌, inl, inr, sym, ap, subst, arith, List, [], ◌∷◌, ◌++◌, length, slice_get, slice_index, Option, Some, None, get_or, eqb}
 use Rattle.std.specs.Int.{Width}
 use Rattle.std.specs.List.{list_any}
@@ -21,7 +21,7 @@ use Rattle.rkyv_table.proofs.HomeList.{homes_one_list, written_one_list}
 use Rattle.rkyv_table.proofs.Lists.{member_contains}
 
 module _ {X R : Type 0} (f : Format X R) (one : WritesOneWay f) where
-  -- the items' parts, and what resolves them
+  -- the parts of the items, and their resolvers
   parts_one_way : (ss : List (Option X)) (p : ℕ) (part part' : List ℕ) (rs rs' : List R) → SlotParts f ss p part rs → SlotParts f ss p part' rs' → (part ≡ part') × (rs ≡ rs')
   parts_one_way [] p part part' rs rs' h h' = (h.0 ∙ sym h'.0, h.1 ∙ sym h'.1)
   parts_one_way (None ∷ ss) p part part' rs rs' h h' = parts_one_way ss p part part' rs rs' h h'
@@ -51,7 +51,7 @@ module _ {X R : Type 0} (f : Format X R) (one : WritesOneWay f) where
       h.7 ∙ ap (λ (b : List ℕ). h.2 ++ b) item ∙ ap (λ (a : List ℕ). a ++ h'.3) others ∙ sym h'.7
 
   module _ (s : Shape) (slots : List (Option X)) (controls : List ℕ) (p : ℕ) where
-    -- the bytes of a table whose items are placed, and where its first control stands
+    -- the bytes of a table whose items are placed, and the position of its first control byte
     bytes_one_way : (z z' : ℕ) (bytes bytes' : List ℕ) → TableBytes s f slots controls p z bytes → TableBytes s f slots controls p z' bytes' → (z ≡ z') × (bytes ≡ bytes')
     bytes_one_way z z' bytes bytes' t t' =
         let made = parts_one_way slots p t.part t'.part t.resolvers t'.resolvers t.made t'.made in
@@ -64,7 +64,7 @@ module _ {X R : Type 0} (f : Format X R) (one : WritesOneWay f) where
               ∙ ap (λ (b : List ℕ). t'.part ++ (zeros (padding s.align (p + length t'.part)) ++ (b ++ controls))) buckets ∙ sym t'.is,
         )
 
--- each item in its home, and no other: one list of slots
+-- one list of slots has each item in its home bucket, and no other
 module _ {X : Type 0} (cap : ℕ) (homes : List ℕ) (items : List X) where
   slot_one_way : (slots slots' : List (Option X)) → Slotted cap homes items slots → Slotted cap homes items slots' → (b : ℕ) → b < cap → get_or slots b None ≡ get_or slots' b None
   slot_one_way slots slots' s s' b below = elim (cases_Bool (is_free homes b)) [

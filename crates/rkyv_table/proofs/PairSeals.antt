@@ -1,4 +1,4 @@
--- A pair that is lent, by where its key stands.
+-- A sealed pair, by the position of its key.
 use Rattle.std.proofs.Common.{◌≡◌, ℕ, ◌∙◌, sym, ap, subst, List, drop, take}
 use Rattle.rkyv_base.specs.Seal.{bytes_in, seal_pos}
 use Rattle.rkyv_base.specs.Sealing.{value_pos}

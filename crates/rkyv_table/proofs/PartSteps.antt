@@ -27,18 +27,18 @@ filled_front xs i =
     omega arith
 
 module _ {X R : Type 0} (f : Format X R) where
-  -- the part of one value, and what stands behind it
+  -- the part of one value, and the parts after it
   abbrev pub PartThen : X → (ℕ → List ℕ → List R → Type 0) → ℕ → List ℕ → List R → Type 0
   PartThen x Rest p part rs = (a : List ℕ) × (r : R) × (b : List ℕ) × (qs : List R) × f.parts x p a r × Rest (p + length a) b qs × (part ≡ a ++ b) × (rs ≡ r ∷ qs)
 
-  -- alone it is followed by nothing
+  -- nothing is after the part of the last value
   pub part_last : (Rest : ℕ → List ℕ → List R → Type 0) (p : ℕ) (part : List ℕ) (rs : List R) (x : X) (a : List ℕ) (r : R) → (part ≡ []) × (rs ≡ [])
       → ((q : ℕ) → Rest q [] []) → f.parts x (p + length part) a r → PartThen x Rest p (part ++ a) (rs ++ r ∷ [])
   part_last Rest p part rs x a r h none g =
       let z : p + length part ≡ p = ap (λ (l : List ℕ). p + length l) h.0 ∙ omega arith in
       (a, r, [], [], subst (λ n. f.parts x n a r) z g, none (p + length a), ap (λ l. l ++ a) h.0 ∙ sym (append-nil a), ap (λ l. l ++ r ∷ []) h.1)
 
-  -- and what is added at the end is added behind it
+  -- a part added at the end is after the others
   pub part_longer : (Rest Longer : ℕ → List ℕ → List R → Type 0) (y : X) (p : ℕ) (part : List ℕ) (rs : List R) (x : X) (a : List ℕ) (r : R) → PartThen y Rest p part rs
       → ((q : ℕ) (b : List ℕ) (qs : List R) → Rest q b qs → f.parts x (q + length b) a r → Longer q (b ++ a) (qs ++ r ∷ []))
       → f.parts x (p + length part) a r → PartThen y Longer p (part ++ a) (rs ++ r ∷ [])
@@ -73,7 +73,7 @@ module _ {X R : Type 0} (f : Format X R) where
 
   module _ (slots : List (Option X)) (i : ℕ) (inside : i < length slots) (o o1 : Output) (part : List ℕ) (rs : List R) (a1 : Appends o o1 part)
       (h : SlotParts f (take i slots) (end_of o) part rs) where
-    -- the items before i + 1, where slot i is empty
+    -- the items before `i + 1`, if slot `i` is empty
     pub step_none : get_or slots i None ≡ None → SlotParts f (take (i + 1) slots) (end_of o) part rs
     step_none e = rw (take_more slots i None inside, e) (parts_none (take i slots) (end_of o) part rs h)
 
@@ -81,7 +81,7 @@ module _ {X R : Type 0} (f : Format X R) where
       pub step_some : (a : List ℕ) (r : R) → f.parts x (end_of o1) a r → SlotParts f (take (i + 1) slots) (end_of o) (part ++ a) (rs ++ r ∷ [])
       step_some a r g = rw (take_more slots i None inside, e) (parts_some (take i slots) (end_of o) part rs x a r h (subst (λ n. f.parts x n a r) (end-appends o o1 part a1) g))
 
-      -- there is a resolver's place left
+      -- there is room for a resolver
       pub step_room : (n : ℕ) → filled slots ≤ n → length rs < n
       step_room n most =
           let k = parts_filled (take i slots) (end_of o) part rs h in

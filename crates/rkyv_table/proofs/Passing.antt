@@ -1,4 +1,4 @@
--- What was written of a table passes the check in each range around it.
+-- A written table is valid in each range around it.
 use Rattle.std.proofs.Common.{ℕ, ◌+◌, ◌≤◌, arith, length}
 use Rattle.std.specs.Int.{Width}
 use Rattle.rkyv_base.specs.Format.{Format, IsFormat}
@@ -9,7 +9,7 @@ use Rattle.rkyv_table.specs.Lemmas.TableSound.{table_is_format}
 use Rattle.rkyv_table.specs.Table.Passing.{HoldsAround, WrittenTablesPass}
 use Rattle.std.proofs.Common.{List}
 
--- what holds in a range holds in each range around it
+-- a value that is valid in a range is valid in each range around it
 pub holds_around : (s : Shape) → IsElement s → (c : List ℕ) (p begin end l : ℕ) → begin ≤ end → s.holds c p begin end l → HoldsAround s c p begin end
 holds_around s law c p begin end l o h lo hi below above =
     let d = law.lower c p begin lo end l below o h in

@@ -18,7 +18,7 @@ twice_below (suc j) =
     let e : suc j * (suc j - 1) ≡ j * (j + 1) = ap (λ z. suc j * z) m ∙ omega arith in
     ap (λ z. 2 * (z / 2)) e ∙ t ∙ sym e
 
--- the offset of the k-th place, from that of the one before
+-- the offset of the index with the number `k`, from that of the one before
 triangle_step : (k : ℕ) → 0 < k → 16 * (k * (k - 1) / 2) + 16 * k ≡ 16 * triangle k
 triangle_step zero h = absurd (omega arith)
 triangle_step (suc j) h =
@@ -55,7 +55,7 @@ pub offset_below : (cap s offset k : ℕ) → IsProbe cap s offset k → offset 
 unfolding modulus
 offset_below cap s offset k is = rw is.at (mod_below (16 * (k * (k - 1) / 2)) (modulus cap) (pow_pos _))
 
--- ---- what the code computes for the k-th place
+-- ---- the index with the number `k`, as the code computes it
 
 pub stepped : (cap s offset k : ℕ) → 0 < k → IsProbe cap s offset k → IsProbe cap s (bit_and (offset + 16 * k) (modulus cap - 1)) (k + 1)
 unfolding modulus
@@ -101,7 +101,7 @@ pub all_strides : (hash cap : ℕ) → strides_from cap (hash % cap) 0 ≡ strid
 unfolding strides_from strides
 all_strides hash cap = let z : modulus cap / 16 - 0 ≡ modulus cap / 16 = omega arith in rw z refl
 
--- the first place is the start
+-- the first index is the start
 pub first_taken : (cap s : ℕ) → s < cap → strides_from cap s 0 ≡ s ∷ strides_from cap s 1
 first_taken cap s h =
     let w = modulus_power cap (omega arith) in

@@ -1,4 +1,4 @@
--- The steps of a walk over items, by count.
+-- The steps of a walk over items, by their number.
 use Rattle.std.proofs.Common.{◌≡◌, ℕ, zero, suc, ◌+◌, ◌-◌, ◌*◌, ◌<◌, ◌≤◌, inl, inr, refl, sym, ap, ◌∙◌, arith, List, [], ◌∷◌, ◌++◌, Bool, ltb, map, filter, drop, take, length, get_or, Some, None, get_or-take, get_or-drop}
 use Rattle.std.specs.List.{range_with_len, slice_get}
 use Rattle.std.proofs.lemmas.Bool.{cases_eq}
@@ -26,7 +26,7 @@ unfolding marked_left
 none_marked controls base [] e = refl
 none_marked controls base (x ∷ xs) e = absurd (none-some x e)
 
--- the full places of a group and those behind it
+-- the full indices of a group, and those after it
 pub group_cut : (F : ℕ → Bool) (end base w : ℕ) → base + w ≤ end → map (λ j. base + j) (filter (λ j. F (base + j)) (range_with_len 0 w)) ++ filter F (range_with_len (base + w) (end - (base + w))) ≡ filter F (range_with_len base (end - base))
 group_cut F end base w le =
     let n = end - (base + w) in
@@ -52,7 +52,7 @@ group_marked controls base marks le e =
     ap (λ xs. map (λ j. base + j) xs ++ filter (λ q. ltb (get_or controls q 0) 128) (range_with_len (base + 8) (length controls - (base + 8)))) (group_read controls base 8 marks e)
     ∙ group_cut (λ q. ltb (get_or controls q 0) 128) (length controls) base 8 le
 
--- the first full place from b on
+-- the first full index from `b` on
 full_head : (controls : List ℕ) (n b q : ℕ) (rest : List ℕ) → full_from controls n b ≡ q ∷ rest → b ≤ q
 unfolding full_from
 full_head controls n b q rest e =
@@ -78,7 +78,7 @@ module _ (place size count : ℕ) (controls : List ℕ) (base : ℕ) (marks : Li
       All-head (IsAhead (place + base * size) size controls) (base + j) (buckets_left (count - 1) controls base (drop 1 marks))
       (All-same (IsAhead (place + base * size) size controls) ((base + j) ∷ buckets_left (count - 1) controls base (drop 1 marks)) (buckets_left count controls base marks) (sym (head_left j some e)) is.ahead)
 
-  -- the bucket of the lowest mark stands before the place
+  -- the bucket of the lowest mark is before the position
   pub head_before : (j : ℕ) → 0 < count → Some j ≡ slice_get marks 0 → (j + 8 ≤ length controls) × ((j + 1) * size ≤ place)
   head_before j some e =
       let h = head_ahead j some e in
@@ -122,7 +122,7 @@ module _ (place size count : ℕ) (controls : List ℕ) (base : ℕ) (marks : Li
             (All-same (IsAhead (place + base * size) size controls) (h.0 ∷ take (count - 1) h.1) (buckets_left count controls base marks) (sym t) is.ahead),
       )
 
-  -- the next group lies inside the controls, and its buckets before the place
+  -- the next group is inside the control bytes, and its buckets are before the position
   pub next_inside : 0 < count → None ≡ slice_get marks 0 → (base + 16 ≤ length controls) × (8 * size ≤ place)
   next_inside some e =
       let h = next_ahead some e in
@@ -154,7 +154,7 @@ module _ (place size count : ℕ) (controls : List ℕ) (base : ℕ) (marks : Li
           (rw next_place is.ahead);
     }
 
--- nothing is left
+-- no bucket remains
 pub end_left : (count : ℕ) (controls : List ℕ) (base : ℕ) (marks : List ℕ) → count ≡ 0 → buckets_left count controls base marks ≡ []
 unfolding buckets_left
 end_left count controls base marks e = ap (λ n. take n (marked_left controls base marks)) e
@@ -162,7 +162,7 @@ end_left count controls base marks e = ap (λ n. take n (marked_left controls ba
 pub end_places : (place size count : ℕ) (controls : List ℕ) (base : ℕ) (marks : List ℕ) → count ≡ 0 → places_left place size count controls base marks ≡ []
 end_places place size count controls base marks e = ap (map (pos_before (place + base * size) size)) (end_left count controls base marks e)
 
--- the walked buckets are the first full places
+-- the buckets of a walk are the first full indices
 walked_first : (controls : List ℕ) (cap : ℕ) → cap ≤ length controls → take (length (walk controls cap)) (full_from controls (length controls) 0) ≡ walk controls cap
 unfolding full_from walk
 walked_first controls cap le =

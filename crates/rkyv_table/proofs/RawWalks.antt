@@ -1,4 +1,4 @@
--- The walk over the items of an accepted table.
+-- The walk over the items of a valid table.
 use Rattle.std.proofs.Common.{◌≡◌, ℕ, ◌<◌, ◌∙◌, inl, inr, sym, ap, arith, List, [], length, map}
 use Rattle.std.specs.Int.{Width}
 use Rattle.std.specs.List.{All, Contains}
@@ -18,7 +18,7 @@ module _ (w : Width) (s : Shape) (law : IsElement s) (b : List ℕ) (p : ℕ) wh
   none_walked : cap_at w b p ≡ 0 → walk (table_controls w b p) (cap_at w b p) ≡ []
   none_walked none = ap (walk (table_controls w b p)) none ∙ walk_none (table_controls w b p)
 
-  -- a table has as many items as are walked
+  -- a table has as many items as full buckets
   pub walk_count : Viewed (table_shape w s) b p → length (walk (table_controls w b p) (cap_at w b p)) ≡ len_at w b p
   walk_count v = elim (cases_eq (cap_at w b p) 0) [
     | inl none ↦ ap length (none_walked none) ∙ sym (no_items w s law b p v none)
@@ -28,7 +28,7 @@ module _ (w : Width) (s : Shape) (law : IsElement s) (b : List ℕ) (p : ℕ) wh
   pub places_count : Viewed (table_shape w s) b p → length (item_positions w s.size b p) ≡ len_at w b p
   places_count v = length-map (walk (table_controls w b p) (cap_at w b p)) (item_at w s.size b p) ∙ walk_count v
 
-  -- each walked bucket has an item
+  -- each bucket of the walk has an item
   pub walked_all : All (IsWalked w b p) (walk (table_controls w b p) (cap_at w b p))
   walked_all =
       All-weaker (Contains (walk (table_controls w b p) (cap_at w b p))) (IsWalked w b p) (λ i h. walked_full (cap_at w b p) (table_controls w b p) i h)
@@ -39,7 +39,8 @@ module _ (w : Width) (s : Shape) (law : IsElement s) (b : List ℕ) (p : ℕ) wh
       All-map (Viewed s b) (item_at w s.size b p) (walk (table_controls w b p) (cap_at w b p))
       (All-weaker (IsWalked w b p) (λ i. Viewed s b (item_at w s.size b p i)) (λ i h. item_viewed w s law b p v i h) (walk (table_controls w b p) (cap_at w b p)) walked_all)
 
-  -- by the place that was read of the header, before which each walked bucket stands, and by the controls that were, in which its group lies
+  -- each bucket of the walk is before the position that was read of the header, and its group
+  -- is inside the control bytes
   pub read_ahead : Viewed (table_shape w s) b p → (place : ℕ) → (0 < cap_at w b p → place ≡ controls_pos w b p) → (controls : List ℕ) → (0 < cap_at w b p → controls ≡ table_controls w b p)
       → All (IsAhead place s.size controls) (walk (table_controls w b p) (cap_at w b p))
   read_ahead v place is controls shown =

@@ -38,7 +38,7 @@ module _ (w : Width) (kind : IsArchiveWord w) (t : List ℕ) where
   text_parts p part part' r r' (u, inr h) (u', inl h') = absurd (omega (arith, h'.0, h.0.0))
   text_parts p part part' r r' (u, inr h) (u', inr h') = (h.1 ∙ sym h'.1, h.2 ∙ sym h'.2)
 
-  -- what was serialized isn't too long
+  -- the length of a serialized text is below the limit
   below_limit : (begin : ℕ) (part : List ℕ) (r : TextResolver) → TextParts w t begin part r → length t < text_limit w
   below_limit begin part r (u, inl h) = omega (arith, h.0, limit_above)
   below_limit begin part r (u, inr h) = h.0.1

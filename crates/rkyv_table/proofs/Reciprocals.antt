@@ -1,17 +1,17 @@
--- What the reciprocal of a divisor tells of a quotient.
+-- A quotient by the reciprocal of a divisor.
 use Rattle.std.proofs.Common.{◌≡◌, ℕ, ◌+◌, ◌*◌, ◌-◌, ◌/◌, ◌%◌, ◌^◌, ◌<◌, ◌≤◌, inl, inr, sym, ap, ◌∙◌, arith}
 use Rattle.std.proofs.Math.Nat.{mul-le-mul_left, mul-le-mul_right}
 use Rattle.std.proofs.lemmas.Nat.{div-add-mod', mod_below, mod-mul-add}
 use Rattle.std.proofs.lemmas.Bool.{cases_lt}
 
--- how often a divisor goes into 2 ^ 64 - 1
+-- the quotient of 2^64 - 1 by a divisor
 inverse_goes : (d i : ℕ) → 0 < d → i ≡ (2 ^ 64 - 1) / d → (i * d < 2 ^ 64) × (2 ^ 64 ≤ i * d + d)
 inverse_goes d i some is =
     let whole : i * d + (2 ^ 64 - 1) % d ≡ 2 ^ 64 - 1 = ap (λ q. q * d + (2 ^ 64 - 1) % d) is ∙ div-add-mod' (2 ^ 64 - 1) d in
     let below : (2 ^ 64 - 1) % d < d = mod_below (2 ^ 64 - 1) d some in
     (omega arith, omega arith)
 
--- where i is that number, the 2 ^ 64-th part of n * i is the quotient of n by d, or one less
+-- `q`: quotient of `n * i` by 2^64. It is the quotient of `n` by `d`, or one less
 module _ (d i n q : ℕ) (some : 0 < d) (is : i ≡ (2 ^ 64 - 1) / d) (low : q * 2 ^ 64 ≤ n * i) (high : n * i < q * 2 ^ 64 + 2 ^ 64) (small : n < 2 ^ 64) where
   pub quotient_below : q * d ≤ n
   quotient_below =
@@ -36,7 +36,7 @@ module _ (d i n q : ℕ) (some : 0 < d) (is : i ≡ (2 ^ 64 - 1) / d) (low : q *
             absurd (omega arith)
       ]
 
--- the rest, where the quotient is the right one, and where it is one less
+-- the remainder, by the right quotient and by one less
 pub rest_is : (n d q : ℕ) → q * d ≤ n → n - q * d < d → n - q * d ≡ n % d
 rest_is n d q le lt =
     let whole : q * d + (n - q * d) ≡ n = omega arith in

@@ -1,4 +1,4 @@
--- Two archives whose bytes are the same where a table holds tell the same of it.
+-- Two archives with the same bytes of a table have the same table.
 use Rattle.std.proofs.Common.{◌≡◌, ℕ, ◌+◌, ◌-◌, ◌*◌, ◌<◌, ◌∙◌, inl, inr, sym, ap, subst, arith, List, length, map}
 use Rattle.std.specs.Int.{Width, byte_len}
 use Rattle.rkyv_base.specs.Bytes.{Same}
@@ -7,7 +7,7 @@ use Rattle.rkyv_table.specs.Lemmas.SameHeader.{cap_same, len_same, pos_same}
 use Rattle.rkyv_table.specs.Table.Header.{cap_at}
 use Rattle.rkyv_table.specs.Table.Reading.{WrittenAt, home_positions, item_at, table_controls}
 
--- where items stand rests on the header alone
+-- the positions of the items depend on the header alone
 module _ (w : Width) (size : ℕ) (b c : List ℕ) (p : ℕ) (fixed : Same b c p (p + 3 * byte_len w)) where
   pub same_items : (is : List ℕ) → map (item_at w size b p) is ≡ map (item_at w size c p) is
   same_items is = ap (λ z. map (λ i. z - (i + 1) * size) is) (pos_same w b c p fixed)
@@ -15,7 +15,7 @@ module _ (w : Width) (size : ℕ) (b c : List ℕ) (p : ℕ) (fixed : Same b c p
   pub same_homes : (homes : List ℕ) → home_positions w size b p homes ≡ home_positions w size c p homes
   same_homes homes = same_items homes
 
--- a table that was written of some hashes was so where the header's bytes and the controls are the same
+-- a table that was written under some hashes is so in bytes with the same header and control bytes
 pub written_there : (w : Width) (b c : List ℕ) (p : ℕ) → Same b c p (p + 3 * byte_len w) → (0 < cap_at w b p → table_controls w b p ≡ table_controls w c p)
     → (hashes homes : List ℕ) → WrittenAt w b p hashes homes → WrittenAt w c p hashes homes
 written_there w b c p fixed controls hashes homes written = record {

@@ -1,4 +1,4 @@
--- The steps of a cursor that lends items to be written.
+-- The steps of a cursor that writes items in place.
 use Rattle.rkyv_base.specs.declared.width.Word.{Ghosts as Words}
 use Rattle.std.proofs.Common.{◌≡◌, ℕ, ◌+◌, ◌-◌, ◌*◌, ◌<◌, ◌≤◌, suc, inl, inr, refl, sym, ap, subst, ◌∙◌, arith, List, [], ◌∷◌, length, slice_index, slice_range, take, drop, get_or-take}
 use Rattle.std.specs.Int.{Width}
@@ -46,7 +46,7 @@ pub full_end : (controls : List ℕ) (cap b : ℕ) → cap ≤ b → full_from c
 unfolding full_from
 full_end controls cap b h = let e : cap - b ≡ 0 = omega arith in rw e refl
 
--- the controls of the buckets alone are the front of all controls
+-- the control bytes of the buckets are the front of all control bytes
 front_same : (xs : List ℕ) (n m i : ℕ) → i < n → i < m → slice_index (take n xs) i ≡ slice_index (take m xs) i
 front_same xs n m i h k = get_or-take n xs i 0 h ∙ sym (get_or-take m xs i 0 k)
 
@@ -130,7 +130,7 @@ module _ {T : Type 0} (w : Width) (s : Shape) (p i q : ℕ) (before after : RawI
         cursor_buckets,
       )
 
--- a cursor that begins has every walked bucket left
+-- a new cursor has all full buckets left
 module _ {T : Type 0} (w : Width) (s : Shape) (law : IsElement s) (p : ℕ) (r : RawIterSeal T) (view : Viewed (table_shape w s) r.archive.now p)
     (cap : r.cap ≡ cap_at w r.archive.now p) (next : r.next ≡ 0) where
   pub all_left : buckets_left w p r ≡ walk (table_controls w r.archive.now p) (cap_at w r.archive.now p)

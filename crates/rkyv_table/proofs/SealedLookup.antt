@@ -1,4 +1,4 @@
--- What a lookup tells of the table that is read tells of the seal.
+-- A lookup in the table that is read is one in the bytes of the seal.
 use Rattle.rkyv_base.specs.declared.width.Word.{Ghosts as Words}
 use Rattle.std.proofs.Common.{◌≡◌, ℕ, sym, subst, Bool, List, Option}
 use Rattle.std.specs.Int.{Width}
@@ -23,7 +23,7 @@ module _ {T W : Type 0} {wt : Words W} (w : Width) (s : Shape) (law : IsElement 
   pub table_stands : IsTable w s t
   table_stands = subst (λ b. Viewed (table_shape w s) b t.view.pos) (sym read.0) (subst (Viewed (table_shape w s) (archive_in a)) (sym read.1) stands)
 
-  -- where a bucket of the table stands, in the seal's terms
+  -- the position of a bucket of the table, in the bytes of the seal
   at_seal : (q : ℕ) → IsItemPos w s t q → (i : ℕ) × IsWalked w (archive_in a) (pos_in a) i × (q ≡ item_at w s.size (archive_in a) (pos_in a) i)
   at_seal q is =
       let P = λ (b : List ℕ) (p : ℕ). (i : ℕ) × IsWalked w b p i × (q ≡ item_at w s.size b p i) in

@@ -41,7 +41,7 @@ module _ (s : Shape) (law : IsElement s) (b c : List ℕ) (begin cap i : ℕ) (w
   abbrev at : ℕ → ℕ
   at = bucket_at s.size begin cap
 
-  -- what lies before the buckets stays
+  -- the bytes before the buckets are unchanged
   before_same : (x y : ℕ) → x ≤ y → y ≤ begin → Same b c x y
   before_same x y o h = same_outside b (at i) s.size c sealed x y o (inl (omega arith))
 
@@ -70,7 +70,7 @@ module _ (s : Shape) (law : IsElement s) (b c : List ℕ) (begin cap i : ℕ) (w
         items = subst (λ (x : List ℕ). AllHold s at c begin (walk x cap) lo is.last) controls_kept items;
       }
 
--- what stands in a walked bucket has its parts before the buckets
+-- the item in a full bucket has its parts before the buckets
 parts_before : (w : Width) (s : Shape) (law : IsElement s) (b : List ℕ) (p e : ℕ) (t : HeldPart w s b p 0 p e) (j l : ℕ) → IsWalked w b p j
     → s.holds b (bucket_at s.size t.begin (cap_at w b p) j) 0 (bucket_at s.size t.begin (cap_at w b p) j) l → l ≤ t.begin
 parts_before w s law b p e t j l walked h =
@@ -143,7 +143,7 @@ module _ (w : Width) (s : Shape) (law : IsElement s) (b : List ℕ) (p i : ℕ) 
         others = other_same;
       }
 
--- a lookup answers in a kept table what it answered
+-- a lookup in a kept table has the same result as before
 module _ (w : Width) (s : Shape) (b c : List ℕ) (p i : ℕ) (kept : KeepsTable w s b c p i) where
   pub item_stays : (j : ℕ) → item_at w s.size c p j ≡ item_at w s.size b p j
   item_stays j = sym (item_same w b c p kept.header s.size j)

@@ -1,4 +1,4 @@
--- On the controls of a written table the lookup answers the first home that is accepted.
+-- A lookup in written control bytes finds the first accepted home bucket.
 use Rattle.std.proofs.Common.{◌≡◌, ℕ, zero, suc, ◌+◌, ◌*◌, ◌-◌, ◌/◌, ◌%◌, ◌<◌, ◌≤◌, ◌⊎◌, inl, inr, refl, sym, ap, ◌∙◌, arith, List, [], ◌∷◌, Bool, true, false, cond, eqb, ltb, get_or, take, drop, map, filter, Option, Some, None, get_or-take, get_or-drop, add-zero}
 use Rattle.std.specs.List.{list_any, find, range_with_len, flat_map}
 use Rattle.std.specs.Option.{option_and_then}
@@ -20,9 +20,9 @@ pub cases_option : (o : Option ℕ) → (o ≡ None) ⊎ ((x : ℕ) × (o ≡ So
 cases_option None = inl refl
 cases_option (Some x) = inr (x, refl)
 
--- ---- the controls
+-- ---- the control bytes
 
--- a control below 2 * cap is that of its bucket
+-- a control byte below `2 * cap` is that of its bucket
 pub control_of : (cap : ℕ) (controls : List ℕ) (q : ℕ) → 0 < cap → Repeats cap controls → q < 2 * cap → q < control_count cap → get_or controls q 0 ≡ get_or controls (q % cap) 0
 control_of cap controls q pos r two c = elim (cases_lt q cap) [
   | inl a ↦ ap (λ z. get_or controls z 0) (sym (mod-eq_of_lt a))
@@ -32,7 +32,7 @@ control_of cap controls q pos r two c = elim (cases_lt q cap) [
       r.repeated q b two c ∙ ap (λ z. get_or controls z 0) (sym m')
 ]
 
--- a stride that shows a place from 2 * cap on shows, with the first stride, every bucket
+-- a stride that shows an index from `2 * cap` on shows every bucket, together with the first stride
 pub tail_shows_all : (h cap p b : ℕ) → b < cap → list_any (eqb p) (strides h cap) ≡ true → 2 * cap < p + 16
     → (q : ℕ) × (q < 2 * cap) × (q % cap ≡ b) × (((p ≤ q) × (q < p + 16)) ⊎ ((start h cap ≤ q) × (q < start h cap + 16)))
 tail_shows_all h cap p b hb hp over =
@@ -69,7 +69,7 @@ strides_head h cap pos =
     let r = range_head (probe_place s m) (λ p. ltb p (probe_capacity cap)) (m / 16) some (rw e (lt-ltb s (probe_capacity cap) (omega arith))) in
     (r.0, r.1 ∙ ap (λ z. z ∷ r.0) e)
 
--- ---- what a mark says
+-- ---- marked indices
 
 at_mark : (kind : Kind) (controls : List ℕ) (p q : ℕ) → 0 < kind.width → p ≤ q → get_or (take kind.width (drop (p + (q - p) / kind.width * kind.width) controls)) ((q - p) % kind.width) 0 ≡ get_or controls q 0
 at_mark kind controls p q pos le =

@@ -1,4 +1,4 @@
--- That a table's items stand rests on the bytes on which it rests that the table holds.
+-- The represented items of a table depend only on the bytes on which its validity depends.
 use Rattle.std.proofs.Common.{arith, sym, ◌∙◌, ap, subst, inl, inr}
 use Rattle.std.proofs.lemmas.Int.{ints}
 use Rattle.std.proofs.lemmas.List.{length-map}
@@ -48,7 +48,7 @@ module _ {X : Type 0} (w : Width) (s : Shape) (laws : IsElement s) (stands : Lis
     buckets_near : BucketsStand s.size stands c cap begin pairs
     buckets_near = record { homes = st.homes; hashes = st.hashes; controls = subst (Written cap (hashes_of pairs) st.homes) controls_same st.controls; items = item_near }
 
-  -- what stands rests on the bytes on which it rests that it holds
+  -- the represented items depend only on the bytes on which validity depends
   pub table_near : StandsNear (table_shape w s) (TableStands w s stands factor)
   table_near pairs b c p lo hi l o h fixed part st = record {
     len = sym (len_same w b c p fixed) ∙ st.len;

@@ -1,4 +1,4 @@
--- The parts of a table, one after the other.
+-- The parts of a table, in order.
 use Rattle.std.proofs.Common.{◌≡◌, ℕ, ◌+◌, ◌*◌, refl, ap, ◌∙◌, subst, arith, List, ◌++◌, length, Option, append-nil, append_assoc, inl, inr}
 use Rattle.std.proofs.lemmas.List.{length-replicate}
 use Rattle.rkyv_base.specs.declared.errors.WriteError.{WriteError}
@@ -9,11 +9,11 @@ use Rattle.rkyv_base.proofs.GivingUp.{appends_after, end-appends, told_after, to
 use Rattle.rkyv_table.specs.Table.Buckets.{images_length}
 use Rattle.rkyv_table.specs.Table.Slots.{SlotParts, SlotImages, PartsNext, BucketNext, TableNext, TableBytes, WroteBuckets}
 
--- the zeros behind what was appended, by where that begins
+-- the zeros after the appended bytes, by the position at which these begin
 pub zeros_behind : (align : ℕ) (o o1 : Output) (a : List ℕ) → Appends o o1 a → zeros (padding align (end_of o1)) ≡ zeros (padding align (end_of o + length a))
 zeros_behind align o o1 a appended = ap (λ (n : ℕ). zeros (padding align n)) (end-appends o o1 a appended)
 
--- one piece behind what was appended: where it is the next step, what stops it stops all
+-- one piece after the appended bytes. If it is the next step, a failure of it is one of the whole
 pub told_piece : {F : Type 0} (limit : ℕ) (Next : List ℕ → Step → Type 0) (o o1 o2 : Output) (a bytes : List ℕ) (e : WriteError F) → Appends o o1 a → Within limit o1 a
     → ((step : Step) → step ≡ piece bytes → Next a step) → Told limit (Only (piece bytes)) o1 o2 e → Told limit Next o o2 e
 told_piece limit Next o o1 o2 a bytes e appended inside next t =

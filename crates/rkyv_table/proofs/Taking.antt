@@ -137,7 +137,7 @@ module _ {X : Type 0} (cap : ℕ) (pairs : List (ℕ × X)) (slots : List (Optio
           slotted = subst (λ z. Slotted cap (homes ++ b ∷ []) z (set slots b (Some x))) (sym mi) s';
         }
 
--- before the first
+-- no pair is placed
 pub placed_none : {X : Type 0} (cap : ℕ) → 0 < cap → Placed {X = X} cap [] (replicate cap None) (fresh_controls cap)
 placed_none {X = X} cap pos = record {
   homes = [];

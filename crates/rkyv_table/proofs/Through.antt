@@ -1,4 +1,4 @@
--- What an iterator gives that passes on what another one gives.
+-- An iterator that passes on the items of another one.
 use Rattle.std.proofs.Common.{◌≡◌, ℕ, ◌+◌, sym, ap, subst, ◌∙◌, inl, inr, List, [], ◌∷◌, map, Option, Some, None, Result, Ok, Err, MatchResult}
 use Rattle.std.specs.Iterator.{Drains, Yields}
 use Rattle.std.proofs.lemmas.List.{length-map}
@@ -10,7 +10,8 @@ use Rattle.rkyv_base.specs.declared.errors.WriteError.TheVariants.{InvalidLoadFa
 use Rattle.rkyv_table.specs.Table.Counting.{GaveOther}
 use Rattle.rkyv_table.specs.Table.Serializing.{NoItems, OwnCause, WroteItems}
 
--- a state of the outer iterator has one of the inner; each step of it is one of that, which gives what is seen in the item
+-- a state of the outer iterator has one of the inner. Each step of the outer is one of the inner,
+-- with the item that is seen in it
 module _ {T S X Y : Type 0} (inner : T → S) (outer : T → Option X → T → Type 0) (steps : S → Option Y → S → Type 0) (seen : X → Y)
     (ends : (s t : T) → outer s None t → steps (inner s) None (inner t)) (gives : (s t : T) (x : X) → outer s (Some x) t → steps (inner s) (Some (seen x)) (inner t)) where
   pub yields_through : (xs : List X) (s t : T) → Yields outer s xs t → Yields steps (inner s) (map seen xs) (inner t)
@@ -34,7 +35,7 @@ module _ {T S X Y : Type 0} (inner : T → S) (outer : T → Option X → T → 
         h.1,
       )
 
--- a cause of the call's own, where other counts come
+-- an error before the first byte, with another test of numbers
 pub own_counted : {F : Type 0} (len : ℕ) (factor : ℕ × ℕ) (max : ℕ) (other other' : ℕ → Type 0) → ((n : ℕ) → other n → other' n)
     → (e : WriteError F) → OwnCause len factor max other e → OwnCause len factor max other' e
 own_counted len factor max other other' f (InvalidLoadFactor n d) h = h
@@ -47,7 +48,7 @@ own_counted len factor max other other' f TextTooLong h = h
 own_counted len factor max other other' f (Writer fault) h = h
 own_counted len factor max other other' f (Refused c) h = h
 
--- what writing the outer items answers, as what writing the inner ones does
+-- the result of writing the outer items is that of writing the inner ones
 module _ {F X Y V R : Type 0} (seen : X → Y) (gave : List X → Type 0) (gave' : List Y → Type 0) (other other' : ℕ → Type 0) (came : (xs : List X) → gave xs → gave' (map seen xs))
     (counted : (n : ℕ) → other n → other' n) (of_outer : List X → V) (of_inner : List Y → V) (same : (xs : List X) → of_outer xs ≡ of_inner (map seen xs))
     (base : Format V R) (len : ℕ) (factor : ℕ × ℕ) (max limit : ℕ) (o o' : Output) where

@@ -1,4 +1,4 @@
--- What is written of keys, each with the unit value, is what a set of the keys writes.
+-- Keys that are written with the unit value are written as a set of the keys.
 use Rattle.std.proofs.Common.{◌≡◌, ℕ, refl, ap, List, [], ◌∷◌, map, Option, Result, MatchResult}
 use Rattle.std.specs.Iterator.{Drains}
 use Rattle.rkyv_base.specs.Format.{Format}
@@ -25,7 +25,7 @@ module _ {T S BK : Type 0} (inner : T → S) (steps : S → Option BK → S → 
     abbrev AsKeys : Format (List BK) R
     AsKeys = written_as (lent_keys key) (written_as with_units base)
 
-    -- what writing the map of the keys answers, as what writing the set does
+    -- the result of writing the map of the keys is that of writing the set
     pub answers_set : {F : Type 0} (limit : ℕ) (result : Result R (WriteError F))
         → MatchResult result (WroteItems (Drains UnitSteps s) len factor max AsPairs o o' limit) (NoItems (Drains UnitSteps s) len factor max AsPairs o o' limit (GaveOther UnitSteps len s))
         → MatchResult result (WroteItems (Drains steps (inner s)) len factor max AsKeys o o' limit) (NoItems (Drains steps (inner s)) len factor max AsKeys o o' limit (GaveOther steps len (inner s)))

@@ -1,4 +1,4 @@
--- A walk over written controls visits the homes.
+-- A walk over written control bytes visits the home buckets.
 use Rattle.std.proofs.Common.{◌≡◌, ℕ, ◌<◌, ◌∙◌, ◌↔◌, inl, inr, sym, ap, subst, arith, eqb, not, List, [], length, take, slice_index, get_or}
 use Rattle.std.specs.List.{AllPairs, Contains, IsDistinct, list_any, range_with_len}
 use Rattle.std.proofs.lemmas.Bool.{cases_Bool, ne_eqb, not-false, true≢false}
@@ -47,7 +47,7 @@ module _ (cap : ℕ) (hashes homes controls : List ℕ) (room : length hashes < 
       let full : slice_index controls (slice_index homes c.0) < 128 = omega arith in
       full_walked cap controls bucket (subst (IsFullBucket cap controls) at (home_below cap hashes homes controls c.0 (omega arith) w l, full))
 
-  -- a home is none of the earlier ones
+  -- a home bucket is none of the earlier ones
   homes_differ : (i j : ℕ) → i < j → j < length homes → slice_index homes i ≡ slice_index homes j → ⊥
   homes_differ i j ij h e =
       let count = w.placed.count in
@@ -68,7 +68,7 @@ module _ (cap : ℕ) (hashes homes controls : List ℕ) (room : length hashes < 
     count = (accepted_written cap hashes homes controls room w (λ j l. fit j 0 l)).full ∙ sym w.placed.count;
   }
 
--- where there is no bucket, none is visited
+-- without buckets, none is visited
 pub none_visits : (controls : List ℕ) → VisitsHomes 0 [] controls
 unfolding IsDistinct
 none_visits controls = record {

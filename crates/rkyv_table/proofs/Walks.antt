@@ -45,7 +45,7 @@ cut F cap a (suc n) =
           ]
     ]
 
--- ---- the places of the mask are all full ones from some place on
+-- ---- the indices of the mask are all full ones from some index on
 
 pub record WalkFrom (controls : List ℕ) (cap base width : ℕ) (places : List ℕ) : Type 0 where
   pub count : control_count cap ≤ length controls
@@ -77,7 +77,7 @@ walk_of controls cap base width places w =
     let h' = rw (e, ← w.marks) at h in
     record { count = w.count; below = w.below; inside = h'.1; marks = h'.2 }
 
--- what is left, as the full buckets from a place on
+-- the remaining buckets are the full buckets from an index on
 pub left_is : (controls : List ℕ) (cap base width : ℕ) (places : List ℕ) → (w : WalkFrom controls cap base width places) → left controls cap base width places ≡ full_from controls cap (base + w.next)
 unfolding left full_from
 left_is controls cap base width places w =
@@ -90,7 +90,7 @@ left_is controls cap base width places w =
     ∙ ap (λ z. filter (λ q. ltb q cap) (filter F (range_with_len (base + w.next) (width - w.next))) ++ filter F (range_with_len z (cap - z))) e
     ∙ cut F cap (base + w.next) (width - w.next)
 
--- ---- a place is taken
+-- ---- an index is taken
 
 pub takes_place : (controls : List ℕ) (cap base width j : ℕ) (places : List ℕ) → Some j ≡ slice_get places 0 → base + j < cap → left controls cap base width places ≡ (base + j) ∷ left controls cap base width (drop 1 places)
 unfolding left
@@ -196,7 +196,7 @@ group_walk controls g cap base width places n h e p =
           ∙ ap (λ n. filter (λ j. ltb (get_or controls (base + j) 0) 128) (range_with_len 0 n)) (sym z);
     }
 
--- what is left of a group that is read anew
+-- the remaining buckets of a group that is read anew
 pub left_group : (controls g : List ℕ) (cap base width : ℕ) (places : List ℕ) → control_count cap ≤ length controls → base ≤ cap → g ≡ take width (drop base controls) → places ≡ places_where (λ j. ltb (get_or g j 0) 128) width
     → left controls cap base width places ≡ full_from controls cap base
 unfolding group_walk
@@ -221,7 +221,7 @@ walk_small controls cap =
     let c = length-range_with_len 0 cap in
     omega arith
 
--- ---- the walked buckets are the full ones
+-- ---- the buckets of a walk are the full ones
 
 pub full_walked : (cap : ℕ) (controls : List ℕ) (b : ℕ) → IsFullBucket cap controls b → Contains (walk controls cap) b
 unfolding walk

@@ -44,7 +44,7 @@ whole_shown kind law t p cap stride shows ps small one s m b k =
     let z : p ≡ p + 0 = omega arith in
     marked_shown kind law t p cap 0 stride shows ps small (omega arith) s m b (k.0, k.1, k.2 ∙ ap (λ q. (q + get_or ps k.0 0) % cap) z)
 
--- where no place is accepted, the stride shows an empty control exactly where the group does
+-- if no index is accepted, the stride shows an empty control byte if and only if the group does
 pub whole_none : (kind : Kind) → IsKind kind → (controls shows stride : List ℕ) (cap t p : ℕ) (accept : ℕ → Bool) (told : Bool) (places empties : List ℕ) → kind.width ≡ 16
     → shows ≡ take kind.width stride → stride ≡ take 16 (drop p controls) → places ≡ places_where (kind.marks shows t) kind.width
     → None ≡ find accept (map (λ j. (p + j) % cap) places) → empties ≡ places_where (λ j. leb 128 (get_or shows j 0)) kind.width → (told ≡ true) ↔ (0 < length empties)

@@ -1,4 +1,4 @@
--- On the controls of a written table the lookup answers the first home that is accepted.
+-- A lookup in written control bytes finds the first accepted home bucket.
 use Rattle.std.proofs.Common.{◌≡◌, ℕ, ◌+◌, ◌*◌, ◌%◌, ◌^◌, ◌<◌, ◌≤◌, inl, inr, refl, sym, ap, ◌∙◌, arith, List, [], ◌∷◌, Bool, true, false, ◌&&◌, eqb, ltb, leb, length, get_or, take, map, Option, Some, None, get_or-take, length-take}
 use Rattle.std.specs.List.{list_any, find, range_with_len, flat_map, position_or_len}
 use Rattle.std.specs.Option.{option_map}
@@ -17,7 +17,7 @@ use Rattle.rkyv_table.proofs.Coverage.{has_stride}
 use Rattle.rkyv_table.proofs.Search.{cases_option, control_of, tail_shows_all, strides_head, mark_equal, mark_full, GoodStride, answer, answer_cons, walk_on, walk_all}
 use Rattle.rkyv_table.proofs.Lists.{any_map_filter, any_member, any_range, none_range, find_none, none_find, some_find, find_map_filter, FirstIn, first_range, range_first}
 
--- ---- what a stride shows
+-- ---- the buckets that a stride shows
 
 pub find_buckets : (free : ℕ → Bool) (cap p : ℕ) → find free (buckets_at cap p) ≡ option_map (λ q. q % cap) (find (λ q. ltb q (2 * cap) && free (q % cap)) (range_with_len p 16))
 unfolding buckets_at
@@ -28,7 +28,7 @@ find_candidates : (accept : ℕ → Bool) (kind : Kind) (controls : List ℕ) (c
 unfolding candidates
 find_candidates accept kind controls cap t p = find_map_filter accept (marked kind controls t p) (λ q. q % cap) (range_with_len p 16)
 
--- a bucket that a stride shows where no shown bucket is free
+-- a bucket that a stride shows, if no shown bucket is free
 pub taken_at : (free : ℕ → Bool) (cap p q : ℕ) → list_any free (buckets_at cap p) ≡ false → p ≤ q → q < p + 16 → q < 2 * cap → free (q % cap) ≡ false
 unfolding buckets_at
 taken_at free cap p q none lo hi two =
@@ -37,7 +37,7 @@ taken_at free cap p q none lo hi two =
     let m = any_map_filter free (λ q. ltb q (2 * cap)) (λ q. q % cap) (range_with_len p 16) in
     both_ways (list_any free (buckets_at cap p)) none (m ∙ a))
 
--- the first free bucket of a stride, as its place
+-- the first free bucket of a stride, as its index
 option_map_some : (f : ℕ → ℕ) (o : Option ℕ) (b : ℕ) → option_map f o ≡ Some b → (q : ℕ) × (o ≡ Some q) × (f q ≡ b)
 option_map_some f None b h = absurd (none-some b h)
 option_map_some f (Some q) b h = (q, refl, same_Some (f q) b h)
@@ -61,7 +61,7 @@ shown_below free cap b (p ∷ ps) pos h =
 
 -- ---- taken buckets
 
--- a bucket that isn't free is an earlier home
+-- a bucket that isn't free is an earlier home bucket
 pub taken_home : (homes : List ℕ) (i b : ℕ) → i ≤ length homes → is_free (take i homes) b ≡ false → (j : ℕ) × (j < i) × (get_or homes j 0 ≡ b)
 taken_home homes i b hi h =
     let a = Any-from_list_any (eqb b) (take i homes) (not-false (list_any (eqb b) (take i homes)) h) in
@@ -70,7 +70,7 @@ taken_home homes i b hi h =
     let e = eqb-true b a.1 a.4 in
     (a.0, lt, get_or_default homes a.0 0 a.1 (omega arith) ∙ sym (get_or-take i homes a.0 a.1 lt) ∙ a.3 ∙ sym e)
 
--- ---- a written table, asked under the hash h of its item i, the first that is accepted
+-- ---- a written table and a lookup under the hash `h` of its item `i`, the first accepted one
 
 pub record Asked (cap h i : ℕ) (hashes homes controls : List ℕ) (kind : Kind) (accept : ℕ → Bool) : Type 0 where
   pub written : Written cap hashes homes controls
@@ -92,7 +92,7 @@ module _ (cap h i : ℕ) (hashes homes controls : List ℕ) (kind : Kind) (accep
   free : ℕ → Bool
   free = is_free (take i homes)
 
-  -- the bucket of a taken place is not accepted, and its control is full
+  -- the bucket of a taken index is not accepted, and its control byte is full
   at_taken : (q : ℕ) → q < 2 * cap → q < control_count cap → free (q % cap) ≡ false → (accept (q % cap) ≡ false) × (get_or controls q 0 < 128)
   unfolding free
   at_taken q two c f =
@@ -110,7 +110,7 @@ module _ (cap h i : ℕ) (hashes homes controls : List ℕ) (kind : Kind) (accep
   stride_below : (p : ℕ) → list_any (eqb p) (strides h cap) ≡ true → p < probe_capacity cap
   stride_below p hp = ltb-true p (probe_capacity cap) (and_parts (ltb p (probe_capacity cap)) (eqb (p % 16) (start h cap % 16)) (sym (has_stride h cap p a.some) ∙ hp)).0
 
-  -- where the stride's shown buckets are taken, its places lie below 2 * cap
+  -- if the buckets that a stride shows are taken, its indices are below `2 * cap`
   fits_below : (p : ℕ) → b < cap → free b ≡ true → list_any (eqb p) (strides h cap) ≡ true → list_any free (buckets_at cap p) ≡ false → list_any free (buckets_at cap (start h cap)) ≡ false → p + 16 ≤ 2 * cap
   fits_below p hb fb hp none first =
       elim (cases_lt (2 * cap) (p + 16)) [
@@ -123,7 +123,7 @@ module _ (cap h i : ℕ) (hashes homes controls : List ℕ) (kind : Kind) (accep
         | inr l ↦ l
       ]
 
-  -- such a stride is passed by
+  -- the search passes such a stride
   passed : (p : ℕ) → p < probe_capacity cap → p + 16 ≤ 2 * cap → list_any free (buckets_at cap p) ≡ false →
       (find accept (candidates kind controls cap (tag h) p) ≡ None) × (shows_empty controls p ≡ false)
   unfolding candidates shows_empty
@@ -136,7 +136,7 @@ module _ (cap h i : ℕ) (hashes homes controls : List ℕ) (kind : Kind) (accep
         none_range (λ q. leb 128 (get_or controls q 0)) p 16 (λ q lo hi. lt-leb 128 (get_or controls q 0) (at q lo hi).1),
       )
 
-  -- the stride that shows the home finds it
+  -- the search ends at the stride that shows the home bucket
   met : (p : ℕ) → p < probe_capacity cap → find free (buckets_at cap p) ≡ Some b → find accept (candidates kind controls cap (tag h) p) ≡ Some b
   unfolding free b
   met p lp hb =
@@ -162,7 +162,7 @@ module _ (cap h i : ℕ) (hashes homes controls : List ℕ) (kind : Kind) (accep
       }) in
       find_candidates accept kind controls cap (tag h) p ∙ ap (option_map (λ q. q % cap)) r ∙ ap Some w.2
 
-  -- the answer is that item's home
+  -- the result is the home bucket of that item
   pub answers_home : answer kind controls cap (tag h) accept (strides h cap) ≡ Some (get_or homes i 0)
   unfolding free b
   answers_home =
@@ -185,7 +185,7 @@ module _ (cap h i : ℕ) (hashes homes controls : List ℕ) (kind : Kind) (accep
       (λ n hr. let none = none_find free (buckets_at cap s) n in
       walk_all cap b free accept kind controls (tag h) st.0 (λ p hp. good p (ap (list_any (eqb p)) st.1 ∙ or_right (eqb p s) (list_any (eqb p) st.0) hp) (λ _. none)) hr) h'
 
--- where no home is accepted, no candidate is
+-- if no home bucket is accepted, no candidate is
 none_accepted : (cap h p : ℕ) (hashes homes controls : List ℕ) (kind : Kind) (accept : ℕ → Bool) → 0 < cap → h < 2 ^ 64 → IsKind kind → Written cap hashes homes controls
     → list_any accept homes ≡ false → p < probe_capacity cap → find accept (candidates kind controls cap (tag h) p) ≡ None
 unfolding candidates
@@ -221,7 +221,8 @@ first_within P (x ∷ xs) h = elim (cases_Bool (P x)) [
   | inr e ↦ let h' = rw e at h in let ih = first_within P xs h' in rw e (omega arith)
 ]
 
--- on a written table, where only items under the asked hash are accepted, the lookup answers the home of the first item that is
+-- in written control bytes, the lookup finds the first accepted home bucket, if only items under
+-- the hash are accepted
 pub found_written : (cap h : ℕ) (hashes homes controls : List ℕ) (kind : Kind) (accept : ℕ → Bool) → length hashes < cap → h < 2 ^ 64 → IsKind kind → Written cap hashes homes controls
     → ((j : ℕ) → j < length hashes → get_or hashes j 0 < 2 ^ 64)
     → ((j : ℕ) → j < length hashes → accept (get_or homes j 0) ≡ true → get_or hashes j 0 ≡ h)
@@ -250,7 +251,7 @@ found_written cap h hashes homes controls kind accept room hh law w fits asked =
           ])
     ]
 
--- in the items' terms: where item_at says what stands at a bucket, the answer is First of the list
+-- the first item that passes, by the items of the buckets
 find_through : {X : Type 0} (f : ℕ → X) (c : X → Bool) (bs : List ℕ) → find c (map f bs) ≡ option_map f (find (λ b. c (f b)) bs)
 find_through f c [] = refl
 find_through f c (b ∷ bs) = elim (cases_Bool (c (f b))) [ inl t ↦ rw t refl | inr e ↦ rw e (find_through f c bs) ]

@@ -1,4 +1,4 @@
--- The controls of a written table are those of an accepted one: as many full buckets as items.
+-- Written control bytes are valid: they have as many full buckets as items.
 use Rattle.std.proofs.Common.{◌≡◌, ℕ, ◌+◌, ◌^◌, ◌<◌, refl, sym, ◌∙◌, arith, List, false, ◌&&◌, eqb, ltb, length, get_or, take, replicate, get_or-take, length-take}
 use Rattle.std.specs.List.{list_any, range_with_len, IsDistinct}
 use Rattle.std.specs.Cmp.{nat_eq_equiv}
@@ -14,7 +14,7 @@ use Rattle.rkyv_table.proofs.Coverage.{same_tests}
 use Rattle.rkyv_table.proofs.Lists.{any_filter, any_range, in_range, some_find, distinct_filter}
 use Rattle.rkyv_table.proofs.WrittenStep.{free_empty, home_below}
 
--- no home is another's
+-- no two items have one home bucket
 pub homes_apart : (cap : ℕ) (hashes homes : List ℕ) → Homes cap hashes homes → (i j : ℕ) → i < j → j < length homes → get_or homes i 0 ≡ get_or homes j 0 → ⊥
 homes_apart cap hashes homes p i j ij hj e =
     let count = p.count in
@@ -40,7 +40,7 @@ distinct_range n = let l = length-range_with_len 0 n in
     let gj = get_or-range_with_len 0 n j d jc in
     rw (gi, gj) (ne_eqb (0 + i) (0 + j) (λ e. omega arith)))
 
--- a full bucket is a home
+-- a full bucket is a home bucket
 pub full_home : (cap : ℕ) (hashes homes controls : List ℕ) (q : ℕ) → 0 < cap → Written cap hashes homes controls → ((j : ℕ) → j < length hashes → get_or hashes j 0 < 2 ^ 64)
     → list_any (eqb q) (walk controls cap) ≡ list_any (eqb q) homes
 unfolding walk

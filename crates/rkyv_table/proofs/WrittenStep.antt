@@ -1,4 +1,4 @@
--- One item more on a written table.
+-- One item more in written control bytes.
 use Rattle.std.proofs.Common.{◌≡◌, ℕ, ◌+◌, ◌*◌, ◌-◌, ◌%◌, ◌^◌, ◌<◌, ◌≢◌, inl, inr, refl, sym, ap, ◌∙◌, arith, List, [], ◌∷◌, ◌++◌, Bool, true, false, ◌&&◌, eqb, ltb, length, get_or, take, set, replicate, Some, get_or-set_same, get_or-set_other, length-set, length-take, get_or-take}
 use Rattle.std.specs.List.{find, list_any, range_with_len, flat_map, IsDistinct}
 use Rattle.std.specs.Cmp.{nat_eq_equiv}
@@ -20,7 +20,7 @@ use Rattle.rkyv_table.proofs.Lists.{some_find, any_member}
 tag_small : (h : ℕ) → h < 2 ^ 64 → tag h < 128
 tag_small h l = omega arith
 
--- ---- reading a control after the two writes
+-- ---- reading a control byte after the two writes
 
 at_bucket : (controls : List ℕ) (cap b t : ℕ) → 0 < cap → b < length controls → get_or (with_control controls cap b t) b 0 ≡ t
 at_bucket controls cap b t pos h =
@@ -33,7 +33,7 @@ at_repeat controls cap b t h = let l = length-set controls b t in get_or-set_sam
 elsewhere : (controls : List ℕ) (cap b t q : ℕ) → q ≢ b → q ≢ cap + b → get_or (with_control controls cap b t) q 0 ≡ get_or controls q 0
 elsewhere controls cap b t q n m = get_or-set_other (set controls b t) (cap + b) q t 0 m ∙ get_or-set_other controls b q t 0 n
 
--- ---- tests that agree below cap find the same
+-- ---- tests that agree below `cap` find the same
 
 find_ext : (P Q : ℕ → Bool) (xs : List ℕ) → ((x : ℕ) → P x ≡ Q x) → find P xs ≡ find Q xs
 find_ext P Q [] h = refl
@@ -52,7 +52,7 @@ shown_agree P Q cap (p ∷ ps) pos h =
 
 -- ---- the step
 
--- on a written table a bucket is free exactly where its control is empty
+-- a bucket is free if and only if its written control byte is empty
 pub free_empty : (cap : ℕ) (hashes homes controls : List ℕ) (b : ℕ) → Written cap hashes homes controls → ((j : ℕ) → j < length hashes → get_or hashes j 0 < 2 ^ 64) → b < cap → is_free homes b ≡ is_empty_at controls b
 free_empty cap hashes homes controls b w fits hb =
     let len = w.placed.count in
@@ -154,7 +154,7 @@ one_more cap h b hashes homes controls pos w fits hh e =
 fresh_at : (n q : ℕ) → q < n → get_or {A = ℕ} (replicate n 255) q 0 ≡ 255
 fresh_at n q h = get_or-replicate n q 255 0 h
 
--- the fresh controls are those of no item
+-- the fresh control bytes are those of no item
 pub fresh : (cap : ℕ) → 0 < cap → Written cap [] [] (replicate (control_count cap) 255)
 fresh cap pos =
     let at = λ (q : ℕ) (h : q < control_count cap). fresh_at (control_count cap) q h in
@@ -170,7 +170,7 @@ fresh cap pos =
       past = λ q g c. at q c;
     }
 
--- fewer homes than buckets leave one free
+-- fewer home buckets than buckets leave one free
 pub free_bucket : (cap : ℕ) (homes : List ℕ) → length homes < cap → (b : ℕ) × (b < cap) × (is_free homes b ≡ true)
 free_bucket cap homes h =
     let xs = range_with_len 0 cap in
@@ -195,7 +195,7 @@ free_bucket cap homes h =
           absurd (omega arith)
     ]
 
--- the controls of a written table leave a bucket empty
+-- written control bytes leave a bucket empty
 pub room_left : (cap : ℕ) (hashes homes controls : List ℕ) → Written cap hashes homes controls → ((j : ℕ) → j < length hashes → get_or hashes j 0 < 2 ^ 64) → length hashes < cap → HasRoom cap controls
 room_left cap hashes homes controls w fits h =
     let len = w.placed.count in

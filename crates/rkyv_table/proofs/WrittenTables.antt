@@ -1,4 +1,4 @@
--- A table whose items stand was written of them.
+-- A table that represents items was written from them.
 use Rattle.std.proofs.Common.{◌≡◌, ℕ, ◌^◌, ◌<◌, ap, refl, sym, subst, ◌∙◌, arith, inl, inr, List, [], ◌∷◌, length, slice_get, slice_index, Some, pos}
 use Rattle.std.specs.Int.{Width}
 use Rattle.std.proofs.lemmas.List.{get_or-map, length-map}
@@ -16,20 +16,20 @@ use Rattle.rkyv_table.specs.Table.Taking.{hashes_of, items_of}
 use Rattle.rkyv_table.specs.Table.WrittenTables.{IsWrittenOf, StandingWereWritten}
 use Rattle.rkyv_table.proofs.WrittenStep.{home_below}
 
--- where the i-th item handed in stands
+-- the position of the item with the number `i`
 pub home_pos : (w : Width) (size : ℕ) (b : List ℕ) (p : ℕ) (homes : List ℕ) (i : ℕ) → i < length homes
     → slice_index (home_positions w size b p homes) i ≡ item_at w size b p (slice_index homes i)
 home_pos w size b p homes i h = get_or-map (item_at w size b p) homes i 0 0 h
 
 module _ (w : Width) (b : List ℕ) (p : ℕ) (hashes homes : List ℕ) (written : WrittenAt w b p hashes homes) where
-  -- as many homes as hashes
+  -- there are as many home buckets as hashes
   pub home_count : length homes ≡ length hashes
   home_count = elim written.placed [
     | inl none ↦ rw (none.0, none.1) refl
     | inr some ↦ some.1.placed.count
   ]
 
-  -- in each home an item stands
+  -- each home bucket has an item
   pub home_walked : (i : ℕ) → i < length homes → IsWalked w b p (slice_index homes i)
   home_walked i below = elim written.placed [
     | inl none ↦ absurd (omega (arith, below, ap length none.1))
@@ -84,7 +84,7 @@ module _ {X : Type 0} (w : Width) (s : Shape) (stands : List ℕ → ℕ → X �
     some_written : IsWrittenOf w s.size stands c p pairs
     some_written = record { homes = homes; written = written; at = item_there }
 
--- where the items of a table stand, it was written of them
+-- a table that represents items was written from them
 pub table_written : {X : Type 0} (w : Width) (s : Shape) (stands : List ℕ → ℕ → X → Type 0) (factor : ℕ × ℕ) → StandingWereWritten w s stands factor
 table_written w s stands factor c p [] t = none_written w s stands factor c p t
 table_written w s stands factor c p (x ∷ xs) t = some_written w s stands factor c p (x ∷ xs) t (omega arith)

@@ -1,4 +1,4 @@
--- Definitions on the control bytes of a table and on bucket numbers alone.
+-- Definitions on control bytes, indices and buckets alone.
 pub mod Numbers
 pub mod Capacity
 pub mod Probe

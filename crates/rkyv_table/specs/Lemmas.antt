@@ -1,4 +1,4 @@
--- Lemmas that laws of traits and their impls need: a law may import from specs/ alone.
+-- Lemmas for the laws of traits and of their impls. A law can import from specs/ alone.
 pub mod PlaceLaws
 pub mod TableLaws
 pub mod ItemPositions

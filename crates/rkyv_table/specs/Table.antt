@@ -1,4 +1,4 @@
--- Definitions on tables: header, buckets, writing, checking, lookups, walks.
+-- Definitions on tables: header, buckets, writing, validation, lookups and walks.
 pub mod Header
 pub mod Places
 pub mod Layout

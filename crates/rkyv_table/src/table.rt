@@ -1,5 +1,5 @@
 //! Tables of items.
-ghost use Rattle.rkyv_table.specs.Table.Decoded.{IsDecoded, decoded_prop};
+ghost use Rattle.rkyv_table.specs.Table.Decoded.{IsDecoded};
 
 mod buckets;
 mod bytes;
@@ -42,7 +42,7 @@ pub struct TableOf<T, W = Narrow> {
 pub struct ArchivedHashTable<'a, T, W: Word = Narrow> {
     view: View<'a, TableOf<T, W>>,
     header: Decoded,
-    ghost decoded: { IsDecoded W.word view.archive.now view.pos header } by { decoded_prop W.word view.archive.now view.pos header },
+    ghost decoded: { IsDecoded W.word view.archive.now view.pos header },
 }
 
 impl<'a, T, W: Word> Clone for ArchivedHashTable<'a, T, W> {

@@ -1,4 +1,6 @@
-//! The tests, by what they call.
+//! The tests, by the calls that they test.
+//!
+//! `archives` writes tables and `reading` reads them, for the other modules.
 
 mod archives;
 mod asks;

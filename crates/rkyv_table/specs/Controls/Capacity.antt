@@ -1,12 +1,12 @@
--- What `capacity` answers.
+-- The result of `capacity`.
 use Rattle.std.specs.Prelude.{◌≡◌, ℕ, ◌<◌, ◌≤◌, Result, Ok, Err}
 use Rattle.rkyv_table.specs.Controls.Numbers.{IsLoadFactor, capacity}
 use Rattle.rkyv_table.specs.declared.controls.numbers.CapacityError.{CapacityError}
 use Rattle.rkyv_table.specs.declared.controls.numbers.CapacityError.TheVariants.{InvalidLoadFactor}
 use Rattle.rkyv_table.specs.declared.controls.numbers.CapacityError.TheVariants.{CapacityTooLarge}
 
--- the capacity where the load factor is one and the limit is kept; else what is wrong, the load
--- factor first
+-- the capacity under a valid load factor, within the limit; or the error, with that
+-- of the load factor first
 abbrev pub IsCapacity : ℕ → ℕ × ℕ → ℕ → Result ℕ CapacityError → Type 0
 IsCapacity len factor limit (Ok cap) =
     IsLoadFactor factor × (cap ≡ capacity len factor) × (cap ≤ limit)

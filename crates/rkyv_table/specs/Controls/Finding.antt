@@ -1,4 +1,4 @@
--- What a lookup answers.
+-- The result of a lookup.
 use Rattle.std.specs.Prelude.{◌≡◌, ℕ, suc, ◌+◌, ◌*◌, ◌-◌, ◌/◌, ◌%◌, ◌<◌, ◌≤◌, List, Bool, ◌||◌}
 use Rattle.std.specs.Prelude.{take, drop, Option, None, map, filter, cond, ◌==◌, IfSome, true}
 use Rattle.std.specs.List.{find, list_any, range_with_len, position_or_len}
@@ -8,28 +8,28 @@ use Rattle.rkyv_table.specs.Controls.Shown.{IsFullBucket, is_empty_at}
 use Rattle.rkyv_table.specs.Controls.Probe.{strides}
 use Rattle.rkyv_table.specs.Controls.Numbers.{probe_capacity, tag}
 
--- the kind of group marks the place q for the tag t, where the stride from p on is read in groups
+-- the kind of group marks index `q` for the tag `t`, if the stride from `p` on is read in groups
 abbrev pub marked : Kind → List ℕ → ℕ → ℕ → ℕ → Bool
 marked kind controls t p q = kind.marks
     (take kind.width (drop (p + (q - p) / kind.width * kind.width) controls)) t
     ((q - p) % kind.width)
 
--- the buckets of the marked places of the stride from p on, in order
+-- the buckets of the marked indices of the stride from `p` on, in order
 unfoldable pub candidates : Kind → List ℕ → ℕ → ℕ → ℕ → List ℕ
 candidates kind controls cap t p =
     map (λ q. q % cap) (filter (marked kind controls t p) (range_with_len p 16))
 
--- the stride from p on shows an empty control
+-- the stride from `p` on shows an empty control byte
 unfoldable pub shows_empty : List ℕ → ℕ → Bool
 shows_empty controls p = list_any (is_empty_at controls) (range_with_len p 16)
 
--- the search ends at the stride from p on: it shows a candidate that is accepted, or an empty
--- control
+-- the search ends at the stride from `p` on: it shows an accepted candidate or
+-- an empty control byte
 abbrev pub ends_at : Kind → List ℕ → ℕ → ℕ → (ℕ → Bool) → ℕ → Bool
 ends_at kind controls cap t accept p =
     list_any accept (candidates kind controls cap t p) || shows_empty controls p
 
--- the number, counted from 1, of the stride at which the search ends; 0 in an empty table
+-- the number of the stride at which the search ends, counted from 1, or 0 in an empty table
 abbrev pub end : Kind → List ℕ → ℕ → ℕ → ℕ → (ℕ → Bool) → ℕ
 end kind controls cap len hash accept =
     cond (len == 0) 0 (suc (position_or_len (ends_at kind controls cap (tag hash) accept)
@@ -42,18 +42,20 @@ found kind controls cap len hash accept =
     find accept (candidates kind controls cap (tag hash) p))
     (find (ends_at kind controls cap (tag hash) accept) (strides hash cap)))
 
--- where the comparison may be asked, its answer is that of accept
+-- the comparison returns `accept b` for each bucket `b` that it may be called with
 abbrev pub AnswersAs : (ℕ → Bool → Type 0) → (ℕ → Type 0) → (ℕ → Bool) → Type 0
 AnswersAs post asked accept = (b : ℕ) (r : Bool) → asked b → post b r → r ≡ accept b
 
--- a lookup among len items reads no stride where len is 0, else one at least and `bound` at most
+-- the number of strides that a lookup reads: none if `len` is 0, else at least one and at most
+-- `bound`
 pub record ReadsWithin (len bound before after : ℕ) : Type 0 where
   pub none : len ≡ 0 → after ≡ before
   pub some : 0 < len → before < after
   pub most : after ≤ before + bound
 
--- What a lookup by a comparison says of the bucket that it answers and of the strides that it
--- reads: whatever the comparison answers, and where it answers as a function of the bucket does.
+-- `result`: bucket that a lookup under `hash` finds, `before` and `after`: counts of strides.
+-- For any comparison, the bucket is full and accepted, and the strides are bounded.
+-- If the comparison depends only on the bucket, both are exact
 pub record FindsBucket (kind : Kind) (post : ℕ → Bool → Type 0) (controls : List ℕ)
     (cap len hash before after : ℕ) (result : Option ℕ) : Type 0 where
   pub walked : IfSome result (IsFullBucket cap controls)

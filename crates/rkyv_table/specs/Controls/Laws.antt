@@ -1,4 +1,4 @@
--- Laws of the probe sequence and of written controls.
+-- Laws of the probe sequence and of written control bytes.
 use Rattle.std.specs.Prelude.{◌≡◌, ℕ, ◌+◌, ◌*◌, ◌%◌, ◌/◌, ◌<◌, ◌≤◌, ◌^◌, ◌↔◌, List, Bool, true, eqb}
 use Rattle.std.specs.Prelude.{length, slice_index}
 use Rattle.std.specs.List.{All, Contains, IsDistinct, find}
@@ -10,15 +10,15 @@ use Rattle.rkyv_table.specs.Controls.Placing.{Homes, Written, Accepted, walk, ho
 use Rattle.rkyv_table.specs.Controls.Placing.{written_controls}
 use Rattle.rkyv_table.specs.Controls.Finding.{marked, found, end}
 
--- the places are those below the probe capacity that are the start modulo 16, each once, and so
--- many
+-- `places`: all indices below the probe capacity that are congruent to the start modulo 16,
+-- each once
 pub record IsCover (hash cap : ℕ) (places : List ℕ) : Type 0 where
   pub members : (p : ℕ) → Contains places p
       ↔ (p < probe_capacity cap) × (p % 16 ≡ start hash cap % 16)
   pub once : IsDistinct eqb places
   pub count : length places ≡ probe_capacity cap / 16
 
--- the strides of a hash are the places that leave the start's rest by 16, each once
+-- the strides of a hash begin at the indices congruent to the start modulo 16, each once
 abbrev pub StridesCover : Type 0
 StridesCover = (hash cap : ℕ) → 0 < cap → IsCover hash cap (strides hash cap)
 
@@ -26,52 +26,53 @@ StridesCover = (hash cap : ℕ) → 0 < cap → IsCover hash cap (strides hash c
 abbrev pub BucketsAreShown : Type 0
 BucketsAreShown = (hash cap bucket : ℕ) → bucket < cap → Contains (shown hash cap) bucket
 
--- each hash is one of 64 bits
+-- each hash is below 2^64
 abbrev pub AreHashes : List ℕ → Type 0
 AreHashes = All (λ hash. hash < 2 ^ 64)
 
--- fewer items than buckets have homes
+-- fewer items than buckets have home buckets
 abbrev pub HomesExist : Type 0
 HomesExist = (cap : ℕ) (hashes : List ℕ) → length hashes < cap → Homes cap hashes (homes cap hashes)
 
--- capacity and hashes determine the homes
+-- the capacity and the hashes determine the home buckets
 abbrev pub HomesAreOneList : Type 0
 HomesAreOneList = (cap : ℕ) (hashes xs : List ℕ) → Homes cap hashes xs → xs ≡ homes cap hashes
 
--- capacity and hashes determine the written controls
+-- the capacity and the hashes determine the written control bytes
 abbrev pub WrittenAreOneList : Type 0
 WrittenAreOneList = (cap : ℕ) (hashes xs controls : List ℕ) → 0 < cap
     → Written cap hashes xs controls → controls ≡ written_controls cap hashes
 
--- what is written of fewer items than buckets is accepted
+-- the written control bytes of fewer items than buckets are valid
 abbrev pub WrittenAreAccepted : Type 0
 WrittenAreAccepted = (cap : ℕ) (hashes xs controls : List ℕ) → length hashes < cap
     → AreHashes hashes → Written cap hashes xs controls → Accepted cap (length hashes) controls
 
--- the walk visits the full buckets, and no other
+-- a walk visits a bucket if and only if it is full
 abbrev pub WalkedAreFull : Type 0
 WalkedAreFull = (cap bucket : ℕ) (controls : List ℕ) → Contains (walk controls cap) bucket
     ↔ IsFullBucket cap controls bucket
 
--- a search reads at most one stride for sixteen buckets, rounded up
+-- a search in valid control bytes ends within ceil(cap / 16) strides
 abbrev pub SearchIsBounded : Type 0
 SearchIsBounded = (kind : Kind) (cap len hash : ℕ) (controls : List ℕ) (accept : ℕ → Bool)
     → (0 < len → Accepted cap len controls)
     → end kind controls cap len hash accept ≤ probe_capacity cap / 16
 
--- a marked place of a stride leads to a full bucket of the walk
+-- a marked index of a stride is below `2 * cap`, and its bucket is in the walk
 abbrev pub MarkedAreWalked : Type 0
 MarkedAreWalked = (kind : Kind) (cap len hash tag p q : ℕ) (controls : List ℕ) → IsKind kind
     → Accepted cap len controls → tag < 128
     → Contains (strides hash cap) p → p ≤ q → q < p + 16 → marked kind controls tag p q ≡ true
     → (q < 2 * cap) × Contains (walk controls cap) (q % cap)
 
--- only items under the hash are accepted
+-- each accepted home bucket is that of an item under `hash`
 abbrev pub IsUnderHash : ℕ → List ℕ → List ℕ → (ℕ → Bool) → Type 0
 IsUnderHash hash hashes xs accept = (i : ℕ) → i < length hashes → accept (slice_index xs i) ≡ true
     → slice_index hashes i ≡ hash
 
--- a lookup on written controls answers the home of the first item that is accepted
+-- a lookup in written control bytes finds the first accepted home bucket, if only items under
+-- `hash` are accepted
 abbrev pub FoundOnWritten : Type 0
 FoundOnWritten = (kind : Kind) (cap hash : ℕ) (hashes xs controls : List ℕ) (accept : ℕ → Bool)
     → IsKind kind → hash < 2 ^ 64 → length hashes < cap → AreHashes hashes

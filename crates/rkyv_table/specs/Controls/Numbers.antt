@@ -6,11 +6,11 @@ use Rattle.std.specs.List.{position_or_len, range_with_len}
 abbrev pub tag : ℕ → ℕ
 tag hash = hash / 2 ^ 57
 
--- a load factor is a fraction above 0 and at most 1
+-- a load factor: a fraction above 0 and at most 1
 abbrev pub IsLoadFactor : ℕ × ℕ → Type 0
 IsLoadFactor factor = (0 < factor.0) × (factor.0 ≤ factor.1)
 
--- the buckets of a table of `len` items under a load factor; one at least stays empty
+-- the number of buckets of a table of `len` items under a load factor; at least one stays empty
 abbrev pub capacity : ℕ → ℕ × ℕ → ℕ
 capacity len factor = cond (len == 0) 0 (max (len * factor.1 / factor.0) (len + 1))
 
@@ -18,16 +18,16 @@ capacity len factor = cond (len == 0) 0 (max (len * factor.1 / factor.0) (len + 
 abbrev pub start : ℕ → ℕ → ℕ
 start hash cap = hash % cap
 
--- the places at which a stride may begin: the buckets rounded up to a multiple of 16
+-- the number of indices at which a stride may begin: `cap` rounded up to a multiple of 16
 abbrev pub probe_capacity : ℕ → ℕ
 probe_capacity cap = (cap + 15) / 16 * 16
 
--- the control bytes
+-- the number of control bytes
 abbrev pub control_count : ℕ → ℕ
 control_count cap = probe_capacity cap + 15
 
--- the modulus of the probe sequence: the least power of two that is at least the number of control
--- bytes
+-- the modulus of the probe sequence: the least power of two that is at least the number
+-- of control bytes
 unfoldable pub modulus : ℕ → ℕ
 modulus cap = 2 ^ position_or_len (λ k. leb (control_count cap) (2 ^ k))
     (range_with_len 0 (control_count cap))

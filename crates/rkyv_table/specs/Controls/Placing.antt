@@ -1,4 +1,4 @@
--- Where items stand, and what the controls say of it.
+-- Home buckets, and the control bytes of items in them.
 use Rattle.std.specs.Prelude.{◌≡◌, ℕ, ◌*◌, ◌-◌, ◌%◌, ◌<◌, ◌≤◌, List, [], ◌∷◌, ◌++◌, Bool, true, not}
 use Rattle.std.specs.Prelude.{ltb, eqb, cond, map, length, take, slice_index, slice_index_or, Some}
 use Rattle.std.specs.Prelude.{filter}
@@ -8,47 +8,47 @@ use Rattle.rkyv_scan.specs.Groups.{is_full}
 use Rattle.rkyv_table.specs.Controls.Numbers.{tag, control_count}
 use Rattle.rkyv_table.specs.Controls.Probe.{shown}
 
--- b is none of the taken buckets
+-- `b` is not in `taken`
 abbrev pub is_free : List ℕ → ℕ → Bool
 is_free taken b = not (list_any (eqb b) taken)
 
--- the buckets are the homes of items with these hashes: each is the first one shown that is no
--- earlier item's
+-- `homes`: home buckets of items under `hashes`. A home bucket is the first one shown
+-- that no earlier item has
 pub record Homes (cap : ℕ) (hashes homes : List ℕ) : Type 0 where
   pub count : length homes ≡ length hashes
   pub first : (i : ℕ) → i < length hashes
       → find (is_free (take i homes)) (shown (slice_index hashes i) cap)
       ≡ Some (slice_index homes i)
 
--- the taken buckets, and the home of one item more
+-- `taken`, followed by the home bucket of an item under `hash`
 unfoldable pub with_home : ℕ → List ℕ → ℕ → List ℕ
 with_home cap taken hash = taken ++ unwrap_or (find (is_free taken) (shown hash cap)) 0 ∷ []
 
--- the homes of items with these hashes, in order: of each the first bucket shown that no earlier
--- one has
+-- the home buckets of items under `hashes`, in order
 abbrev pub homes : ℕ → List ℕ → List ℕ
 homes cap hashes = fold (with_home cap) [] hashes
 
--- the controls from cap on repeat those below cap; from 2 * cap on they are empty
+-- the control bytes mirror those of the buckets: from `cap` on they repeat the first ones,
+-- and from `2 * cap` on they are empty
 pub record Repeats (cap : ℕ) (controls : List ℕ) : Type 0 where
   pub count : length controls ≡ control_count cap
   pub repeated : (q : ℕ) → cap ≤ q → q < 2 * cap → q < control_count cap
       → slice_index controls q ≡ slice_index controls (q - cap)
   pub past : (q : ℕ) → 2 * cap ≤ q → q < control_count cap → 128 ≤ slice_index controls q
 
--- the full buckets, ascending
+-- the full buckets, in ascending order
 unfoldable pub walk : List ℕ → ℕ → List ℕ
 walk controls cap = filter (λ b. is_full (slice_index controls b)) (range_with_len 0 cap)
 
--- the controls of a table of len items that may be looked up: at least one bucket is empty, and the
--- controls repeat
+-- the valid control bytes of a table of `len` items. Some bucket is empty, `len` are full,
+-- and the control bytes mirror those of the buckets
 pub record Accepted (cap len : ℕ) (controls : List ℕ) : Type 0 where
   pub room : len < cap
   pub full : length (walk controls cap) ≡ len
   pub repeats : Repeats cap controls
 
--- the controls of a written table: the tag at each home, ff at every other bucket and from 2 * cap
--- on
+-- the control bytes of a written table: the tag at each home bucket, and 255 at other buckets
+-- and from `2 * cap` on
 pub record Written (cap : ℕ) (hashes homes controls : List ℕ) : Type 0 where
   pub placed : Homes cap hashes homes
   pub repeats : Repeats cap controls
@@ -57,13 +57,12 @@ pub record Written (cap : ℕ) (hashes homes controls : List ℕ) : Type 0 where
   pub others : (b : ℕ) → b < cap → is_free homes b ≡ true → slice_index controls b ≡ 255
   pub past : (q : ℕ) → 2 * cap ≤ q → q < control_count cap → slice_index controls q ≡ 255
 
--- the control of a bucket of a written table: the tag of the item that stands there, ff where none
--- does
+-- the control byte of bucket `b` of a written table: the tag of its item, or 255 if it is empty
 abbrev pub bucket_control : ℕ → List ℕ → ℕ → ℕ
 bucket_control cap hashes b = slice_index_or (map tag hashes)
     (position_or_len (eqb b) (homes cap hashes)) 255
 
--- the controls of a written table, as one list
+-- the control bytes of a written table, as one list
 unfoldable pub written_controls : ℕ → List ℕ → List ℕ
 written_controls cap hashes = map (λ q.
     cond (ltb q (2 * cap)) (bucket_control cap hashes (q % cap)) 255)

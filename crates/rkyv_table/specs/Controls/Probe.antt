@@ -4,21 +4,22 @@ use Rattle.std.specs.Prelude.{ltb}
 use Rattle.std.specs.List.{range_with_len, flat_map}
 use Rattle.rkyv_table.specs.Controls.Numbers.{start, probe_capacity, control_count, modulus}
 
--- the k-th place of the probe sequence that begins at s, modulo m
+-- the index with the number `k` in the probe sequence that begins at `s`, modulo `m`
 abbrev pub probe_place : ℕ → ℕ → ℕ → ℕ
 probe_place s m k = (s + 16 * (k * (k + 1) / 2)) % m
 
--- the strides begin at the probe places below the probe capacity, in that order
+-- the indices at which the strides of a hash begin: those of the probe sequence
+-- below the probe capacity, in order
 unfoldable pub strides : ℕ → ℕ → List ℕ
 strides hash cap = filter (λ p. ltb p (probe_capacity cap))
     (map (probe_place (start hash cap) (modulus cap)) (range_with_len 0 (modulus cap / 16)))
 
--- the strides from the k-th place on, where the sequence begins at s
+-- the strides from the number `k` on, in the probe sequence that begins at `s`
 unfoldable pub strides_from : ℕ → ℕ → ℕ → List ℕ
 strides_from cap s k = filter (λ p. ltb p (probe_capacity cap))
     (map (probe_place s (modulus cap)) (range_with_len k (modulus cap / 16 - k)))
 
--- the buckets of the sixteen places from p on, in order
+-- the buckets of the sixteen indices from `p` on, in order
 unfoldable pub buckets_at : ℕ → ℕ → List ℕ
 buckets_at cap p = map (λ q. q % cap) (filter (λ q. ltb q (2 * cap)) (range_with_len p 16))
 
@@ -26,8 +27,8 @@ buckets_at cap p = map (λ q. q % cap) (filter (λ q. ltb q (2 * cap)) (range_wi
 abbrev pub shown : ℕ → ℕ → List ℕ
 shown hash cap = flat_map (buckets_at cap) (strides hash cap)
 
--- what a `Probe` keeps: the offset is that of the last place that was given, `index` being the
--- number of places looked at
+-- the invariant of a `Probe`. `offset`: offset of the last considered index, `index`: number
+-- of considered indices
 pub record IsProbe (cap start offset index : ℕ) : Type 0 where
   pub begun : start < cap
   pub fits : control_count cap ≤ 2 ^ 63

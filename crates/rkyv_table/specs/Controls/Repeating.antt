@@ -1,13 +1,13 @@
--- Where controls fail to repeat.
+-- The first control byte that fails to mirror that of its bucket.
 use Rattle.std.specs.Prelude.{◌≡◌, ℕ, ◌*◌, ◌-◌, ◌<◌, ◌≤◌, List, slice_index}
 use Rattle.rkyv_table.specs.Controls.Numbers.{control_count}
 
--- the control at the place repeats that of its bucket, or is empty from 2 * cap on
+-- the control byte at index `q` mirrors that of its bucket, or is empty from `2 * cap` on
 abbrev pub RepeatsAt : ℕ → List ℕ → ℕ → Type 0
 RepeatsAt cap controls q = (q < 2 * cap → slice_index controls q ≡ slice_index controls (q - cap))
     × (2 * cap ≤ q → 128 ≤ slice_index controls q)
 
--- the least place from cap on at which the controls don't repeat as they must
+-- `place`: lowest index from `cap` on whose control byte isn't as it must be
 pub record FirstUnlike (cap : ℕ) (controls : List ℕ) (place : ℕ) : Type 0 where
   pub from : cap ≤ place
   pub below : place < control_count cap

@@ -1,4 +1,4 @@
--- What one stride says of a lookup.
+-- The outcome of one stride of a lookup.
 use Rattle.std.specs.Prelude.{◌≡◌, ℕ, ◌+◌, ◌%◌, ◌<◌, ⊤, List, Bool, true, false, length}
 use Rattle.std.specs.Prelude.{slice_index, Some, None}
 use Rattle.std.specs.List.{find}
@@ -7,21 +7,22 @@ use Rattle.rkyv_table.specs.Controls.Finding.{candidates, shows_empty}
 use Rattle.rkyv_table.specs.declared.controls.find.Seen.{Seen}
 use Rattle.rkyv_table.specs.declared.controls.find.Seen.TheVariants.{Accepted, Empty, Full}
 
--- b is the bucket of one of the marked places of the group that begins at p
+-- `b`: bucket of a marked index of the group that begins at `p`
 abbrev pub IsMarked : ℕ → ℕ → List ℕ → ℕ → Type 0
 IsMarked p cap places b = (k : ℕ) × (k < length places) × (b ≡ (p + slice_index places k) % cap)
 
--- b is the bucket of a full control of the stride that begins at p
+-- `b`: bucket of a full control byte of the stride that begins at `p`
 abbrev pub IsShown : List ℕ → ℕ → ℕ → ℕ → Type 0
 IsShown stride p cap b = (q : ℕ) × (q < 16) × (slice_index stride q < 128) × (b ≡ (p + q) % cap)
 
--- an accepted bucket is that of a full control of the stride
+-- an accepted bucket is one of a full control byte of the stride
 abbrev pub IsShownIfAccepted : List ℕ → ℕ → ℕ → Seen → Type 0
 IsShownIfAccepted stride p cap (Accepted b) = IsShown stride p cap b
 IsShownIfAccepted stride p cap Empty = ⊤
 IsShownIfAccepted stride p cap Full = ⊤
 
--- the first candidate that is accepted; without one, whether an empty control is shown
+-- the first accepted candidate of the stride; without one, `Empty` if the stride shows
+-- an empty control byte, else `Full`
 abbrev pub IsSeen : Kind → List ℕ → ℕ → ℕ → ℕ → (ℕ → Bool) → Seen → Type 0
 IsSeen kind controls cap t p accept (Accepted b) =
     find accept (candidates kind controls cap t p) ≡ Some b
@@ -30,7 +31,7 @@ IsSeen kind controls cap t p accept Empty =
 IsSeen kind controls cap t p accept Full =
     (find accept (candidates kind controls cap t p) ≡ None) × (shows_empty controls p ≡ false)
 
--- an accepted bucket is one of which the comparison answered true
+-- an accepted bucket is one for which the comparison returned `true`
 abbrev pub IsAcceptedBy : (ℕ → Bool → Type 0) → Seen → Type 0
 IsAcceptedBy post (Accepted b) = post b true
 IsAcceptedBy post Empty = ⊤

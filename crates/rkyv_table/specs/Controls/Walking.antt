@@ -1,21 +1,21 @@
--- What a walk over the full buckets has left.
+-- The remaining buckets of a walk over the full buckets.
 use Rattle.std.specs.Prelude.{◌≡◌, ℕ, ◌+◌, ◌-◌, ◌≤◌, List, ◌++◌, map, filter, length, ltb}
 use Rattle.std.specs.Prelude.{slice_index, slice_index_or}
 use Rattle.std.specs.List.{range_with_len}
 use Rattle.rkyv_scan.specs.Groups.{is_full}
 use Rattle.rkyv_table.specs.Controls.Numbers.{control_count}
 
--- the full buckets from b on, below cap
+-- the full buckets from `b` on and below `cap`
 unfoldable pub full_from : List ℕ → ℕ → ℕ → List ℕ
 full_from controls cap b = filter (λ q. is_full (slice_index controls q))
     (range_with_len b (cap - b))
 
--- the first of the places, or the width
+-- the first of `places`, or `width`
 abbrev pub first_place : ℕ → List ℕ → ℕ
 first_place width places = slice_index_or places 0 width
 
--- what a walk keeps: all controls are there, and the places are the full ones of the group at base
--- from the first of them on
+-- the invariant of a walk. All control bytes are there, and `places` are the full indices
+-- of the group at `base`, from the first of them on
 pub record IsWalk (controls : List ℕ) (cap base width : ℕ) (places : List ℕ) : Type 0 where
   pub count : control_count cap ≤ length controls
   pub below : base ≤ cap
@@ -23,8 +23,8 @@ pub record IsWalk (controls : List ℕ) (cap base width : ℕ) (places : List �
   pub marks : places ≡ filter (λ j. is_full (slice_index controls (base + j)))
       (range_with_len (first_place width places) (width - first_place width places))
 
--- what a walk has left: the buckets below cap of its mask, and the full buckets of the groups to
--- come
+-- the remaining buckets of a walk: those of the current mask below `cap`, and the full buckets
+-- of the groups after it
 unfoldable pub left : List ℕ → ℕ → ℕ → ℕ → List ℕ → List ℕ
 left controls cap base width places =
     filter (λ q. ltb q cap) (map (λ j. base + j) places) ++ full_from controls cap (base + width)

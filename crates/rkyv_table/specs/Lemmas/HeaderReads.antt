@@ -1,4 +1,4 @@
--- What a header reads as where its bytes stand.
+-- The numbers that are read of a header, by its bytes.
 use Rattle.std.proofs.Common.{arith, refl, sym, ◌∙◌, ap, subst, inl, inr, length-append}
 use Rattle.std.proofs.Math.Facts.{Fits-of_z}
 use Rattle.std.proofs.lemmas.Int.{to_z-of_z}

@@ -1,4 +1,4 @@
--- Where the items of a table stand, by where its buckets begin, and what holds there.
+-- The positions of the items of a valid table, by the position of its buckets.
 use Rattle.std.proofs.Common.{◌≡◌, ℕ, zero, suc, ◌+◌, ◌-◌, ◌*◌, ◌<◌, ◌≤◌, sym, ap, subst, ◌∙◌}
 use Rattle.std.proofs.Common.{arith, inl, inr, List, ◌∷◌, Bool, true, false, filter, slice_index}
 use Rattle.std.proofs.Common.{slice_range, pos, ◌+ℤ◌}
@@ -22,8 +22,8 @@ use Rattle.rkyv_table.specs.Table.Layout.{IsPart, ItemsHold, TableHolds, bucket_
 use Rattle.rkyv_table.specs.Table.Layout.{part_size}
 use Rattle.rkyv_table.specs.Lemmas.TableLaws.{bucket_inside}
 
--- the value at q holds in a range of its own, inside that from lo to hi, and leaves a lower end
--- that is at most l
+-- the value at `q` is valid in a range of its own between `lo` and `hi`. It leaves a lower end
+-- that is at most `l`
 pub record HoldsWithin (s : Shape) (b : List ℕ) (q lo hi l : ℕ) : Type 0 where
   pub lower : ℕ
   pub rest : ℕ
@@ -32,7 +32,7 @@ pub record HoldsWithin (s : Shape) (b : List ℕ) (q lo hi l : ℕ) : Type 0 whe
   pub ends : rest ≤ l
   pub holds : s.holds b q lower hi rest
 
--- so it does in a range that begins lower
+-- the same with a lesser lower end of the range
 abbrev pub within_lower : (s : Shape) (b : List ℕ) (q lo lo' hi l : ℕ) → lo' ≤ lo
     → HoldsWithin s b q lo hi l → HoldsWithin s b q lo' hi l
 within_lower s b q lo lo' hi l less h = record {
@@ -45,7 +45,7 @@ within_lower s b q lo lo' hi l less h = record {
 }
 
 module _ (s : Shape) (law : IsElement s) (at : ℕ → ℕ) where
-  -- each of the values that hold, one after the other, holds so
+  -- each of several values that are valid in order is valid within the range
   pub each_holds : (P : ℕ → Bool) (b : List ℕ) (hi a n lo l i : ℕ) → lo ≤ hi
       → AllHold s at b hi (filter P (range_with_len a n)) lo l → a ≤ i → i < a + n → P i ≡ true
       → HoldsWithin s b (at i) lo hi l
@@ -79,7 +79,7 @@ module _ (s : Shape) (law : IsElement s) (at : ℕ → ℕ) where
         ]
   ]
 
--- the item in a full bucket holds in a range of its own
+-- the item in a full bucket is valid within the range
 pub bucket_holds_within : (s : Shape) → IsElement s → (b : List ℕ) (begin cap lo l i : ℕ)
     → lo ≤ begin → ItemsHold s b begin cap lo l → i < cap
     → slice_index (controls_at s.size b begin cap) i < 128
@@ -93,7 +93,7 @@ bucket_holds_within s law b begin cap lo l i o h below full =
 
 module _ (w : Width) (size : ℕ) (b : List ℕ) (p begin : ℕ) (told : pos begin
     ≡ begin_told w size b p) where
-  -- where the controls stand
+  -- the position of the control bytes
   pub told_pos : controls_pos w b p ≡ begin + cap_at w b p * size
   told_pos =
       let e : pos (begin + cap_at w b p * size) ≡ pos p +ℤ signed_at w b p =
@@ -103,7 +103,7 @@ module _ (w : Width) (size : ℕ) (b : List ℕ) (p begin : ℕ) (told : pos beg
   pub told_controls : table_controls w b p ≡ controls_at size b begin (cap_at w b p)
   told_controls = ap (λ z. slice_range b z (z + control_count (cap_at w b p))) told_pos
 
-  -- where an item stands
+  -- the position of an item
   pub told_item : (i : ℕ) → i < cap_at w b p
       → item_at w size b p i ≡ bucket_at size begin (cap_at w b p) i
   told_item i h =
@@ -113,7 +113,7 @@ module _ (w : Width) (size : ℕ) (b : List ℕ) (p begin : ℕ) (told : pos beg
       ap (λ x. x * size) e ∙ add-mul (cap - (i + 1)) (i + 1) size in
       ap (λ z. z - (i + 1) * size) told_pos ∙ omega (arith, m)
 
--- the buckets and controls of a table that holds, where its header tells of buckets
+-- the buckets and the control bytes of a valid table whose header has buckets
 pub record HeldPart (w : Width) (s : Shape) (b : List ℕ) (p lo hi l : ℕ) : Type 0 where
   pub begin : ℕ
   pub part : PartIn (begin_told w s.size b p) (part_size s.size (cap_at w b p)) s.align lo hi begin
@@ -128,7 +128,7 @@ module _ (w : Width) (s : Shape) (law : IsElement s) (b : List ℕ) (p lo hi l :
     | inr t ↦ record { begin = t.0; part = t.1; is = t.2; ends = t.3 }
   ]
 
-  -- the item in a full bucket holds, and stands before the controls
+  -- the item in a full bucket is valid, and is before the control bytes
   pub item_holds : (i : ℕ) → IsWalked w b p i → (t : HeldPart w s b p lo hi l)
       → HoldsWithin s b (item_at w s.size b p i) lo t.begin t.begin
       × (t.begin ≤ item_at w s.size b p i) × (item_at w s.size b p i + s.size ≤ l)

@@ -1,4 +1,4 @@
--- Laws of values at places, one after the other.
+-- Laws of values at several positions, validated in order.
 use Rattle.std.specs.Prelude.{◌≡◌, ℕ, zero, suc, ◌+◌, ◌<◌, ◌≤◌, ⊤, Bool, List, [], ◌∷◌, filter}
 use Rattle.std.specs.List.{range_with_len}
 use Rattle.std.proofs.Common.{refl, arith, subst, inl, inr}
@@ -8,7 +8,7 @@ use Rattle.rkyv_base.specs.Bytes.{Same, same_part}
 use Rattle.rkyv_base.specs.Shape.{Shape, IsElement}
 use Rattle.rkyv_table.specs.Table.Places.{AllHold, FirstFails}
 
--- all are below n
+-- all are below `n`
 abbrev pub AllBelow : ℕ → List ℕ → Type 0
 AllBelow n [] = ⊤
 AllBelow n (i ∷ is) = (i < n) × AllBelow n is
@@ -40,7 +40,7 @@ module _ (s : Shape) (law : IsElement s) (at : ℕ → ℕ) where
       let q : f.0 ≡ h.0 = law.one b (at i) lo hi f.0 h.0 f.1 h.1 in
       all_clear b hi is h.0 l e h.2 (subst (λ m. FirstFails s at b hi is m e) q f.2)
 
-  -- they fail first by one error alone
+  -- the first fault of the values is unique
   pub all_one_failure : (b : List ℕ) (hi : ℕ) (is : List ℕ) (lo : ℕ) (e e' : VerifyError)
       → FirstFails s at b hi is lo e → FirstFails s at b hi is lo e' → e ≡ e'
   all_one_failure b hi [] lo e e' f g = absurd f
@@ -65,7 +65,8 @@ module _ (s : Shape) (law : IsElement s) (at : ℕ → ℕ) where
       all_lower b hi is h.0 d.0 l d.2 k.1 h.2 in
       (r.0, (d.0, d.1, r.1), r.2)
 
-  -- they rest on the bytes from x to y alone, where the places below n lie in there
+  -- the validity of the values depends only on the bytes from `x` on and below `y`,
+  -- if the positions below `n` are in there
   pub all_near : (b c : List ℕ) (x y n hi : ℕ) (is : List ℕ) (lo l : ℕ) → Same b c x y → x ≤ lo
       → lo ≤ hi → hi ≤ y → AllBelow n is
       → ((i : ℕ) → i < n → (x ≤ at i) × (at i + s.size ≤ y)) → AllHold s at b hi is lo l

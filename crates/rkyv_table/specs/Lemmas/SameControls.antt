@@ -1,4 +1,4 @@
--- A table that holds has the same controls where the same bytes are.
+-- A valid table has the same control bytes in an archive with the same bytes.
 use Rattle.std.proofs.Common.{◌≡◌, ℕ, ◌+◌, ◌*◌, ◌<◌, ◌≤◌, ap, ◌∙◌, arith, List}
 use Rattle.std.specs.Int.{Width, byte_len}
 use Rattle.std.specs.Prelude.{slice_range}

@@ -1,4 +1,4 @@
--- Headers whose bytes are the same tell the same numbers, and lead to the same places.
+-- Headers with the same bytes have the same numbers, and lead to the same positions.
 use Rattle.std.specs.Prelude.{◌≡◌, ℕ, ◌+◌, ◌-◌, ◌*◌, ◌≤◌, pos, ◌+ℤ◌, ◌-ℤ◌, List, unsigned_abs}
 use Rattle.std.specs.Int.{Width, byte_len, cast_signed, from_le_bytes}
 use Rattle.std.proofs.Common.{arith, ap, subst, ◌∙◌}

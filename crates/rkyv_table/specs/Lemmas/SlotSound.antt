@@ -1,4 +1,4 @@
--- The items of a written table hold and stand, by ascending bucket.
+-- The items of a written table are valid and represented, in bucket order.
 use Rattle.std.proofs.Common.{arith, refl, sym, ◌∙◌, ap, subst, zero, length-append}
 use Rattle.std.proofs.lemmas.Option.{none-some, same_Some}
 use Rattle.std.specs.Prelude.{◌≡◌, ℕ, suc, ◌+◌, ◌-◌, ◌*◌, ◌%◌, ◌≤◌, List, [], ◌∷◌, ◌++◌, drop}
@@ -20,7 +20,7 @@ zero_times n = omega arith
 times_one : (n size : ℕ) → suc n * size ≡ n * size + size
 times_one n size = omega arith
 
--- the same lists have the same first, and the same behind it
+-- equal lists have the same first item, and the same others
 pub same_both : {A : Type 0} (x y : A) (xs ys : List A) → x ∷ xs ≡ y ∷ ys → (x ≡ y) × (xs ≡ ys)
 same_both x y xs ys e = (same_Some x y (ap (λ l. slice_get l 0) e), ap (λ l. drop 1 l) e)
 
@@ -39,7 +39,7 @@ module _ {X R : Type 0} (s : Shape) (laws : IsElement s) (stands : List ℕ → 
   abbrev at : ℕ → ℕ
   at = bucket_at s.size begin cap
 
-  -- each item stands in its bucket, counted from b on
+  -- each item is represented in its bucket, counted from `b` on
   abbrev pub SlotsStand : ℕ → List (Option X) → Type 0
   SlotsStand b ss = (i : ℕ) (x : X) → slice_get ss i ≡ Some (Some x) → stands c (at (b + i)) x
 
@@ -59,7 +59,7 @@ module _ {X R : Type 0} (s : Shape) (laws : IsElement s) (stands : List ℕ → 
       let n : (b + 1) + i ≡ b + suc i = omega arith in
       subst (λ k. stands c (at k) x) n (h i x e)
 
-  -- the buckets from b on hold and stand
+  -- the buckets from `b` on are valid and represent their items
   pub slots_sound : (ss : List (Option X)) (b p z : ℕ) (part out : List ℕ) (rs : List R)
       → b + length ss ≡ cap → SlotParts f ss p part rs → SlotImages s.size f ss rs z out
       → Sits c p part → Sits c begin out → begin + length ss * s.size ≡ z → p + length part ≤ begin

@@ -13,7 +13,7 @@ use Rattle.rkyv_table.specs.Controls.Placing.{is_free, walk}
 use Rattle.rkyv_table.specs.Table.Slots.{filled}
 use Rattle.rkyv_table.specs.Table.Taking.{Placed, hashes_of, items_of}
 
--- the buckets from b on whose slots have an item
+-- the buckets from `b` on whose slots have an item
 abbrev pub filled_from : {X : Type 0} → ℕ → List (Option X) → List ℕ
 filled_from b [] = []
 filled_from b (None ∷ ss) = filled_from (b + 1) ss
@@ -25,7 +25,7 @@ filled_count b [] = refl
 filled_count b (None ∷ ss) = filled_count (b + 1) ss
 filled_count b (Some x ∷ ss) = ap suc (filled_count (b + 1) ss)
 
--- a test that tells whether a slot has an item
+-- a test of buckets that is `true` if and only if the slot has an item
 abbrev pub Tells : {X : Type 0} → (ℕ → Bool) → ℕ → List (Option X) → Type 0
 Tells {X = X} full b ss = ((i : ℕ) → slice_get ss i ≡ Some None → full (b + i) ≡ false)
     × ((i : ℕ) (x : X) → slice_get ss i ≡ Some (Some x) → full (b + i) ≡ true)
@@ -60,7 +60,7 @@ item_at [] i h = absurd (omega (arith, h))
 item_at (x ∷ xs) zero h = (x, refl)
 item_at (x ∷ xs) (suc i) h = item_at xs i (omega (arith, h))
 
--- a bucket that isn't free is a home
+-- a bucket that isn't free is a home bucket
 home_of : (homes : List ℕ) (b : ℕ) → is_free homes b ≡ false
     → (i : ℕ) × (i < length homes) × (slice_index homes i ≡ b)
 home_of homes b h =
@@ -74,7 +74,7 @@ module _ {X : Type 0} (cap : ℕ) (pairs : List (ℕ × X)) (slots : List (Optio
   below : (b : ℕ) (s : Option X) → slice_get slots b ≡ Some s → b < cap
   below b s e = let l = slice_get_within slots b s e in let n = p.slotted.count in omega arith
 
-  -- the slot of a home has an item
+  -- the slot of a home bucket has an item
   home_filled : (i b : ℕ) → i < length p.homes → slice_index p.homes i ≡ b
       → (x : X) × (slice_get slots b ≡ Some (Some x))
   home_filled i b h e =
@@ -107,7 +107,7 @@ module _ {X : Type 0} (cap : ℕ) (pairs : List (ℕ × X)) (slots : List (Optio
         lt-ltb (slice_index controls b) 128 (omega (arith, t, f, c))
   ]
 
-  -- the walk over the controls is over the filled slots
+  -- a walk over the control bytes visits the slots with items
   pub walk_filled : walk controls cap ≡ filled_from 0 slots
   unfolding walk
   walk_filled =

@@ -24,14 +24,14 @@ use Rattle.rkyv_table.specs.Table.Layout.{FailsInside, IsPart, ItemsHold, TableA
 use Rattle.rkyv_table.specs.Table.Layout.{TableHolds, bucket_at, controls_at, part_size}
 use Rattle.rkyv_table.specs.Table.Layout.{table_shape}
 
--- a bucket stands between the begin of the buckets and the controls
+-- a bucket is between the begin of the buckets and the control bytes
 pub bucket_inside : (size begin cap i : ℕ) → i < cap → (begin ≤ bucket_at size begin cap i)
     × (bucket_at size begin cap i + size ≤ begin + cap * size)
 bucket_inside size begin cap i h =
     let m : (suc (cap - (i + 1))) * size ≤ cap * size = mul-le-mul_right size (omega arith) in
     (omega arith, omega (arith, m))
 
--- and is aligned
+-- a bucket is aligned
 pub bucket_aligned : (s : Shape) → IsElement s → (begin cap i : ℕ) → begin % s.align ≡ 0
     → bucket_at s.size begin cap i % s.align ≡ 0
 bucket_aligned s law begin cap i h =
@@ -42,18 +42,18 @@ bucket_aligned s law begin cap i h =
     ∙ ap (λ x. ((cap - (i + 1)) % s.align * x) % s.align) law.size_whole ∙ z in
     sum_multiple begin ((cap - (i + 1)) * s.size) s.align law.align_is h m
 
--- the walked buckets are buckets
+-- the buckets of a walk are below the capacity
 pub walk_below : (controls : List ℕ) (cap : ℕ) → AllBelow cap (walk controls cap)
 unfolding walk
 walk_below controls cap = range_below (λ b. is_full (slice_index controls b)) cap
 
--- controls that repeat are nowhere unlike
+-- control bytes that mirror those of the buckets have no first failure
 repeats_clear : (cap q : ℕ) (controls : List ℕ) → Repeats cap controls → FirstUnlike cap controls q
     → ⊥
 repeats_clear cap q controls r u =
     u.unlike ((λ lt. r.repeated q u.from lt u.below), (λ ge. r.past q ge u.below))
 
--- the first control that is unlike is one
+-- the first failure of control bytes is unique
 unlike_one : (cap q q' : ℕ) (controls : List ℕ) → FirstUnlike cap controls q
     → FirstUnlike cap controls q' → q ≡ q'
 unlike_one cap q q' controls u u' = elim (cases_lt q q') [
@@ -65,7 +65,7 @@ unlike_one cap q q' controls u u' = elim (cases_lt q q') [
 ]
 
 module _ (s : Shape) where
-  -- what holds of some numbers holds of the same numbers
+  -- a table that is valid by some numbers of a header is valid by equal numbers
   pub of_numbers : (b : List ℕ) {told told' : ℤ} {cap cap' len len' lo hi l : ℕ} → told ≡ told'
       → cap ≡ cap' → len ≡ len'
       → TableAt s b told cap len lo hi l → TableAt s b told' cap' len' lo hi l

@@ -1,4 +1,4 @@
--- A table that was written holds and stands, wherever its bytes sit.
+-- A written table is valid and represents its pairs, in every archive with its bytes.
 use Rattle.std.proofs.Common.{arith, refl, sym, ◌∙◌, ap, subst, inl, inr, zero, length-append}
 use Rattle.std.proofs.Math.Nat.{le-max_right}
 use Rattle.std.proofs.lemmas.Bool.{ne_eqb}
@@ -38,7 +38,7 @@ capacity_above len factor h =
     (ne_eqb len 0 (λ z. omega (arith, z, h))) in
     omega (arith, m, e)
 
--- no more items than buckets
+-- there are at least as many buckets as items
 below_capacity : (len : ℕ) (factor : ℕ × ℕ) → len ≤ capacity len factor
 below_capacity zero factor = omega arith
 below_capacity (suc n) factor = let h = capacity_above (suc n) factor (omega arith) in
@@ -256,10 +256,7 @@ module _ {X R : Type 0} (w : Width) (kind : IsArchiveWord w) (s : Shape) (laws :
         | inr h ↦ some_sound h.0 h.1 h.2.0 h.2.1 h.3
       ]
 
-    -- In every archive in which what was written of a table sits, and, aligned behind it, its
-    -- header,
-    -- the table holds, with
-    -- its parts in their place, and stands.
+    -- the format of a table is lawful: written tables are valid and represent their pairs
     pub table_is_format : IsFormat (table_shape w s) (TableStands w s stands factor)
         (table_format w s f factor)
     table_is_format = record {

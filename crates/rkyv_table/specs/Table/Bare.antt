@@ -1,4 +1,4 @@
--- A table in bare bytes: what is asked of it, and what a lookup in it answers.
+-- Lookups in a table in bare bytes.
 use Rattle.std.specs.Prelude.{◌≡◌, ℕ, Bool, true, List, Option, None, Some, IfSome, MatchOption}
 use Rattle.std.specs.Int.{Width}
 use Rattle.std.specs.List.{find}
@@ -10,7 +10,7 @@ use Rattle.rkyv_table.specs.Table.Reading.{IsWalked, WrittenAt, home_positions, 
 use Rattle.rkyv_table.specs.Table.Reading.{pos_found}
 use Rattle.rkyv_table.specs.Table.SealedItems.{IsItemAt}
 
--- the view is that of an item of the table whose header stands at p in b
+-- `v`: view of an item of the table whose header is at `p` in `b`
 pub record IsItemOf {T : Type 0} (w : Width) (s : Shape) (b : List ℕ) (p : ℕ)
     (v : View T) : Type 0 where
   pub archive : v.archive.now ≡ b
@@ -19,24 +19,24 @@ pub record IsItemOf {T : Type 0} (w : Width) (s : Shape) (b : List ℕ) (p : ℕ
   pub place : v.pos ≡ item_at w s.size b p bucket
   pub viewed : Viewed s b v.pos
 
--- the comparison may be asked of each item
+-- the comparison can be called with each item
 abbrev pub MayAskOf : {T : Type 0} → (View T → Type 0) → Width → Shape → List ℕ → ℕ → Type 0
 MayAskOf {T} pre w s b p = (v : View T) → IsItemOf w s b p v → pre v
 
--- of each item the comparison answers what accept tells of its position
+-- the comparison returns `accept q` for the item at each position `q`
 abbrev pub AnswersOf : {T : Type 0} → (View T → Bool → Type 0) → Width → Shape → List ℕ → ℕ
     → (ℕ → Bool) → Type 0
 AnswersOf {T} post w s b p accept =
     (v : View T) (r : Bool) → IsItemOf w s b p v → post v r → r ≡ accept v.pos
 
--- at position q an item stands of which the comparison answered true
+-- `q`: position of an item for which the comparison returned `true`
 abbrev pub AcceptedOf : {T : Type 0} → (View T → Bool → Type 0) → Width → Shape → List ℕ → ℕ
     → ℕ → Type 0
 AcceptedOf {T} post w s b p q = (v : View T) × IsItemOf w s b p v × (v.pos ≡ q) × post v true
 
--- What a lookup under the hash answers: none, or an item of which the comparison answered true;
--- where a function of positions tells what it answers, what is found; and on a table that was
--- written, where only items under the hash are accepted, the first of them.
+-- `found`: position of the item that a lookup under `hash` finds. The comparison returned `true`
+-- for it. If the comparison depends only on positions, the control bytes decide which one it is.
+-- In a written table whose accepted items are under `hash`, it is the first of them
 pub record LooksUp {T : Type 0} (post : View T → Bool → Type 0) (kind : Kind) (w : Width)
     (s : Shape) (b : List ℕ) (p hash : ℕ) (found : Option ℕ) : Type 0 where
   pub accepted : IfSome found (AcceptedOf post w s b p)
@@ -47,23 +47,23 @@ pub record LooksUp {T : Type 0} (post : View T → Bool → Type 0) (kind : Kind
       → IsUnderHash hash hashes (home_positions w s.size b p homes) accept
       → found ≡ find accept (home_positions w s.size b p homes)
 
--- where a function of positions tells what the comparison answers, so many strides are read
+-- `count`: number of strides that a lookup reads, if the comparison depends only on positions
 abbrev pub ReadsExactly : {T : Type 0} → (View T → Bool → Type 0) → Kind → Width → Shape → List ℕ
     → ℕ → ℕ → ℕ → Type 0
 ReadsExactly post kind w s b p hash count =
     (accept : ℕ → Bool) → AnswersOf post w s b p accept
     → count ≡ lookup_end kind w s.size b p hash accept
 
--- what was found was lent to a writer, which made c of b; where none was found, c is b
+-- `Writes` changed `b` to `c` at the found position, and returned the result; or nothing
+-- was found, and `c` is `b`
 abbrev pub WritesFound : {R : Type 0} → (R → List ℕ → ℕ → List ℕ → Type 0) → List ℕ → Option ℕ
     → Option R → List ℕ → Type 0
 WritesFound {R} Writes b found result c =
     MatchOption found ((result ≡ None) × (c ≡ b))
     (λ q. (r : R) × (result ≡ Some r) × Writes r b q c)
 
--- What a lookup answers was lent to a writer, where each write of the item alone that keeps it
--- keeps
--- the table; where none is found, all is as before.
+-- a writer was called with the item that a lookup finds. A write of the item alone that keeps
+-- it valid keeps the table. If nothing is found, the bytes are unchanged
 pub record LendsFound {T R : Type 0} (post : View T → Bool → Type 0)
     (Writes : R → List ℕ → ℕ → List ℕ → Type 0) (kind : Kind) (w : Width) (s : Shape) (b : List ℕ)
     (p hash : ℕ) (result : Option R) (c : List ℕ) : Type 0 where

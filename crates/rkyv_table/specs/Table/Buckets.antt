@@ -1,4 +1,4 @@
--- How long the buckets of a table are.
+-- The number of bytes of the buckets of a table.
 use Rattle.std.proofs.Common.{arith, ◌∙◌, ap, length-append}
 use Rattle.std.proofs.lemmas.List.{length-replicate}
 use Rattle.std.specs.Prelude.{◌≡◌, ℕ, suc, ◌+◌, ◌-◌, ◌*◌, List, [], ◌∷◌, length, Option, Some, None}
@@ -11,7 +11,7 @@ times_suc n size = omega arith
 
 module _ {X R : Type 0} (size : ℕ) (f : Format X R) (sized : (x : X) (r : R) (p : ℕ) (out : List ℕ)
     → f.image x r p out → length out ≡ size) where
-  -- each bucket has the size
+  -- the buckets have `size` bytes each
   pub images_length : (ss : List (Option X)) (rs : List R) (z : ℕ) (out : List ℕ)
       → SlotImages size f ss rs z out → length out ≡ length ss * size
   images_length [] rs z out h = ap length h.1 ∙ omega arith

@@ -1,7 +1,6 @@
 -- A header of a table, decoded.
 use Rattle.std.specs.Prelude.{◌≡◌, ℕ, ◌<◌, ◌^◌, List}
 use Rattle.std.specs.Int.{Width}
-use Rattle.std.proofs.Props.{props}
 use Rattle.rkyv_table.specs.Table.Header.{cap_at, controls_pos, len_at}
 use Rattle.rkyv_table.specs.declared.table.decoded.Decoded.{Decoded}
 
@@ -13,8 +12,3 @@ pub record IsDecoded (w : Width) (b : List ℕ) (p : ℕ) (header : Decoded) : T
   pub small : header.cap < 2 ^ 64
   pub controls_pos : 0 < header.cap → header.controls_pos ≡ controls_pos w b p
   pub divisor : 0 < header.cap → header.reciprocal.divisor ≡ header.cap
-
--- it is a proposition
-pub decoded_prop : (w : Width) (b : List ℕ) (p : ℕ) (header : Decoded)
-    → IsProp (IsDecoded w b p header)
-decoded_prop w b p header = hlevel props

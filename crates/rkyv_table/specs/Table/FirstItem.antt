@@ -1,4 +1,4 @@
--- What a lookup in a written table answers, over the list of the items that were handed in.
+-- The first accepted item, as the result of a lookup in a written table.
 use Rattle.std.specs.Prelude.{◌≡◌, ℕ, ◌^◌, ◌<◌, Bool, true, List, slice_get, Option, Some, None}
 use Rattle.std.specs.Prelude.{MatchOption}
 use Rattle.std.specs.Int.{Width}
@@ -9,30 +9,29 @@ use Rattle.rkyv_table.specs.Table.Reading.{pos_found}
 use Rattle.rkyv_table.specs.Table.TableFormat.{TableStands}
 use Rattle.rkyv_table.specs.Table.Taking.{items_of}
 
--- the first of the items that is accepted
+-- the first accepted item
 abbrev pub first_of : {X : Type 0} → (X → Bool) → List X → Option X
 first_of accept items = find accept items
 
--- each accepted item was handed in under the hash
+-- each accepted item is under `hash`
 abbrev pub AreUnder : {X : Type 0} → ℕ → (X → Bool) → List (ℕ × X) → Type 0
 AreUnder hash accept pairs = All (λ pair. accept pair.1 ≡ true → pair.0 ≡ hash) pairs
 
--- wherever an item of the list stands, told tells of the position what accept does of the item
+-- the test of positions and `accept` agree on each item and its position
 abbrev pub TellsOf : {X : Type 0} → (List ℕ → ℕ → X → Type 0) → List ℕ → (X → Bool) → List X
     → (ℕ → Bool) → Type 0
 TellsOf {X} stands c accept items told =
     (i q : ℕ) (x : X) → slice_get items i ≡ Some x → stands c q x → told q ≡ accept x
 
--- at the position that is answered the first accepted item stands, and none is answered exactly
--- where no item is accepted
+-- `result`: position of the first accepted item, or `None` if and only if no item is accepted
 abbrev pub IsFirstOf : {X : Type 0} → (List ℕ → ℕ → X → Type 0) → List ℕ → (X → Bool) → List X
     → Option ℕ → Type 0
 IsFirstOf {X} stands c accept items result =
     MatchOption result (first_of accept items ≡ None)
     (λ q. (x : X) × (first_of accept items ≡ Some x) × stands c q x)
 
--- in a table of the pairs, where each accepted item is under the asked hash, a lookup answers the
--- first item that is accepted
+-- a lookup in a table that represents the pairs finds the first accepted item,
+-- if each accepted item is under `hash`
 abbrev pub AnswersFirst : {X : Type 0} → Width → Shape → (List ℕ → ℕ → X → Type 0) → ℕ × ℕ → Type 0
 AnswersFirst {X} w s stands load_factor =
     (kind : Kind) (c : List ℕ) (p hash : ℕ) (pairs : List (ℕ × X)) (accept : X → Bool)

@@ -1,23 +1,24 @@
 -- The header of a table: a distance, the length and the capacity, each of one word.
-use Rattle.std.specs.Prelude.{◌≡◌, ℕ, ◌+◌, ◌*◌, ◌<◌, ◌⊎◌, ℤ, pos, unsigned_abs, ◌+ℤ◌, ◌-ℤ◌, FitsSigned, List}
+use Rattle.std.specs.Prelude.{◌≡◌, ℕ, ◌+◌, ◌*◌, ◌<◌, ◌⊎◌, ℤ, pos, unsigned_abs, ◌+ℤ◌, ◌-ℤ◌}
+use Rattle.std.specs.Prelude.{FitsSigned, List}
 use Rattle.std.specs.Prelude.{◌++◌, MatchResult, Result}
 use Rattle.std.specs.Int.{Width, byte_len, to_le_bytes, cast_unsigned}
 use Rattle.rkyv_base.specs.Bytes.{number_at, signed_at}
 use Rattle.rkyv_table.specs.Controls.Numbers.{capacity}
 
--- how many items the header at p tells
+-- the number of items, as in the header at `p`
 abbrev pub len_at : Width → List ℕ → ℕ → ℕ
 len_at w b p = number_at w b (p + byte_len w)
 
--- how many buckets the header at p tells
+-- the number of buckets, as in the header at `p`
 abbrev pub cap_at : Width → List ℕ → ℕ → ℕ
 cap_at w b p = number_at w b (p + 2 * byte_len w)
 
--- the position of the first control byte, of the header at position `p` of the bytes `b`
+-- the position of the first control byte, by the header at position `p` of the bytes `b`
 abbrev pub controls_pos : Width → List ℕ → ℕ → ℕ
 controls_pos w b p = unsigned_abs (pos p +ℤ signed_at w b p)
 
--- where it tells that the buckets begin, of items of this size
+-- the position at which the buckets begin, by the header at `p`, for items of `size` bytes
 abbrev pub begin_told : Width → ℕ → List ℕ → ℕ → ℤ
 begin_told w size b p = (pos p +ℤ signed_at w b p) -ℤ pos (cap_at w b p * size)
 
@@ -26,20 +27,21 @@ abbrev pub header_bytes : Width → ℤ → ℕ → ℕ → List ℕ
 header_bytes w distance len cap =
     to_le_bytes w (cast_unsigned w distance) ++ (to_le_bytes w len ++ to_le_bytes w cap)
 
--- out is the header that stands at p, of a table whose first control stands at z; the distance of
--- an empty table is 1
+-- `out`: header at `p` of a table whose first control byte is at `z`. The distance
+-- of an empty table is 1
 pub record IsHeader (w : Width) (len cap z p : ℕ) (out : List ℕ) : Type 0 where
   pub distance : ℤ
   pub fits : FitsSigned w distance
   pub told : ((len ≡ 0) × (distance ≡ pos 1)) ⊎ ((0 < len) × (distance ≡ pos z -ℤ pos p))
   pub is : out ≡ header_bytes w distance len cap
 
--- the distance from a header at p to the first control of a table with items doesn't fit
+-- the distance from a header at `p` to the first control byte at `z` doesn't fit, and the table
+-- isn't empty
 abbrev pub HeaderFar : Width → ℕ → ℕ → ℕ → Type 0
 HeaderFar w len z p = (0 < len) × (FitsSigned w (pos z -ℤ pos p) → ⊥)
 
--- the bytes became the header that stands at p, of a table of this length and load factor whose
--- first control stands at z; or the distance doesn't fit, and they are kept
+-- the bytes became the header at `p` of a table whose first control byte is at `z`; or the distance
+-- doesn't fit, and they are unchanged
 abbrev pub WritesHeader : {T E : Type 0} → Width → ℕ → ℕ × ℕ → ℕ → ℕ → List ℕ → List ℕ
     → Result T E → Type 0
 WritesHeader w len load_factor z p before after result = MatchResult result

@@ -1,11 +1,10 @@
--- What is handed in to be written.
+-- The input of a table.
 use Rattle.std.specs.Prelude.{◌≡◌, ℕ, List, length, MatchResult, Option, Result}
 use Rattle.std.specs.Iterator.{Drains}
 use Rattle.rkyv_table.specs.Table.Counting.{GaveBoth, GaveOther, Uneven}
 use Rattle.rkyv_table.specs.Table.Taking.{Placed}
 
--- what is handed in to be written: which items it gave, and then nothing; and, of so many that were
--- claimed, which other number of items it gave
+-- an input. `gave`: its items, `gave_other`: another number of items than a claimed one
 pub record Input (X : Type 0) : Type 1 where
   pub gave : List X → Type 0
   pub gave_other : ℕ → ℕ → Type 0
@@ -22,7 +21,7 @@ from_both items hashes s t = record {
   gave_other = λ len. Uneven items hashes len s t;
 }
 
--- `len` pairs came, and their items are placed; or the answer tells which other number came
+-- the input has `len` pairs, and their items are placed; or the result is another number of pairs
 abbrev pub TakesItems : {X : Type 0} → Input (ℕ × X) → ℕ → ℕ → List (Option X) → List ℕ
     → Result Unit ℕ → Type 0
 TakesItems {X} input len cap slots controls result = MatchResult result

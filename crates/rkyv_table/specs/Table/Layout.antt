@@ -1,4 +1,4 @@
--- When bytes are a table of items of a shape, and the first point at which they are none.
+-- The condition for bytes to be a valid table, and the first fault of other bytes.
 use Rattle.std.specs.Prelude.{◌≡◌, ◌≢◌, ℕ, ◌+◌, ◌-◌, ◌*◌, ◌<◌, ◌≤◌, ◌⊎◌, ℤ, List, length}
 use Rattle.std.specs.Prelude.{slice_range}
 use Rattle.std.specs.Int.{Width, byte_len}
@@ -14,33 +14,34 @@ use Rattle.rkyv_table.specs.Table.Places.{AllHold, FirstFails}
 use Rattle.rkyv_table.specs.Controls.Placing.{Accepted, walk}
 use Rattle.rkyv_table.specs.Controls.Repeating.{FirstUnlike}
 
--- the bytes of the buckets and of the controls behind them
+-- the number of bytes of the buckets and the control bytes
 abbrev pub part_size : ℕ → ℕ → ℕ
 part_size size cap = cap * size + control_count cap
 
--- the controls of a table whose buckets begin at begin
+-- the control bytes of a table whose buckets begin at `begin`
 abbrev pub controls_at : ℕ → List ℕ → ℕ → ℕ → List ℕ
 controls_at size b begin cap =
     slice_range b (begin + cap * size) (begin + cap * size + control_count cap)
 
--- where bucket i stands: the buckets stand from the highest to the first
+-- the position of bucket `i`. The buckets are in order from the highest to bucket 0
 abbrev pub bucket_at : ℕ → ℕ → ℕ → ℕ → ℕ
 bucket_at size begin cap i = begin + (cap - (i + 1)) * size
 
--- the items in the full buckets hold, by ascending bucket, with their parts from lo to begin
+-- the items in the full buckets are valid in bucket order, with their parts from `lo`
+-- on and below `begin`
 abbrev pub ItemsHold : Shape → List ℕ → ℕ → ℕ → ℕ → ℕ → Type 0
 ItemsHold s b begin cap lo l =
     AllHold s (bucket_at s.size begin cap) b begin (walk (controls_at s.size b begin cap) cap) lo l
 
--- buckets and controls that stand at begin: the controls are those of len items, and each of the
--- items holds
+-- the buckets and control bytes at `begin` are valid: the control bytes are those of `len` items,
+-- and each item is valid
 pub record IsPart (s : Shape) (b : List ℕ) (cap len lo begin : ℕ) : Type 0 where
   pub controls : Accepted cap len (controls_at s.size b begin cap)
   pub last : ℕ
   pub items : ItemsHold s b begin cap lo last
 
--- the first of it that fails: an item, or else the number of items, or else a control behind the
--- buckets
+-- `e`: first fault of the buckets and control bytes. It is that of an item, or else of the number
+-- of items, or else of a control byte after those of the buckets
 abbrev pub FailsInside : Shape → List ℕ → ℕ → ℕ → ℕ → ℕ → VerifyError → Type 0
 FailsInside s b cap len lo begin e =
     FirstFails s (bucket_at s.size begin cap) b begin (walk (controls_at s.size b begin cap) cap) lo
@@ -51,16 +52,16 @@ FailsInside s b cap len lo begin e =
     ⊎ ((length (walk (controls_at s.size b begin cap) cap) ≡ len) × (q : ℕ)
     × FirstUnlike cap (controls_at s.size b begin cap) q × (e ≡ UnwrappedControlByte q))))
 
--- a table of which a header tells where its buckets begin, its capacity and its length. An empty
--- one has no part.
+-- a valid table with these numbers in its header, and `l` as the new lower end. An empty table
+-- has no part
 abbrev pub TableAt : Shape → List ℕ → ℤ → ℕ → ℕ → ℕ → ℕ → ℕ → Type 0
 TableAt s b told cap len lo hi l =
     ((len ≡ 0) × (cap ≡ 0) × (l ≡ lo))
     ⊎ ((begin : ℕ) × PartIn told (part_size s.size cap) s.align lo hi begin
     × IsPart s b cap len lo begin × (l ≡ begin + part_size s.size cap))
 
--- the length isn't below the capacity, or else the part doesn't lie in the range, or else it fails
--- inside
+-- `e`: first fault of a table. The length isn't below the capacity, or else the part
+-- isn't in the range, or else it has a fault inside
 abbrev pub TableFailsAt : Shape → List ℕ → ℤ → ℕ → ℕ → ℕ → ℕ → VerifyError → Type 0
 TableFailsAt s b told cap len lo hi e =
     ((cap ≤ len) × (0 < len) × (e ≡ InvalidLength len cap))
@@ -68,16 +69,17 @@ TableFailsAt s b told cap len lo hi e =
     ⊎ ((len < cap) × (begin : ℕ) × PartIn told (part_size s.size cap) s.align lo hi begin
     × FailsInside s b cap len lo begin e)
 
--- a header of a table stands at p
+-- the header at `p` is that of a valid table
 abbrev pub TableHolds : Width → Shape → List ℕ → ℕ → ℕ → ℕ → ℕ → Type 0
 TableHolds w s b p lo hi l = TableAt s b (begin_told w s.size b p) (cap_at w b p) (len_at w b p) lo
     hi l
 
+-- `e`: first fault of the table whose header is at `p`
 abbrev pub TableFails : Width → Shape → List ℕ → ℕ → ℕ → ℕ → VerifyError → Type 0
 TableFails w s b p lo hi e = TableFailsAt s b (begin_told w s.size b p) (cap_at w b p)
     (len_at w b p) lo hi e
 
--- the header of a table of such items: three words
+-- the header of a table of items of the shape `s`: three words
 abbrev pub table_shape : Width → Shape → Shape
 table_shape w s = record {
   size = 3 * byte_len w;

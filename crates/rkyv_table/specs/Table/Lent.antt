@@ -1,19 +1,19 @@
--- What the items that an iterator gives lend.
+-- The values of the items of an iterator.
 use Rattle.std.specs.Prelude.{List, map, MatchOption, Option, Some, None}
 
--- the pairs that items lend
+-- the pairs of the values of two halves
 abbrev pub lent_pairs : {BK BV A B : Type 0} → (BK → A) → (BV → B) → List (BK × BV) → List (A × B)
 lent_pairs key value items = map (λ item. (key item.0, value item.1)) items
 
--- the keys that items lend
+-- the values of the keys
 abbrev pub lent_keys : {BK A : Type 0} → (BK → A) → List BK → List A
 lent_keys key items = map key items
 
--- keys as pairs, each with a unit
+-- keys as pairs with the unit value
 abbrev pub with_units : {A : Type 0} → List A → List (A × Unit {0})
 with_units keys = map (λ key. (key, tt)) keys
 
--- one step of an iterator of keys, with the unit value
+-- a step of an iterator of keys, as pairs with the unit value
 abbrev pub UnitStep : {S BK : Type 0} → (S → Option BK → S → Type 0) → S → Option (BK × Unit {0})
     → S → Type 0
 UnitStep steps s r t = MatchOption r (steps s None t) (λ x. steps s (Some x.0) t)

@@ -1,4 +1,4 @@
--- Items that a lookup of their own doesn't answer.
+-- Items that a lookup of their own doesn't find.
 use Rattle.std.specs.Prelude.{◌≡◌, ℕ, ◌<◌, ◌^◌, List, Bool, true, false, not, length, Option, Some}
 use Rattle.std.specs.Prelude.{None, filter, take, slice_index, eqb, MatchOption}
 use Rattle.std.specs.List.{Contains, list_any, range_with_len}
@@ -7,33 +7,33 @@ use Rattle.rkyv_table.specs.Controls.Finding.{found}
 use Rattle.rkyv_table.specs.Controls.Laws.{AreHashes}
 use Rattle.rkyv_table.specs.Controls.Placing.{Accepted, Written, walk}
 
--- the answer of a lookup is the bucket
+-- a lookup found `bucket`
 abbrev pub is_answer : ℕ → Option ℕ → Bool
 is_answer bucket None = false
 is_answer bucket (Some answer) = eqb bucket answer
 
--- a lookup under the hash of the bucket's item, which accepts the items that are the same as it,
--- doesn't answer the bucket
+-- a lookup of the item in `bucket` doesn't find it. The lookup is under the item's hash,
+-- and accepts the items that are the same as it
 abbrev pub is_misplaced : Kind → List ℕ → ℕ → ℕ → (ℕ → ℕ) → (ℕ → ℕ → Bool) → ℕ → Bool
 is_misplaced kind controls cap len hash_at same_at bucket =
     not (is_answer bucket (found kind controls cap len (hash_at bucket) (same_at bucket)))
 
--- how many walked buckets have such an item
+-- the number of misplaced items
 abbrev pub misplaced : Kind → List ℕ → ℕ → ℕ → (ℕ → ℕ) → (ℕ → ℕ → Bool) → ℕ
 misplaced kind controls cap len hash_at same_at =
     length (filter (is_misplaced kind controls cap len hash_at same_at) (walk controls cap))
 
--- the i-th item is the same as an earlier one
+-- the item with the number `i` is the same as an earlier one
 abbrev pub repeats_earlier : (ℕ → ℕ → Bool) → List ℕ → ℕ → Bool
 repeats_earlier same_at homes i = list_any (same_at (slice_index homes i)) (take i homes)
 
--- how many items are
+-- the number of items that are the same as an earlier one
 abbrev pub repeated : (ℕ → ℕ → Bool) → List ℕ → ℕ
 repeated same_at homes = length
     (filter (repeats_earlier same_at homes) (range_with_len 0 (length homes)))
 
--- the items at the homes have these hashes; to be the same is an equivalence among them, and makes
--- equal hashes
+-- the items at `homes` have these hashes. `same_at` is an equivalence on them, and the same items
+-- have the same hash
 pub record IsSameness (hash_at : ℕ → ℕ) (same_at : ℕ → ℕ → Bool) (hashes homes : List ℕ) : Type 0
   where
     pub hashed : (i : ℕ) → i < length homes → hash_at (slice_index homes i) ≡ slice_index hashes i
@@ -45,34 +45,34 @@ pub record IsSameness (hash_at : ℕ → ℕ) (same_at : ℕ → ℕ → Bool) (
     pub transitive : (b c d : ℕ) → Contains homes b → Contains homes c → Contains homes d
         → same_at b c ≡ true → same_at c d ≡ true → same_at b d ≡ true
 
--- on written controls those are misplaced that are the same as an earlier one
+-- on written control bytes, as many items are misplaced as are the same as an earlier one
 abbrev pub RepeatedAreMisplaced : Type 0
 RepeatedAreMisplaced = (kind : Kind) (cap : ℕ) (hashes homes controls : List ℕ) (hash_at : ℕ → ℕ)
     (same_at : ℕ → ℕ → Bool) → IsKind kind → length hashes < cap → AreHashes hashes
     → Written cap hashes homes controls → IsSameness hash_at same_at hashes homes
     → misplaced kind controls cap (length hashes) hash_at same_at ≡ repeated same_at homes
 
--- each walked item that the query accepts has the asked hash, and the query accepts those that are
--- the same as it
+-- each item that the query accepts has its hash, and the query accepts exactly the items
+-- that are the same as it
 pub record AsksForOne (controls : List ℕ) (cap hash : ℕ) (accept : ℕ → Bool) (hash_at : ℕ → ℕ)
     (same_at : ℕ → ℕ → Bool) : Type 0 where
   pub hashed : (b : ℕ) → Contains (walk controls cap) b → accept b ≡ true → hash_at b ≡ hash
   pub same : (b c : ℕ) → Contains (walk controls cap) b → Contains (walk controls cap) c
       → accept b ≡ true → accept c ≡ same_at b c
 
--- no walked item is accepted
+-- no item is accepted
 abbrev pub NoneAccepted : List ℕ → ℕ → (ℕ → Bool) → Type 0
 NoneAccepted controls cap accept = (b : ℕ) → Contains (walk controls cap) b → accept b ≡ false
 
--- the item in the bucket is accepted, and no other walked one
+-- the item in `bucket` is the only accepted one
 pub record AloneAccepted (controls : List ℕ) (cap : ℕ) (accept : ℕ → Bool) (bucket : ℕ) : Type 0
   where
     pub walked : Contains (walk controls cap) bucket
     pub accepted : accept bucket ≡ true
     pub alone : (b : ℕ) → Contains (walk controls cap) b → accept b ≡ true → b ≡ bucket
 
--- where none is misplaced, a lookup finds the one walked item that is accepted, and none exactly
--- where none is
+-- if no item is misplaced, a lookup finds the only accepted item, and `None` if and only if no item
+-- is accepted
 abbrev pub NoneMisplacedIsComplete : Type 0
 NoneMisplacedIsComplete = (kind : Kind) (cap len hash : ℕ) (controls : List ℕ) (accept : ℕ → Bool)
     (hash_at : ℕ → ℕ) (same_at : ℕ → ℕ → Bool) → IsKind kind → Accepted cap len controls

@@ -1,5 +1,5 @@
--- What a step of a walk over the pairs of a map or an index map gives, of which the positions of
--- the keys that are left are known.
+-- The steps of a walk over the pairs of a map or an index map, by the positions
+-- of the remaining keys.
 use Rattle.std.specs.Prelude.{◌≡◌, ℕ, ◌+◌, [], ◌∷◌, Option, MatchOption}
 use Rattle.rkyv_base.specs.Entry.{value_offset}
 use Rattle.rkyv_base.specs.Shape.{Shape}
@@ -7,23 +7,23 @@ use Rattle.rkyv_base.specs.View.{IsAt, IsView}
 use Rattle.rkyv_base.specs.declared.view.View.{View}
 use Rattle.rkyv_table.specs.Table.RawItems.{ItemsLeft}
 
--- the position was the first of those that were left, of the same archive
+-- `place` was the first remaining position, and the archive is unchanged
 pub record TakesFirst (before : ItemsLeft) (place : ℕ) (after : ItemsLeft) : Type 0 where
   pub first : before.places ≡ place ∷ after.places
   pub archive : after.archive ≡ before.archive
 
--- none was left
+-- no position remained
 pub record IsAtEnd (before after : ItemsLeft) : Type 0 where
   pub none : before.places ≡ []
   pub still : after ≡ before
 
--- the view is that of a value of the shape at a position of the archive of the walk
+-- `view`: view of a valid value at position `place` of the archive
 pub record ViewsAt {T : Type 0} (s : Shape) (before : ItemsLeft) (place : ℕ) (view : View T) : Type
     0 where
   pub at : IsAt view before.archive place
   pub viewed : IsView s view
 
--- the step gives the key at the first position, and the value behind it
+-- the step returns the first remaining key and its value
 abbrev pub TakesPair : {K V : Type 0} → Shape → Shape → ItemsLeft → Option (View K × View V)
     → ItemsLeft → Type 0
 TakesPair {K} {V} k v before result after = MatchOption result (IsAtEnd before after)
@@ -31,12 +31,12 @@ TakesPair {K} {V} k v before result after = MatchOption result (IsAtEnd before a
     × ViewsAt k before pair.0.pos pair.0
     × ViewsAt v before (pair.0.pos + value_offset k v) pair.1)
 
--- the step gives the key at the first position
+-- the step returns the first remaining key
 abbrev pub TakesKey : {K : Type 0} → Shape → ItemsLeft → Option (View K) → ItemsLeft → Type 0
 TakesKey {K} k before result after = MatchOption result (IsAtEnd before after)
     (λ (key : View K). TakesFirst before key.pos after × ViewsAt k before key.pos key)
 
--- the step gives the value behind the first position
+-- the step returns the value of the first remaining key
 abbrev pub TakesValue : {V : Type 0} → Shape → Shape → ItemsLeft → Option (View V) → ItemsLeft
     → Type 0
 TakesValue {V} k v before result after = MatchOption result (IsAtEnd before after)

@@ -1,4 +1,4 @@
--- In which ranges what was written of a table passes the check.
+-- Validity of a written table in the ranges around it.
 use Rattle.std.specs.Prelude.{◌≡◌, ℕ, ◌+◌, ◌%◌, ◌≤◌, List, length}
 use Rattle.std.specs.Int.{Width, byte_len}
 use Rattle.rkyv_base.specs.Bytes.{Sits}
@@ -7,14 +7,14 @@ use Rattle.rkyv_base.specs.Shape.{Shape}
 use Rattle.rkyv_table.specs.Table.Layout.{table_shape}
 use Rattle.rkyv_table.specs.Table.TableFormat.{TableResolver, table_format}
 
--- a value holds at p in each range that begins at or before begin and ends at or behind end, and
--- the next part may begin at end at the latest
+-- the value at `p` is valid in each range around `begin` and `end`, and the next part can begin
+-- at `end` at the latest
 abbrev pub HoldsAround : Shape → List ℕ → ℕ → ℕ → ℕ → Type 0
 HoldsAround s c p begin end =
     (lo hi : ℕ) → lo ≤ begin → end ≤ hi → (l : ℕ) × s.holds c p lo hi l × (lo ≤ l) × (l ≤ end)
 
--- in every archive in which what was written of a table sits, and, aligned behind it, its header,
--- the table holds in each range around what was written
+-- in every archive with the written bytes of a table and its header, the table is
+-- valid in each range around the written bytes
 abbrev pub WrittenTablesPass : {X R : Type 0} → Width → Shape → Format X R → ℕ × ℕ → Type 0
 WrittenTablesPass {X} w s f load_factor =
     (pairs : List (ℕ × X)) (r : TableResolver) (c : List ℕ) (begin p : ℕ) (part out : List ℕ)

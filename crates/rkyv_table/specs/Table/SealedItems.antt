@@ -1,4 +1,4 @@
--- What a cursor over the items of a table has left, which lends each to be written.
+-- The remaining items of a cursor that writes them in place.
 use Rattle.std.specs.Prelude.{◌≡◌, ℕ, ◌+◌, ◌<◌, [], ◌∷◌, ◌≤◌, List, Option, length, MatchOption}
 use Rattle.std.specs.Borrow.{MutBor}
 use Rattle.std.specs.Int.{Width}
@@ -14,20 +14,19 @@ use Rattle.rkyv_table.specs.Controls.Walking.{full_from}
 use Rattle.rkyv_table.specs.declared.table.raw_iter_seal.Place.{Place}
 use Rattle.rkyv_table.specs.declared.table.raw_iter_seal.RawIterSeal.{RawIterSeal}
 
--- the bytes of a cursor's archive
+-- the bytes of the archive of a cursor
 abbrev pub cursor_bytes : {T : Type 0} → RawIterSeal T → List ℕ
 cursor_bytes r = r.archive.now
 
--- how many items a cursor still gives
+-- the number of items that remain
 abbrev pub items_left : {T : Type 0} → RawIterSeal T → ℕ
 items_left r = r.left
 
--- the buckets that a cursor over the table at p has left, ascending
+-- the buckets that remain in a cursor over the table at `p`, in ascending order
 abbrev pub buckets_left : {T : Type 0} → Width → ℕ → RawIterSeal T → List ℕ
 buckets_left w p r = full_from (table_controls w r.archive.now p) r.cap r.next
 
--- a table of such items stands at p in the archive of the cursor, whose numbers are those of the
--- table
+-- a cursor over the valid table at `p` of its archive, with the numbers of the table
 pub record IsSealIter {T : Type 0} (w : Width) (s : Shape) (p : ℕ) (r : RawIterSeal T) : Type 0
   where
     pub table : Viewed (table_shape w s) r.archive.now p
@@ -35,20 +34,20 @@ pub record IsSealIter {T : Type 0} (w : Width) (s : Shape) (p : ℕ) (r : RawIte
     pub place : 0 < r.cap → r.place ≡ controls_pos w r.archive.now p
     pub left : r.left ≡ length (buckets_left w p r)
 
--- the cursor lends the same bytes of the same reference
+-- both cursors have the same reference and the same bytes
 pub record SameArchive {T : Type 0} (before after : RawIterSeal T) : Type 0 where
   pub reference : after.archive.ghost_name ≡ before.archive.ghost_name
   pub bytes : after.archive.now ≡ before.archive.now
 
--- q is where the item in bucket i of the table at p stands, and each write of the item alone that
--- keeps it keeps the table
+-- `q`: position of the item in bucket `i` of the table at `p`. Each write of the item alone
+-- that keeps it valid keeps the table
 pub record IsItemAt (w : Width) (s : Shape) (b : List ℕ) (p i q : ℕ) : Type 0 where
   pub walked : IsWalked w b p i
   pub place : q ≡ item_at w s.size b p i
   pub viewed : Viewed s b q
   pub kept : KeptByWrites w s b p i
 
--- the first of the buckets that are left, and the others after it
+-- the first remaining bucket, with its item at `q`, and the cursor over the others
 pub record TakesBucket {T : Type 0} (w : Width) (s : Shape) (p : ℕ) (before after : RawIterSeal T)
     (q : ℕ) : Type 0 where
   pub bucket : ℕ
@@ -56,22 +55,19 @@ pub record TakesBucket {T : Type 0} (w : Width) (s : Shape) (p : ℕ) (before af
   pub item : IsItemAt w s before.archive.now p bucket q
   pub iter : IsSealIter w s p after
 
--- a step over the positions of a table's items: none is left and the cursor is as before, or the
--- first is taken
+-- a step over the positions of a table's items: none remains, or the first is taken
 abbrev pub TakesPosition : {T : Type 0} → Shape → RawIterSeal T → Option ℕ → RawIterSeal T → Type 0
 TakesPosition s before result after =
     (w : Width) (p : ℕ) → IsSealIter w s p before
     → MatchOption result ((buckets_left w p before ≡ []) × (buckets_left w p after ≡ [])
     × IsSealIter w s p after) (TakesBucket w s p before after)
 
--- the number of items left goes down by one with each that is given, and once none is left none is
--- given
+-- the number of remaining items decreases by one with each item, and is unchanged at the end
 abbrev pub CountsDown : {T : Type 0} → RawIterSeal T → Option ℕ → RawIterSeal T → Type 0
 CountsDown before result after =
     MatchOption result (after.left ≡ before.left) (λ _. before.left ≡ after.left + 1)
 
--- the seal is at the first item that a cursor over a table has left; none is given where none is
--- left
+-- the seal of the first remaining item of a cursor over a table, or `None` if none remains
 abbrev pub LendsFirst : {T : Type 0} → Shape → RawIterSeal T → Option (Seal T) → Type 0
 LendsFirst s before result =
     (w : Width) (p : ℕ) → IsSealIter w s p before
@@ -79,7 +75,7 @@ LendsFirst s before result =
     (λ x. (i : ℕ) × (rest : List ℕ) × (buckets_left w p before ≡ i ∷ rest)
     × IsItemAt w s before.archive.now p i (seal_pos x))
 
--- the first item that a cursor over a table has left, by its bucket and its place
+-- the bucket and the position of the first remaining item of a cursor over a table
 abbrev pub FindsFirstLeft : {T : Type 0} → Shape → RawIterSeal T → Option Place → Type 0
 FindsFirstLeft s r result =
     (w : Width) (p : ℕ) → IsSealIter w s p r
@@ -87,12 +83,12 @@ FindsFirstLeft s r result =
     (λ f. (buckets_left w p r ≡ f.bucket ∷ full_from (table_controls w r.archive.now p) r.cap
     (f.bucket + 1)) × IsItemAt w s r.archive.now p f.bucket f.at)
 
--- the cursor lends what the seal lent
+-- the cursor has the reference and the bytes of the seal `a`
 pub record LendsArchive {T U : Type 0} (a : ArchiveSeal U) (r : RawIterSeal T) : Type 0 where
   pub reference : r.archive.ghost_name ≡ a.archive.ghost_name
   pub bytes : r.archive.now ≡ a.archive.now
 
--- the cursor is where it was, over the same reference, whatever its bytes are by now
+-- the cursor is at the same bucket, over the same reference, with any bytes
 pub record StaysThere {T : Type 0} (before after : RawIterSeal T) : Type 0 where
   pub reference : after.archive.ghost_name ≡ before.archive.ghost_name
   pub place : after.place ≡ before.place
@@ -100,33 +96,32 @@ pub record StaysThere {T : Type 0} (before after : RawIterSeal T) : Type 0 where
   pub next : after.next ≡ before.next
   pub left : after.left ≡ before.left
 
--- a cursor over a table of which the item at q was written is one over the table, which is kept,
--- with the same buckets left
+-- a cursor over a table whose item at `q` was written is still one. The table is kept,
+-- and the same buckets remain
 abbrev pub KeepsCursor : {T : Type 0} → Shape → RawIterSeal T → ℕ → RawIterSeal T → Type 0
 KeepsCursor s before q after =
     (w : Width) (p i : ℕ) → IsSealIter w s p before → IsItemAt w s before.archive.now p i q
     → KeepsTable w s before.archive.now after.archive.now p i × IsSealIter w s p after
     × (buckets_left w p after ≡ buckets_left w p before)
 
--- a writer may be given the archive, at each place at which an item fits
+-- `write` can be called with the archive and each position at which an item fits
 abbrev pub MayWriteNext : {F T : Type 0} → (F → MutBor (List ℕ) → ℕ → Type 0) → Shape
     → RawIterSeal T → F → Type 0
 MayWriteNext pre s before write = (b : MutBor (List ℕ)) (q : ℕ) → b.now ≡ before.archive.now
     → q + s.size ≤ length b.now → pre write b q
 
--- a writer may be given the archive and this place
+-- `write` can be called with the archive and position `q`
 abbrev pub MayWriteAt : {F T : Type 0} → (F → MutBor (List ℕ) → ℕ → Type 0) → RawIterSeal T → ℕ → F
     → Type 0
 MayWriteAt pre before q write = (b : MutBor (List ℕ)) → b.now ≡ before.archive.now → pre write b q
 
--- the writer may make the second bytes of the first, at a place
+-- `c`: bytes after a call of `write` with the bytes `b` and position `q`, and with the result `r`
 abbrev pub WrittenBy : {F R : Type 0} → (F → MutBor (List ℕ) → ℕ → R → MutBor (List ℕ) → Type 0) → F
     → R → List ℕ → ℕ → List ℕ → Type 0
 WrittenBy post write r b q c =
     (x : MutBor (List ℕ)) × (y : MutBor (List ℕ)) × (x.now ≡ b) × (y.now ≡ c) × post write x q r y
 
--- a step over the positions of a table's items, and what the writer does to the archive where an
--- item was left
+-- a step over the positions of a table's items, and the write of the taken item
 pub record StepsAndWrites {T : Type 0} (s : Shape) (Writes : List ℕ → ℕ → List ℕ
     → Type 0) (before : RawIterSeal T) (result : Option ℕ) (after : RawIterSeal T) : Type 0 where
   pub stepped : RawIterSeal T
@@ -136,13 +131,13 @@ pub record StepsAndWrites {T : Type 0} (s : Shape) (Writes : List ℕ → ℕ �
   pub writes : MatchOption result (after ≡ stepped) (λ q. StaysThere stepped after
       × Writes stepped.archive.now q after.archive.now)
 
--- a writer may be lent the seal of an item at this place of these bytes
+-- `write` can be called with a seal at position `q` of the bytes `b`
 abbrev pub MaySeal : {F T : Type 0} → (F → MutBor (Seal T) → Type 0) → F → List ℕ → ℕ → Type 0
 MaySeal {F} {T} pre write b q = (x : MutBor (Seal T)) → bytes_in x.now ≡ b → seal_pos x.now ≡ q
     → pre write x
 
--- the writer was lent the seal at this place of these bytes; if it left that seal's reference
--- there, the second bytes are those behind it
+-- `write` was called with a seal at position `q` of the bytes `b`, and returned `r`. If the seal
+-- still has its reference, `c` are its bytes after the call
 pub record SealedBy {F R T : Type 0} (post : F → MutBor (Seal T) → R → MutBor (Seal T)
     → Type 0) (write : F) (r : R) (b : List ℕ) (q : ℕ) (c : List ℕ) : Type 0 where
   pub given : MutBor (Seal T)
@@ -152,13 +147,13 @@ pub record SealedBy {F R T : Type 0} (post : F → MutBor (Seal T) → R → Mut
   pub met : post write given r left
   pub leaves : left.now.bytes.ghost_name ≡ given.now.bytes.ghost_name → bytes_in left.now ≡ c
 
--- a writer may be lent the seal of each item that lies in the archive
+-- `write` can be called with a seal of each item that fits in the archive
 abbrev pub MaySealNext : {F T : Type 0} → (F → MutBor (Seal T) → Type 0) → Shape → RawIterSeal T → F
     → Type 0
 MaySealNext {F} {T} pre s before write = (x : MutBor (Seal T)) → bytes_in x.now ≡ before.archive.now
     → LiesIn s x.now → pre write x
 
--- a writer may be lent the seal of each item that lies in the bytes
+-- `write` can be called with a seal of each item that fits in the bytes
 abbrev pub MaySealIn : {F T : Type 0} → (F → MutBor (Seal T) → Type 0) → Shape → F → List ℕ
     → Type 0
 MaySealIn {F} {T} pre s write b = (x : MutBor (Seal T)) → bytes_in x.now ≡ b → LiesIn s x.now

@@ -1,4 +1,4 @@
--- What a lookup answers that lends its item to be written.
+-- The result of a lookup that returns a seal.
 use Rattle.rkyv_base.specs.declared.width.Word.{Ghosts as Words}
 use Rattle.std.specs.Prelude.{◌≡◌, ℕ, Bool, List, Option}
 use Rattle.std.specs.Int.{Width}
@@ -19,26 +19,26 @@ use Rattle.rkyv_table.specs.Table.Layout.{table_shape}
 use Rattle.rkyv_table.specs.declared.table.ArchivedHashTable.{ArchivedHashTable}
 use Rattle.rkyv_table.specs.declared.table.TableOf.{TableOf}
 
--- the header of a table of such items stands where the seal is
+-- the archive has a valid table at the position of the seal
 abbrev pub IsTableSeal : {T W : Type 0} → Width → Shape → ArchiveSeal (TableOf T W) → Type 0
 IsTableSeal w s a = Viewed (table_shape w s) (archive_in a) (pos_in a)
 
--- the table is read where the seal is
+-- the table `t` is read at the seal `a`
 abbrev pub IsReadAt : {T W : Type 0} {wt : Words W} → ArchiveSeal (TableOf T W)
     → ArchivedHashTable T W wt → Type 0
 IsReadAt a t = (table_bytes t ≡ archive_in a) × (table_pos t ≡ pos_in a)
 
--- the comparison may be asked of each item
+-- the comparison can be called with each item
 abbrev pub MayAskAt : {T W : Type 0} → (View T → Type 0) → Width → Shape → ArchiveSeal (TableOf T W)
     → Type 0
 MayAskAt pre w s a = MayAskOf pre w s (archive_in a) (pos_in a)
 
--- of each item the comparison answers what accept tells of its position
+-- the comparison returns `accept q` for the item at each position `q`
 abbrev pub AnswersAt : {T W : Type 0} → (View T → Bool → Type 0) → Width → Shape
     → ArchiveSeal (TableOf T W) → (ℕ → Bool) → Type 0
 AnswersAt post w s a accept = AnswersOf post w s (archive_in a) (pos_in a) accept
 
--- the seal is at an item of the table, and each write through it alone that keeps the item keeps
+-- `x`: seal of an item of the table. Each write through it alone that keeps the item valid keeps
 -- the table
 pub record IsItemSeal {T W : Type 0} (w : Width) (s : Shape) (a : ArchiveSeal (TableOf T W))
     (x : Seal T) : Type 0 where
@@ -48,18 +48,19 @@ pub record IsItemSeal {T W : Type 0} (w : Width) (s : Shape) (a : ArchiveSeal (T
   pub viewed : Viewed s (archive_in a) (seal_pos x)
   pub kept : KeptByWrites w s (archive_in a) (pos_in a) bucket
 
--- the place of a seal that may have been given
+-- the position of a returned seal
 abbrev pub pos_of_seal : {T : Type 0} → Option (Seal T) → Option ℕ
 pos_of_seal seal = option_map seal_pos seal
 
--- what a lookup answers by position, on any accepted table
+-- the position that a lookup finds in any valid table, if the comparison depends only on positions
 abbrev pub SealsFound : {T W : Type 0} → (View T → Bool → Type 0) → Kind → Width → Shape
     → ArchiveSeal (TableOf T W) → ℕ → Option ℕ → Type 0
 SealsFound post kind w s a hash result =
     (accept : ℕ → Bool) → AnswersAt post w s a accept
     → result ≡ pos_found kind w s.size (archive_in a) (pos_in a) hash accept
 
--- by position on a written table, where only items under the asked hash are accepted: the first
+-- the position that a lookup finds in a written table: that of the first accepted item
+-- in insertion order. This is for a comparison by positions that accepts only items under `hash`
 abbrev pub SealsFirst : {T W : Type 0} → (View T → Bool → Type 0) → Width → Shape
     → ArchiveSeal (TableOf T W) → ℕ → Option ℕ → Type 0
 SealsFirst post w s a hash result =

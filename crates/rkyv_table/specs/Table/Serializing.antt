@@ -1,4 +1,4 @@
--- What writing a table answers.
+-- The result of writing a table.
 use Rattle.std.specs.Prelude.{◌≡◌, ℕ, ◌<◌, ◌≤◌, ◌⊎◌, ⊤, List, length, MatchResult, Option, Result}
 use Rattle.std.specs.Int.{Width}
 use Rattle.rkyv_base.specs.declared.errors.WriteError.{WriteError}
@@ -18,13 +18,13 @@ use Rattle.rkyv_table.specs.Table.Slots.{TableBytes, TableNext}
 use Rattle.rkyv_table.specs.Table.TableFormat.{TableResolver, table_format}
 use Rattle.rkyv_table.specs.Table.Taking.{Placed}
 
--- so many items have a capacity within the limit
+-- `len` items have a capacity of at most `max`
 abbrev pub HasCapacity : ℕ → ℕ × ℕ → ℕ → Type 0
 HasCapacity len load_factor max = IsLoadFactor load_factor × (capacity len load_factor ≤ max)
 
 module _ (len : ℕ) (load_factor : ℕ × ℕ) (max : ℕ) (other : ℕ → Type 0) where
-  -- the call's own causes, each where none before it stands; `other` says which other number of
-  -- items came
+  -- the errors before the first byte, each with its condition. `other`: another number of items
+  -- than `len`
   abbrev pub OwnCause : {F : Type 0} → WriteError F → Type 0
   OwnCause (InvalidLoadFactor n d) = (load_factor ≡ (n, d)) × (IsLoadFactor load_factor → ⊥)
   OwnCause (CapacityTooLarge l) =
@@ -38,39 +38,40 @@ module _ (len : ℕ) (load_factor : ℕ × ℕ) (max : ℕ) (other : ℕ → Typ
   OwnCause (Writer fault) = ⊥
   OwnCause (Refused c) = ⊥
 
--- so many items came, and these
+-- the input has `len` items, and they are `items`
 abbrev pub Came : {X : Type 0} → (List X → Type 0) → ℕ → List X → Type 0
 Came gave len items = gave items × (length items ≡ len)
 
 module _ {X R : Type 0} (gave : List X → Type 0) (len : ℕ) (load_factor : ℕ × ℕ) (max : ℕ)
     (f : Format (List X) R) (o o' : Output) (limit : ℕ) where
-  -- the items that came were written
+  -- the items of the input were written
   abbrev pub WroteItems : R → Type 0
   WroteItems r = HasCapacity len load_factor max × (items : List X) × Came gave len items
       × Serialized limit f items o o' r
 
-  -- a cause of the call's own, and nothing was written; or else writing the items that came gave up
+  -- an error before the first byte, and nothing was written; or else writing the items failed
   abbrev pub NoItems : {F : Type 0} → (ℕ → Type 0) → WriteError F → Type 0
   NoItems other e = (OwnCause len load_factor max other e × (o' ≡ o))
       ⊎ (HasCapacity len load_factor max × (items : List X) × Came gave len items
       × GaveUp limit f items o o' e)
 
--- `len` items are written as `f` says, under a load factor, with at most `max` buckets and no
--- position above `limit`: the answer is what resolves them, or why they are not written
+-- `len` items are written in the format `f` under a load factor, with at most `max` buckets
+-- and no position above `limit`. The result is their resolver, or an error
 abbrev pub WritesItems : {X R F : Type 0} → Input X → ℕ → ℕ × ℕ → ℕ → ℕ → Format (List X) R
     → Output → Output → Result R (WriteError F) → Type 0
 WritesItems input len load_factor max limit f o o' result = MatchResult result
     (WroteItems input.gave len load_factor max f o o' limit)
     (NoItems input.gave len load_factor max f o o' limit (input.gave_other len))
 
--- `len` pairs of hash and item are written as a table, of items that lend values of the format
+-- `len` pairs of hash and item are written as a table, with the values of the items in the format
+-- `f`
 abbrev pub WritesTable : {X V R F : Type 0} → Width → ℕ → ℕ → Shape → (X → V) → Format V R
     → Input (ℕ × X) → ℕ → ℕ × ℕ → Output → Output → Result TableResolver (WriteError F) → Type 0
 WritesTable w max limit s lent f input len load_factor o o' result =
     WritesItems input len load_factor max limit
     (table_format w s (written_as lent f) load_factor) o o' result
 
--- the causes for which the items are not placed
+-- the errors with which the items are not placed
 abbrev pub NotPlaced : {F : Type 0} → ℕ → (ℕ → Type 0) → WriteError F → Type 0
 NotPlaced len other (InvalidLoadFactor n d) = ⊥
 NotPlaced len other (CapacityTooLarge l) = ⊥
@@ -82,7 +83,7 @@ NotPlaced len other TextTooLong = ⊥
 NotPlaced len other (Writer fault) = ⊥
 NotPlaced len other (Refused c) = ⊥
 
--- the pairs that came, and where they stand
+-- `pairs`: input pairs, which are placed in `slots` and `controls`
 pub record Taken {X : Type 0} (gave : List (ℕ × X)
     → Type 0) (len cap : ℕ) (slots : List (Option X)) (controls : List ℕ)
     (pairs : List (ℕ × X)) : Type 0 where
@@ -91,23 +92,22 @@ pub record Taken {X : Type 0} (gave : List (ℕ × X)
 
 module _ {X R : Type 0} (gave : List (ℕ × X) → Type 0) where
   module _ (len cap : ℕ) (s : Shape) (f : Format X R) (o o' : Output) (limit : ℕ) where
-    -- the bytes of the table of the pairs that came were appended, with the first control at z
+    -- the bytes of the table of the input pairs were appended, with the first control byte at `z`
     abbrev pub WroteFilled : ℕ → Type 0
     WroteFilled z = (pairs : List (ℕ × X)) × (slots : List (Option X)) × (controls : List ℕ)
         × Taken gave len cap slots controls pairs
         × (bytes : List ℕ) × Appended limit bytes o o'
         × TableBytes s f slots controls (end_of o) z bytes
 
-    -- the items were not placed, and nothing was written; or else writing the pairs that came gave
-    -- up
+    -- the items were not placed, and nothing was written; or else writing the input pairs failed
     abbrev pub NoFilled : {F : Type 0} → (ℕ → Type 0) → WriteError F → Type 0
     NoFilled other e = (NotPlaced len other e × (o' ≡ o))
         ⊎ ((pairs : List (ℕ × X)) × (slots : List (Option X)) × (controls : List ℕ)
         × Taken gave len cap slots controls pairs
         × Told limit (TableNext s f slots controls (end_of o)) o o' e)
 
--- `len` pairs of hash and item are placed in `cap` buckets and written: the answer is the position
--- of the first control, or why they are not written
+-- `len` pairs of hash and item are placed in `cap` buckets and written. The result is the position
+-- of the first control byte, or an error
 abbrev pub WritesFilled : {X R F : Type 0} → Input (ℕ × X) → ℕ → ℕ → Shape → Format X R → ℕ
     → Output → Output → Result ℕ (WriteError F) → Type 0
 WritesFilled input len cap s f limit o o' result = MatchResult result

@@ -1,4 +1,4 @@
--- The bytes of a table whose items stand in slots, one for each bucket.
+-- The bytes of a table whose items are in slots, one for each bucket.
 use Rattle.std.specs.Prelude.{◌≡◌, ℕ, suc, ◌+◌, ◌-◌, ◌*◌, ◌⊎◌, List, [], ◌∷◌, ◌++◌, length, take}
 use Rattle.std.specs.Prelude.{drop, MatchResult, Option, Result, Some, None, slice_get}
 use Rattle.rkyv_base.specs.Entry.{round_up}
@@ -8,14 +8,14 @@ use Rattle.rkyv_base.specs.Writing.{Appended, Appends, Output, Step, Told, Withi
 use Rattle.rkyv_base.specs.Writing.{padding, piece, refusal, zeros}
 use Rattle.rkyv_base.specs.declared.errors.WriteError.{WriteError}
 
--- how many slots have an item
+-- the number of slots with an item
 abbrev pub filled : {X : Type 0} → List (Option X) → ℕ
 filled [] = 0
 filled (None ∷ ss) = filled ss
 filled (Some x ∷ ss) = suc (filled ss)
 
 module _ {X R : Type 0} (f : Format X R) where
-  -- the items' parts, by ascending bucket, and what resolves each item
+  -- `part`: parts of the items in bucket order, serialized at `p`, `rs`: their resolvers
   abbrev pub SlotParts : List (Option X) → ℕ → List ℕ → List R → Type 0
   SlotParts [] p part rs = (part ≡ []) × (rs ≡ [])
   SlotParts (None ∷ ss) p part rs = SlotParts ss p part rs
@@ -23,13 +23,13 @@ module _ {X R : Type 0} (f : Format X R) where
       × f.parts x p a r × SlotParts ss (p + length a) b qs × (part ≡ a ++ b) × (rs ≡ r ∷ qs)
 
   module _ (slots : List (Option X)) (p : ℕ) where
-    -- what serializing the items comes to after front
+    -- `step`: next step of serializing the items at `p`, after `front`
     abbrev pub PartsNext : List ℕ → Step → Type 0
     PartsNext front step = (i : ℕ) × (x : X) × (a : List ℕ) × (rs : List R) × (rest : List ℕ)
         × (slice_get slots i ≡ Some (Some x)) × SlotParts (take i slots) p a rs
         × f.next x (p + length a) rest step × (front ≡ a ++ rest)
 
--- the items' parts are written, by ascending bucket, and `rs` resolve them; or the cause is told
+-- the parts of the items are written in bucket order, with the resolvers `rs`; or writing failed
 abbrev pub WritesParts : {X R U F : Type 0} → Format X R → ℕ → List (Option X) → List R → Output
     → Output → Result U (WriteError F) → Type 0
 WritesParts f limit slots rs o o' result = MatchResult result
@@ -38,7 +38,7 @@ WritesParts f limit slots rs o o' result = MatchResult result
     (Told limit (PartsNext f slots (end_of o)) o o')
 
 module _ {X R : Type 0} (size : ℕ) (f : Format X R) where
-  -- the buckets before position z, from the highest to the first
+  -- `out`: buckets before position `z`, from the highest to bucket 0
   abbrev pub SlotImages : List (Option X) → List R → ℕ → List ℕ → Type 0
   SlotImages [] rs z out = (rs ≡ []) × (out ≡ [])
   SlotImages (None ∷ ss) rs z out =
@@ -47,36 +47,35 @@ module _ {X R : Type 0} (size : ℕ) (f : Format X R) where
       × (rs ≡ r ∷ qs) × f.image x r (z - size) one × SlotImages ss qs (z - size) rest
       × (out ≡ rest ++ one)
 
-  -- one bucket at position p: zeros, or the item by the last resolver
+  -- `out`: one bucket at position `p`, of zeros or of the item by the last resolver
   abbrev pub Filled : Option X → List R → List R → ℕ → List ℕ → Type 0
   Filled None left more p out = (left ≡ more) × (out ≡ zeros size)
   Filled (Some x) left more p out = (r : R) × (left ≡ more ++ r ∷ []) × f.image x r p out
 
-  -- the distance of the item by the last resolver is too large
+  -- a distance of the item by the last resolver is too large
   abbrev pub TooFar : Option X → List R → ℕ → Type 0
   TooFar None left p = ⊥
   TooFar (Some x) left p = (r : R) × (more : List R) × (left ≡ more ++ r ∷ []) × f.far x r p
 
-  -- one bucket is filled, or the distance of its item is too large
+  -- one bucket is filled, or a distance of its item is too large
   abbrev pub FillsBucket : {U E : Type 0} → Option X → List R → List R → ℕ → List ℕ → Result U E
       → Type 0
   FillsBucket s left more p out result =
       MatchResult result (λ _. Filled s left more p out) (λ _. TooFar s left p)
 
-  -- what writing one bucket at position p comes to: its bytes, or that the distance of its item is
-  -- too large
+  -- `step`: step of writing one bucket at position `p`, its bytes or the error for its distance
   abbrev pub BucketStep : Option X → List R → ℕ → Step → Type 0
   BucketStep s left p step =
       ((more : List R) × (out : List ℕ) × Filled s left more p out × (step ≡ piece out))
       ⊎ (TooFar s left p × (step ≡ refusal distance))
 
   module _ (slots : List (Option X)) (rs : List R) (p : ℕ) where
-    -- the buckets above i stand, from p on, and left resolves the items of the others
+    -- `front`: buckets above `i`, written from `p` on, `left`: resolvers of the other items
     abbrev pub Above : ℕ → List R → List ℕ → Type 0
     Above i left front = (done : List R) × (rs ≡ left ++ done)
         × SlotImages (drop (i + 1) slots) done (p + length front) front
 
-    -- what writing the buckets comes to after front
+    -- `step`: next step of writing the buckets from `p` on, after `front`
     abbrev pub BucketNext : List ℕ → Step → Type 0
     BucketNext front step = (i : ℕ) × (left : List R) × Above i left front
         × (s : Option X) × (slice_get slots i ≡ Some s) × BucketStep s left (p + length front) step
@@ -86,7 +85,7 @@ module _ {X R : Type 0} (size : ℕ) (f : Format X R) where
   WroteBuckets limit slots rs o o' =
       (out : List ℕ) × Appended limit out o o' × SlotImages slots rs (end_of o') out
 
-  -- the buckets are written within the limit, or the cause is told
+  -- the buckets are written within the limit, or writing failed
   abbrev pub WritesBuckets : {U F : Type 0} → ℕ → List (Option X) → List R → Output → Output
       → Result U (WriteError F) → Type 0
   WritesBuckets limit slots rs o o' result = MatchResult result
@@ -95,9 +94,9 @@ module _ {X R : Type 0} (size : ℕ) (f : Format X R) where
 
 module _ {X R : Type 0} (s : Shape) (f : Format X R) (slots : List (Option X)) (controls : List ℕ)
     (p : ℕ) where
-  -- The bytes of a table that is written from position p on: the items' parts, zeros, the buckets,
-  -- the controls; z is the
-  -- position of its first control.
+  -- `bytes`: bytes of a table written from position `p` on, `z`: position of
+  -- its first control byte. They are the parts of the items, zeros, the buckets
+  -- and the control bytes
   pub record TableBytes (z : ℕ) (bytes : List ℕ) : Type 0 where
     pub part : List ℕ
     pub resolvers : List R
@@ -107,13 +106,13 @@ module _ {X R : Type 0} (s : Shape) (f : Format X R) (slots : List (Option X)) (
     pub at : z ≡ round_up (p + length part) s.align + length slots * s.size
     pub is : bytes ≡ part ++ (zeros (padding s.align (p + length part)) ++ (buckets ++ controls))
 
-  -- what stands before the buckets
+  -- `front`: bytes before the buckets
   abbrev pub BeforeBuckets : List ℕ → List R → List ℕ → Type 0
   BeforeBuckets a rs front = SlotParts f slots p a rs
       × (front ≡ a ++ zeros (padding s.align (p + length a)))
 
-  -- what writing the table comes to after front: that of a part, the zeros, that of a bucket, or
-  -- the controls
+  -- `step`: next step of writing the table, after `front`. It is that of a part, the zeros,
+  -- that of a bucket, or the control bytes
   abbrev pub TableNext : List ℕ → Step → Type 0
   TableNext front step = PartsNext f slots p front step
       ⊎ ((rs : List R) × SlotParts f slots p front rs
@@ -124,8 +123,8 @@ module _ {X R : Type 0} (s : Shape) (f : Format X R) (slots : List (Option X)) (
       × SlotImages s.size f slots rs (p + length front) g × (front ≡ b ++ g)
       × (step ≡ piece controls))
 
--- the parts, the buckets and the controls of a table are written, and the answer is the position of
--- the first control; or the cause is told
+-- the parts, the buckets and the control bytes of a table are written. The result is the position
+-- of the first control byte, or an error
 abbrev pub WritesSlots : {X R F : Type 0} → Shape → Format X R → ℕ → List (Option X) → List ℕ
     → Output → Output → Result ℕ (WriteError F) → Type 0
 WritesSlots s f limit slots controls o o' result = MatchResult result

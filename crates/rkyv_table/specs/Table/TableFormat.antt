@@ -1,4 +1,4 @@
--- How a list of hashes and items is written as a table, and that it stands as one.
+-- The format of a table of a list of pairs of hash and item, and the list that a table represents.
 use Rattle.std.specs.Prelude.{◌≡◌, ℕ, ◌^◌, ◌<◌, ◌⊎◌, pos, List, [], length, slice_get, slice_index}
 use Rattle.std.specs.Prelude.{Option, Some}
 use Rattle.std.specs.Int.{Width}
@@ -14,43 +14,44 @@ use Rattle.rkyv_table.specs.Table.Slots.{TableBytes, TableNext}
 use Rattle.rkyv_table.specs.Table.Layout.{bucket_at, controls_at, table_shape}
 use Rattle.rkyv_table.specs.Table.Taking.{Placed, hashes_of, items_of}
 
--- what resolves a table: the position of its first control, 0 of an empty one; its length; its load
--- factor
+-- the resolver of a table. `pos`: position of its first control byte, or 0 if it is empty
 pub record TableResolver : Type 0 where
   pub pos : ℕ
   pub len : ℕ
   pub load_factor : ℕ × ℕ
 
--- the buckets of the table that is resolved
+-- the number of buckets of the resolved table
 abbrev pub resolved_capacity : TableResolver → ℕ
 resolved_capacity r = capacity r.len r.load_factor
 
--- the pairs, placed in as many buckets as they need
+-- the pairs are placed in as many buckets as they need
 abbrev pub InBuckets : {X : Type 0} → ℕ × ℕ → List (ℕ × X) → List (Option X) → List ℕ → Type 0
 InBuckets load_factor pairs slots controls =
     (0 < length pairs) × Placed (capacity (length pairs) load_factor) pairs slots controls
 
 module _ {X R : Type 0} (w : Width) (s : Shape) (f : Format X R) (load_factor : ℕ × ℕ)
     (pairs : List (ℕ × X)) (p : ℕ) where
-  -- nothing is written of no pairs; of others the table, each item in the bucket that is its home
+  -- `part`: bytes of the table, or none for no pairs, `z`: position of its first control byte.
+  -- Each item is in its home bucket
   abbrev pub TableWritten : ℕ → List ℕ → Type 0
   TableWritten z part = ((pairs ≡ []) × (part ≡ []) × (z ≡ 0))
       ⊎ ((slots : List (Option X)) × (controls : List ℕ)
       × InBuckets load_factor pairs slots controls × TableBytes s f slots controls p z part)
 
-  -- the table was written, and r resolves it
+  -- the table was written with the bytes `part`, and `r` is its resolver
   pub record TableParts (part : List ℕ) (r : TableResolver) : Type 0 where
     pub len : r.len ≡ length pairs
     pub factor : r.load_factor ≡ load_factor
     pub fits : resolved_capacity r < 2 ^ bits w
     pub written : TableWritten r.pos part
 
-  -- what writing the table comes to after front
+  -- `step`: next step of writing the table, after `front`
   abbrev pub PairsNext : List ℕ → Step → Type 0
   PairsNext front step = (slots : List (Option X)) × (controls : List ℕ)
       × InBuckets load_factor pairs slots controls × TableNext s f slots controls p front step
 
--- how a list of hashes and items, in the order handed in, is written as a table under a load factor
+-- the format of a list of pairs of hash and item, in insertion order, as a table under
+-- a load factor
 abbrev pub table_format : {X R : Type 0} → Width → Shape → Format X R → ℕ × ℕ
     → Format (List (ℕ × X)) TableResolver
 table_format w s f load_factor = record {
@@ -60,8 +61,8 @@ table_format w s f load_factor = record {
   far = λ pairs r p. HeaderFar w r.len r.pos p;
 }
 
--- the buckets begin at begin; the controls are those of the hashes, and each item stands in the
--- bucket that is its home
+-- the buckets from `begin` on represent the pairs: the control bytes are those of the hashes,
+-- and each item is in its home bucket
 pub record BucketsStand {X : Type 0} (size : ℕ) (stands : List ℕ → ℕ → X
     → Type 0) (c : List ℕ) (cap begin : ℕ) (pairs : List (ℕ × X)) : Type 0 where
   pub homes : List ℕ
@@ -70,7 +71,7 @@ pub record BucketsStand {X : Type 0} (size : ℕ) (stands : List ℕ → ℕ →
   pub items : (i : ℕ) (x : X) → slice_get (items_of pairs) i ≡ Some x
       → stands c (bucket_at size begin cap (slice_index homes i)) x
 
--- a header of a table of the pairs stands at p, and the table where it tells
+-- the table whose header is at `p` represents the pairs
 pub record TableStands {X : Type 0} (w : Width) (s : Shape) (stands : List ℕ → ℕ → X
     → Type 0) (load_factor : ℕ × ℕ) (c : List ℕ) (p : ℕ) (pairs : List (ℕ × X)) : Type 0 where
   pub len : len_at w c p ≡ length pairs
@@ -78,8 +79,7 @@ pub record TableStands {X : Type 0} (w : Width) (s : Shape) (stands : List ℕ �
   pub buckets : 0 < length pairs → (begin : ℕ) × (pos begin ≡ begin_told w s.size c p)
       × BucketsStand s.size stands c (capacity (length pairs) load_factor) begin pairs
 
--- what is written of a list of hashes and items is a table of them, wherever it sits, in a range
--- around it
+-- the format of a table is lawful: written tables are valid and represent their pairs
 abbrev pub WrittenTablesStand : {X R : Type 0} → Width → Shape → (List ℕ → ℕ → X → Type 0)
     → Format X R → ℕ × ℕ → Type 0
 WrittenTablesStand w s stands f load_factor = IsFormat (table_shape w s)

@@ -1,4 +1,4 @@
--- What it is that a table was written of.
+-- The list of pairs from which a table was written.
 use Rattle.std.specs.Prelude.{◌≡◌, ℕ, List, slice_get, slice_index, Some}
 use Rattle.std.specs.Int.{Width}
 use Rattle.rkyv_table.specs.Table.Reading.{WrittenAt, home_positions}
@@ -6,8 +6,7 @@ use Rattle.rkyv_table.specs.Table.TableFormat.{TableStands}
 use Rattle.rkyv_base.specs.Shape.{Shape}
 use Rattle.rkyv_table.specs.Table.Taking.{hashes_of, items_of}
 
--- the table at p was written of these items under these hashes, in this order, and each of them
--- stands at its home
+-- the table at `p` was written from the pairs, in this order, and each item is at its home bucket
 pub record IsWrittenOf {X : Type 0} (w : Width) (size : ℕ) (stands : List ℕ → ℕ → X
     → Type 0) (c : List ℕ) (p : ℕ) (pairs : List (ℕ × X)) : Type 0 where
   pub homes : List ℕ
@@ -15,7 +14,7 @@ pub record IsWrittenOf {X : Type 0} (w : Width) (size : ℕ) (stands : List ℕ 
   pub at : (i : ℕ) (x : X) → slice_get (items_of pairs) i ≡ Some x
       → stands c (slice_index (home_positions w size c p homes) i) x
 
--- where the items of a table stand, it was written of them
+-- a table that represents pairs was written from them
 abbrev pub StandingWereWritten : {X : Type 0} → Width → Shape → (List ℕ → ℕ → X → Type 0) → ℕ × ℕ
     → Type 0
 StandingWereWritten {X} w s stands factor =

@@ -1,4 +1,7 @@
-//! Finding an item by the controls.
+//! Lookups: finding the bucket of an item by the control bytes.
+//!
+//! A lookup reads the strides of a hash in order. It ends at the first stride with an item
+//! that the comparison accepts, or with an empty control byte.
 ghost use Rattle.std.specs.Prelude.{Bool, IfSome, List, drop, length, map, slice_index, take, true};
 ghost use Rattle.std.specs.Prelude.{ℕ, ◌%◌, ◌*◌, ◌+◌, ◌<◌, ◌^◌, ◌≡◌, ◌≤◌};
 ghost use Rattle.std.specs.List.{find};
@@ -13,7 +16,7 @@ use crate::controls::probe::Probe;
 use rkyv_scan::simd::{GroupKind, Marks};
 use std::marker::Model;
 
-/// Gives out strides of sixteen controls, and counts them.
+/// A counter of strides of sixteen control bytes, which returns each stride that it counts.
 #[derive(Drop)]
 pub struct Strides {
     count: u64,
@@ -26,14 +29,14 @@ impl Model for Strides {
 }
 
 impl Strides {
-    /// None was given out.
+    /// Returns a counter with the count 0.
     pub fn new() -> Strides
         ensures { result ≡ 0 }
     {
         Strides { count: 0 }
     }
 
-    /// How many were given out.
+    /// Returns the number of strides that were counted.
     #[inline]
     pub fn count(&self) -> u64
         ensures { result ≡ self.now }
@@ -41,7 +44,7 @@ impl Strides {
         self.count
     }
 
-    // The sixteen controls from `pos` on.
+    // Counts one stride, and returns the sixteen control bytes from index `pos` on.
     #[inline]
     fn stride<'a>(&mut self, controls: &'a [u8], pos: usize) -> &'a [u8]
         requires inside { pos + 16 ≤ length controls.now }
@@ -54,7 +57,8 @@ impl Strides {
     }
 }
 
-// The first bucket of the marked places that the comparison accepts; the group begins at `at`.
+// Returns the first bucket of the marked indices that the comparison accepts, or `None`.
+// The first index of the group is `at`.
 #[inline]
 fn first_accepted<M: Marks, F: Fn(usize) -> bool>(
     marks: M,
@@ -83,7 +87,7 @@ fn first_accepted<M: Marks, F: Fn(usize) -> bool>(
     None
 }
 
-// What one stride shows.
+// The outcome of one stride: an accepted bucket, or else an empty control byte, or neither.
 #[derive(Drop)]
 enum Seen {
     Accepted(usize),
@@ -91,7 +95,7 @@ enum Seen {
     Full,
 }
 
-// Reads one stride: as one group where groups are as wide, else in groups one after the other.
+// Reads one stride: as one group if groups are sixteen wide, else as groups in order.
 #[inline]
 fn scan<G: GroupKind, F: Fn(usize) -> bool>(
     stride: &[u8],
@@ -139,9 +143,16 @@ fn scan<G: GroupKind, F: Fn(usize) -> bool>(
     if empty { Seen::Empty } else { Seen::Full }
 }
 
-/// As `find`, where the bucket at which the probe sequence of the hash begins is known.
+/// Looks up as `find` does, with the start of the probe sequence.
 ///
-/// Where there are no buckets, `start` is of no meaning.
+/// `start` has no meaning if there are no buckets.
+///
+/// # Requires
+///
+/// - The control bytes are valid for `len` items in `cap` buckets, if `len` is above 0.
+/// - `start` is `hash % cap`, if there are buckets.
+/// - `strides` has at most 2^63 strides.
+/// - The comparison can be called with each full bucket.
 #[inline]
 pub fn find_from<G: GroupKind, F: Fn(usize) -> bool>(
     controls: &[u8],
@@ -173,10 +184,19 @@ pub fn find_from<G: GroupKind, F: Fn(usize) -> bool>(
     None
 }
 
-/// Finds the bucket of an item under `hash` that the comparison accepts.
+/// Returns a full bucket that the comparison accepts, in a lookup under `hash`, or `None`.
 ///
-/// The comparison is asked for buckets whose control is full, and accepted the one that is
-/// answered. Each stride that is read is counted.
+/// If the comparison depends only on the bucket, the strides of the hash decide which bucket it is.
+/// The comparison is called with full buckets alone.
+///
+/// Each stride that is read is counted: none if `len` is 0, else at least one and at most
+/// ceil(cap / 16).
+///
+/// # Requires
+///
+/// - The control bytes are valid for `len` items in `cap` buckets, if `len` is above 0.
+/// - `strides` has at most 2^63 strides.
+/// - The comparison can be called with each full bucket.
 #[inline]
 pub fn find<G: GroupKind, F: Fn(usize) -> bool>(
     controls: &[u8],

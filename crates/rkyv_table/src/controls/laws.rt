@@ -1,58 +1,59 @@
-//! Laws of the probe sequence and of written controls, over their definitions alone.
+//! Laws of the probe sequence and of written control bytes, over their definitions alone.
 ghost use Rattle.rkyv_table.specs.Controls.Laws.{BucketsAreShown, FoundOnWritten, HomesAreOneList};
 ghost use Rattle.rkyv_table.specs.Controls.Laws.{HomesExist, MarkedAreWalked, SearchIsBounded};
 ghost use Rattle.rkyv_table.specs.Controls.Laws.{StridesCover, WalkedAreFull, WrittenAreAccepted};
 ghost use Rattle.rkyv_table.specs.Controls.Laws.{WrittenAreOneList};
 
-/// The strides of a hash begin at each place below the probe capacity that is the start modulo
-/// 16, once each.
+/// The strides of a hash begin at all indices of one residue class modulo 16, once each.
+///
+/// It is the class of the start, and the indices are those below the probe capacity.
 pub fn strides_cover()
     ensures { StridesCover }
 {}
 
-/// Each bucket is shown.
+/// The strides of a hash show every bucket.
 pub fn buckets_are_shown()
     ensures { BucketsAreShown }
 {}
 
-/// Fewer items than buckets have homes.
+/// Each of fewer items than buckets has a home bucket.
 pub fn homes_exist()
     ensures { HomesExist }
 {}
 
-/// Homes are one list, which capacity and hashes determine.
+/// The home buckets are determined by the capacity and the hashes.
 pub fn homes_are_one_list()
     ensures { HomesAreOneList }
 {}
 
-/// Written controls are one list, which capacity and hashes determine.
+/// The written control bytes are determined by the capacity and the hashes.
 pub fn written_are_one_list()
     ensures { WrittenAreOneList }
 {}
 
-/// Written controls are accepted ones.
+/// Written control bytes of fewer items than buckets are valid.
 pub fn written_are_accepted()
     ensures { WrittenAreAccepted }
 {}
 
-/// The walked buckets are the full ones.
+/// A walk visits a bucket if and only if it is full.
 pub fn walked_are_full()
     ensures { WalkedAreFull }
 {}
 
-/// A search in accepted controls ends within one stride for each sixteen places at which one may
-/// begin.
+/// A search in valid control bytes ends within ceil(cap / 16) strides.
 pub fn search_is_bounded()
     ensures { SearchIsBounded }
 {}
 
-/// In accepted controls a marked place lies below twice the capacity, and its bucket is walked.
+/// In valid control bytes, a marked index is below twice the capacity, and its bucket is full.
 pub fn marked_are_walked()
     ensures { MarkedAreWalked }
 {}
 
-/// On written controls a lookup answers the home of the first item that is accepted, where only
-/// items under the asked hash are.
+/// A lookup in written control bytes finds the home bucket of the first accepted item.
+///
+/// Each accepted item is under the hash of the lookup.
 pub fn found_on_written()
     ensures { FoundOnWritten }
 {}

@@ -1,24 +1,29 @@
-//! The numbers of a table: how many buckets and control bytes it has, and the tag of a hash.
+//! The numbers of a table: buckets, control bytes, and the start and the tag of a hash.
+//!
+//! The rules are rkyv's.
 ghost use Rattle.std.specs.Prelude.{◌≡◌, ◌%◌, ◌*◌, ◌+◌, ◌<◌, ◌^◌, ◌≤◌};
 ghost use Rattle.rkyv_table.specs.Controls.Capacity.{IsCapacity};
 ghost use Rattle.rkyv_table.specs.Controls.Numbers.{control_count, modulus, probe_capacity, start};
 ghost use Rattle.rkyv_table.specs.Controls.Numbers.{tag};
 
-/// Why a table can't have the capacity that is asked for.
+/// An error of `capacity`.
 #[derive(Debug, Clone, Copy, PartialEq, Eq)]
 pub enum CapacityError {
-    /// A part of the load factor is 0, or its first part is the greater.
+    /// The load factor isn't a fraction above 0 and at most 1.
     InvalidLoadFactor,
-    /// The capacity passes the limit.
+    /// The capacity is above the limit.
     CapacityTooLarge,
 }
 
-/// How many buckets a table of `len` items has under a load factor, a fraction above 0, at most 1.
+/// Returns the number of buckets of a table of `len` items under a load factor.
 ///
-/// An empty table has none. Another has `len` divided by the load factor, rounded down, and at
-/// least one more than `len`.
+/// The load factor is a fraction above 0 and at most 1. The capacity is 0 for no items. For others
+/// it is `len` divided by the load factor, rounded down, but at least `len + 1`, as in rkyv.
 ///
-/// Errors: the load factor is none, which is looked at first; the capacity passes `limit`.
+/// # Errors
+///
+/// - `InvalidLoadFactor`: the load factor isn't above 0 and at most 1.
+/// - `CapacityTooLarge`: the capacity is above `limit`.
 pub fn capacity(len: usize, load_factor: (usize, usize), limit: u64) -> Result<usize, CapacityError>
     ensures { IsCapacity len load_factor limit result }
 {
@@ -37,7 +42,11 @@ pub fn capacity(len: usize, load_factor: (usize, usize), limit: u64) -> Result<u
     Ok(buckets as usize)
 }
 
-/// The places at which a stride may begin: the buckets, rounded up to a multiple of 16.
+/// Returns the number of indices at which a stride may begin: `cap` rounded up to a multiple of 16.
+///
+/// # Requires
+///
+/// - `cap + 15` is below 2^64.
 #[inline]
 pub fn probe_capacity(cap: usize) -> usize
     requires fits { cap + 15 < 2 ^ 64 }
@@ -46,7 +55,11 @@ pub fn probe_capacity(cap: usize) -> usize
     (cap + 15) / 16 * 16
 }
 
-/// The control bytes of a table.
+/// Returns the number of control bytes of a table with `cap` buckets.
+///
+/// # Requires
+///
+/// - The result is below 2^64.
 #[inline]
 pub fn control_count(cap: usize) -> usize
     requires fits { control_count cap < 2 ^ 64 }
@@ -55,7 +68,14 @@ pub fn control_count(cap: usize) -> usize
     probe_capacity(cap) + 15
 }
 
-/// The modulus of the probe sequence: the least power of two that is at least `control_count`.
+/// Returns the modulus of the probe sequence of a table with `cap` buckets.
+///
+/// It is the least power of two that is at least the number of control bytes.
+///
+/// # Requires
+///
+/// - `cap` is above 0.
+/// - The number of control bytes is at most 2^63.
 #[inline]
 pub fn modulus(cap: usize) -> usize
     requires some { 0 < cap }
@@ -65,7 +85,9 @@ pub fn modulus(cap: usize) -> usize
     control_count(cap).next_power_of_two()
 }
 
-/// The bucket at which the probe sequence of a hash begins; of no meaning where there are none.
+/// Returns the bucket at which the probe sequence of a hash begins.
+///
+/// The result has no meaning if `cap` is 0.
 #[inline]
 pub fn start(hash: u64, cap: usize) -> usize
     ensures { 0 < cap → result ≡ start hash cap }
@@ -77,7 +99,7 @@ pub fn start(hash: u64, cap: usize) -> usize
     }
 }
 
-/// The tag of a hash: its seven highest bits.
+/// Returns the tag of a hash: its seven highest bits.
 #[inline]
 pub fn tag(hash: u64) -> u8
     ensures { result ≡ tag hash }
@@ -85,7 +107,11 @@ pub fn tag(hash: u64) -> u8
     (hash >> 57) as u8
 }
 
-/// The bucket of a place below twice the capacity, which is the place modulo the capacity.
+/// Returns the bucket of an index: the index modulo `cap`.
+///
+/// # Requires
+///
+/// - The index is below `2 * cap`.
 #[inline]
 pub fn bucket_of(place: usize, cap: usize) -> usize
     requires below { place < 2 * cap }

@@ -1,4 +1,6 @@
-//! Placing items.
+//! Placing items: the home bucket of each item, and its control bytes.
+//!
+//! The home bucket of an item is the first empty bucket that its hash shows.
 ghost use Rattle.std.specs.Prelude.{IfErr, IfOk, IsOk, Some, [], length, ◌%◌, ◌+◌, ◌<◌, ◌≡◌, ◌≤◌};
 ghost use Rattle.std.specs.List.{find};
 ghost use Rattle.rkyv_table.specs.Controls.Shown.{HasRoom, empty_place, fresh_controls};
@@ -12,7 +14,7 @@ use crate::controls::probe::Probe;
 use rkyv_scan::simd::{GroupKind, Marks};
 use std::alloc::{AllocError, Global};
 
-// The first empty place of the stride that begins at `pos`.
+// Returns the first empty index of the stride that begins at index `pos`, or `None`.
 #[inline]
 fn first_empty<G: GroupKind>(controls: &[u8], pos: usize) -> Option<usize>
     requires { pos + 16 ≤ length controls.now }
@@ -27,7 +29,14 @@ fn first_empty<G: GroupKind>(controls: &[u8], pos: usize) -> Option<usize>
     None
 }
 
-/// Puts the tag of a hash into the first empty bucket that it shows, and answers the bucket.
+/// Sets the control bytes of the first empty bucket that a hash shows, and returns the bucket.
+///
+/// The tag of the hash is written at the bucket's index, and at the mirrored index if there is one.
+///
+/// # Requires
+///
+/// - The control bytes mirror those of the buckets.
+/// - Some bucket is empty.
 #[inline]
 pub fn place_one<G: GroupKind>(controls: &mut [u8], cap: usize, hash: u64) -> usize
     requires repeats { Repeats cap controls.old }
@@ -38,7 +47,13 @@ pub fn place_one<G: GroupKind>(controls: &mut [u8], cap: usize, hash: u64) -> us
     place_from::<G>(controls, cap, (hash % cap as u64) as usize, hash)
 }
 
-/// As `place_one`, of a hash that is `start` modulo `cap`.
+/// Places as `place_one` does, with the start of the probe sequence.
+///
+/// # Requires
+///
+/// - The control bytes mirror those of the buckets.
+/// - Some bucket is empty.
+/// - `start` is `hash % cap`.
 #[inline]
 pub fn place_from<G: GroupKind>(controls: &mut [u8], cap: usize, start: usize, hash: u64) -> usize
     requires repeats { Repeats cap controls.old }
@@ -61,9 +76,16 @@ pub fn place_from<G: GroupKind>(controls: &mut [u8], cap: usize, start: usize, h
     unreachable!()
 }
 
-/// Places an item for each hash, in order, and answers their buckets.
+/// Places an item for each hash, in order, and returns their buckets.
 ///
-/// Errors: the memory for the answer was refused; nothing was placed.
+/// # Requires
+///
+/// - No bucket is full: all control bytes are 255.
+/// - There are fewer hashes than buckets.
+///
+/// # Errors
+///
+/// - `AllocError`: the list of buckets could not be allocated. The control bytes are unchanged.
 pub fn place<G: GroupKind>(
     alloc: Global,
     controls: &mut [u8],

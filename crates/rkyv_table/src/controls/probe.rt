@@ -1,4 +1,7 @@
-//! The probe sequence of a hash.
+//! The probe sequence of a hash, which is rkyv's.
+//!
+//! The steps of the sequence grow by 16 each, modulo a power of two. Positions
+//! from the probe capacity on are skipped.
 ghost use Rattle.std.specs.Prelude.{List, ℕ, ◌%◌, ◌<◌, ◌^◌, ◌≡◌, ◌≤◌};
 ghost use Rattle.std.specs.Iterator.{YieldsFirst, item_count};
 ghost use Rattle.rkyv_table.specs.Controls.Numbers.{control_count};
@@ -7,14 +10,14 @@ ghost use Rattle.rkyv_table.specs.Controls.Probe.{IsProbe, strides, strides_from
 use crate::controls::numbers;
 use std::marker::Model;
 
-/// The places at which the strides of a hash begin that are still to come, in order.
+/// The indices at which the remaining strides of a hash begin, in order.
 #[derive(Drop)]
 pub struct Probe {
     cap: usize,
     start: usize,
-    // How far the last place stands from the start, modulo the modulus.
+    // The distance of the last considered index from the start, modulo the modulus.
     offset: usize,
-    // How many places of the sequence were looked at.
+    // The number of indices of the sequence that were considered.
     index: usize,
 }
 
@@ -27,7 +30,12 @@ impl Model for Probe {
 }
 
 impl Probe {
-    /// Those of a hash in a table of `cap` buckets.
+    /// Returns the probe sequence of a hash in a table of `cap` buckets.
+    ///
+    /// # Requires
+    ///
+    /// - `cap` is above 0.
+    /// - The number of control bytes is at most 2^63.
     #[inline]
     pub fn new(hash: u64, cap: usize) -> Probe
         requires some { 0 < cap }
@@ -37,7 +45,12 @@ impl Probe {
         Probe::starting_at((hash % cap as u64) as usize, cap)
     }
 
-    /// Those of each hash that is `start` modulo `cap`, in a table of `cap` buckets.
+    /// Returns the probe sequence of each hash that is `start` modulo `cap`.
+    ///
+    /// # Requires
+    ///
+    /// - `start` is below `cap`.
+    /// - The number of control bytes is at most 2^63.
     #[inline]
     pub fn starting_at(start: usize, cap: usize) -> Probe
         requires begun { start < cap }
@@ -60,7 +73,7 @@ impl Iterator for Probe {
 
     ghost remaining = { item_count (λ p. p) };
 
-    // The modulus is wanted from the second place on.
+    // The first index doesn't need the modulus.
     #[inline]
     fn next(&mut self) -> Option<usize> {
         if self.index == 0 {

@@ -1,17 +1,17 @@
-//! Division by one number many times.
+//! Remainders by one divisor, each without a division.
 ghost use Rattle.std.specs.Prelude.{◌%◌, ◌*◌, ◌+◌, ◌-◌, ◌/◌, ◌<◌, ◌^◌, ◌≡◌, ◌≤◌};
 
-/// A divisor and its reciprocal, by which the rest of a division is told with no division.
+/// A divisor and its reciprocal, which takes remainders without a division.
 #[derive(Clone, Copy)]
 pub struct Reciprocal {
     divisor: u64,
-    // How often the divisor goes into 2^64 - 1.
+    // The quotient of 2^64 - 1 and the divisor.
     inverse: u64,
     ghost some: { 0 < divisor },
     ghost is: { inverse ≡ (2 ^ 64 - 1) / divisor },
 }
 
-// How often 2^64 goes into a product.
+// Returns the quotient of a product and 2^64.
 #[inline]
 fn high_half(left: u64, right: u64) -> u64
     ensures low { result * 2 ^ 64 ≤ left * right }
@@ -21,7 +21,11 @@ fn high_half(left: u64, right: u64) -> u64
 }
 
 impl Reciprocal {
-    /// That of a divisor above 0; it takes one division.
+    /// Returns the reciprocal of a divisor, with one division.
+    ///
+    /// # Requires
+    ///
+    /// - The divisor is above 0.
     #[inline]
     pub fn new(divisor: u64) -> Reciprocal
         requires { 0 < divisor }
@@ -33,7 +37,7 @@ impl Reciprocal {
         }
     }
 
-    /// The number modulo the divisor.
+    /// Returns the number modulo the divisor.
     #[inline]
     pub fn rest(self, number: u64) -> u64
         ensures { result ≡ number % self.divisor }

@@ -1,10 +1,10 @@
-//! Checking that the first controls are repeated behind the buckets.
+//! Validating the control bytes after those of the buckets.
 ghost use Rattle.std.specs.Prelude.{IfErr, IfOk, IsTrue, length, ◌+◌, ◌<◌, ◌*◌, ◌≡◌, ◌≤◌, ◌↔◌};
 ghost use Rattle.rkyv_table.specs.Controls.Numbers.{control_count};
 ghost use Rattle.rkyv_table.specs.Controls.Placing.{Repeats};
 ghost use Rattle.rkyv_table.specs.Controls.Repeating.{FirstUnlike, RepeatsAt};
 
-// Whether the control at a place from `cap` on is as it must be.
+// Returns `true` if the control byte at an index from `cap` on is as it must be.
 #[inline]
 fn is_repeated(controls: &[u8], cap: usize, place: usize) -> bool
     requires from { cap ≤ place }
@@ -18,10 +18,18 @@ fn is_repeated(controls: &[u8], cap: usize, place: usize) -> bool
     }
 }
 
-/// Looks at the controls behind the buckets: each below twice the capacity is the same as the one
-/// `cap` places lower, and each from there on is empty.
+/// Validates the control bytes after those of the buckets.
 ///
-/// Errors: the least place that fails.
+/// Each index below `2 * cap` has the control byte of the index `cap` lower, as rkyv checks it.
+/// Each index from `2 * cap` on is empty.
+///
+/// # Requires
+///
+/// - There are as many control bytes as a table with `cap` buckets has.
+///
+/// # Errors
+///
+/// - The lowest index whose control byte isn't as it must be.
 pub fn check_repeats(controls: &[u8], cap: usize) -> Result<(), usize>
     requires count { length controls.now ≡ control_count cap }
     ensures repeats { IfOk result (λ _. Repeats cap controls.now) }

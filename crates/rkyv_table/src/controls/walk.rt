@@ -1,4 +1,4 @@
-//! Walking the full buckets, a group at a time.
+//! Walks over the full buckets, a group of control bytes at a time.
 ghost use Rattle.std.specs.Prelude.{List, MatchOption, [], length, slice_index, ℕ, ◌*◌, ◌+◌};
 ghost use Rattle.std.specs.Prelude.{◌<◌, ◌∷◌, ◌≡◌, ◌≤◌};
 ghost use Rattle.std.specs.Iterator.{YieldsFirst, item_count};
@@ -9,14 +9,14 @@ ghost use Rattle.rkyv_table.specs.Controls.Walking.{IsWalk, full_from, left};
 use rkyv_scan::simd::{GroupKind, MAX_GROUP_WIDTH, Marks};
 use std::marker::Model;
 
-/// The full buckets that are still to come, ascending.
+/// The full buckets that remain, in ascending order.
 #[derive(Drop)]
 pub struct Walk<'a, G: GroupKind> {
     controls: &'a [u8],
     cap: usize,
-    // The first place of the current group.
+    // The first index of the current group.
     base: usize,
-    // The full places of that group that are still to come.
+    // The full indices of that group that remain.
     marks: G::Mask,
 }
 
@@ -29,11 +29,11 @@ impl<'a, G: GroupKind> Model for Walk<'a, G> {
         (G.Mask.places w.marks) };
 }
 
-// A group of controls, all empty.
+// A group of empty control bytes.
 static NO_CONTROLS: [u8; MAX_GROUP_WIDTH] = [0xff; MAX_GROUP_WIDTH];
 
 impl<G: GroupKind> Walk<'static, G> {
-    /// None.
+    /// Returns a walk over no buckets.
     #[inline]
     pub fn empty() -> Walk<'static, G>
         ensures { result ≡ [] }
@@ -43,7 +43,12 @@ impl<G: GroupKind> Walk<'static, G> {
 }
 
 impl<'a, G: GroupKind> Walk<'a, G> {
-    /// Those of the first `cap` buckets.
+    /// Returns a walk over the full ones of the first `cap` buckets.
+    ///
+    /// # Requires
+    ///
+    /// - There are at least 16 control bytes.
+    /// - There are at least as many as a table with `cap` buckets has.
     #[inline]
     pub fn new(controls: &'a [u8], cap: usize) -> Walk<'a, G>
         requires some { 16 ≤ length controls.now }
@@ -87,7 +92,12 @@ impl<'a, G: GroupKind> Iterator for Walk<'a, G> {
     }
 }
 
-/// How many of the first `cap` buckets are full.
+/// Returns the number of full buckets among the first `cap`.
+///
+/// # Requires
+///
+/// - `cap` is above 0.
+/// - There are as many control bytes as a table with `cap` buckets has.
 #[inline]
 pub fn count_full<G: GroupKind>(controls: &[u8], cap: usize) -> usize
     requires some { 0 < cap }
@@ -97,7 +107,11 @@ pub fn count_full<G: GroupKind>(controls: &[u8], cap: usize) -> usize
     Walk::<G>::new(controls, cap).count()
 }
 
-/// The first of the first `cap` buckets from `from` on whose control is full.
+/// Returns the first full bucket from `from` on and below `cap`, or `None`.
+///
+/// # Requires
+///
+/// - There are at least `cap` control bytes.
 #[inline]
 pub fn next_full(controls: &[u8], cap: usize, from: usize) -> Option<usize>
     requires { cap ≤ length controls.now }

@@ -1,4 +1,4 @@
-//! Writing the buckets of a table, from the highest to the first.
+//! Writing the buckets of a table, from the highest to bucket 0.
 
 ghost use Rattle.std.specs.Prelude.{◌≡◌, ◌+◌, ◌<◌, ◌≤◌, ◌^◌, IfSome, length};
 ghost use Rattle.rkyv_base.specs.Pairs.{written_as};
@@ -12,7 +12,7 @@ use rkyv_base::lend::Lend;
 use rkyv_base::width::Width;
 use rkyv_base::writer::{Writer, append_in};
 
-// Fills one bucket: with zeros, or with the item, by the last resolver.
+// Fills one bucket: with zeros, or with the item by the last resolver.
 #[inline]
 fn fill_bucket<W: Width, U: Archive<W>, X: Lend<U>>(
     slot: &Option<X>,
@@ -39,8 +39,8 @@ fn fill_bucket<W: Width, U: Archive<W>, X: Lend<U>>(
     }
 }
 
-// Writes them by the scratch of one bucket, from the highest to the first, each in one piece, an
-// empty one as zeros.
+// Writes the buckets from the highest to bucket 0, with a buffer of one bucket. Each is one piece,
+// and an empty one is zeros.
 #[inline]
 fn write_by<W: Width, S: Writer, U: Archive<W>, X: Lend<U>>(
     slots: &[Option<X>],
@@ -71,7 +71,8 @@ fn write_by<W: Width, S: Writer, U: Archive<W>, X: Lend<U>>(
     Ok(())
 }
 
-// Writes the buckets from the highest to the first, each in one piece, an empty one as zeros.
+// Writes the buckets from the highest to bucket 0. Each is one piece, and an empty one is zeros.
+// `bucket` is the buffer for buckets of more than 64 bytes.
 pub(crate) fn write_buckets<W: Width, S: Writer, U: Archive<W>, X: Lend<U>>(
     slots: &[Option<X>],
     resolvers: Vec<U::Resolver>,

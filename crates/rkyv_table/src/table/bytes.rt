@@ -1,4 +1,4 @@
-//! Writing the bytes of a table whose items are placed.
+//! Writing the bytes of a table whose items are placed: parts, buckets and control bytes.
 
 ghost use Rattle.std.specs.Prelude.{◌≡◌, ◌≤◌, [], length, vec_capacity};
 ghost use Rattle.rkyv_base.specs.Pairs.{written_as};
@@ -12,8 +12,8 @@ use rkyv_base::width::Width;
 use rkyv_base::writer::{Writer, align_for_in, append_in};
 use std::alloc::Global;
 
-// Writes the items' parts, the buckets and the controls, and answers the position of the first
-// control.
+// Writes the parts of the items, the buckets and the control bytes. Returns the position
+// of the first control byte.
 pub(crate) fn write_table<W: Width, S: Writer, U: Serialize<S, W>, X: Lend<U>>(
     alloc: Global,
     slots: &[Option<X>],

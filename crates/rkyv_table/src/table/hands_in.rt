@@ -1,4 +1,4 @@
-//! What hands in the items of a table and their hashes: one iterator of pairs, or two iterators.
+//! The input of a table: an iterator of pairs, or one of items and one of hashes.
 
 ghost use Rattle.std.specs.Prelude.{◌≡◌, ℕ, ◌<◌, [], MatchResult, None, replicate};
 ghost use Rattle.rkyv_table.specs.Controls.Shown.{fresh_controls};
@@ -8,16 +8,16 @@ use crate::table::take::{take_none, take_pairs};
 use crate::table::take_two::take_two;
 use rkyv_scan::simd::GroupKind;
 
-/// Hands in the items of a table, each with its hash.
+/// An input of items, each with its hash.
 pub(crate) trait HandsIn<X>: Drop {
-    // It may be asked.
+    // The iterators of the input can be called.
     ghost can: { Self → Type 0 };
 
-    // The pairs of hash and item that it hands in.
+    // The input pairs of hash and item.
     ghost input: { Self → Input (ℕ × X) };
 
-    // Takes `len` pairs, and each item into the first empty bucket that its hash shows. An `Err`
-    // has how many came.
+    // Takes `len` pairs, and puts each item into the first empty bucket that its hash shows.
+    // An `Err` has the number of input pairs, counted up to `len + 1`.
     fn take_into<G: GroupKind>(
         self,
         len: usize,
@@ -31,7 +31,7 @@ pub(crate) trait HandsIn<X>: Drop {
         requires empty { slots.old ≡ replicate cap None }
         ensures { TakesItems (input self) len cap slots.new controls.new result };
 
-    // Takes none. An `Err` has how many came.
+    // Checks that the input is empty. An `Err` has the number of input pairs, counted up to 1.
     fn take_none(self) -> Result<(), usize>
         requires { can self }
         ensures { MatchResult result (λ _. (input self).gave []) ((input self).gave_other 0) };

@@ -1,4 +1,4 @@
-//! The header of a table, as it is read.
+//! Reading the header of a table, and the positions that it leads to.
 ghost use Rattle.std.specs.Prelude.{length, pos as int, slice_range, unsigned_abs, ℕ, ◌*◌, ◌+ℤ◌};
 ghost use Rattle.std.specs.Prelude.{◌+◌, ◌-ℤ◌, ◌<◌, ◌^◌, ◌≡◌, ◌≤◌};
 ghost use Rattle.std.specs.Int.{byte_len};
@@ -10,16 +10,20 @@ ghost use Rattle.rkyv_table.specs.Table.Layout.{bucket_at, part_size};
 use crate::controls::numbers::control_count;
 use rkyv_base::width::Width;
 
-/// What a header tells.
+/// The three numbers of a header.
 #[derive(Clone, Copy)]
 pub(crate) struct Header {
-    /// From the header's own position to the first control.
+    /// The distance from the header's own position to the first control byte.
     pub(crate) distance: i64,
     pub(crate) len: u64,
     pub(crate) cap: u64,
 }
 
-/// Reads the header at `pos`.
+/// Returns the header at `pos`.
+///
+/// # Requires
+///
+/// - The header is inside `bytes`.
 #[inline]
 pub(crate) fn read_header<W: Width>(bytes: &[u8], pos: u64) -> Header
     requires { pos + 3 * byte_len W.word ≤ length bytes.now }
@@ -35,7 +39,7 @@ pub(crate) fn read_header<W: Width>(bytes: &[u8], pos: u64) -> Header
     }
 }
 
-/// The bytes of all buckets.
+/// Returns the number of bytes of all buckets.
 #[inline]
 fn buckets_size(cap: u64, size: usize) -> u128
     requires { size ≤ 1073741824 }
@@ -45,7 +49,7 @@ fn buckets_size(cap: u64, size: usize) -> u128
     u128::from(cap) * size as u128
 }
 
-/// The bytes of all buckets and controls.
+/// Returns the number of bytes of all buckets and control bytes.
 #[inline]
 pub(crate) fn part_size(cap: u64, size: usize) -> u128
     requires { size ≤ 1073741824 }
@@ -54,7 +58,9 @@ pub(crate) fn part_size(cap: u64, size: usize) -> u128
     buckets_size(cap, size) + (u128::from(cap) + 15) / 16 * 16 + 15
 }
 
-/// Where a header at `pos` tells that its buckets begin.
+/// Returns the position at which the buckets begin, by a header at `pos`.
+///
+/// It is computed from untrusted numbers, and may be negative or beyond the archive.
 #[inline]
 pub(crate) fn begin_told(pos: u64, header: Header, size: usize) -> i128
     requires { size ≤ 1073741824 }
@@ -63,7 +69,7 @@ pub(crate) fn begin_told(pos: u64, header: Header, size: usize) -> i128
     i128::from(pos) + i128::from(header.distance) - buckets_size(header.cap, size) as i128
 }
 
-/// The position of a bucket of a table whose buckets begin at `begin`.
+/// Returns the position of a bucket of a table whose buckets begin at `begin`.
 #[inline]
 pub(crate) fn bucket_position(begin: u64, cap: usize, bucket: usize, size: usize) -> u64
     requires inside { bucket < cap }
@@ -73,7 +79,7 @@ pub(crate) fn bucket_position(begin: u64, cap: usize, bucket: usize, size: usize
     begin + ((cap - (bucket + 1)) * size) as u64
 }
 
-/// Where the first control stands, of a header at `pos` of a table with buckets.
+/// Returns the position of the first control byte, by a header at `pos` of a table with buckets.
 #[inline]
 pub(crate) fn controls_pos(pos: u64, header: Header) -> usize
     requires { (place : ℕ) × (int place ≡ int pos +ℤ header.distance) × (place < 2 ^ 64) }
@@ -82,7 +88,7 @@ pub(crate) fn controls_pos(pos: u64, header: Header) -> usize
     (i128::from(pos) + i128::from(header.distance)) as usize
 }
 
-/// The controls of `cap` buckets, from `place` on.
+/// Returns the control bytes of `cap` buckets, from position `place` on.
 #[inline]
 pub(crate) fn controls_from(bytes: &[u8], place: usize, cap: usize) -> &[u8]
     requires { place + control_count cap ≤ length bytes.now }

@@ -20,9 +20,9 @@ use std::alloc::AllocError;
 /// A table with its control bytes.
 pub(crate) struct Items<'a, T, W: Word> {
     pub(crate) table: ArchivedHashTable<'a, T, W>,
-    /// Where the first control stands; of no meaning where there are no buckets.
+    /// The position of the first control byte. It has no meaning if there are no buckets.
     pub(crate) place: usize,
-    /// All controls; none where there are no buckets.
+    /// All control bytes, or none if there are no buckets.
     pub(crate) controls: &'a [u8],
     pub(crate) len: usize,
     pub(crate) cap: usize,
@@ -64,7 +64,7 @@ impl<'a, T: Element, W: Width> Items<'a, T, W> {
         }
     }
 
-    /// The item in a full bucket.
+    /// Returns a view of the item in a full bucket.
     #[inline]
     pub(crate) fn item(self, bucket: usize) -> View<'a, T>
         requires items { AreItems W.word T.shape self }
@@ -75,8 +75,9 @@ impl<'a, T: Element, W: Width> Items<'a, T, W> {
         View::new(self.table.view.bytes(), place as u64)
     }
 
-    /// Finds an item under `hash` that the comparison accepts, by groups of the kind G, and counts
-    /// the strides of controls that are read. The probe sequence of the hash begins at `start`.
+    /// Looks up `hash` by groups of the kind `G`, and returns an item that the comparison accepts.
+    ///
+    /// The probe sequence of the hash begins at `start`. Each stride that is read is counted.
     #[inline]
     pub(crate) fn find<G: GroupKind, F: Fn(View<'a, T>) -> bool>(
         self,
@@ -115,7 +116,7 @@ impl<'a, T: Element, W: Width> Items<'a, T, W> {
         }
     }
 
-    /// The full buckets, ascending.
+    /// Returns a walk over the full buckets.
     #[inline]
     pub(crate) fn walk<G: GroupKind>(self) -> Walk<'a, G>
         requires { AreItems W.word T.shape self }

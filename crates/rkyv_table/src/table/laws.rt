@@ -15,28 +15,33 @@ use rkyv_base::lend::Lend;
 use rkyv_base::scalars::Scalar;
 use rkyv_base::width::Width;
 
-/// On written controls a walk visits the home of each item once, ascending, and nothing else.
+/// A walk over written control bytes visits each home bucket once, and no other bucket.
+///
+/// The buckets are in ascending order.
 pub fn walk_visits_homes()
     ensures { WalkVisitsHomes }
 {}
 
-/// In a table that was written, where each item that is accepted is under the asked hash, a lookup
-/// answers where the first accepted item of the list stands, and none exactly where none is
-/// accepted.
+/// A lookup in a written table finds the first accepted item of the input pairs.
+///
+/// It returns `None` if and only if no item is accepted. Each accepted item is under the hash
+/// of the lookup.
 pub fn lookups_answer_the_first<W: Width, U: Archive<W>, X: Lend<U>>()
     ensures { (load_factor : ℕ × ℕ) →
         AnswersFirst W.word U.Archived.shape (lent_stands X.lent U.Archived.stands) load_factor }
 {}
 
-/// Where an item's bytes and its parts are functions of the item and the position, so is what is
-/// written of a list of them: no matter by which kind of group they were placed.
+/// If items are written in one way, so is a table of them.
+///
+/// An item is written in one way if its bytes and its parts are functions of the item
+/// and the position. The kind of group that places the items makes no difference.
 pub fn tables_are_written_one_way<W: Width, U: Archive<W>, X: Lend<U>>()
     ensures { (load_factor : ℕ × ℕ) → WritesOneWay U.format
         → WritesOneWay (table_format W.word U.Archived.shape (written_as X.lent U.format)
         load_factor) }
 {}
 
-/// So the ready elements are: scalars, text, the unit value, and pairs of such.
+/// Scalars, texts and the unit value are written in one way, and so are pairs of such values.
 pub fn ready_elements_are_written_one_way<W: Width, N: Scalar, A: Archive<W>, B: Archive<W>>()
     ensures scalars { WritesOneWay (scalar_format N.encoding) }
     ensures texts { WritesOneWay (text_format W.word) }

@@ -1,19 +1,20 @@
-//! Iterators that hand in the items of a list, its pairs by halves, and keys each with the unit
-//! value, to a call that writes them.
+//! Iterators over the items of a list, as the input of a call that writes a table.
+//!
+//! They return pairs by halves, items by reference, and keys with the unit value.
 
 ghost use Rattle.std.specs.Iterator.{YieldsFirstBy, at_most};
 ghost use Rattle.std.specs.Prelude.{length, ◌≡◌};
 ghost use Rattle.std.specs.Slice.Iter.{iter_rest};
 ghost use Rattle.rkyv_table.specs.Table.Lent.{UnitStep};
 
-/// The pairs of a list, by halves.
+/// The pairs of a list, each as a pair of references.
 #[derive(Drop)]
 pub struct Halves<'a, A, B> {
     pairs: std::slice::Iter<'a, (A, B)>,
 }
 
 impl<'a, A, B> Halves<'a, A, B> {
-    /// Those of a list, in order.
+    /// Returns an iterator over the pairs of a list, in order.
     #[inline]
     pub fn of(pairs: &'a [(A, B)]) -> Halves<'a, A, B>
         ensures { iter_rest result.pairs ≡ pairs.now }
@@ -48,7 +49,7 @@ pub struct Refs<'a, A> {
 }
 
 impl<'a, A> Refs<'a, A> {
-    /// Those of a list, in order.
+    /// Returns an iterator over the items of a list, in order.
     #[inline]
     pub fn of(items: &'a [A]) -> Refs<'a, A>
         ensures { iter_rest result.items ≡ items.now }
@@ -75,6 +76,7 @@ impl<'a, A> Iterator for Refs<'a, A> {
 /// The keys of an iterator, each with the unit value.
 #[derive(Drop)]
 pub struct WithUnits<I> {
+    /// The iterator of keys.
     pub keys: I,
 }
 

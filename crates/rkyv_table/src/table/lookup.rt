@@ -1,4 +1,11 @@
-//! Finding an item.
+//! Lookups: finding an item of a table by its hash and a comparison.
+//!
+//! - `get_with` returns a view of the item, and `get_pos_with` its position.
+//! - `get_counted` also counts the strides that are read.
+//! - `get_by` takes the kind of group, and the others use `simd::halves::Group`.
+//!
+//! A lookup in an untrusted table may read every group of its control bytes once. In any table
+//! it reads at most ceil(capacity / 16) strides.
 ghost use Rattle.std.specs.Prelude.{◌^◌, ◌≡◌, ◌≤◌};
 ghost use Rattle.rkyv_scan.specs.Groups.{generic_kind};
 ghost use Rattle.rkyv_table.specs.Table.Reading.{CountsStrides, FindsItem, FindsItemPos, IsTable};
@@ -13,7 +20,7 @@ use rkyv_base::width::Width;
 use rkyv_scan::simd::GroupKind;
 use rkyv_scan::simd::halves::Group;
 
-/// Where the item stands that may have been found.
+/// Returns the position of a found item.
 #[inline]
 pub(crate) fn found_pos<T: Element>(found: Option<View<'_, T>>) -> Option<u64>
     ensures { result ≡ pos_of_found found.entry }
@@ -26,12 +33,20 @@ pub(crate) fn found_pos<T: Element>(found: Option<View<'_, T>>) -> Option<u64>
 
 // Every lookup is one call of the items' `find`.
 impl<'a, T: Element, W: Width> ArchivedHashTable<'a, T, W> {
-    /// The first item under `hash` that the comparison accepts, in the order in which the items
-    /// were handed in, where the table was written and no item under another hash is accepted.
+    /// Returns an item that the comparison accepts, in a lookup under `hash`, or `None`.
     ///
-    /// On any accepted table the answer is `None` or one of its items, whatever the comparison
-    /// answers; which one, the controls decide. The comparison is asked for items of the table
-    /// alone, and may be asked twice of one.
+    /// The result is an item of the table, whatever the comparison returns. The comparison
+    /// is called with items of the table alone, and may be called twice with one.
+    ///
+    /// If the comparison depends only on the position of an item, the control bytes decide
+    /// which item it is. In a written table, it is the first accepted item in insertion order
+    /// if each accepted item is under `hash`.
+    ///
+    /// A lookup in an untrusted table may read every group of its control bytes once.
+    ///
+    /// # Requires
+    ///
+    /// - The comparison can be called with each item of the table.
     #[inline]
     pub fn get_with<F: Fn(View<'a, T>) -> bool>(self, hash: u64, cmp: F) -> Option<View<'a, T>>
         requires table { IsTable W.word T.shape self }
@@ -41,7 +56,7 @@ impl<'a, T: Element, W: Width> ArchivedHashTable<'a, T, W> {
         self.get_by::<Group, F>(hash, cmp)
     }
 
-    /// As `get_with`, by groups of the kind G.
+    /// Looks up as `get_with` does, by groups of the kind `G`.
     #[inline]
     pub fn get_by<G: GroupKind, F: Fn(View<'a, T>) -> bool>(
         self,
@@ -56,7 +71,7 @@ impl<'a, T: Element, W: Width> ArchivedHashTable<'a, T, W> {
         items.find::<G, F>(self.start(hash), hash, cmp, &mut Strides::new())
     }
 
-    /// As `get_with`, but answers where the item stands.
+    /// Looks up as `get_with` does, and returns the position of the item.
     #[inline]
     pub fn get_pos_with<F: Fn(View<'a, T>) -> bool>(self, hash: u64, cmp: F) -> Option<u64>
         requires table { IsTable W.word T.shape self }
@@ -66,10 +81,14 @@ impl<'a, T: Element, W: Width> ArchivedHashTable<'a, T, W> {
         found_pos(self.get_with(hash, cmp))
     }
 
-    /// As `get_with`, and counts the strides of sixteen controls that are read: none in an empty
-    /// table, else one at least, and at most one for each sixteen buckets, rounded up.
+    /// Looks up as `get_with` does, and counts the strides of sixteen control bytes that are read.
     ///
-    /// The count may be at most 9,223,372,036,854,775,808.
+    /// It reads no stride of an empty table, else at least one and at most ceil(capacity / 16).
+    ///
+    /// # Requires
+    ///
+    /// - `strides` has at most 9,223,372,036,854,775,808 strides.
+    /// - The comparison can be called with each item of the table.
     #[inline]
     pub fn get_counted<F>(self, hash: u64, cmp: F, strides: &mut Strides) -> Option<View<'a, T>>
     where

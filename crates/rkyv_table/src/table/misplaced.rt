@@ -1,4 +1,4 @@
-//! Counting the items that a lookup of their own doesn't answer.
+//! Counting the items of a table that a lookup of their own doesn't find.
 ghost use Rattle.std.specs.Prelude.{not, ◌≡◌};
 ghost use Rattle.rkyv_scan.specs.Groups.{generic_kind};
 ghost use Rattle.rkyv_table.specs.Table.Misplaced.{is_answer, NoneMisplacedIsComplete};
@@ -16,7 +16,7 @@ use rkyv_base::view::View;
 use rkyv_base::width::Width;
 use rkyv_scan::Group;
 
-/// Whether a lookup didn't answer the bucket.
+/// Returns `true` if a lookup found another bucket, or none.
 #[inline]
 pub fn is_elsewhere(bucket: usize, found: Option<usize>) -> bool
     ensures { result ≡ not (is_answer bucket found) }
@@ -28,7 +28,7 @@ pub fn is_elsewhere(bucket: usize, found: Option<usize>) -> bool
 }
 
 impl<'a, T: Element, W: Width> ArchivedHashTable<'a, T, W> {
-    // The bucket that a lookup of a bucket's own item answers.
+    // Returns the bucket that a lookup of the item in `bucket` finds.
     #[inline]
     fn own_lookup<S: Fn(View<'a, T>, View<'a, T>) -> bool>(
         items: Items<'a, T, W>,
@@ -61,12 +61,21 @@ impl<'a, T: Element, W: Width> ArchivedHashTable<'a, T, W> {
         )
     }
 
-    /// How many items a lookup of their own doesn't answer: under the hash that `hash_of` gives of
-    /// the item, accepting those that are the `same` as it, which is asked with the item first.
+    /// Returns the number of items that a lookup of their own doesn't find.
     ///
-    /// An item is told from another by its bucket. Where both functions go by what stands at a
-    /// position, a table that was written has as many as there are items that are the same as one
-    /// handed in earlier.
+    /// The lookup is under the hash that `hash_of` returns for the item. It accepts the items
+    /// for which `same` returns `true`, with the item as the first argument. An item
+    /// is found if the lookup returns its bucket.
+    ///
+    /// The number is specified if both functions depend only on the positions of their arguments.
+    /// `repeated_are_misplaced` relates it to repeated items of a written table.
+    ///
+    /// Each item is looked up once. Items that share one hash cost a number of comparisons
+    /// that grows with the square of their number.
+    ///
+    /// # Requires
+    ///
+    /// - `hash_of` can be called with each item, and `same` with any two items.
     pub fn misplaced_by<H: Fn(View<'a, T>) -> u64, S: Fn(View<'a, T>, View<'a, T>) -> bool>(
         self,
         hash_of: H,
@@ -90,12 +99,18 @@ impl<'a, T: Element, W: Width> ArchivedHashTable<'a, T, W> {
     }
 }
 
-/// On written controls the misplaced items are those that are the same as an earlier one.
+/// On written control bytes, as many items are misplaced as are the same as an earlier item.
+///
+/// Each item has the hash under which it was written. The relation is an equivalence on the items,
+/// and related items have the same hash.
 pub fn repeated_are_misplaced()
     ensures { RepeatedAreMisplaced }
 {}
 
-/// Where no item is misplaced, a lookup finds the one walked item that it accepts.
+/// If no item is misplaced, a lookup finds the only accepted item, or `None` if there is none.
+///
+/// Each accepted item has the hash of the lookup, and the items that are the same as it are those
+/// that are accepted.
 pub fn none_misplaced_is_complete()
     ensures { NoneMisplacedIsComplete }
 {}

@@ -1,4 +1,4 @@
-//! Serializing the items of a table, by ascending bucket.
+//! Serializing the items of a table, in bucket order.
 
 ghost use Rattle.std.specs.Prelude.{◌≡◌, ◌≤◌, [], vec_capacity};
 ghost use Rattle.rkyv_base.specs.Pairs.{written_as};
@@ -10,7 +10,7 @@ use rkyv_base::width::Width;
 use rkyv_base::writer::Writer;
 use std::alloc::Global;
 
-// Serializes the items by ascending bucket, and keeps what resolves each.
+// Serializes the items in bucket order, and pushes their resolvers.
 pub(crate) fn serialize_slots<W: Width, S: Writer, U: Serialize<S, W>, X: Lend<U>>(
     alloc: Global,
     slots: &[Option<X>],

@@ -1,4 +1,6 @@
-//! Walking over the items of a table.
+//! Walks over the items of a table.
+//!
+//! The iterator returns the positions of the items, and `next_view` returns views.
 ghost use Rattle.std.specs.Prelude.{[], IfSome, MatchOption, length, slice_index, take, ◌<◌};
 ghost use Rattle.std.specs.Prelude.{◌≤◌, ◌∷◌, ◌≡◌};
 ghost use Rattle.rkyv_scan.specs.Groups.{is_full, mask_places, places_where};
@@ -18,21 +20,20 @@ use rkyv_scan::simd::generic::{Bitmask, Group};
 use rkyv_scan::simd::{GroupKind, Marks};
 use std::marker::{Model, PhantomData};
 
-/// Where the items of a table stand, by ascending bucket: the positions of those that are still to
-/// come.
+/// The positions of the items of a table that remain, in bucket order.
 #[derive(Drop)]
 pub struct RawIter<'a, T> {
     archive: &'a [u8],
-    // The place before which the buckets of the current group stand.
+    // The position at which the buckets of the current group end.
     place: usize,
-    // The bytes of a bucket.
+    // The number of bytes of a bucket.
     size: usize,
-    // How many items are left.
+    // The number of items that remain.
     count: usize,
     controls: &'a [u8],
-    // The first place of the current group.
+    // The first index of the current group.
     base: usize,
-    // The full places of that group that are still to come.
+    // The full indices of that group that remain.
     marks: Bitmask,
     kind: PhantomData<T>,
 }
@@ -54,7 +55,7 @@ impl<'a, T> Model for RawIter<'a, T> {
         (mask_places 8 7 8 r.marks.bits) };
 }
 
-/// The full places of the first group of controls, where there are items.
+/// Returns the full indices of the first group of control bytes, if there are items.
 #[inline]
 fn first_marks(controls: &[u8], len: usize) -> Bitmask
     requires { 0 < len → 8 ≤ length controls.now }
@@ -70,7 +71,7 @@ fn first_marks(controls: &[u8], len: usize) -> Bitmask
 }
 
 impl<T> RawIter<'static, T> {
-    /// No items.
+    /// Returns a walk over no items.
     #[inline]
     pub fn empty() -> RawIter<'static, T>
         ensures { result.places ≡ [] }
@@ -89,7 +90,11 @@ impl<T> RawIter<'static, T> {
 }
 
 impl<'a, T: Element> RawIter<'a, T> {
-    /// The next item, in place of its position.
+    /// Returns a view of the next item, or `None` at the end.
+    ///
+    /// # Requires
+    ///
+    /// - The archive has a valid item at each position that remains.
     #[inline]
     pub fn next_view(&mut self) -> Option<View<'a, T>>
         requires { AllStand T.shape self.old }
@@ -144,7 +149,7 @@ impl<'a, T> ExactSizeIterator for RawIter<'a, T> {
 }
 
 impl<'a, T: Element, W: Width> ArchivedHashTable<'a, T, W> {
-    /// Where its items stand, by ascending bucket.
+    /// Returns a walk over the positions of the items, in bucket order.
     #[inline]
     pub fn raw_iter(self) -> RawIter<'a, T>
         requires { IsTable W.word T.shape self }

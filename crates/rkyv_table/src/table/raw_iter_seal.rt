@@ -1,4 +1,10 @@
-//! Walking over the items of a table to write them.
+//! Cursors over the items of a table, for writing in place.
+//!
+//! - `next_with` passes the archive and the position of the next item to a closure,
+//!   and `next_seal_with` passes a seal. Their contracts also cover the cursor afterwards.
+//! - `next_pos` returns the position of the next item. `set_at`, `write_at` and `write_with` then
+//!   write at a position.
+//! - `next_seal` returns a seal of the next item, and leaves the cursor afterwards unspecified.
 ghost use Rattle.std.specs.Prelude.{IfSome, MatchOption, length, slice_range, ◌*◌, ◌+◌, ◌-◌, ◌<◌};
 ghost use Rattle.std.specs.Prelude.{◌≡◌, ◌≤◌};
 ghost use Rattle.std.specs.Int.{byte_len};
@@ -47,7 +53,7 @@ use rkyv_base::view::View;
 use rkyv_base::width::Width;
 use std::marker::PhantomData;
 
-/// The `count` bytes from `place` on, where they are there.
+/// Returns the `count` bytes from position `place` on, or `None` if there are fewer.
 #[inline]
 fn part(bytes: &[u8], place: usize, count: usize) -> Option<&[u8]>
     ensures { MatchOption result (length bytes.now < place + count)
@@ -60,7 +66,7 @@ fn part(bytes: &[u8], place: usize, count: usize) -> Option<&[u8]>
     Some(&bytes[place..place + count])
 }
 
-/// Where a bucket stands before the first control, where there is room for it.
+/// Returns the position of a bucket before the position `place`, or `None` if there is no room.
 #[inline]
 fn pos_before(place: usize, bucket: usize, size: usize) -> Option<usize>
     requires { size ≤ 1073741824 }
@@ -74,32 +80,32 @@ fn pos_before(place: usize, bucket: usize, size: usize) -> Option<usize>
     Some(place - behind as usize)
 }
 
-/// A bucket, and where its item stands.
+/// A bucket, and the position of its item.
 #[derive(Clone, Copy)]
 struct Place {
     bucket: usize,
     at: usize,
 }
 
-/// The items of a table, by ascending bucket, each of which is lent to be written.
+/// A cursor over the items of a table, in bucket order, for writing in place.
 ///
-/// While a table stands in the archive, `next_pos`, `next_with` and `next_seal_with` give each item
-/// once, as many as `len` tells, and then none. What a cursor is after `next_seal` has lent an item
-/// isn't said.
+/// While the archive has a valid table, `next_pos`, `next_with` and `next_seal_with` return
+/// each item once. They return as many items as `len` says, and then `None`. The cursor
+/// is unspecified after `next_seal` has returned a seal.
 #[derive(Drop)]
 pub struct RawIterSeal<'a, T> {
     archive: &'a mut [u8],
-    // The place of the first control, before which the buckets stand.
+    // The position of the first control byte, at which the buckets end.
     place: usize,
     cap: usize,
-    // The bucket that is looked at next.
+    // The bucket that is read next.
     next: usize,
     left: usize,
     kind: PhantomData<T>,
 }
 
 impl<'a, T: Element> RawIterSeal<'a, T> {
-    /// How many items are left.
+    /// Returns the number of items that remain.
     #[inline]
     pub fn len(&self) -> usize
         ensures { result ≡ items_left self.now }
@@ -107,7 +113,7 @@ impl<'a, T: Element> RawIterSeal<'a, T> {
         self.left
     }
 
-    // The first that is left.
+    // Returns the first item that remains, or `None`.
     #[inline]
     fn first(&self) -> Option<Place>
         ensures some { IfSome result (λ _. 0 < items_left self.now) }
@@ -131,7 +137,7 @@ impl<'a, T: Element> RawIterSeal<'a, T> {
         }
     }
 
-    /// Where the next item stands.
+    /// Returns the position of the next item, or `None` at the end.
     #[inline]
     pub fn next_pos(&mut self) -> Option<u64>
         ensures archive { SameArchive self.old self.new }
@@ -149,7 +155,9 @@ impl<'a, T: Element> RawIterSeal<'a, T> {
         }
     }
 
-    /// The next item, to be written. `next_seal_with` says also what is left.
+    /// Returns a seal of the next item, or `None` at the end.
+    ///
+    /// The contract of `next_seal_with` also covers the items that remain.
     #[inline]
     pub fn next_seal(&mut self) -> Option<Seal<'_, T>>
         ensures inside { IfSome result (LiesIn T.shape) }
@@ -167,9 +175,13 @@ impl<'a, T: Element> RawIterSeal<'a, T> {
 }
 
 impl<'a, T: Element> RawIterSeal<'a, T> {
-    /// Where the next item stands, after `write` was given the archive and that place.
+    /// Calls `write` with the archive and the position of the next item, and returns the position.
     ///
-    /// Where none is left, nothing is written.
+    /// If no item remains, the result is `None`, and nothing is written.
+    ///
+    /// # Requires
+    ///
+    /// - `write` can be called with the archive and each position at which an item fits.
     #[inline]
     pub fn next_with<F: FnOnce(&mut [u8], u64)>(&mut self, write: F) -> Option<u64>
         requires { MayWriteNext F.pre T.shape self.old write }
@@ -186,7 +198,7 @@ impl<'a, T: Element> RawIterSeal<'a, T> {
     }
 }
 
-/// Lends the seal at a place of some bytes to `write`, and answers what that gives.
+/// Calls `write` with a seal at a position of the bytes, and returns its result.
 #[inline]
 fn lend_seal<T, R, F: FnOnce(&mut Seal<'_, T>) -> R>(bytes: &mut [u8], place: usize, write: F) -> R
     requires { MaySeal F.pre write bytes.old place }
@@ -197,7 +209,13 @@ fn lend_seal<T, R, F: FnOnce(&mut Seal<'_, T>) -> R>(bytes: &mut [u8], place: us
 }
 
 impl<'a, T: Element> RawIterSeal<'a, T> {
-    /// Lends the next item to `write`, and tells where it stands.
+    /// Calls `write` with a seal of the next item, and returns the position of the item.
+    ///
+    /// If no item remains, the result is `None`, and nothing is written.
+    ///
+    /// # Requires
+    ///
+    /// - `write` can be called with a seal of each item that fits in the archive.
     #[inline]
     pub fn next_seal_with<F: FnOnce(&mut Seal<'_, T>)>(&mut self, write: F) -> Option<u64>
         requires { MaySealNext F.pre T.shape self.old write }
@@ -214,7 +232,11 @@ impl<'a, T: Element> RawIterSeal<'a, T> {
 }
 
 impl<'a, T> RawIterSeal<'a, T> {
-    /// Gives the archive and a place to `write`.
+    /// Calls `write` with the archive and the position `pos`.
+    ///
+    /// # Requires
+    ///
+    /// - `write` can be called with them.
     #[inline]
     pub fn write_with<F: FnOnce(&mut [u8], u64)>(&mut self, pos: u64, write: F)
         requires { MayWriteAt F.pre self.old pos write }
@@ -226,7 +248,7 @@ impl<'a, T> RawIterSeal<'a, T> {
         write(bytes, pos)
     }
 
-    /// The bytes of the archive, to be read.
+    /// Returns the bytes of the archive, to read.
     #[inline]
     pub fn bytes(&self) -> &[u8]
         ensures { result.now ≡ cursor_bytes self.now }
@@ -234,7 +256,9 @@ impl<'a, T> RawIterSeal<'a, T> {
         &*self.archive
     }
 
-    /// The bytes of the archive, to be lent on. `write_with` says also what becomes of them.
+    /// Returns the bytes of the archive, to write.
+    ///
+    /// The contract of `write_with` also covers how they change.
     #[inline]
     pub fn bytes_mut(&mut self) -> &mut [u8]
         ensures { result.now ≡ cursor_bytes self.old }
@@ -242,7 +266,11 @@ impl<'a, T> RawIterSeal<'a, T> {
         &mut *self.archive
     }
 
-    /// Writes a scalar as many bytes behind a position of the archive as `offset` tells.
+    /// Writes a scalar at position `pos + offset` of the archive.
+    ///
+    /// # Requires
+    ///
+    /// - The scalar fits in the archive at that position.
     #[inline]
     pub fn write_at<N: Scalar>(&mut self, pos: u64, offset: usize, value: N)
         requires { pos + offset + byte_len N.encoding.word ≤ length (cursor_bytes self.old) }
@@ -260,7 +288,11 @@ impl<'a, T> RawIterSeal<'a, T> {
 }
 
 impl<'a, N: Scalar> RawIterSeal<'a, N> {
-    /// Writes the value at a position.
+    /// Writes a scalar at position `pos` of the archive.
+    ///
+    /// # Requires
+    ///
+    /// - The scalar fits in the archive at that position.
     #[inline]
     pub fn set_at(&mut self, pos: u64, value: N)
         requires { pos + byte_len N.encoding.word ≤ length (cursor_bytes self.old) }
@@ -275,7 +307,11 @@ impl<'a, N: Scalar> RawIterSeal<'a, N> {
 }
 
 impl<'a, T: Element, W: Width> ArchivedHashTable<'a, T, W> {
-    /// Its items, by ascending bucket, to be written.
+    /// Returns a cursor over the items of a sealed table, in bucket order.
+    ///
+    /// # Requires
+    ///
+    /// - The archive has a valid table at the position of the seal.
     #[inline]
     pub fn raw_iter_seal(this: ArchiveSeal<'a, TableOf<T, W>>) -> RawIterSeal<'a, T>
         requires table { IsTableSeal W.word T.shape this }
@@ -291,8 +327,11 @@ impl<'a, T: Element, W: Width> ArchivedHashTable<'a, T, W> {
         Self::raw_iter_over(archive, pos)
     }
 
-    /// The items of the table that stands at a position of an archive, by ascending bucket, to be
-    /// written.
+    /// Returns a cursor over the items of the table at `pos` of an archive, in bucket order.
+    ///
+    /// # Requires
+    ///
+    /// - The archive has a valid table at `pos`.
     #[inline]
     pub fn raw_iter_over(archive: &'a mut [u8], pos: u64) -> RawIterSeal<'a, T>
         requires table { Viewed (table_shape W.word T.shape) archive.old pos }
@@ -317,10 +356,16 @@ impl<'a, T: Element, W: Width> ArchivedHashTable<'a, T, W> {
 }
 
 impl<'a, T: Element, W: Width> ArchivedHashTable<'a, T, W> {
-    /// Lends the item that a lookup in the table at `pos` of the archive answers to `write`, and
-    /// answers what that gives.
+    /// Calls `write` with a seal of the item that a lookup finds, and returns its result.
     ///
-    /// Where none is found, nothing is written.
+    /// The table is at `pos` of the archive. If no item is found, the result is `None`, and nothing
+    /// is written.
+    ///
+    /// # Requires
+    ///
+    /// - The archive has a valid table at `pos`.
+    /// - The comparison can be called with each item of the table.
+    /// - `write` can be called with a seal of each item that fits in the archive.
     #[inline]
     pub fn found_with<R, F: Fn(View<'_, T>) -> bool, G: FnOnce(&mut Seal<'_, T>) -> R>(
         archive: &mut [u8],

@@ -21,17 +21,28 @@ use rkyv_base::width::Width;
 use rkyv_scan::simd::lanes::Group;
 
 impl<'a, T: Element, W: Width> ArchivedHashTable<'a, T, W> {
-    /// Looks whether the bytes at `pos` are the header of a table whose items stand in the range,
-    /// and answers the rest of the range, from the end of the controls on.
+    /// Validates the table whose header is at `pos`, and returns the rest of the range.
     ///
-    /// An empty header is accepted with nothing else looked at. Whether an item stands where its
-    /// hash leads isn't looked at.
+    /// The items, their parts and the control bytes are in `range`. The rest of the range begins
+    /// at the end of the control bytes.
+    ///
+    /// An empty header is valid, and nothing else is read, as in rkyv. The buckets are not compared
+    /// with the hashes of the items.
+    ///
+    /// # Requires
+    ///
+    /// - The header is inside `bytes`, and `pos` is aligned.
+    /// - `range.lo` is at most `range.hi`, and `range.hi` is at most `pos`.
     ///
     /// # Errors
-    /// The first point that fails: `InvalidLength` where the length isn't below the capacity;
-    /// `OutOfRange` or `Unaligned` of the buckets and the controls behind them; what the check of
-    /// an item answers, by ascending bucket; `WrongNumberOfElements`; `UnwrappedControlByte` of
-    /// the least control behind the buckets that doesn't repeat.
+    ///
+    /// - `InvalidLength`: the length isn't below the capacity, and they aren't both 0.
+    /// - `OutOfRange` or `Unaligned`: the buckets and control bytes aren't in the range, or aren't
+    ///   aligned.
+    /// - The error of the first invalid item, in bucket order.
+    /// - `WrongNumberOfElements`: the length isn't the number of full buckets.
+    /// - `UnwrappedControlByte`: the lowest index from the capacity on whose control byte
+    ///   isn't as it must be.
     #[inline]
     pub fn verify(bytes: &[u8], pos: u64, range: PartRange) -> Result<PartRange, VerifyError>
         requires inside { pos + 3 * byte_len W.word ≤ length bytes.now }
@@ -79,7 +90,7 @@ impl<'a, T: Element, W: Width> ArchivedHashTable<'a, T, W> {
         self.header
     }
 
-    /// Returns true if it has no items.
+    /// Returns `true` if it has no items.
     #[inline]
     pub fn is_empty(self) -> bool
         ensures { IsTrue result ↔ (len_at W.word (table_bytes self.entry) (table_pos self.entry)

@@ -1,4 +1,4 @@
-//! What resolves a written table, and its header.
+//! The resolver of a written table, and writing the header of the table.
 
 ghost use Rattle.std.specs.Prelude.{◌≡◌, ◌+◌, ◌<◌, ◌≤◌, ◌^◌, FitsSigned, length};
 ghost use mir.Val.{bits};
@@ -13,7 +13,7 @@ use rkyv_base::errors::DistanceTooLarge;
 use rkyv_base::width::{Narrow, Width};
 use std::marker::{Model, PhantomData};
 
-/// What resolves a written table: where it stands, its length and its load factor.
+/// The resolver of a written table: its position, its length and its load factor.
 #[derive(Drop)]
 pub struct HashTableResolver<W: Width = Narrow> {
     pub(crate) pos: u64,
@@ -32,7 +32,7 @@ impl<W: Width> Model for HashTableResolver<W> {
 }
 
 impl<W: Width> HashTableResolver<W> {
-    /// The position of the table's first control byte, 0 of an empty table.
+    /// Returns the position of the table's first control byte, or 0 for an empty table.
     #[inline]
     pub fn pos(&self) -> u64
         ensures { result ≡ self.now.pos }
@@ -40,7 +40,7 @@ impl<W: Width> HashTableResolver<W> {
         self.pos
     }
 
-    /// How many items were written.
+    /// Returns the number of items of the table.
     #[inline]
     pub fn len(&self) -> usize
         ensures { result ≡ self.now.len }
@@ -48,7 +48,7 @@ impl<W: Width> HashTableResolver<W> {
         self.len
     }
 
-    /// The load factor under which they were written.
+    /// Returns the load factor of the table.
     #[inline]
     pub fn load_factor(&self) -> (usize, usize)
         ensures { result ≡ self.now.load_factor }
@@ -56,11 +56,19 @@ impl<W: Width> HashTableResolver<W> {
         self.load_factor
     }
 
-    /// Writes the header of what was written, which is to stand at `pos`, over the whole of `out`,
-    /// as `resolve_from_len` does of its length and its load factor.
+    /// Writes the header of the written table over the whole of `out`, for a header at `pos`.
+    ///
+    /// It is the header that `resolve_from_len` writes.
+    ///
+    /// # Requires
+    ///
+    /// - `out` has the size of a header.
+    /// - The header ends below 2^64.
     ///
     /// # Errors
-    /// Where it isn't empty, and the distance doesn't fit the width; `out` is unchanged.
+    ///
+    /// - `DistanceTooLarge`: the table isn't empty, and the distance doesn't fit in the width.
+    ///   `out` is unchanged.
     pub fn resolve(self, pos: u64, out: &mut [u8]) -> ResolveResult
         requires room { length out.old ≡ W.TABLE_SIZE }
         requires fits { pos + W.TABLE_SIZE < 2 ^ 64 }
@@ -88,7 +96,7 @@ fn write_header<W: Width>(out: &mut [u8], distance: i64, len: u64, cap: u64)
     W::write_count(third, cap);
 }
 
-// The capacity of a written table.
+// Returns the capacity of a written table.
 #[inline]
 fn resolved_capacity<W: Width>(resolver: &HashTableResolver<W>) -> usize
     ensures value { result ≡ resolved_capacity resolver.now }
@@ -101,11 +109,21 @@ fn resolved_capacity<W: Width>(resolver: &HashTableResolver<W>) -> usize
 }
 
 impl<'a, T, W: Width> ArchivedHashTable<'a, T, W> {
-    /// Writes the header of a written table, which is to stand at `pos`, over the whole of `out`:
-    /// the distance to the first control, the length, and the capacity.
+    /// Writes the header of a written table over the whole of `out`, for a header at `pos`.
+    ///
+    /// The header has the distance from `pos` to the first control byte, the length
+    /// and the capacity. The distance of an empty table is 1, as in rkyv.
+    ///
+    /// # Requires
+    ///
+    /// - `len` and `load_factor` are those of the resolver.
+    /// - `out` has the size of a header.
+    /// - The header ends below 2^64.
     ///
     /// # Errors
-    /// Where the table isn't empty, and the distance doesn't fit the width; `out` is unchanged.
+    ///
+    /// - `DistanceTooLarge`: the table isn't empty, and the distance doesn't fit in the width.
+    ///   `out` is unchanged.
     pub fn resolve_from_len(
         len: usize,
         load_factor: (usize, usize),

@@ -1,4 +1,4 @@
-//! Writing the items of a table in place.
+//! Lookups that return a seal, and laws of writes in place.
 ghost use Rattle.std.specs.Prelude.{IfSome, List, ℕ};
 ghost use Rattle.rkyv_base.specs.Entry.{entry_shape};
 ghost use Rattle.rkyv_base.specs.Seal.{LiesIn};
@@ -18,8 +18,14 @@ use rkyv_base::view::View;
 use rkyv_base::width::Width;
 
 impl<'a, T: Element, W: Width> ArchivedHashTable<'a, T, W> {
-    /// As `get_with`, and lends the item to be written. `found_with` says also what the archive
-    /// holds afterwards.
+    /// Looks up as `get_with` does, and returns a seal of the item.
+    ///
+    /// The contract of `found_with` also covers the bytes of the archive afterwards.
+    ///
+    /// # Requires
+    ///
+    /// - The archive has a valid table at the position of the seal.
+    /// - The comparison can be called with each item of the table.
     #[inline]
     pub fn get_seal_with<F: Fn(View<'_, T>) -> bool>(
         this: ArchiveSeal<'a, TableOf<T, W>>,
@@ -42,21 +48,27 @@ impl<'a, T: Element, W: Width> ArchivedHashTable<'a, T, W> {
     }
 }
 
-/// A write of one item alone that keeps the item keeps the table.
+/// If a write changes one item alone and keeps it valid, the table stays valid.
+///
+/// The header, the control bytes and the bytes of the other items are unchanged.
 pub fn writes_keep_the_table<T: Element, W: Width>()
     ensures { (b : List ℕ) (p i : ℕ) → Viewed (table_shape W.word T.shape) b p
         → IsWalked W.word b p i
         → KeptByWrites W.word T.shape b p i }
 {}
 
-/// A write of the value alone of one entry that keeps the value keeps the table and the key.
+/// If a write changes the value of one entry alone and keeps it valid, the table stays valid.
+///
+/// The header, the control bytes, the other entries and the key of this one are unchanged.
 pub fn value_writes_keep_the_table<K: Element, V: Element, W: Width>()
     ensures { (b : List ℕ) (p i : ℕ) → Viewed (table_shape W.word (entry_shape K.shape V.shape)) b p
         → IsWalked W.word b p i
         → KeptByValueWrites W.word K.shape V.shape b p i }
 {}
 
-/// Each lookup in a table that was kept answers what it answered before.
+/// A lookup in a kept table finds the same bucket at the same position as before.
+///
+/// A written table is still one.
 pub fn writes_keep_lookups<T: Element, W: Width>()
     ensures { (b c : List ℕ) (p i : ℕ) → KeepsTable W.word T.shape b c p i
         → SameLookups W.word T.shape b c p }

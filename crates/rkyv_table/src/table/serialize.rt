@@ -1,4 +1,10 @@
 //! Writing tables from iterators of items and hashes.
+//!
+//! 1. The capacity is computed, and memory is allocated.
+//! 2. The input is taken, and each item is placed.
+//! 3. The parts, the buckets and the control bytes are written.
+//!
+//! The header is written later, by the `HashTableResolver`.
 
 ghost use Rattle.std.specs.Prelude.{◌≡◌, ◌+◌, ◌^◌, ◌<◌, ◌≤◌, [], IfOk, None};
 ghost use Rattle.std.specs.Prelude.{length, replicate, vec_capacity};
@@ -23,7 +29,7 @@ use rkyv_scan::simd::generic::Group;
 use std::alloc::{AllocError, Global};
 use std::marker::PhantomData;
 
-// As many empty slots.
+// Returns `cap` empty slots.
 fn empty_slots<X: Drop>(alloc: Global, cap: usize) -> Result<Vec<Option<X>>, AllocError>
     ensures { IfOk result (λ slots. slots.items ≡ replicate cap None) }
 {
@@ -34,8 +40,8 @@ fn empty_slots<X: Drop>(alloc: Global, cap: usize) -> Result<Vec<Option<X>>, All
     Ok(slots)
 }
 
-// The memory that writing a table takes: a slot for each bucket, the controls with a bucket behind
-// them, and a place for each resolver.
+// The memory for writing a table. It has a slot for each bucket, the control bytes with a buffer
+// of one bucket after them, and room for each resolver.
 #[derive(Drop)]
 struct Room<X, R> {
     slots: Vec<Option<X>>,
@@ -64,7 +70,7 @@ impl<X: Drop, R: Drop> Room<X, R> {
     }
 }
 
-// Places and writes at least one item, and answers the position of the first control.
+// Places and writes `len` items, and returns the position of the first control byte.
 fn serialize_filled<
     W: Width,
     G: GroupKind,
@@ -108,7 +114,7 @@ fn serialize_filled<
     }
 }
 
-// Writes a table of what is handed in.
+// Writes the table of an input, and returns its resolver.
 fn serialize_given<
     W: Width,
     G: GroupKind,
@@ -164,21 +170,36 @@ fn serialize_given<
 }
 
 impl<'a, T, W: Width> ArchivedHashTable<'a, T, W> {
-    /// Writes a table of `len` items, of which each has the next of the hashes, and answers what
-    /// resolves it.
+    /// Writes a table of `len` items, each under the next of the hashes, and returns its resolver.
     ///
-    /// Each item goes into the first bucket that its hash shows and no earlier item has. First come
-    /// the items' own parts, by ascending bucket; then zeros up to the items' alignment; then the
-    /// buckets from the highest to the first, an empty one as zeros; then the control bytes. Of no
-    /// items nothing is written, and the position answered is 0. Neither iterator is asked more
-    /// than `len + 1` times, nor after it gave `None`.
+    /// Each item goes into its home bucket: the first bucket that its hash shows
+    /// and that no earlier item has. The layout is rkyv's:
+    ///
+    /// 1. the parts of the items, in bucket order,
+    /// 2. zeros up to the alignment of the items,
+    /// 3. the buckets from the highest to bucket 0, an empty one as zeros,
+    /// 4. the control bytes.
+    ///
+    /// Nothing is written for no items, and the position of the resolver is 0.
+    ///
+    /// By tests alone: each iterator is called at most `len + 1` times, and not after it returned
+    /// `None`. No item is taken before an allocation failure of this call.
+    ///
+    /// # Requires
+    ///
+    /// - Both iterators can be called.
     ///
     /// # Errors
-    /// The first that stands of: `InvalidLoadFactor`; `CapacityTooLarge`, where more buckets are
-    /// needed than the width can count; `Memory`, before any item is taken; and
-    /// `IteratorLengthMismatch`, with the number of items, or else that of hashes, counted up to
-    /// `len + 1`. Nothing is written then. Else the cause is that of the first item or piece that
-    /// fails. What the writer held before is kept.
+    ///
+    /// - `InvalidLoadFactor`: the load factor isn't above 0 and at most 1.
+    /// - `CapacityTooLarge`: the capacity is above `W::MAX_CAPACITY`.
+    /// - `Memory`: memory for placing the items could not be allocated.
+    /// - `IteratorLengthMismatch`: the number of items isn't `len`, or else the number of hashes
+    ///   isn't. The number is counted up to `len + 1`.
+    /// - The error of the first item or piece that fails.
+    ///
+    /// Nothing is written with the first four errors. The bytes written before the call
+    /// are unchanged.
     pub fn serialize_from_iter<
         S: Writer,
         U: Serialize<S, W, Archived = T>,
@@ -208,10 +229,19 @@ impl<'a, T, W: Width> ArchivedHashTable<'a, T, W> {
         )
     }
 
-    /// Writes a table of `len` pairs of hash and item, as `serialize_from_iter` does.
+    /// Writes a table of `len` pairs of hash and item, and returns its resolver.
+    ///
+    /// The table is written as `serialize_from_iter` does, but the items are placed by groups
+    /// of the kind `G`.
+    ///
+    /// # Requires
+    ///
+    /// - The iterator can be called.
     ///
     /// # Errors
-    /// Those of `serialize_from_iter`; the actual number is that of pairs.
+    ///
+    /// The same as for `serialize_from_iter`. The number of `IteratorLengthMismatch`
+    /// is that of pairs.
     pub fn serialize_by<
         G: GroupKind,
         S: Writer,

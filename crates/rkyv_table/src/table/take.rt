@@ -1,4 +1,4 @@
-//! Taking items from one iterator of pairs, each into the bucket that is its home.
+//! Taking items from one iterator of pairs, each into its home bucket.
 
 ghost use Rattle.std.specs.Prelude.{◌≡◌, ℕ, ◌%◌, ◌+◌, ◌<◌, ◌≤◌, ◌^◌, ◌∷◌, ◌++◌, List, []};
 ghost use Rattle.std.specs.Prelude.{MatchResult, None, Some, replicate, IfSome, length, slice_set};
@@ -12,7 +12,7 @@ use crate::controls::place::place_from;
 use crate::controls::reciprocal::Reciprocal;
 use rkyv_scan::simd::GroupKind;
 
-/// Asks the iterator, which need not end.
+/// Returns the next item of an iterator, which need not end.
 #[inline]
 pub fn next_item<I: Iterator>(rest: &mut I) -> Option<I::Item>
     requires { I.can_next rest.old }
@@ -31,7 +31,7 @@ fn put<X: Drop>(slots: &mut [Option<X>], bucket: usize, item: X)
     slots[bucket] = Some(item);
 }
 
-// Puts an item into the first empty bucket that its hash, which is `start` modulo `cap`, shows.
+// Puts an item into the first empty bucket that its hash shows. The hash is `start` modulo `cap`.
 #[inline]
 pub(crate) fn place_item<G: GroupKind, X: Drop>(
     controls: &mut [u8],
@@ -50,8 +50,8 @@ pub(crate) fn place_item<G: GroupKind, X: Drop>(
     put(slots, bucket, item);
 }
 
-// Takes `len` pairs, and each item into the first empty bucket that its hash shows. An `Err` has
-// how many pairs came, counted up to `len + 1`.
+// Takes `len` pairs, and puts each item into the first empty bucket that its hash shows. An `Err`
+// has the number of pairs, counted up to `len + 1`.
 pub(crate) fn take_pairs<G: GroupKind, X: Drop, I: Iterator<Item = (u64, X)>>(
     pairs: I,
     len: usize,
@@ -82,7 +82,7 @@ pub(crate) fn take_pairs<G: GroupKind, X: Drop, I: Iterator<Item = (u64, X)>>(
     }
 }
 
-// Asks once, where no item was claimed. An `Err` has 1.
+// Checks that an iterator has no items, with one call. An `Err` has 1.
 pub(crate) fn take_none<I: Iterator>(items: I) -> Result<(), usize>
 where
     I::Item: Drop,

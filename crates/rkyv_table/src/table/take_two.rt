@@ -1,4 +1,4 @@
-//! Taking items and their hashes from two iterators, each item into the bucket that is its home.
+//! Taking items and their hashes from two iterators, each item into its home bucket.
 
 ghost use Rattle.std.specs.Prelude.{◌≡◌, ℕ, ◌+◌, ◌<◌, ◌≤◌, ◌^◌, List, MatchResult, None, replicate};
 ghost use Rattle.std.specs.Prelude.{length};
@@ -10,7 +10,7 @@ use crate::controls::reciprocal::Reciprocal;
 use crate::table::take::{next_item, place_item};
 use rkyv_scan::simd::GroupKind;
 
-// Counts on from `seen`, up to `len + 1`.
+// Counts the items that remain, on from `seen` and up to `len + 1`.
 fn count_rest<I: Iterator>(rest: I, seen: usize, len: usize) -> usize
 where
     I::Item: Drop,
@@ -29,8 +29,9 @@ where
     len + 1
 }
 
-// Takes `len` items and their hashes, and each item into the first empty bucket that its hash
-// shows. An `Err` has how many items came, or, where they are `len`, how many hashes.
+// Takes `len` items and their hashes, and puts each item into the first empty bucket that its hash
+// shows. An `Err` has the number of items, counted up to `len + 1`. If that is `len`,
+// it has the number of hashes.
 pub(crate) fn take_two<G: GroupKind, X: Drop, I: Iterator<Item = X>, J: Iterator<Item = u64>>(
     items: I,
     hashes: J,

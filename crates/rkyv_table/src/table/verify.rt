@@ -1,4 +1,10 @@
-//! Checking a table of a stranger.
+//! Validating an untrusted table.
+//!
+//! 1. The length is below the capacity, or both are 0.
+//! 2. The buckets and the control bytes are in the range, and aligned.
+//! 3. The items in the full buckets are valid.
+//! 4. The length is the number of full buckets.
+//! 5. The control bytes after those of the buckets are as they must be.
 ghost use Rattle.std.specs.Prelude.{IfErr, IfOk, MatchResult, length, ◌%◌, ◌*◌, ◌+◌, ◌<◌, ◌≡◌, ◌≤◌};
 ghost use Rattle.std.specs.Int.{byte_len};
 ghost use Rattle.rkyv_base.specs.Checking.{Fails, Passes};
@@ -17,7 +23,7 @@ use rkyv_base::part::part_in;
 use rkyv_base::width::Width;
 use rkyv_scan::simd::{GroupKind, Marks};
 
-/// Checks the item in a bucket, and answers where its parts end.
+/// Validates the item in a bucket, and returns the new lower end of the range.
 #[inline]
 fn check_item<T: Element>(
     bytes: &[u8],
@@ -40,7 +46,7 @@ fn check_item<T: Element>(
     }
 }
 
-/// Checks the item in each full bucket, by ascending bucket, and counts them.
+/// Validates the item in each full bucket, in bucket order, and returns their number.
 fn check_items<G: GroupKind, T: Element>(
     bytes: &[u8],
     controls: &[u8],
@@ -87,7 +93,7 @@ fn check_items<G: GroupKind, T: Element>(
     Ok(count)
 }
 
-/// Checks buckets and controls that stand in the archive, and answers where they end.
+/// Validates the buckets and control bytes at `begin`, and returns the position of their end.
 fn check_part<G: GroupKind, T: Element>(
     bytes: &[u8],
     begin: u64,
@@ -122,7 +128,7 @@ fn check_part<G: GroupKind, T: Element>(
     }
 }
 
-/// Checks the table whose header stands at `pos`, by groups of the kind G.
+/// Validates the table whose header is at `pos`, by groups of the kind `G`.
 pub(crate) fn verify_by<G: GroupKind, W: Width, T: Element>(
     bytes: &[u8],
     pos: u64,

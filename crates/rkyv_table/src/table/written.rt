@@ -1,4 +1,4 @@
-//! What was written of a table, wherever it stands.
+//! Laws of written tables, in any archive that contains their bytes.
 
 ghost use Rattle.std.specs.Prelude.{ℕ};
 ghost use Rattle.rkyv_base.specs.Format.{StandsNear};
@@ -13,30 +13,33 @@ use rkyv_base::archive::Archive;
 use rkyv_base::lend::Lend;
 use rkyv_base::width::Width;
 
-/// In every archive in which what was written of a table sits, and, aligned behind it, its header,
-/// the table holds; its header tells its length and its capacity, its controls are those of the
-/// hashes, and each item stands in the bucket that is its home.
+/// Written bytes of a table and its header are a valid table in any archive that has them.
+///
+/// The header is aligned and after the written bytes. It has the length and the capacity
+/// of the table. The control bytes are those of the hashes, and each item is in its home bucket.
 pub fn written_tables_stand<W: Width, U: Archive<W>, X: Lend<U>>()
     ensures { (load_factor : ℕ × ℕ) → WrittenTablesStand W.word U.Archived.shape
         (lent_stands X.lent U.Archived.stands) (written_as X.lent U.format) load_factor }
 {}
 
-/// And it passes the check in each range from where the write began, or before, to where it ended,
-/// or behind.
+/// The written table is valid in each range around the written bytes.
+///
+/// Such a range begins at or before the first written byte, and ends at or after the last.
 pub fn written_tables_pass<W: Width, U: Archive<W>, X: Lend<U>>()
     ensures { (load_factor : ℕ × ℕ) →
         WrittenTablesPass W.word U.Archived.shape (written_as X.lent U.format) load_factor }
 {}
 
-/// That the items of a table stand rests on its header, and on the bytes up to its new lower end.
+/// The represented items depend only on the bytes on which the validity of the table depends.
 pub fn tables_stand_nearby<W: Width, U: Archive<W>, X: Lend<U>>()
     ensures { (load_factor : ℕ × ℕ) → let s = U.Archived.shape in
         StandsNear (table_shape W.word s)
         (TableStands W.word s (lent_stands X.lent U.Archived.stands) load_factor) }
 {}
 
-/// A table whose items stand was written of them in their order, under their hashes, and each
-/// stands at its home: so a lookup answers the first that is accepted.
+/// A table that represents items was written from them, in order and under their hashes.
+///
+/// Each item is in its home bucket, and so a lookup finds the first accepted item.
 pub fn standing_tables_were_written<W: Width, U: Archive<W>, X: Lend<U>>()
     ensures { (load_factor : ℕ × ℕ) →
         StandingWereWritten W.word U.Archived.shape (lent_stands X.lent U.Archived.stands)

@@ -16,13 +16,13 @@ pub(crate) const FOUR_PAIRS: [(i8, i8); 4] = [(1, 2), (3, 4), (5, 6), (7, 8)];
 /// The numbers from 1 to 16.
 pub(crate) const SIXTEEN: [u8; 16] = [1, 2, 3, 4, 5, 6, 7, 8, 9, 10, 11, 12, 13, 14, 15, 16];
 
-/// With `ODD_TAG`, two hashes with one start, whose tags differ in their lowest bit.
+/// A hash with the start of `ODD_TAG`. Their tags differ in the lowest bit.
 pub(crate) const EVEN_TAG: u64 = 0x5000_0000_0000_0001;
 
-/// The other of the two.
+/// A hash with the start of `EVEN_TAG`.
 pub(crate) const ODD_TAG: u64 = 0x5200_0000_0000_0000;
 
-/// The archive of the table of the numbers 10 and 20, both under the hash 2.
+/// Returns the archive of the table of the numbers 10 and 20, both under the hash 2.
 pub(crate) fn two_archived() -> [u8; 48] {
     archive(
         &[10, 0, 20, 0, 0xff, 0, 0, 0xff, 0],
@@ -30,7 +30,7 @@ pub(crate) fn two_archived() -> [u8; 48] {
     )
 }
 
-/// The archive of the table of 10 under `EVEN_TAG` and 20 under `ODD_TAG`.
+/// Returns the archive of the table of 10 under `EVEN_TAG` and 20 under `ODD_TAG`.
 pub(crate) fn tags_archived() -> [u8; 48] {
     archive(
         &[0, 20, 10, 0x28, 0x29, 0xff, 0x28, 0x29],
@@ -38,7 +38,7 @@ pub(crate) fn tags_archived() -> [u8; 48] {
     )
 }
 
-/// The archive of the table of `SIXTEEN`, each under the hash 16.
+/// Returns the archive of the table of `SIXTEEN`, each under the hash 16.
 pub(crate) fn sixteen_archived() -> [u8; 76] {
     archive(
         &[
@@ -49,8 +49,10 @@ pub(crate) fn sixteen_archived() -> [u8; 76] {
     )
 }
 
-/// The archive of the table of the numbers from 1 to 15, each in the bucket before its own number:
-/// sixteen buckets of one byte, 31 controls, and a zero before the header.
+/// Returns the archive of the table of the numbers from 1 to 15.
+///
+/// Each is in the bucket before its own number. The table has sixteen buckets of one byte, 31
+/// control bytes, and a zero before the header.
 pub(crate) fn fifteen_archived() -> [u8; 60] {
     let mut bytes = [0; 60];
     bytes[1..16].copy_from_slice(&[15, 14, 13, 12, 11, 10, 9, 8, 7, 6, 5, 4, 3, 2, 1]);
@@ -59,7 +61,7 @@ pub(crate) fn fifteen_archived() -> [u8; 60] {
     bytes
 }
 
-/// The archive of the table of `true` and `false`, both under the hash 2.
+/// Returns the archive of the table of `true` and `false`, both under the hash 2.
 pub(crate) fn bools_archived() -> [u8; 48] {
     archive(
         &[1, 0, 0, 0, 0xff, 0, 0, 0xff, 0],
@@ -67,28 +69,28 @@ pub(crate) fn bools_archived() -> [u8; 48] {
     )
 }
 
-/// The hash of a number of eight bits.
+/// Returns the hash of a number of eight bits.
 pub(crate) fn hash_of_i8(number: i8) -> u64 {
     let mut hasher = FxHasher64::default();
     hasher.write_i8(number);
     hasher.finish()
 }
 
-/// The hash of a number of 32 bits.
+/// Returns the hash of a number of 32 bits.
 pub(crate) fn hash_of_u32(number: u32) -> u64 {
     let mut hasher = FxHasher64::default();
     hasher.write_u32(number);
     hasher.finish()
 }
 
-/// The hash of a number of the machine's width, by one of the hashers.
+/// Returns the hash of a number of the machine's width, by one of the hashers.
 pub(crate) fn hash_of_usize<H: KeyHasher + Default>(number: usize) -> u64 {
     let mut hasher = H::default();
     hasher.write_usize(number);
     hasher.finish()
 }
 
-// Writes a table of these items, each under its hash.
+// Writes a table of the items, each under its hash.
 fn write_items<U: Serialize<VecWriter, Narrow>>(
     alloc: Global,
     items: &[U],
@@ -106,8 +108,9 @@ fn write_items<U: Serialize<VecWriter, Narrow>>(
     )
 }
 
-/// The bytes of a table of these items, each under its hash, from position 0 on, and the position
-/// of its first control.
+/// Returns the bytes of a table of the items and the position of its first control byte.
+///
+/// The table is written from position 0 on, with each item under its hash.
 pub(crate) fn written<U: Serialize<VecWriter, Narrow>>(
     alloc: Global,
     items: &[U],
@@ -119,7 +122,7 @@ pub(crate) fn written<U: Serialize<VecWriter, Narrow>>(
     Ok((writer.into_vec(), resolver.pos()))
 }
 
-/// Writes the header of a table behind it.
+/// Writes the header of a table after it.
 pub(crate) fn write_header<S: Writer>(
     resolver: HashTableResolver,
     writer: &mut S,
@@ -142,7 +145,7 @@ pub(crate) fn write_header<S: Writer>(
     }
 }
 
-/// The archive of a table of these items, each under its hash.
+/// Returns the archive of a table of the items, each under its hash.
 pub(crate) fn archived<U: Serialize<VecWriter, Narrow>>(
     alloc: Global,
     items: &[U],
@@ -155,7 +158,7 @@ pub(crate) fn archived<U: Serialize<VecWriter, Narrow>>(
     Ok(writer.into_vec())
 }
 
-/// Whether these bytes are the archive of a table of these items, each under its hash.
+/// Returns `true` if the bytes are the archive of a table of the items, each under its hash.
 pub(crate) fn is_archive<U: Serialize<VecWriter, Narrow>>(
     alloc: Global,
     bytes: &[u8],

@@ -1,4 +1,4 @@
-//! How often the iterators of items, of hashes and of pairs are asked.
+//! The number of calls of the iterators of items, of hashes and of pairs.
 
 use rkyv_base::errors::WriteError;
 use rkyv_base::width::Wide;
@@ -9,7 +9,7 @@ use std::alloc::Global;
 use std::cell::Cell;
 use std::iter;
 
-// What should come of so many items and so many hashes: the items are counted first.
+// Returns the expected outcome for `items` items and `hashes` hashes. The items are counted first.
 fn wanted_of_both(items: usize, hashes: usize, len: usize) -> Answer {
     match wanted(items, len) {
         Answer::Written => wanted(hashes, len),
@@ -17,7 +17,8 @@ fn wanted_of_both(items: usize, hashes: usize, len: usize) -> Answer {
     }
 }
 
-// Whether a table of these numbers is answered as it should be, and no iterator is asked too often.
+// Returns `true` if a table of the numbers has the expected outcome, and no iterator is called too
+// often.
 fn is_right_of_both(alloc: Global, items: usize, hashes: usize, len: usize) -> bool {
     let (answer, of_items, of_hashes) = asks_of_table(alloc, items, hashes, len);
     let wanted = wanted_of_both(items, hashes, len);
@@ -30,7 +31,8 @@ fn is_right_of_pairs(alloc: Global, pairs: usize, len: usize) -> bool {
     answer == wanted(pairs, len) && asks <= most_asks(pairs, len)
 }
 
-// How many of the tables of up to five items and five hashes, claimed to be up to three, are right.
+// Returns the number of tables with the expected outcome. They have up to five items and five
+// hashes, and a claimed number of up to three.
 fn right_of_both(alloc: Global) -> usize {
     let mut right = 0usize;
     for len in 0..4 {
@@ -63,7 +65,7 @@ fn iterators_are_asked_once_more_than_is_claimed_at_most(rt: HostRuntime) {
     assert_eq!(rt; right, (4 * 6 * 6, 4 * 6));
 }
 
-// The answer, and how often the iterator of items was asked.
+// Returns the outcome, and the number of calls of the iterator of items.
 fn asks_of_items(alloc: Global, items: usize, hashes: usize, len: usize) -> (Answer, usize) {
     let (answer, of_items, _) = asks_of_table(alloc, items, hashes, len);
     (answer, of_items)
@@ -93,7 +95,7 @@ fn an_end_or_a_surplus_is_the_last_answer(rt: HostRuntime) {
     assert_eq!(rt; (both, pairs), (wanted, wanted));
 }
 
-// So many slots are more bytes than an address can tell.
+// The slots have more bytes than an address space.
 #[test]
 fn room_that_no_memory_has_is_refused(rt: HostRuntime) {
     let mut writer = VecWriter::new(rt.alloc());

@@ -1,4 +1,4 @@
-//! One byte of an archive changed to each other one.
+//! Archives with one byte changed to each other value.
 
 use crate::tests::archives::hash_of_u32;
 use crate::tests::reading::{count_walked, value_of, walks_over};
@@ -10,7 +10,7 @@ use rkyv_table::table::TableOf;
 use rkyv_testing::archives::one_number;
 use rkyv_testing::changes::{Answers, answers_to_changes};
 
-// Whether a lookup of a number reads one stride.
+// Returns `true` if a lookup of a number reads one stride.
 fn is_one_stride(bytes: &[u8], key: u32) -> bool {
     match value_of::<Narrow>(bytes, hash_of_u32(key), key) {
         Ok((_, strides)) => strides == 1,
@@ -18,8 +18,8 @@ fn is_one_stride(bytes: &[u8], key: u32) -> bool {
     }
 }
 
-// Whether a lookup of each number from 0 to 9 in an accepted archive reads one stride, and its walk
-// gives one item.
+// Returns `true` if a walk over a valid archive returns one item, and a lookup of each number
+// from 0 to 9 reads one stride.
 fn is_small(bytes: &[u8]) -> Result<bool, VerifyError> {
     let mut right = count_walked::<Entry<u32, u32>, Narrow>(bytes)? == 1;
     for key in 0..10 {

@@ -1,4 +1,4 @@
-//! Finders: many lookups in one table, none of which divides.
+//! Many lookups in one table, each without a division.
 
 use crate::tests::archives::{SIXTEEN, archived};
 use rkyv_base::access::access_in;
@@ -9,7 +9,7 @@ use rkyv_table::controls::reciprocal::Reciprocal;
 use rkyv_table::table::{ArchivedHashTable, TableOf};
 use std::test::Fail;
 
-// One bucket, in which no item stands.
+// One bucket without an item.
 const ONE_BUCKET: [u8; 44] = [
     0x00, 0xff, 0xff, 0xff, 0xff, 0xff, 0xff, 0xff, 0xff, 0xff, 0xff, 0xff, 0xff, 0xff, 0xff, 0xff,
     0xff, 0xff, 0xff, 0xff, 0xff, 0xff, 0xff, 0xff, 0xff, 0xff, 0xff, 0xff, 0xff, 0xff, 0xff, 0xff,
@@ -24,7 +24,7 @@ const WIDE_SEVEN: [u8; 64] = [
     0x01, 0x00, 0x00, 0x00, 0x00, 0x00, 0x00, 0x00, 0x02, 0x00, 0x00, 0x00, 0x00, 0x00, 0x00, 0x00,
 ];
 
-// The number that is found under a hash where this one is accepted, and the strides that are read.
+// Returns the number that a lookup of `wanted` finds, and the number of strides that it reads.
 fn counted<W: Width>(
     bytes: &[u8],
     hash: u64,
@@ -38,7 +38,7 @@ fn counted<W: Width>(
     }
 }
 
-// The number alone, and where it stands.
+// Returns the number that a lookup of `wanted` finds, and its position.
 fn viewed_and_placed(
     bytes: &[u8],
     hash: u64,

@@ -9,7 +9,7 @@ use rkyv_table::table::ArchivedHashTable;
 use rkyv_table::table::resolve::HashTableResolver;
 use std::alloc::Global;
 
-// What resolves the table of the pair 1 and 2, which stands at position 16.
+// Returns the resolver of the table of the pair 1 and 2, which is at position 16.
 fn one_pair(alloc: Global) -> Result<HashTableResolver, WriteError<NoMemory>> {
     let mut writer = VecWriter::new(alloc);
     ArchivedHashTable::<_, Narrow>::serialize_from_iter::<VecWriter, (u32, u32), (u32, u32), _, _>(
@@ -22,8 +22,8 @@ fn one_pair(alloc: Global) -> Result<HashTableResolver, WriteError<NoMemory>> {
     )
 }
 
-// The bytes of that table's header at a position, written over sevens, whether it fits, and where
-// the table stands.
+// Returns the bytes of that table's header at a position, whether the distance fits,
+// and the position of the table. The header is written over sevens.
 fn header_at(alloc: Global, pos: u32) -> Result<([u8; 12], bool, u64), WriteError<NoMemory>> {
     let resolver = one_pair(alloc)?;
     let first_control = resolver.pos();
@@ -59,7 +59,8 @@ fn distances_have_32_bits(rt: HostRuntime) {
     );
 }
 
-// The same in a wide archive, of a table of one byte that stands at position 2.
+// Returns the header of a table of one byte at position 2 in a wide archive, and whether
+// the distance fits.
 fn wide_header_at(alloc: Global, pos: u64) -> Result<([u8; 24], bool), WriteError<NoMemory>>
     requires { pos + 24 < 2 ^ 64 }
 {

@@ -1,5 +1,6 @@
-//! Each item of a table set in place, by a cursor over the bare bytes: proved for every scalar and
-//! both widths, and run over numbers.
+//! Writing each item of a table in place, by a cursor over the bare bytes.
+//!
+//! The calls are proved for every scalar and both widths, and run over numbers.
 ghost use Rattle.rkyv_base.specs.Scalar.{scalar_shape};
 ghost use Rattle.rkyv_base.specs.Seal.{LiesIn, SealStays, bytes_in, seal_pos};
 ghost use Rattle.rkyv_base.specs.Sealing.{Keeps, Sealed};
@@ -17,7 +18,7 @@ use rkyv_base::view::View;
 use rkyv_base::width::{Narrow, Width};
 use rkyv_table::table::{ArchivedHashTable, TableOf};
 
-// Sets each item of a table: it is still one.
+// Sets each item of a table, which stays valid.
 fn set_all<N: Scalar, W: Width>(archive: &mut [u8], pos: u64, value: N)
     requires { Viewed (table_shape W.word (scalar_shape N.encoding)) archive.old pos }
     ensures { Viewed (table_shape W.word (scalar_shape N.encoding)) archive.new pos }
@@ -28,7 +29,7 @@ fn set_all<N: Scalar, W: Width>(archive: &mut [u8], pos: u64, value: N)
     }
 }
 
-// Sets each item of a table, by seals: it is still one.
+// Sets each item of a table by seals. The table stays valid.
 fn set_all_by_seals<N: Scalar, W: Width>(archive: &mut [u8], pos: u64, value: N)
     requires { Viewed (table_shape W.word (scalar_shape N.encoding)) archive.old pos }
     ensures { Viewed (table_shape W.word (scalar_shape N.encoding)) archive.new pos }
@@ -50,7 +51,7 @@ fn set_all_by_seals<N: Scalar, W: Width>(archive: &mut [u8], pos: u64, value: N)
     }
 }
 
-// Sets each number of an archived table to 7, and then by seals to 9: the bytes after each.
+// Sets each number of an archived table to 7, and then by seals to 9. Returns the bytes after each.
 fn set_twice(bytes: &mut [u8; 48]) -> Result<([u8; 48], [u8; 48]), VerifyError> {
     let pos = access::<TableOf<u8>>(bytes)?.pos();
     set_all::<u8, Narrow>(bytes, pos, 7);
@@ -72,8 +73,8 @@ fn each_item_is_set(rt: HostRuntime) {
     assert_eq!(rt; written, Some((sevens, nines)));
 }
 
-// Writes a number over the item that is found under a hash, of a table of numbers: what it is told
-// to read back.
+// Writes a number over the item that is found under a hash, and returns the number that is read
+// back.
 fn set_found<N: Scalar, W: Width, F: Fn(View<'_, N>) -> bool>(
     archive: &mut [u8],
     pos: u64,
@@ -98,7 +99,7 @@ fn set_found<N: Scalar, W: Width, F: Fn(View<'_, N>) -> bool>(
     )
 }
 
-// Writes a number over another one, where that is found under a hash.
+// Writes a number over another one, if that is found under a hash.
 fn set_number(
     bytes: &mut [u8],
     hash: u64,
@@ -125,7 +126,7 @@ fn where_no_item_fits_the_bare_bytes_stay(rt: HostRuntime) {
     assert_eq!(rt; (found, bytes), (Some(None), two_archived()));
 }
 
-// Writes this byte over a byte of an archive.
+// Writes a byte over a byte of an archive.
 fn change(archive: &mut [u8], pos: u64, byte: u8) {
     match archive.get_mut(pos as usize) {
         Some(old) => *old = byte,
@@ -133,8 +134,8 @@ fn change(archive: &mut [u8], pos: u64, byte: u8) {
     }
 }
 
-// Writes 7 and 9 over the items of a table of two while the cursor steps: where they stand, and
-// what is answered and left behind the last.
+// Writes 7 and 9 over the two items of a table while the cursor steps. Returns the three results,
+// and the number of items that remain.
 fn write_stepping(bytes: &mut [u8]) -> Result<([Option<u64>; 3], usize), VerifyError> {
     let whole = access_mut::<TableOf<u8>>(bytes)?;
     let mut rest = ArchivedHashTable::raw_iter_seal(whole);

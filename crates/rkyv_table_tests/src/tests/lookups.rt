@@ -1,4 +1,4 @@
-//! Lookups: which item is found, and how many strides and items are looked at.
+//! Lookups: the found item, and the number of strides and items that are read.
 
 use crate::tests::archives::{
     EVEN_TAG, archived, fifteen_archived, hash_of_i8, hash_of_u32, hash_of_usize, sixteen_archived,
@@ -18,7 +18,7 @@ use rkyv_testing::archives::{four_pairs, no_items, one_key_twice, one_number, on
 use std::alloc::Global;
 use std::cell::Cell;
 
-// Whether a number is accepted: the one that is wanted, or each where none is.
+// Returns `true` if the number is the wanted one, or if none is wanted.
 fn is_accepted(number: u8, wanted: Option<u8>) -> bool {
     match wanted {
         Some(wanted) => number == wanted,
@@ -26,8 +26,8 @@ fn is_accepted(number: u8, wanted: Option<u8>) -> bool {
     }
 }
 
-// The number that is found under a hash where this one is accepted, or each where it is none, and
-// the strides that are read.
+// Returns the number that is found under a hash, and the number of strides that are read.
+// All numbers are accepted if none is wanted.
 fn counted_or_refused(
     bytes: &[u8],
     hash: u64,
@@ -50,7 +50,7 @@ fn counted(bytes: &[u8], hash: u64, wanted: Option<u8>) -> Option<(Option<u8>, u
     counted_or_refused(bytes, hash, wanted).ok()
 }
 
-// The same number by groups of this kind.
+// Returns the same number, by groups of the kind `G`.
 fn found_by<G: GroupKind>(
     bytes: &[u8],
     hash: u64,
@@ -63,7 +63,7 @@ fn found_by<G: GroupKind>(
     }
 }
 
-// By groups of each kind.
+// Returns the same number, by groups of each kind.
 fn found(bytes: &[u8], hash: u64, wanted: Option<u8>) -> [Option<Option<u8>>; 3] {
     [
         found_by::<bytewise::Group>(bytes, hash, wanted).ok(),
@@ -72,7 +72,7 @@ fn found(bytes: &[u8], hash: u64, wanted: Option<u8>) -> [Option<Option<u8>>; 3]
     ]
 }
 
-// Whether a copy of a table is empty.
+// Returns `true` if a copy of a table is empty.
 fn is_empty_copied<T: Element>(bytes: &[u8]) -> Option<bool> {
     let table = ArchivedHashTable::of(access::<TableOf<T>>(bytes).ok()?);
     let same = table.clone().ok()?;
@@ -99,7 +99,7 @@ fn a_pair_is_found_in_one_stride(rt: HostRuntime) {
     );
 }
 
-// Whether each key leads to its value, or to none, in one stride.
+// Returns `true` if a lookup of each key finds its value, or `None`, in one stride.
 fn leads(bytes: &[u8], pairs: &[(i8, Option<i8>)]) -> bool {
     for (key, value) in pairs {
         if value_of_small(bytes, hash_of_i8(*key), *key).ok() != Some((*value, 1)) {
@@ -114,7 +114,7 @@ fn a_pair_is_found_in_another_bucket_than_its_start(rt: HostRuntime) {
     let archive = four_pairs();
     let bytes: &[u8] = &archive;
     let counts = counts::<Entry<i8, i8>, Narrow>(bytes).ok();
-    // bucket 0 is the last one before the controls, which begin at 10
+    // bucket 0 is the last one before the control bytes, which begin at 10
     let pos = first_pos::<Entry<i8, i8>, Narrow>(bytes, hash_of_i8(5)).ok();
     let pairs = [
         (0, None),
@@ -157,7 +157,7 @@ fn the_first_of_two_under_one_hash_is_found(rt: HostRuntime) {
     );
 }
 
-// How often a comparison that accepts none is asked.
+// Returns the number of calls of a comparison that accepts no item.
 fn asks_under<T: Element>(bytes: &[u8], hash: u64) -> Result<usize, VerifyError> {
     let table = ArchivedHashTable::of(access::<TableOf<T>>(bytes)?);
     let asks = Cell::new(0usize);
@@ -175,7 +175,7 @@ fn asks_under<T: Element>(bytes: &[u8], hash: u64) -> Result<usize, VerifyError>
 fn the_first_of_a_repeated_key_is_found(rt: HostRuntime) {
     let archive = one_key_twice();
     let (bytes, hash): (&[u8], u64) = (&archive, hash_of_i8(1));
-    // in a small table each control stands twice, and each item is asked of twice
+    // in a small table each control byte is there twice, and so each item is compared twice
     let asks = asks_under::<Entry<i8, i8>>(bytes, hash).ok();
     assert_eq!(rt;
         (value_of_small(bytes, hash, 1).ok(), asks),
@@ -194,7 +194,7 @@ fn an_item_of_no_bytes_is_found(rt: HostRuntime) {
     assert_eq!(rt; found, [Some(Some(0)), Some(None)]);
 }
 
-// How many of the sixteen starts lead to an answer of none after one stride.
+// Returns the number of starts, of sixteen, with which a lookup returns `None` after one stride.
 fn starts_of_one_stride(bytes: &[u8]) -> usize {
     let mut count = 0usize;
     for start in 0..16 {
@@ -228,8 +228,7 @@ fn the_second_stride_is_read_where_the_first_is_full(rt: HostRuntime) {
     );
 }
 
-/// The items that a comparison is asked for, which accepts none, in the table of sixteen items
-/// under one hash.
+/// The calls of a comparison that accepts no item, in the table of sixteen items under one hash.
 #[derive(Drop)]
 pub(crate) struct Asks {
     count: Cell<usize>,
@@ -237,6 +236,7 @@ pub(crate) struct Asks {
 }
 
 impl Asks {
+    /// Returns a record of no calls.
     pub(crate) fn new() -> Asks {
         Asks {
             count: Cell::new(0),
@@ -244,7 +244,9 @@ impl Asks {
         }
     }
 
-    /// Whether the item is accepted. It should be 1 to 16, and then 2 to 16.
+    /// Records a call for an item, and returns `false`.
+    ///
+    /// The items are to be 1 to 16, and then 2 to 16.
     pub(crate) fn accepts(&self, item: u8) -> bool {
         let ask = self.count.get();
         self.count.set(ask.wrapping_add(1));
@@ -257,15 +259,15 @@ impl Asks {
         false
     }
 
-    /// Whether there were sixteen of them and then fifteen, in order.
+    /// Returns `true` if there were sixteen calls and then fifteen, in order.
     pub(crate) fn are_all(&self) -> bool {
         self.count.get() == 31 && self.in_order.get()
     }
 }
 
-// Whether each lookup in the table of sixteen items under one hash, which accepts none, finds
-// nothing and asks for each item that it should: by a view, by a position, with its strides
-// counted.
+// Looks up in the table of sixteen items under one hash, and accepts no item. Returns whether
+// each lookup finds nothing and compares each item that it is to compare, and the number
+// of strides. The lookups are by a view, by a position, and with counted strides.
 fn asks_plainly(bytes: &[u8]) -> Result<([bool; 6], u64), VerifyError> {
     let table = ArchivedHashTable::of(access::<TableOf<u8>>(bytes)?);
     let (by_view, by_pos, by_count) = (Asks::new(), Asks::new(), Asks::new());
@@ -284,7 +286,7 @@ fn asks_plainly(bytes: &[u8]) -> Result<([bool; 6], u64), VerifyError> {
     Ok((none, strides.count()))
 }
 
-// The same by groups of this kind.
+// Looks up in the same way, by groups of the kind `G`.
 fn asks_by<G: GroupKind>(bytes: &[u8]) -> Result<[bool; 2], VerifyError> {
     let table = ArchivedHashTable::of(access::<TableOf<u8>>(bytes)?);
     let asks = Asks::new();
@@ -348,8 +350,8 @@ fn an_item_under_another_hash_may_be_asked_for(rt: HostRuntime) {
     );
 }
 
-// The number that is found where the second ask is accepted and each later one, and the strides
-// that are read.
+// Returns the number that is found if the second call and each later one are
+// accepted, and the number of strides that are read.
 fn second_counted(bytes: &[u8], hash: u64) -> Result<(Option<u8>, u64), VerifyError> {
     let table = ArchivedHashTable::of(access::<TableOf<u8>>(bytes)?);
     let asked = Cell::new(false);
@@ -366,7 +368,7 @@ fn a_comparison_may_change_its_mind(rt: HostRuntime) {
     assert_eq!(rt; found, Some((Some(20), 1)));
 }
 
-// Whether a number is found under a hash, and the strides that are read.
+// Returns whether a number is found under a hash, and the number of strides that are read.
 fn is_found(bytes: &[u8], hash: u64, wanted: u64) -> Result<(bool, u64), VerifyError> {
     let table = ArchivedHashTable::of(access::<TableOf<u64>>(bytes)?);
     let mut strides = Strides::new();
@@ -374,7 +376,7 @@ fn is_found(bytes: &[u8], hash: u64, wanted: u64) -> Result<(bool, u64), VerifyE
     Ok((found.is_some(), strides.count()))
 }
 
-// The same of three numbers in a table of two, each under its hash.
+// Returns the same of three numbers in a table of two, each under its hash.
 fn are_found(
     alloc: Global,
     numbers: [u64; 2],
@@ -410,7 +412,7 @@ fn a_table_is_asked_by_another_hasher(rt: HostRuntime) {
     );
 }
 
-// Whether a table of a stranger has this number under this hash.
+// Returns `true` if an untrusted table has the number under the hash.
 fn has_number(bytes: &[u8], hash: u64, wanted: u32) -> Result<bool, VerifyError> {
     let table = ArchivedHashTable::of(access::<TableOf<u32>>(bytes)?);
     Ok(
@@ -420,7 +422,7 @@ fn has_number(bytes: &[u8], hash: u64, wanted: u32) -> Result<bool, VerifyError>
     )
 }
 
-// The same of 7 and of 9 in a table that has 7 under 16, and of too few bytes.
+// Looks up 7 and 9 in a table that has 7 under 16, and in too few bytes.
 fn has_numbers(alloc: Global) -> Option<[Option<bool>; 3]> {
     // the tags of the hashes differ in more than their lowest bit
     let bytes = archived(alloc, &[7u32, 9], &[16, 1 << 58], (7, 8)).ok()?;

@@ -1,4 +1,4 @@
-//! Items that a lookup of their own doesn't answer.
+//! Items that a lookup of their own doesn't find.
 
 use crate::tests::archives::{hash_of_i8, hash_of_u32, two_archived};
 use rkyv_base::access::access;
@@ -7,7 +7,7 @@ use rkyv_base::errors::VerifyError;
 use rkyv_table::table::{ArchivedHashTable, TableOf};
 use rkyv_testing::archives::{four_pairs, no_items, one_key_twice, one_number, two_units};
 
-// How many pairs of a table are misplaced, each of which is told by its key.
+// Returns the number of misplaced pairs of a table. Pairs with one key are the same.
 fn misplaced_small(bytes: &[u8]) -> Result<usize, VerifyError> {
     let table = ArchivedHashTable::of(access::<TableOf<Entry<i8, i8>>>(bytes)?);
     Ok(table.misplaced_by(
@@ -39,7 +39,7 @@ fn a_repeated_key_is_misplaced(rt: HostRuntime) {
     assert_eq!(rt; misplaced_small(&one_key_twice()).ok(), Some(1));
 }
 
-// How many units of a table are misplaced, where each is the same as each.
+// Returns the number of misplaced units of a table. All units are the same.
 fn misplaced_units(bytes: &[u8]) -> Result<usize, VerifyError> {
     let table = ArchivedHashTable::of(access::<TableOf<()>>(bytes)?);
     Ok(table.misplaced_by(|_| 0, |_, _| true))
@@ -57,8 +57,8 @@ fn a_changed_key_is_misplaced(rt: HostRuntime) {
     assert_eq!(rt; misplaced(&bytes).ok(), Some(1));
 }
 
-// How many numbers are misplaced under the hash 2, where each is the same as those that aren't
-// less, and where it is the same as those that aren't greater.
+// Returns the number of misplaced numbers under the hash 2. An item is first the same as those
+// that aren't less, and then the same as those that aren't greater.
 fn misplaced_by_order(bytes: &[u8]) -> Result<(usize, usize), VerifyError> {
     let table = ArchivedHashTable::of(access::<TableOf<u8>>(bytes)?);
     let by_less = table.misplaced_by(|_| 2, |own, other| own.to_native() <= other.to_native());

@@ -1,4 +1,4 @@
-//! Tables of what has parts of its own: texts, and tables.
+//! Tables of items that have parts of their own: texts and tables.
 ghost use Rattle.rkyv_base.specs.Entry.{entry_shape};
 ghost use Rattle.rkyv_base.specs.View.{IsView};
 ghost use Rattle.rkyv_table.specs.Table.Layout.{table_shape};
@@ -16,11 +16,11 @@ use rkyv_testing::archives::nested;
 use rkyv_testing::written::is_then_empty;
 use std::alloc::Global;
 
-// The table of the number 1 and the table of the pair 1 and 2.
+// A table of the number 1 and the table of the pair 1 and 2.
 type Outer = TableOf<Entry<i8, TableOf<Entry<i8, i8>>>>;
 
-// The position of the first control of the table of two texts, and whether it is written as this
-// front and then empty controls.
+// Returns the position of the first control byte of a table of two texts, and whether its bytes
+// are `front` and then empty control bytes.
 fn texts_written(alloc: Global, front: &[u8]) -> Option<(u64, bool)> {
     let texts = ["wonderful one", "wonderful two"];
     let (bytes, pos) = written(alloc, &texts, &[2, 2], (1, 1)).ok()?;
@@ -29,14 +29,14 @@ fn texts_written(alloc: Global, front: &[u8]) -> Option<(u64, bool)> {
 
 #[test]
 fn texts_are_written_by_ascending_bucket(rt: HostRuntime) {
-    // the first text is in the highest bucket, and so the last; an empty bucket stands between
-    // them, and the texts begin 15 and 44 bytes before what tells of them
+    // the first text is in the highest bucket, and so the last, with an empty bucket between them;
+    // the texts begin 15 and 44 bytes before their distances
     let front = b"wonderful twowonderful one\0\0\
 \x8d\0\0\0\xf1\xff\xff\xff\0\0\0\0\0\0\0\0\x8d\0\0\0\xd4\xff\xff\xff\0\xff\0\0\xff\0";
     assert_eq!(rt; texts_written(rt.alloc(), front), Some((52, true)));
 }
 
-// Whether a text is found under a hash.
+// Returns `true` if a text is found under a hash.
 fn has_text(bytes: &[u8], hash: u64, wanted: &str) -> Result<bool, VerifyError> {
     let table = ArchivedHashTable::of(access::<TableOf<Text>>(bytes)?);
     match table.get_with(hash, |text| text.as_str() == wanted) {
@@ -45,7 +45,7 @@ fn has_text(bytes: &[u8], hash: u64, wanted: &str) -> Result<bool, VerifyError> 
     }
 }
 
-// Whether three texts are found in a table of two.
+// Looks up three texts in a table of two.
 fn found_texts(alloc: Global) -> Option<[Option<bool>; 3]> {
     let texts = ["wonderful one", "two"];
     let bytes = archived(alloc, &texts, &[2, 2], (1, 1)).ok()?;
@@ -63,7 +63,8 @@ fn texts_are_found(rt: HostRuntime) {
     assert_eq!(rt; found, Some([Some(true), Some(true), Some(false)]));
 }
 
-// Whether a table of texts is refused, since one of them begins before the others' end.
+// Returns `true` if a table of texts is invalid, since one of them begins before the end
+// of the others.
 fn has_one_part(bytes: &[u8]) -> bool {
     matches!(
         access::<TableOf<Text>>(bytes),
@@ -71,8 +72,8 @@ fn has_one_part(bytes: &[u8]) -> bool {
     )
 }
 
-// The length of the archive of two texts, and whether it is refused where the text in the highest
-// bucket is told to be that in the first.
+// Returns the length of the archive of two texts, and whether it is invalid after a change.
+// The change gives the highest bucket the text of the first bucket.
 fn refused_texts(alloc: Global) -> Option<(usize, bool)> {
     let texts = ["wonderful one", "wonderful two"];
     let mut bytes = archived(alloc, &texts, &[2, 2], (1, 1)).ok()?;
@@ -88,14 +89,14 @@ fn two_texts_may_not_have_one_part(rt: HostRuntime) {
     assert_eq!(rt; refused_texts(rt.alloc()), Some((96, true)));
 }
 
-// How many items the table has that is an entry's value.
+// Returns the number of items of the table that is the value of an entry.
 fn value_len<K: Element, T: Element, W: Width>(entry: View<'_, Entry<K, TableOf<T, W>>>) -> usize
     requires { IsView (entry_shape K.shape (table_shape W.word T.shape)) entry }
 {
     ArchivedHashTable::of(entry.value()).len()
 }
 
-// How many pairs the table has that a key leads to.
+// Returns the number of pairs of the table that is found under a key.
 fn inner_len(bytes: &[u8], hash: u64, key: i8) -> Result<Option<usize>, VerifyError> {
     let outer = ArchivedHashTable::of(access::<Outer>(bytes)?);
     match outer.get_with(hash, |entry| entry.key().to_native() == key) {
@@ -132,7 +133,7 @@ fn what_is_wrong_inside_is_told(rt: HostRuntime) {
     assert_eq!(rt; (unwrapped, outside), (true, true));
 }
 
-// Whether so many bytes of the archive are accepted.
+// Returns `true` if the first `len` bytes of the archive are valid.
 fn is_accepted(len: usize) -> bool {
     match nested().get(..len) {
         Some(front) => access::<Outer>(front).is_ok(),
@@ -140,8 +141,8 @@ fn is_accepted(len: usize) -> bool {
     }
 }
 
-// Where zeros of the empty bucket stand at the end, they are the length and the capacity of an
-// empty table.
+// If the last bytes are zeros of the empty bucket, they are the length and the capacity
+// of an empty table.
 #[test]
 fn each_front_of_a_nested_table_is_answered(rt: HostRuntime) {
     let mut right = true;

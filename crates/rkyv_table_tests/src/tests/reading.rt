@@ -1,4 +1,4 @@
-//! What tests read of archived tables.
+//! Reading archived tables, for the tests.
 
 use rkyv_base::access::{access, access_in};
 use rkyv_base::element::Element;
@@ -8,14 +8,15 @@ use rkyv_base::width::Width;
 use rkyv_table::controls::find::Strides;
 use rkyv_table::table::{ArchivedHashTable, TableOf};
 
-/// How many items a table has, and how many buckets.
+/// Returns the number of items of a table, and the number of its buckets.
 pub(crate) fn counts<T: Element, W: Width>(bytes: &[u8]) -> Result<(usize, usize), VerifyError> {
     let table = ArchivedHashTable::of(access_in::<W, TableOf<T, W>>(bytes)?);
     Ok((table.len(), table.capacity()))
 }
 
-/// The value of the pair of numbers of eight bits that is found under a hash by its key, and the
-/// strides that are read.
+/// Returns the value of a pair of numbers of eight bits, and the number of strides that are read.
+///
+/// The pair is found under a hash by its key.
 pub(crate) fn value_of_small(
     bytes: &[u8],
     hash: u64,
@@ -30,7 +31,7 @@ pub(crate) fn value_of_small(
     }
 }
 
-/// The same of numbers of 32 bits.
+/// Returns the same for numbers of 32 bits.
 pub(crate) fn value_of<W: Width>(
     bytes: &[u8],
     hash: u64,
@@ -45,7 +46,7 @@ pub(crate) fn value_of<W: Width>(
     }
 }
 
-/// Where the item stands that is found under a hash where all are accepted.
+/// Returns the position of the item that is found under a hash if all items are accepted.
 pub(crate) fn first_pos<T: Element, W: Width>(
     bytes: &[u8],
     hash: u64,
@@ -54,8 +55,9 @@ pub(crate) fn first_pos<T: Element, W: Width>(
     Ok(table.get_pos_with(hash, |_| true))
 }
 
-/// Whether a table is empty, its length and capacity, and whether a lookup under a hash that
-/// accepts all answers none.
+/// Returns whether a table is empty, its length, its capacity, and whether a lookup finds nothing.
+///
+/// The lookup accepts all items.
 pub(crate) fn answers_of<T: Element>(
     bytes: &[u8],
     hash: u64,
@@ -65,7 +67,7 @@ pub(crate) fn answers_of<T: Element>(
     Ok((table.is_empty(), table.len(), table.capacity(), none))
 }
 
-/// How many items a walk gives.
+/// Returns the number of items of a walk.
 pub(crate) fn count_walked<T: Element, W: Width>(bytes: &[u8]) -> Result<usize, VerifyError> {
     let table = ArchivedHashTable::of(access_in::<W, TableOf<T, W>>(bytes)?);
     let mut count = 0usize;
@@ -75,7 +77,7 @@ pub(crate) fn count_walked<T: Element, W: Width>(bytes: &[u8]) -> Result<usize, 
     Ok(count)
 }
 
-// Whether these bytes stand at a position.
+// Returns `true` if the bytes at a position are `item`.
 fn has_at(bytes: &[u8], pos: u64, item: &[u8]) -> bool {
     match bytes.get(pos as usize..) {
         Some(tail) => tail.starts_with(item),
@@ -83,7 +85,7 @@ fn has_at(bytes: &[u8], pos: u64, item: &[u8]) -> bool {
     }
 }
 
-/// Whether the items that a walk gives are these, one behind the other.
+/// Returns `true` if the items of a walk are the bytes `items`, one after the other.
 pub(crate) fn walks_over<T: Element, W: Width>(
     bytes: &[u8],
     items: &[u8],

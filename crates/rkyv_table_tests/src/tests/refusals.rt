@@ -1,4 +1,4 @@
-//! Tables that are refused before a byte is written.
+//! Tables for which writing fails before the first byte.
 
 use rkyv_base::errors::WriteError;
 use rkyv_base::width::Narrow;
@@ -8,7 +8,7 @@ use rkyv_table::table::ArchivedHashTable;
 use rkyv_table::table::resolve::HashTableResolver;
 use std::alloc::Global;
 
-// Whether a table was refused with this text, and nothing was written behind a nine.
+// Returns `true` if writing failed with this text, and nothing was written after a nine.
 fn is_refused(
     alloc: Global,
     answer: Result<HashTableResolver, WriteError<NoMemory>>,
@@ -24,10 +24,10 @@ fn is_refused(
     }
 }
 
-// How many items are claimed, and the load factor.
+// The claimed number of items, and the load factor.
 type Claim = (usize, (usize, usize));
 
-// A writer that has written a nine.
+// Returns a writer that has written a nine.
 fn behind_a_nine(alloc: Global) -> Option<VecWriter> {
     let mut writer = VecWriter::new(alloc);
     match append(&mut writer, &[9]) {
@@ -36,8 +36,8 @@ fn behind_a_nine(alloc: Global) -> Option<VecWriter> {
     }
 }
 
-// Whether a table of these numbers, each under the next hash, is refused with this text, and
-// nothing is written.
+// Returns `true` if writing a table of the numbers fails with this text, and nothing is written.
+// Each number is under the next hash.
 fn refuses(alloc: Global, items: &[u8], hashes: &[u64], claim: Claim, text: &str) -> bool {
     let mut writer = match behind_a_nine(alloc) {
         Some(writer) => writer,
@@ -54,7 +54,7 @@ fn refuses(alloc: Global, items: &[u8], hashes: &[u64], claim: Claim, text: &str
     is_refused(alloc, answer, &writer, text)
 }
 
-// The same of pairs of hash and number.
+// Returns the same for pairs of hash and number.
 fn refuses_pairs(alloc: Global, pairs: &[(u64, u8)], claim: Claim, text: &str) -> bool {
     let mut writer = match behind_a_nine(alloc) {
         Some(writer) => writer,

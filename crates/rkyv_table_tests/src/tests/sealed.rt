@@ -7,8 +7,8 @@ use rkyv_base::errors::VerifyError;
 use rkyv_table::table::{ArchivedHashTable, TableOf};
 use rkyv_testing::archives::no_items;
 
-// Whether a sealed lookup in the table of sixteen items under one hash, which accepts none, asks
-// for each item that it should.
+// Returns `true` if a sealed lookup compares each item that it is to compare. It is in the table
+// of sixteen items under one hash, and accepts none.
 fn asks_sealed(bytes: &mut [u8]) -> Result<bool, VerifyError> {
     let whole = access_mut::<TableOf<u8>>(bytes)?;
     let asks = Asks::new();
@@ -20,7 +20,7 @@ fn asks_sealed(bytes: &mut [u8]) -> Result<bool, VerifyError> {
     Ok(none && asks.are_all())
 }
 
-// The number that is lent under a hash where all are accepted.
+// Returns the number of the seal that is found under a hash if all are accepted.
 fn first_lent(bytes: &mut [u8], hash: u64) -> Result<Option<u8>, VerifyError> {
     let whole = access_mut::<TableOf<u8>>(bytes)?;
     match ArchivedHashTable::get_seal_with(whole, hash, |_| true) {
@@ -29,7 +29,7 @@ fn first_lent(bytes: &mut [u8], hash: u64) -> Result<Option<u8>, VerifyError> {
     }
 }
 
-// Writes a number over the one that is found under a hash: what stood there, and what stands there.
+// Writes a number over the one that is found under a hash. Returns the number before and after it.
 fn replace(
     bytes: &mut [u8],
     hash: u64,
@@ -47,21 +47,21 @@ fn replace(
     }
 }
 
-// Where a number stands that is found under a hash.
+// Returns the position of a number that is found under a hash.
 fn pos_of_number(bytes: &[u8], hash: u64, wanted: u8) -> Result<Option<u64>, VerifyError> {
     let table = ArchivedHashTable::of(access::<TableOf<u8>>(bytes)?);
     Ok(table.get_pos_with(hash, |item| item.to_native() == wanted))
 }
 
-// How the items that a cursor lends are written.
+// The way to write the items of a cursor.
 #[derive(Clone, Copy)]
 enum By {
     Seal,
     Position,
 }
 
-// Writes these numbers over the items that a cursor lends, one after the other. Whether there are
-// as many items, the cursor tells each time how many are left, and lends nothing after the last.
+// Writes the numbers over the items of a cursor in order. Returns `true` if there are as many
+// items, the cursor has the right length at each step, and it returns `None` after the last.
 fn write_each(bytes: &mut [u8], numbers: &[u8], by: By) -> Result<bool, VerifyError> {
     let whole = access_mut::<TableOf<u8>>(bytes)?;
     let mut rest = ArchivedHashTable::raw_iter_seal(whole);

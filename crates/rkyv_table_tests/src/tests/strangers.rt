@@ -1,4 +1,4 @@
-//! Headers and controls that were not written here.
+//! Untrusted headers and control bytes.
 
 use crate::tests::archives::{bools_archived, fifteen_archived};
 use crate::tests::reading::{answers_of, counts};
@@ -97,7 +97,7 @@ fn the_part_of_a_table_is_the_range_up_to_its_end(rt: HostRuntime) {
     assert_eq!(rt; [accepted, begins_before, ends_behind], [true; 3]);
 }
 
-// Whether so many bytes of the archive of one pair are answered as they should be.
+// Returns `true` if the first `len` bytes of the archive of one pair have the expected result.
 fn is_answered(len: usize, front: &[u8]) -> bool {
     let answer = access::<TableOf<Entry<u32, u32>>>(front);
     match len {
@@ -166,7 +166,7 @@ fn a_narrow_archive_is_no_wide_one(rt: HostRuntime) {
 fn an_item_that_is_no_value_is_refused(rt: HostRuntime) {
     let mut bytes = bools_archived();
     let written = counts::<bool, Narrow>(&bytes).ok();
-    // an empty bucket may hold anything
+    // an empty bucket can have any bytes
     bytes[1] = 2;
     let changed = counts::<bool, Narrow>(&bytes).ok();
     bytes[0] = 2;

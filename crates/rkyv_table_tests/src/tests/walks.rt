@@ -11,8 +11,8 @@ use rkyv_table::table::raw_iter::RawIter;
 use rkyv_table::table::{ArchivedHashTable, TableOf};
 use rkyv_testing::archives::{four_pairs, no_items, one_key_twice, two_units};
 
-// Whether a walk over the numbers of a table gives these, and then nothing, and tells each time how
-// many are left.
+// Returns `true` if a walk over a table of numbers returns `items` and then `None`. The number
+// of items that remain is right at each step.
 fn walks(bytes: &[u8], items: &[u8]) -> Result<bool, VerifyError> {
     let table = ArchivedHashTable::of(access::<TableOf<u8>>(bytes)?);
     let mut rest = table.raw_iter();
@@ -54,7 +54,7 @@ fn a_repeated_key_is_walked_twice(rt: HostRuntime) {
     assert_eq!(rt; walked, Some(true));
 }
 
-// What a walk gives at its first four asks.
+// Returns the first four results of a walk.
 fn four_asks<T: Element>(bytes: &[u8]) -> Result<[Option<u64>; 4], VerifyError> {
     let table = ArchivedHashTable::of(access::<TableOf<T>>(bytes)?);
     let mut rest = table.raw_iter();
@@ -84,7 +84,7 @@ fn an_empty_walk_gives_nothing(rt: HostRuntime) {
     assert_eq!(rt; (rest.len(), none), (0, [true; 3]));
 }
 
-// The numbers of a table of two, by the views that a walk gives, and whether it gives none then.
+// Returns the numbers of a table of two, by the views of a walk, and whether the walk then ends.
 fn two_views(bytes: &[u8]) -> Result<Option<(u8, u8, bool)>, VerifyError> {
     let table = ArchivedHashTable::of(access::<TableOf<u8>>(bytes)?);
     let mut rest = table.raw_iter();

@@ -13,7 +13,7 @@ use rkyv_table::table::{ArchivedHashTable, TableOf};
 use rkyv_testing::archives::one_wide_number;
 use std::alloc::Global;
 
-// Writes the archive of a table of these pairs, each under the hash of its first number.
+// Writes the archive of a table of the pairs, each under the hash of its first number.
 fn write_archive(
     alloc: Global,
     pairs: &[(u32, u32)],
@@ -42,7 +42,7 @@ fn write_archive(
     }
 }
 
-// Whether these are the bytes of such an archive.
+// Returns `true` if the bytes are those of such an archive.
 fn is_archive(alloc: Global, pairs: &[(u32, u32)], bytes: &[u8]) -> bool {
     let mut writer = VecWriter::new(alloc);
     match write_archive(alloc, pairs, &mut writer) {

@@ -1,4 +1,4 @@
-//! Writers that end in the midst of a table.
+//! Writers that fail in the middle of a table.
 
 use crate::tests::archives::{hash_of_u32, write_header};
 use rkyv_base::archive::WriteResult;
@@ -56,8 +56,8 @@ fn nothing_is_written_after_a_fault(rt: HostRuntime) {
     assert_eq!(rt; (refused, writer.asked(), writer.failures()), (true, 1, 1));
 }
 
-// Whether a writer with this limit keeps so many bytes of the archive, and tells that it is full
-// where they aren't all.
+// Returns `true` if a writer with this limit keeps as many bytes of the archive, and reports
+// that it is full unless these are all.
 fn keeps_a_front(alloc: Global, limit: u64) -> bool {
     let mut writer = LimitWriter::new(VecWriter::new(alloc), limit);
     let (written, full) = match write_one_pair(alloc, &mut writer) {

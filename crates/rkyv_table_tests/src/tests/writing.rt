@@ -18,8 +18,8 @@ use rkyv_testing::archives::{
 use rkyv_testing::written::is_then_empty;
 use std::alloc::Global;
 
-// Whether a table that is written by groups of this kind has its first control here, and these
-// bytes.
+// Returns `true` if a table written by groups of the kind `G` has the first control byte at `pos`,
+// and these bytes.
 fn is_by<G: GroupKind, U: Serialize<VecWriter, Narrow>>(
     alloc: Global,
     items: &[U],
@@ -42,8 +42,8 @@ fn is_by<G: GroupKind, U: Serialize<VecWriter, Narrow>>(
     }
 }
 
-// Whether a table of these items has its first control behind the buckets, and these bytes and then
-// empty controls, from whatever groups it is written by.
+// Returns `true` if a table of the items has the first control byte at `pos`, and the bytes `front`
+// followed by `empty` empty control bytes. It is written by groups of each kind.
 fn is_written<U: Serialize<VecWriter, Narrow>>(
     alloc: Global,
     items: &[U],
@@ -102,7 +102,7 @@ fn items_of_no_bytes_are_written(rt: HostRuntime) {
 #[test]
 fn three_numbers_are_written(rt: HostRuntime) {
     let front = [3, 2, 1, 0, 0xff, 0x28, 0x51, 0x7a, 0xff, 0x28, 0x51, 0x7a];
-    // a number of eight bits is hashed alike with a sign and without
+    // a number of eight bits has the same hash with a sign and without
     let hashes = [hash_of_i8(1), hash_of_i8(2), hash_of_i8(3)];
     assert!(rt; is_written(rt.alloc(), &[1u8, 2, 3], &hashes, (7, 8), 4, &front, 23));
 }
@@ -134,14 +134,14 @@ fn sixteen_items_under_one_hash_are_written(rt: HostRuntime) {
 fn capacities_about_one_stride(rt: HostRuntime) {
     let alloc = rt.alloc();
     let starts = [0, 1, 2, 3, 4, 5, 6, 7, 8, 9, 10, 11, 12, 13, 14, 15];
-    // sixteen buckets: the last one is empty, and the controls repeat all but it
+    // sixteen buckets: the last one is empty, and the control bytes mirror all but it
     let front = [
         0, 15, 14, 13, 12, 11, 10, 9, 8, 7, 6, 5, 4, 3, 2, 1, // the buckets
         0, 0, 0, 0, 0, 0, 0, 0, 0, 0, 0, 0, 0, 0, 0, 0xff, // their controls
         0, 0, 0, 0, 0, 0, 0, 0, 0, 0, 0, 0, 0, 0, 0,
     ];
     let fifteen = is_written(alloc, &SIXTEEN[..15], &starts[..15], (1, 1), 16, &front, 0);
-    // seventeen buckets: 47 controls, of which the last 13 are empty
+    // seventeen buckets: 47 control bytes, and the last 13 are empty
     let front = [
         0, 16, 15, 14, 13, 12, 11, 10, 9, 8, 7, 6, 5, 4, 3, 2, 1, // the buckets
         0, 0, 0, 0, 0, 0, 0, 0, 0, 0, 0, 0, 0, 0, 0, 0, 0xff, // their controls
@@ -151,8 +151,8 @@ fn capacities_about_one_stride(rt: HostRuntime) {
     assert_eq!(rt; (fifteen, sixteen), (true, true));
 }
 
-// Whether the table of 1 and 4,294,967,297, under their hashes by one of the hashers, is written
-// with these tags.
+// Returns `true` if the table of 1 and 4,294,967,297 is written with these tags. The hashes
+// are by one of the hashers.
 fn has_tags_of_wide<H: KeyHasher + Default>(
     alloc: Global,
     first: u8,
@@ -174,7 +174,8 @@ fn hashes_of_wide_numbers_are_written(rt: HostRuntime) {
     assert_eq!(rt; (whole, halves), (Some(true), Some(true)));
 }
 
-// Where the first control of a table of no numbers is, and how many bytes it has.
+// Returns the position of the first control byte of a table of no numbers, and the number
+// of its bytes.
 fn room_of_none(alloc: Global) -> Option<(u64, usize)> {
     let (bytes, pos) = written::<u8>(alloc, &[], &[], (7, 8)).ok()?;
     Some((pos, bytes.len()))
@@ -207,8 +208,8 @@ fn archives_are_written(rt: HostRuntime) {
     assert_eq!(rt; written, [true; 9]);
 }
 
-// Writes a nine and the table of one number of 16 bits: where its first control is, its length and
-// its load factor.
+// Writes a nine and the table of one number of 16 bits. Returns the position of
+// its first control byte, its length and its load factor.
 fn write_behind_a_nine(
     alloc: Global,
     writer: &mut VecWriter,
@@ -240,7 +241,7 @@ fn a_table_begins_at_a_multiple_of_the_alignment(rt: HostRuntime) {
     assert_eq!(rt; (resolved, written), (Some((6, 1, (7, 8))), true));
 }
 
-// How many buckets a table of these numbers has, and how many bytes.
+// Returns the number of buckets of a table of the numbers, and the number of its bytes.
 fn room_of(alloc: Global, items: &[u8], hashes: &[u64]) -> Option<(usize, usize)> {
     let archive = archived(alloc, items, hashes, (7, 8)).ok()?;
     let (_, buckets) = counts::<u8, Narrow>(archive.as_slice()).ok()?;
@@ -248,7 +249,7 @@ fn room_of(alloc: Global, items: &[u8], hashes: &[u64]) -> Option<(usize, usize)
     Some((buckets, bytes.len()))
 }
 
-// The same of so many sevens, up to a hundred.
+// Returns the same for up to a hundred sevens.
 fn room_of_sevens(alloc: Global, len: usize) -> Option<(usize, usize)> {
     room_of(alloc, [7; 100].get(..len)?, [0; 100].get(..len)?)
 }

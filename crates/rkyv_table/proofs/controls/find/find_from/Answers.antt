@@ -92,7 +92,7 @@ pub scan-requires-clause-callable : goal.scan-requires-clause-callable
 scan-requires-clause-callable g c = λ b shown.
     c.requires.callable b (full g (goal.at.scan-requires-clause-callable g c).After-cmp-1 b shown)
 
--- one stride more was read, and no more than there are
+-- one stride more was read, and there are no more than the bound
 module _ (g : _) (c : After-cmp-1 g) where
   within : ReadsWithin c.args.len (probe_capacity c.args.cap / 16) c.args.strides.now c.stride.new.self
   within =
@@ -104,7 +104,7 @@ module _ (g : _) (c : After-cmp-1 g) where
       let d = c.stride.ensures.counted in
       record { none = λ z. absurd (c.if-len-eq0.false z); some = λ _. omega arith; most = omega arith }
 
--- the search ends at the stride, by an item or by an empty control
+-- the search ends at the stride, by an item or by an empty control byte
 pub returns-in-Accepted : goal.returns-in-Accepted
 returns-in-Accepted g c =
     let at = (goal.at.returns-in-Accepted g c).After-cmp-1 in

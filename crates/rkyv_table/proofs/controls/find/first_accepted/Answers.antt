@@ -5,7 +5,7 @@ use Rattle.rkyv_table.specs.Controls.Seen.{IsMarked}
 use Rattle.rkyv_table.proofs.Marks.{head_found, none_found, head_skipped, head_at}
 use Rattle.rkyv_table.proofs.controls.find.first_accepted.Goals as goal
 
--- the first of the places that are left, as one of all
+-- the first of the remaining indices, as one of all
 at_head : (places rest : List ℕ) (n j : ℕ) → rest ≡ drop n places → Some j ≡ slice_get rest 0 → (n < length places) × (get_or places n 0 ≡ j)
 at_head places rest n j e h = head_at places n j (h ∙ ap (λ xs. slice_get xs 0) e)
 

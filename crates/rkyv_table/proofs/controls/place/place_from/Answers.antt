@@ -9,7 +9,7 @@ use Rattle.rkyv_table.proofs.FirstFree.{some_shown, none_shown, begun, passes_on
 use Rattle.rkyv_table.proofs.controls.place.place_from.Goals as goal
 use Rattle.rkyv_table.proofs.controls.place.place_from.Goals.{In-Some-first_empty}
 
--- the first empty place is that of the first bucket shown whose control is empty
+-- the first empty index is that of the first shown bucket whose control byte is empty
 found_here : (g : _) (c : In-Some-first_empty g)
     → (c.in-Some-first_empty.place < 2 * c.args.cap) × (find (is_empty_at c.args.controls.now) (shown c.args.hash c.args.cap) ≡ Some (c.in-Some-first_empty.place % c.args.cap))
 found_here g c =

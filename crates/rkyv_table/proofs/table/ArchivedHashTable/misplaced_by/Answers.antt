@@ -30,7 +30,7 @@ loop-bucket-init g c =
           zero-add _ ∙ ap (λ xs. length (filter (bucket_misplaced generic_kind w s c.args.self hash_of same) xs)) e;
     }
 
--- the bucket that is looked up, and those that are left, are walked
+-- the current bucket and the remaining ones are full
 module _ (g : _) (c : In-Some g) where
   walked : All (IsWalked g.W.Word.word (table_bytes c.args.self) (table_pos c.args.self)) (c.in-Some.bucket ∷ c.next.new.self)
   walked = subst (All (IsWalked g.W.Word.word (table_bytes c.args.self) (table_pos c.args.self))) c.in-Some.ensures.steps c.loop-bucket.invariant.walked
@@ -42,7 +42,7 @@ module _ (g : _) (c : In-Some g) where
   rest : All (IsWalked g.W.Word.word (table_bytes c.args.self) (table_pos c.args.self)) c.next.new.self
   rest = All-rest (IsWalked g.W.Word.word (table_bytes c.args.self) (table_pos c.args.self)) c.in-Some.bucket c.next.new.self c.loop-bucket.bucket-iterator c.in-Some.ensures.steps c.loop-bucket.invariant.walked
 
--- its lookup tells whether its item is misplaced
+-- the lookup decides if the item is misplaced
 module _ (g : _) (c : After-is_elsewhere g) where
   tells : TellsMisplaced generic_kind g.W.Word.word g.T.Element.shape c.args.self (goal.H-post g c.args.hash_of) (goal.S-post g c.args.same) c.in-Some.bucket c.is_elsewhere.result
   tells = λ hash_of same hash_as same_as.

@@ -26,7 +26,7 @@ first_marks-requires g c = λ some.
     let e = ap length (are.controls (rw are.cap cap)) in
     omega (arith, long, e)
 
--- the buckets that are left are those that are walked
+-- the remaining buckets are those of the walk
 module _ (g : _) (c : After-first_marks g) where
   abbrev walked : List ℕ
   walked = walk (table_controls g.W.Word.word (table_bytes c.of-items.result.table) (table_pos c.of-items.result.table)) (cap_at g.W.Word.word (table_bytes c.of-items.result.table) (table_pos c.of-items.result.table))

@@ -35,7 +35,7 @@ loop-count-preserved g c =
       );
     }
 
--- what is counted on after some items
+-- the number that is counted on after some items
 counted_after : {S A : Type 0} (steps : S → Option A → S → Type 0) (len n : ℕ) (s t u : S) (xs : List A) (x : A) → Yields steps s xs t → steps t (Some x) u
     → CountedOn steps len u (length xs + 1) n → Counted steps len s n
 counted_after steps len n s t u xs x y e (ys, m, inl d) = (
