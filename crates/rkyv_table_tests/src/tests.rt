@@ -5,7 +5,6 @@
 mod archives;
 mod asks;
 mod changes;
-mod finders;
 mod headers;
 mod in_place;
 mod lookups;
@@ -14,6 +13,7 @@ mod nested;
 mod reading;
 mod refusals;
 mod sealed;
+mod starts;
 mod strangers;
 mod walks;
 mod wide;

@@ -91,7 +91,7 @@ struct Place {
 ///
 /// While the archive has a valid table, `next_pos`, `next_with` and `next_seal_with` return
 /// each item once. They return as many items as `len` says, and then `None`. The cursor
-/// is unspecified after `next_seal` has returned a seal.
+/// is unspecified after `next_seal` has returned a seal, and after `bytes_mut`.
 #[derive(Drop)]
 pub struct RawIterSeal<'a, T> {
     archive: &'a mut [u8],

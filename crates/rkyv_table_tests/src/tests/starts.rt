@@ -1,4 +1,4 @@
-//! Many lookups in one table, each without a division.
+//! Lookups, each from the start that the reciprocal of the capacity gives.
 
 use crate::tests::archives::{SIXTEEN, archived};
 use rkyv_base::access::access_in;
@@ -30,9 +30,9 @@ fn counted<W: Width>(
     hash: u64,
     wanted: u8,
 ) -> Result<(Option<u8>, u64), VerifyError> {
-    let finder = ArchivedHashTable::of(access_in::<W, TableOf<u8, W>>(bytes)?).finder();
+    let table = ArchivedHashTable::of(access_in::<W, TableOf<u8, W>>(bytes)?);
     let mut strides = Strides::new();
-    match finder.get_counted(hash, |item| item.to_native() == wanted, &mut strides) {
+    match table.get_counted(hash, |item| item.to_native() == wanted, &mut strides) {
         Some(item) => Ok((Some(item.to_native()), strides.count())),
         None => Ok((None, strides.count())),
     }
@@ -44,9 +44,9 @@ fn viewed_and_placed(
     hash: u64,
     wanted: u8,
 ) -> Result<(Option<u8>, Option<u64>), VerifyError> {
-    let finder = ArchivedHashTable::of(access_in::<Narrow, TableOf<u8>>(bytes)?).finder();
-    let place = finder.get_pos_with(hash, |item| item.to_native() == wanted);
-    match finder.get_with(hash, |item| item.to_native() == wanted) {
+    let table = ArchivedHashTable::of(access_in::<Narrow, TableOf<u8>>(bytes)?);
+    let place = table.get_pos_with(hash, |item| item.to_native() == wanted);
+    match table.get_with(hash, |item| item.to_native() == wanted) {
         Some(item) => Ok((Some(item.to_native()), place)),
         None => Ok((None, place)),
     }
@@ -81,7 +81,7 @@ fn the_rest_of_a_division(rt: HostRuntime) {
 
 // Of seventeen buckets the last one has the first item, and the first fifteen have the others.
 #[test]
-fn a_finder_finds_what_is_there(rt: HostRuntime) -> Result<(), Fail> {
+fn items_under_one_hash_are_found(rt: HostRuntime) -> Result<(), Fail> {
     let bytes = archived(rt.alloc(), &SIXTEEN, &[16; 16], (1, 1))?;
     let bytes = bytes.as_slice();
     let counted = [
@@ -117,7 +117,7 @@ fn a_finder_finds_what_is_there(rt: HostRuntime) -> Result<(), Fail> {
 }
 
 #[test]
-fn a_finder_of_no_items_reads_nothing(rt: HostRuntime) -> Result<(), Fail> {
+fn a_lookup_without_items_reads_nothing(rt: HostRuntime) -> Result<(), Fail> {
     let bytes = archived::<u8>(rt.alloc(), &[], &[], (7, 8))?;
     let bytes = bytes.as_slice();
     let counted = [
@@ -132,7 +132,7 @@ fn a_finder_of_no_items_reads_nothing(rt: HostRuntime) -> Result<(), Fail> {
 }
 
 #[test]
-fn a_finder_in_a_wide_archive(rt: HostRuntime) {
+fn a_wide_table_is_looked_up(rt: HostRuntime) {
     let counted = [
         counted::<Wide>(&WIDE_SEVEN, 1, 7).ok(),
         counted::<Wide>(&WIDE_SEVEN, 0, 7).ok(),
