@@ -1,4 +1,5 @@
 -- What is found in the table of a map, told of the map.
+use Rattle.rkyv_base.specs.declared.width.Word.{Ghosts as Words}
 use Rattle.std.proofs.Common.{◌≡◌, ℕ, ◌<◌, ◌^◌, ◌∙◌, ap, sym, Bool, List, None, Option, Some, map}
 use Rattle.std.specs.Borrow.{Bor}
 use Rattle.std.specs.Int.{Width}
@@ -22,7 +23,7 @@ use Rattle.rkyv_collections.specs.declared.map.ArchivedHashMap.{ArchivedHashMap}
 use Rattle.rkyv_collections.proofs.Lookups.{entry_of_item, key_of_entry, under_hash}
 use Rattle.rkyv_collections.proofs.MisplacedKeys.{finds_the_one}
 
-module _ {K V H W : Type 0} (w : Width) (k v : Shape) (m : ArchivedHashMap K V H W) (t : ArchivedHashTable (Entry K V) W) (at : IsAt t.view (map_archive m) (map_pos m)) where
+module _ {K V H W : Type 0} {wt : Words W} (w : Width) (k v : Shape) (m : ArchivedHashMap K V H W wt) (t : ArchivedHashTable (Entry K V) W wt) (at : IsAt t.view (map_archive m) (map_pos m)) where
   same : table_bytes t ≡ map_bytes m
   same = ap (λ (x : Bor (List ℕ)). x.now) at.0
 
@@ -85,7 +86,7 @@ module _ {K V H W : Type 0} (w : Width) (k v : Shape) (m : ArchivedHashMap K V H
         ∙ ap (find accept) (places_there homes)
 
 -- what is found under the hash of a query is the one key that fits, where none is misplaced
-pub one_found : {K V H W Q State : Type 0} (w : Width) (k v : Shape) (m : ArchivedHashMap K V H W) (kl : IsElement k) (vl : IsElement v) (hasher : Hasher State)
+pub one_found : {K V H W Q State : Type 0} {wt : Words W} (w : Width) (k v : Shape) (m : ArchivedHashMap K V H W wt) (kl : IsElement k) (vl : IsElement v) (hasher : Hasher State)
     (same_key : Comparison) (key_calls : List ℕ → ℕ → List HasherCall) (can_read : Q → Type 0) (calls : Q → List HasherCall) (fits : Q → List ℕ → ℕ → Bool)
     → IsQuery k same_key key_calls can_read calls fits → IsMap w k v m → (q : Q) → can_read q → hash_of_calls hasher (calls q) < 2 ^ 64 → (Told : Option ℕ → Type 0)
     → FindsKey w k v m (hash_of_calls hasher (calls q)) (fits q (map_bytes m)) Told

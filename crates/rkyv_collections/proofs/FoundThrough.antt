@@ -1,4 +1,5 @@
 -- From the entry that a lookup finds to what it answers.
+use Rattle.rkyv_base.specs.declared.width.Word.{Ghosts as Words}
 use Rattle.std.proofs.Common.{◌≡◌, ℕ, ◌+◌, ◌<◌, ◌^◌, ◌∙◌, Bool, List, None, Option, Some, ap, refl, sym, subst}
 use Rattle.std.specs.Borrow.{Bor}
 use Rattle.std.specs.Int.{Width}
@@ -22,10 +23,10 @@ use Rattle.rkyv_table.specs.declared.table.ArchivedHashTable.{ArchivedHashTable}
 use Rattle.rkyv_collections.proofs.FoundEntries.{entry_found, first_by_key, found_by_key, one_found}
 use Rattle.rkyv_collections.proofs.Lookups.{query_under_hash}
 
-module _ {K V H W State : Type 0} (w : Width) (k v : Shape) (m : ArchivedHashMap K V H W) (hasher : Hasher State) where
+module _ {K V H W State : Type 0} {wt : Words W} (w : Width) (k v : Shape) (m : ArchivedHashMap K V H W wt) (hasher : Hasher State) where
   -- what is said of the one that was found is said of what is made of it
   module _ {X Y : Type 0} (calls : List HasherCall) (key_calls : List ℕ → ℕ → List HasherCall)
-      (In : Width → Shape → Shape → ArchivedHashMap K V H W → X → Type 0) (OutIn : Width → Shape → Shape → ArchivedHashMap K V H W → Y → Type 0)
+      (In : Width → Shape → Shape → ArchivedHashMap K V H W wt → X → Type 0) (OutIn : Width → Shape → Shape → ArchivedHashMap K V H W wt → Y → Type 0)
       (At : Option X → Option ℕ → Type 0) (OutAt : Option Y → Option ℕ → Type 0) (found : Option X) (result : Option Y)
       (walks : IfSome found (In w k v m) → IfSome result (OutIn w k v m)) (at : (place : Option ℕ) → At found place → OutAt result place) where
     pub key_through : (same : Comparison) (fits : List ℕ → ℕ → Bool) → GetsKey In At w k v m hasher calls key_calls same fits found
@@ -49,7 +50,7 @@ module _ {K V H W State : Type 0} (w : Width) (k v : Shape) (m : ArchivedHashMap
       (can_read : Q → Type 0) (calls : Q → List HasherCall) (fits : Q → List ℕ → ℕ → Bool) → IsQuery k same_key key_calls can_read calls fits → IsMap w k v m
       → (q : Q) → can_read q → hash_of_calls hasher (calls q) < 2 ^ 64
       → (post : View K → Bool → Type 0) → ((key : View K) (r : Bool) → post key r → r ≡ fits q key.archive.now key.pos)
-      → (In : Width → Shape → Shape → ArchivedHashMap K V H W → X → Type 0) (At : Option X → Option ℕ → Type 0) (result : Option X)
+      → (In : Width → Shape → Shape → ArchivedHashMap K V H W wt → X → Type 0) (At : Option X → Option ℕ → Type 0) (result : Option X)
       → GetsBy In At w k v m hasher (calls q) key_calls post result → GetsKey In At w k v m hasher (calls q) key_calls same_key (fits q) result
   gets_query kl vl same_key key_calls can_read calls fits query is q can small post tells In At result h =
       let accept : ℕ → Bool = fits q (map_bytes m) in
@@ -62,7 +63,7 @@ module _ {K V H W State : Type 0} (w : Width) (k v : Shape) (m : ArchivedHashMap
         complete = one_found w k v m kl vl hasher same_key key_calls can_read calls fits query is q can small (At result) found;
       }
 
-module _ {K V H W : Type 0} (w : Width) (k v : Shape) (m : ArchivedHashMap K V H W) where
+module _ {K V H W : Type 0} {wt : Words W} (w : Width) (k v : Shape) (m : ArchivedHashMap K V H W wt) where
   -- an entry of the map is viewed
   pub entry_viewed : (found : Option (View (Entry K V))) → IfSome found (IsEntryIn w k v m) → IfSome found (IsView (entry_shape k v))
   entry_viewed found walked = IfSome_then found walked (λ entry there. there.1)
@@ -98,7 +99,7 @@ module _ {K V : Type 0} (k v : Shape) where
   value_at (Some entry) result is place at = ap pos_of_found is.1 ∙ ap Some is.2.1 ∙ ap (option_map (λ (q : ℕ). q + value_offset k v)) at
 
 -- so what a lookup says of the entry that it finds is said of the pair of it, and of its value
-module _ {K V H W State : Type 0} {w : Width} {k v : Shape} {m : ArchivedHashMap K V H W} {hasher : Hasher State} {calls : List HasherCall} {key_calls : List ℕ → ℕ → List HasherCall} {found : Option (View (Entry K V))} where
+module _ {K V H W State : Type 0} {wt : Words W} {w : Width} {k v : Shape} {m : ArchivedHashMap K V H W wt} {hasher : Hasher State} {calls : List HasherCall} {key_calls : List ℕ → ℕ → List HasherCall} {found : Option (View (Entry K V))} where
   pub pair_of_key : {same : Comparison} {fits : List ℕ → ℕ → Bool} {result : Option (View K × View V)} → GetsKey IsEntryIn IsEntryAt w k v m hasher calls key_calls same fits found → IsPairOfEntry k v result found
       → GetsKey IsPairIn IsPairAt w k v m hasher calls key_calls same fits result
   pair_of_key {same} {fits} {result} got is =
@@ -118,7 +119,7 @@ module _ {K V H W State : Type 0} {w : Width} {k v : Shape} {m : ArchivedHashMap
   value_by {post} {result} got is = by_through w k v m hasher calls key_calls IsEntryIn IsValueIn IsEntryAt (IsValueAt k v) found result (value_walked w k v m found result is) (value_at k v found result is) post got
 
 -- of the pair a set answers the key
-module _ {K V H W State : Type 0} {w : Width} {k v : Shape} {m : ArchivedHashMap K V H W} {hasher : Hasher State} {calls : List HasherCall} {key_calls : List ℕ → ℕ → List HasherCall}
+module _ {K V H W State : Type 0} {wt : Words W} {w : Width} {k v : Shape} {m : ArchivedHashMap K V H W wt} {hasher : Hasher State} {calls : List HasherCall} {key_calls : List ℕ → ℕ → List HasherCall}
     {same : Comparison} {fits : List ℕ → ℕ → Bool} where
   pub member_of_pair : {pair : View K × View V} → GetsKey IsPairIn IsPairAt w k v m hasher calls key_calls same fits (Some pair) → GetsKey IsKeyIn IsEntryAt w k v m hasher calls key_calls same fits (Some pair.0)
   member_of_pair got = record { walked = got.walked.key; answer = got.answer; first = got.first; complete = got.complete }
@@ -132,7 +133,7 @@ some_found None place at some = subst IsSome (sym at) some
 some_found (Some entry) place at some = refl
 
 -- what a lookup in the table by the keys that fit says is said of the map
-module _ {K V H W Q State : Type 0} (w : Width) (k v : Shape) (m : ArchivedHashMap K V H W) (t : ArchivedHashTable (Entry K V) W) (at : IsAt t.view (map_archive m) (map_pos m)) (kl : IsElement k) (vl : IsElement v)
+module _ {K V H W Q State : Type 0} {wt : Words W} (w : Width) (k v : Shape) (m : ArchivedHashMap K V H W wt) (t : ArchivedHashTable (Entry K V) W wt) (at : IsAt t.view (map_archive m) (map_pos m)) (kl : IsElement k) (vl : IsElement v)
     (hasher : Hasher State) (same_key : Comparison) (key_calls : List ℕ → ℕ → List HasherCall) (can_read : Q → Type 0) (calls : Q → List HasherCall) (fits : Q → List ℕ → ℕ → Bool)
     (query : IsQuery k same_key key_calls can_read calls fits) (is : IsMap w k v m) (q : Q) (can : can_read q) (hash : ℕ) (under : hash ≡ hash_of_calls hasher (calls q)) (small : hash < 2 ^ 64)
     (compared : View (Entry K V) → Bool → Type 0)

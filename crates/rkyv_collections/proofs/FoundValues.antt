@@ -1,4 +1,5 @@
 -- What a lookup by a name finds is what stands in the list, and what is read at its place.
+use Rattle.rkyv_base.specs.declared.width.Word.{Ghosts as Words}
 use Rattle.std.proofs.Common.{◌≡◌, ℕ, List, Option, None, Some, Result, Ok, Err, MatchResult, IfOk, ap, refl, sym, ◌∙◌}
 use Rattle.std.specs.Borrow.{Bor}
 use Rattle.rkyv_base.specs.View.{IsAt}
@@ -9,7 +10,7 @@ use Rattle.rkyv_collections.specs.declared.map.ArchivedHashMap.{ArchivedHashMap}
 use Rattle.rkyv_collections.specs.declared.map.HashMapOf.{HashMapOf}
 
 -- a map that is read where a view is has its bytes and its place
-pub read_at : {K V H W : Type 0} (m : ArchivedHashMap K V H W) (v : View (HashMapOf K V H W)) (b : Bor (List ℕ)) (p : ℕ) → m.view ≡ v → IsAt v b p → (map_bytes m ≡ b.now) × (map_pos m ≡ p)
+pub read_at : {K V H W : Type 0} {wt : Words W} (m : ArchivedHashMap K V H W wt) (v : View (HashMapOf K V H W)) (b : Bor (List ℕ)) (p : ℕ) → m.view ≡ v → IsAt v b p → (map_bytes m ≡ b.now) × (map_pos m ≡ p)
 read_at {K} {V} {H} {W} m v b p e at =
     (ap (λ (x : View (HashMapOf K V H W)). x.archive.now) e ∙ ap (λ (a : Bor (List ℕ)). a.now) at.0, ap (λ (x : View (HashMapOf K V H W)). x.pos) e ∙ at.1)
 

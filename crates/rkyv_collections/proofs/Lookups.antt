@@ -1,5 +1,6 @@
 -- From what a table finds to what a map does.
-use Rattle.std.proofs.Common.{◌≡◌, ℕ, ◌+◌, ◌<◌, ◌∙◌, None, Some, ap, sym, arith, Bool, length, map, subst, List, Option, slice_index}
+use Rattle.rkyv_base.specs.declared.width.Word.{Ghosts as Words}
+use Rattle.std.proofs.Common.{◌≡◌, ℕ, ◌<◌, ◌∙◌, None, Some, ap, sym, arith, Bool, length, map, subst, List, Option, slice_index}
 use Rattle.std.specs.Int.{Width}
 use Rattle.std.specs.Option.{is_some}
 use Rattle.std.proofs.lemmas.List.{get_or-map, length-map}
@@ -20,9 +21,9 @@ use Rattle.rkyv_collections.specs.Map.{AreUnderHash, IsEntryAt, IsEntryIn, map_a
 use Rattle.rkyv_collections.specs.declared.map.ArchivedHashMap.{ArchivedHashMap}
 use Rattle.rkyv_table.proofs.WrittenTables.{home_count, home_pos, home_walked}
 
-module _ {K V H W : Type 0} (w : Width) (k v : Shape) (m : ArchivedHashMap K V H W) where
+module _ {K V H W : Type 0} {wt : Words W} (w : Width) (k v : Shape) (m : ArchivedHashMap K V H W wt) where
   -- an item of its table is an entry of the map
-  pub entry_of_item : (t : ArchivedHashTable (Entry K V) W) → IsAt t.view (map_archive m) (map_pos m) → (entry : View (Entry K V)) → IsItem w (entry_shape k v) t entry
+  pub entry_of_item : (t : ArchivedHashTable (Entry K V) W wt) → IsAt t.view (map_archive m) (map_pos m) → (entry : View (Entry K V)) → IsItem w (entry_shape k v) t entry
       → IsEntryIn w k v m entry
   entry_of_item t at entry item =
       let walked : IsWalked w (map_bytes m) (map_pos m) item.0 = rw (← at.0, ← at.1) item.1.walked in

@@ -1,4 +1,5 @@
 -- What a lookup tells of the map that is read tells of the seal.
+use Rattle.rkyv_base.specs.declared.width.Word.{Ghosts as Words}
 use Rattle.std.proofs.Common.{◌≡◌, ℕ, ◌+◌, ◌≤◌, ◌∙◌, sym, ap, subst, Bool, List, None, Option, Some, length}
 use Rattle.std.specs.Borrow.{Bor}
 use Rattle.std.specs.Int.{Width}
@@ -53,7 +54,7 @@ found_told P Q says None pos at h = subst (λ (o : Option ℕ). IfSome o Q) at t
 found_told P Q says (Some x) pos at h = subst (λ (o : Option ℕ). IfSome o Q) at (says x h)
 
 -- the map that is read has these bytes and this place
-module _ {K V H W : Type 0} (m : ArchivedHashMap K V H W) (b : List ℕ) (p : ℕ) (bytes : map_bytes m ≡ b) (place : map_pos m ≡ p) where
+module _ {K V H W : Type 0} {wt : Words W} (m : ArchivedHashMap K V H W wt) (b : List ℕ) (p : ℕ) (bytes : map_bytes m ≡ b) (place : map_pos m ≡ p) where
   pub as_read : (F : List ℕ → ℕ → Type 0) → F (map_bytes m) (map_pos m) → F b p
   as_read F x = moved F (map_bytes m) b (map_pos m) p bytes place x
 

@@ -1,5 +1,5 @@
 -- What a lookup finds in an archive that was written of a map of std's.
-use Rattle.std.proofs.Common.{◌≡◌, ℕ, ◌+◌, refl, sym, ap, subst, ◌∙◌, arith, cond, inl, inr, ◌↔◌, Bool, true, false, List, [], ◌∷◌, length, None, Option, Some}
+use Rattle.std.proofs.Common.{◌≡◌, ℕ, ◌+◌, refl, sym, ap, subst, ◌∙◌, cond, inl, inr, ◌↔◌, Bool, true, false, List, [], ◌∷◌, None, Option, Some}
 use Rattle.std.specs.Int.{Width}
 use Rattle.std.specs.List.{find, list_any}
 use Rattle.std.specs.Map.{lookup}

@@ -1,8 +1,7 @@
 -- A walk over a map that stands for a list gives each item of the list once.
 use Rattle.std.proofs.Common.{◌≡◌, ◌∙◌, ℕ, zero, suc, ◌<◌, List, [], ◌∷◌, false, Some, ap, arith, eqb, get_or, inl, inr, length, map, refl, remove, slice_get, slice_index, slice_set, subst, swap, sym, IsPermutation}
 use Rattle.std.specs.Int.{Width}
-use Rattle.std.specs.List.{AllPairs, AllZip, Contains, IsDistinct}
-use Rattle.std.specs.Prelude.{◌↔◌}
+use Rattle.std.specs.List.{AllZip, Contains, IsDistinct}
 use Rattle.std.proofs.lemmas.Bool.{eq-eqb, true≢false}
 use Rattle.std.proofs.lemmas.List.{length-map}
 use Rattle.std.proofs.lemmas.List.Sorted.{Contains-permutation, IsPermutation-cons, IsPermutation-keeps, IsPermutation-map, IsPermutation-refl, IsPermutation-remove, IsPermutation-swap, IsPermutation-sym, IsPermutation-trans, length_permutation}
@@ -19,7 +18,6 @@ use Rattle.rkyv_table.specs.Table.Lent.{with_units}
 use Rattle.rkyv_table.specs.Table.Reading.{WrittenAt, home_positions, item_at, table_controls}
 use Rattle.rkyv_table.specs.Table.WalkLaws.{VisitsHomes}
 use Rattle.rkyv_table.proofs.WalkedHomes.{none_visits, walked_homes}
-use Rattle.rkyv_table.proofs.Walks.{walk_none}
 use Rattle.rkyv_table.proofs.WrittenTables.{home_count, home_pos}
 use Rattle.rkyv_collections.specs.ListedWalks.{GivesEach, SetWalksGiveListed, WalksGiveListed, WalksVisitPairs, key_positions_at}
 use Rattle.rkyv_collections.specs.MapFormat.{MapStands}

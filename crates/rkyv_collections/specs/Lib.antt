@@ -2,14 +2,12 @@ pub mod Map
 pub mod Equality
 pub mod Misplaced
 pub mod Lookups
-pub mod MapFinder
 pub mod MapFormat
 pub mod Handing
 pub mod Writing
 pub mod Lemmas
 pub mod SetFormat
 pub mod Set
-pub mod SetFinder
 pub mod SealedMap
 pub mod SealedPairs
 pub mod ValueWrites

@@ -1,5 +1,6 @@
 -- Archives whose root is a map that stands for a list of pairs, and the scalars that are found in
 -- one.
+use Rattle.rkyv_base.specs.declared.width.Word.{Ghosts as Words}
 use Rattle.std.specs.Prelude.{◌≡◌, ℕ, ◌-◌, Bool, IfSome, List, MatchResult, Option, Result, length}
 use Rattle.std.specs.Borrow.{Bor}
 use Rattle.std.specs.Int.{Width, w32}
@@ -97,18 +98,18 @@ first_of_text text pairs = first_value (λ held. same_bytes text held.now) pairs
 abbrev pub scalar_found : {N : Type 0} → Encoding N → Option (View N) → Option N
 scalar_found e found = option_map (λ view. value_at e (bytes_of view) (pos_of view)) found
 
--- In an archive whose root is a map that stands for a list of pairs, the scalar that a lookup
--- finds is the value of the first pair whose key equals the one that is asked for, and none is
--- found where there is none.
-abbrev pub ScalarsFoundAreListed : {A N : Type 0} → (K H W : Type 0) → Width → Shape → Encoding N
+-- If the root of an archive is a map that represents a list of pairs, the scalar that a lookup
+-- finds is the value of the first pair with an equal key, and `None` if no pair has one. `wt` is
+-- the word of the archive.
+abbrev pub ScalarsFoundAreListed : {A N : Type 0} → (K H W : Type 0) → Words W → Shape → Encoding N
     → (List ℕ → ℕ → A → Type 0) → (List ℕ → ℕ → ℕ) → (A → List ℕ → ℕ → Bool) → (A → A → Bool)
     → Type 0
-ScalarsFoundAreListed {A} {N} K H W w k e key hash fits equal =
-    (map : ArchivedHashMap K N H W) (root : View (HashMapOf K N H W)) (archive : Bor (List ℕ))
+ScalarsFoundAreListed {A} {N} K H W wt k e key hash fits equal =
+    (map : ArchivedHashMap K N H W wt) (root : View (HashMapOf K N H W)) (archive : Bor (List ℕ))
     (limit : ℕ) (pairs : List (A × N)) (asked : A) (found : Option (View N))
-    → map.view ≡ root → IsAt root archive (map_root w k (scalar_shape e) archive.now)
-    → IsListArchive limit w k (scalar_shape e) key (ScalarStands e) hash archive.now pairs
-    → IfSome found (IsValueIn w k (scalar_shape e) map)
-    → FindsFirstKey w k (scalar_shape e) map hash (fits asked (map_bytes map))
+    → map.view ≡ root → IsAt root archive (map_root wt.word k (scalar_shape e) archive.now)
+    → IsListArchive limit wt.word k (scalar_shape e) key (ScalarStands e) hash archive.now pairs
+    → IfSome found (IsValueIn wt.word k (scalar_shape e) map)
+    → FindsFirstKey wt.word k (scalar_shape e) map hash (fits asked (map_bytes map))
     (IsValueAt k (scalar_shape e) found)
     → scalar_found e found ≡ first_value (equal asked) pairs

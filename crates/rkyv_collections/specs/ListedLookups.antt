@@ -1,4 +1,5 @@
 -- What a lookup answers in a map that stands for a list of pairs, in terms of the list alone.
+use Rattle.rkyv_base.specs.declared.width.Word.{Ghosts as Words}
 use Rattle.std.specs.Prelude.{◌≡◌, ℕ, Bool, IfSome, List, None, Option, Some}
 use Rattle.std.specs.Int.{Width}
 use Rattle.std.specs.List.{find}
@@ -53,8 +54,8 @@ module _ {A B : Type 0} (k v : Shape) (key : List ℕ → ℕ → A → Type 0)
   -- What `get_key_value`, a set's `get`, `get` and `contains_key` answer, by their clauses on the
   -- first accepted key: the first pair of the list whose key is asked for, its key, its value, and
   -- whether there is one.
-  pub record FindsListed {K V H W : Type 0} (w : Width) (key_hash : List ℕ → ℕ → ℕ)
-      (m : ArchivedHashMap K V H W) (accept : ℕ → Bool) (asks : A → Bool) (pairs : List (A × B))
+  pub record FindsListed {K V H W : Type 0} {wt : Words W} (w : Width) (key_hash : List ℕ → ℕ → ℕ)
+      (m : ArchivedHashMap K V H W wt) (accept : ℕ → Bool) (asks : A → Bool) (pairs : List (A × B))
       : Type 0 where
     pub gives_pair : (result : Option (View K × View V)) → IfSome result (IsPairIn w k v m)
         → FindsFirstKey w k v m key_hash accept (IsPairAt result)
@@ -68,11 +69,12 @@ module _ {A B : Type 0} (k v : Shape) (key : List ℕ → ℕ → A → Type 0)
     pub contains : (result : Bool) → FindsFirstKey w k v m key_hash accept (IsFoundAt result)
         → result ≡ is_some (first_pair asks pairs)
 
-  -- in a map that stands for a list of pairs, lookups answer what is asked for in the list
-  abbrev pub LookupsFindListed : (K V H W : Type 0) → Width → (List ℕ → ℕ → ℕ) → Type 0
-  LookupsFindListed K V H W w key_hash =
-      (m : ArchivedHashMap K V H W) (accept : ℕ → Bool) (asks : A → Bool) (factor : ℕ × ℕ)
+  -- in a map that represents a list of pairs, a lookup finds the first pair of the list with an
+  -- accepted key; `wt` is the word of the archive
+  abbrev pub LookupsFindListed : (K V H W : Type 0) → Words W → (List ℕ → ℕ → ℕ) → Type 0
+  LookupsFindListed K V H W wt key_hash =
+      (m : ArchivedHashMap K V H W wt) (accept : ℕ → Bool) (asks : A → Bool) (factor : ℕ × ℕ)
       (pairs : List (A × B))
-      → IsMap w k v m → AsksFor k key (map_bytes m) accept asks
-      → MapStands w k v key value key_hash factor (map_bytes m) (map_pos m) pairs
-      → FindsListed w key_hash m accept asks pairs
+      → IsMap wt.word k v m → AsksFor k key (map_bytes m) accept asks
+      → MapStands wt.word k v key value key_hash factor (map_bytes m) (map_pos m) pairs
+      → FindsListed wt.word key_hash m accept asks pairs

@@ -1,4 +1,5 @@
 -- What a lookup says of what it answers.
+use Rattle.rkyv_base.specs.declared.width.Word.{Ghosts as Words}
 use Rattle.std.specs.Prelude.{◌≡◌, ℕ, ◌+◌, Bool, IfSome, List, MatchOption, None, Option, Some}
 use Rattle.std.specs.Int.{Width}
 use Rattle.rkyv_scan.specs.Hash.{Hasher, HasherCall, hash_of_calls}
@@ -13,7 +14,8 @@ use Rattle.rkyv_collections.specs.Map.{map_bytes}
 use Rattle.rkyv_collections.specs.Misplaced.{FindsOneKey}
 use Rattle.rkyv_collections.specs.declared.map.ArchivedHashMap.{ArchivedHashMap}
 
-module _ {K V H W State : Type 0} (w : Width) (k v : Shape) (m : ArchivedHashMap K V H W)
+module _ {K V H W State : Type 0} {wt : Words W} (w : Width) (k v : Shape)
+    (m : ArchivedHashMap K V H W wt)
     (hasher : Hasher State) (calls : List HasherCall)
     (key_calls : List ℕ → ℕ → List HasherCall) where
   -- What is told of what a lookup of a query finds, which makes these calls and tells which keys
@@ -25,9 +27,9 @@ module _ {K V H W State : Type 0} (w : Width) (k v : Shape) (m : ArchivedHashMap
     pub first : FindsFirstKey w k v m (hash_at hasher key_calls) (fits (map_bytes m)) Told
     pub complete : FindsOneKey w k v m (hash_at hasher key_calls) same (fits (map_bytes m)) Told
 
-module _ {K V H W X State : Type 0}
-    (In : Width → Shape → Shape → ArchivedHashMap K V H W → X → Type 0)
-    (At : Option X → Option ℕ → Type 0) (w : Width) (k v : Shape) (m : ArchivedHashMap K V H W)
+module _ {K V H W X State : Type 0} {wt : Words W}
+    (In : Width → Shape → Shape → ArchivedHashMap K V H W wt → X → Type 0)
+    (At : Option X → Option ℕ → Type 0) (w : Width) (k v : Shape) (m : ArchivedHashMap K V H W wt)
     (hasher : Hasher State) (calls : List HasherCall)
     (key_calls : List ℕ → ℕ → List HasherCall) where
   -- what a lookup of a query says of a result that is found In the map, and At a key's position

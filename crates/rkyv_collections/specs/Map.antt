@@ -1,4 +1,5 @@
 -- What a hash map is in an archive, and what a lookup in it answers.
+use Rattle.rkyv_base.specs.declared.width.Word.{Ghosts as Words}
 use Rattle.std.specs.Prelude.{◌≡◌, ℕ, ◌+◌, ◌↔◌, List, Bool, true, Option, IsSome, IsTrue, map}
 use Rattle.std.specs.Borrow.{Bor}
 use Rattle.std.specs.Int.{Width}
@@ -26,52 +27,52 @@ map_shape w k v = table_shape w (entry_shape k v)
 abbrev pub IsKeyPosAt : Width → Shape → Shape → List ℕ → ℕ → ℕ → Type 0
 IsKeyPosAt w k v b p q = (i : ℕ) × IsWalked w b p i × (q ≡ item_at w (entry_shape k v).size b p i)
 
-module _ {K V H W : Type 0} where
+module _ {K V H W : Type 0} {wt : Words W} where
   -- the header of a map stands where the map is
-  abbrev pub IsMap : Width → Shape → Shape → ArchivedHashMap K V H W → Type 0
+  abbrev pub IsMap : Width → Shape → Shape → ArchivedHashMap K V H W wt → Type 0
   IsMap w k v m = IsView (map_shape w k v) m.view
 
   -- the view of the map's header
-  abbrev pub map_view : ArchivedHashMap K V H W → View (HashMapOf K V H W)
+  abbrev pub map_view : ArchivedHashMap K V H W wt → View (HashMapOf K V H W)
   map_view m = m.view
 
   -- the archive of the map, its bytes, and the position of its header
-  abbrev pub map_archive : ArchivedHashMap K V H W → Bor (List ℕ)
+  abbrev pub map_archive : ArchivedHashMap K V H W wt → Bor (List ℕ)
   map_archive m = archive_of m.view
 
   -- the bytes of the map's archive
-  abbrev pub map_bytes : ArchivedHashMap K V H W → List ℕ
+  abbrev pub map_bytes : ArchivedHashMap K V H W wt → List ℕ
   map_bytes m = bytes_of m.view
 
   -- the position of the map's header
-  abbrev pub map_pos : ArchivedHashMap K V H W → ℕ
+  abbrev pub map_pos : ArchivedHashMap K V H W wt → ℕ
   map_pos m = pos_of m.view
 
   -- how many pairs it has, and how many buckets
-  abbrev pub map_len : Width → ArchivedHashMap K V H W → ℕ
+  abbrev pub map_len : Width → ArchivedHashMap K V H W wt → ℕ
   map_len w m = len_at w (map_bytes m) (map_pos m)
 
   -- how many buckets it has
-  abbrev pub map_cap : Width → ArchivedHashMap K V H W → ℕ
+  abbrev pub map_cap : Width → ArchivedHashMap K V H W wt → ℕ
   map_cap w m = cap_at w (map_bytes m) (map_pos m)
 
   -- where its keys stand, by ascending bucket
-  abbrev pub key_positions : Width → Shape → Shape → ArchivedHashMap K V H W → List ℕ
+  abbrev pub key_positions : Width → Shape → Shape → ArchivedHashMap K V H W wt → List ℕ
   key_positions w k v m = item_positions w (entry_shape k v).size (map_bytes m) (map_pos m)
 
   -- a key of the map stands at the position
-  abbrev pub IsKeyPos : Width → Shape → Shape → ArchivedHashMap K V H W → ℕ → Type 0
+  abbrev pub IsKeyPos : Width → Shape → Shape → ArchivedHashMap K V H W wt → ℕ → Type 0
   IsKeyPos w k v m q = IsKeyPosAt w k v (map_bytes m) (map_pos m) q
 
   -- the view is that of a key of the map
-  pub record IsKeyIn (w : Width) (k v : Shape) (m : ArchivedHashMap K V H W) (key : View K) : Type 0
-    where
-      pub archive : key.archive ≡ map_archive m
-      pub viewed : IsView k key
-      pub place : IsKeyPos w k v m key.pos
+  pub record IsKeyIn (w : Width) (k v : Shape) (m : ArchivedHashMap K V H W wt) (key : View K) :
+      Type 0 where
+    pub archive : key.archive ≡ map_archive m
+    pub viewed : IsView k key
+    pub place : IsKeyPos w k v m key.pos
 
   -- the view is that of the value behind a key of the map
-  pub record IsValueIn (w : Width) (k v : Shape) (m : ArchivedHashMap K V H W)
+  pub record IsValueIn (w : Width) (k v : Shape) (m : ArchivedHashMap K V H W wt)
       (value : View V) : Type 0 where
     pub viewed : IsView v value
     pub key : ℕ
@@ -79,7 +80,7 @@ module _ {K V H W : Type 0} where
     pub at : IsAt value (map_archive m) (key + value_offset k v)
 
   -- the views are those of a key of the map and of the value behind it
-  pub record IsPairIn (w : Width) (k v : Shape) (m : ArchivedHashMap K V H W)
+  pub record IsPairIn (w : Width) (k v : Shape) (m : ArchivedHashMap K V H W wt)
       (pair : View K × View V) : Type 0 where
     pub key : IsKeyIn w k v m pair.0
     pub viewed : IsView v pair.1
@@ -114,7 +115,8 @@ module _ (w : Width) (k v : Shape) (b : List ℕ) (p : ℕ) where
       (homes : List ℕ) → MapWrittenAt w (entry_shape k v) key_hash b p homes
       → Told (find accept (home_positions w (entry_shape k v).size b p homes))
 
-module _ {K V H W : Type 0} (w : Width) (k v : Shape) (m : ArchivedHashMap K V H W) where
+module _ {K V H W : Type 0} {wt : Words W} (w : Width) (k v : Shape)
+    (m : ArchivedHashMap K V H W wt) where
   -- the comparison may be asked of each key
   abbrev pub MayAskKeys : (View K → Type 0) → Type 0
   MayAskKeys pre = (key : View K) → IsKeyIn w k v m key → pre key
@@ -151,8 +153,8 @@ module _ {K V H W : Type 0} (w : Width) (k v : Shape) (m : ArchivedHashMap K V H
       → FindsFirstKey key_hash accept Told
 
 -- the view is that of an entry of the map
-abbrev pub IsEntryIn : {K V H W : Type 0} → Width → Shape → Shape → ArchivedHashMap K V H W
-    → View (Entry K V) → Type 0
+abbrev pub IsEntryIn : {K V H W : Type 0} {wt : Words W} → Width → Shape → Shape
+    → ArchivedHashMap K V H W wt → View (Entry K V) → Type 0
 IsEntryIn w k v m entry = (entry.archive ≡ map_archive m) × IsView (entry_shape k v) entry
     × IsKeyPos w k v m entry.pos
 

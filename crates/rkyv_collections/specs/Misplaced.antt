@@ -1,4 +1,5 @@
 -- How many keys of a map a lookup doesn't answer where they stand.
+use Rattle.rkyv_base.specs.declared.width.Word.{Ghosts as Words}
 use Rattle.std.specs.Prelude.{◌≡◌, ℕ, List, Bool, true, false, Option, MatchOption}
 use Rattle.std.specs.Int.{Width}
 use Rattle.rkyv_scan.specs.Groups.{generic_kind}
@@ -46,8 +47,8 @@ module _ (w : Width) (size : ℕ) (b : List ℕ) (p : ℕ) (fits : ℕ → Bool)
 
 -- where no key of the map is misplaced, what is told is told of the position of the one key that
 -- fits, or of none where none does
-abbrev pub FindsOneKey : {K V H W : Type 0} → Width → Shape → Shape → ArchivedHashMap K V H W
-    → (List ℕ → ℕ → ℕ) → Comparison
+abbrev pub FindsOneKey : {K V H W : Type 0} {wt : Words W} → Width → Shape → Shape
+    → ArchivedHashMap K V H W wt → (List ℕ → ℕ → ℕ) → Comparison
     → (ℕ → Bool) → (Option ℕ → Type 0) → Type 0
 FindsOneKey w k v m key_hash same_key fits Told =
     map_misplaced w k v key_hash same_key (map_bytes m) (map_pos m) ≡ 0

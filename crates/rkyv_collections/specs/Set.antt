@@ -1,5 +1,6 @@
 -- What a hash set is in an archive, and what a lookup in it answers: all of it as in the map of its
 -- keys.
+use Rattle.rkyv_base.specs.declared.width.Word.{Ghosts as Words}
 use Rattle.std.specs.Prelude.{ℕ, List, Bool, Option}
 use Rattle.std.specs.Borrow.{Bor}
 use Rattle.std.specs.Int.{Width}
@@ -23,54 +24,54 @@ use Rattle.rkyv_collections.specs.declared.set.ArchivedHashSet.{ArchivedHashSet}
 abbrev pub set_shape : Width → Shape → Shape
 set_shape w k = map_shape w k unit_shape
 
-module _ {K H W : Type 0} where
+module _ {K H W : Type 0} {wt : Words W} where
   -- the header of a set stands where the set is
-  abbrev pub IsSet : Width → Shape → ArchivedHashSet K H W → Type 0
+  abbrev pub IsSet : Width → Shape → ArchivedHashSet K H W wt → Type 0
   IsSet w k s = IsMap w k unit_shape s.map
 
   -- the view of the set's header, as that of the map of its keys
-  abbrev pub set_view : ArchivedHashSet K H W → View (HashMapOf K (Unit {0}) H W)
+  abbrev pub set_view : ArchivedHashSet K H W wt → View (HashMapOf K (Unit {0}) H W)
   set_view s = map_view s.map
 
   -- the archive of the set, its bytes, and the position of its header
-  abbrev pub set_archive : ArchivedHashSet K H W → Bor (List ℕ)
+  abbrev pub set_archive : ArchivedHashSet K H W wt → Bor (List ℕ)
   set_archive s = map_archive s.map
 
   -- the bytes of the set's archive
-  abbrev pub set_bytes : ArchivedHashSet K H W → List ℕ
+  abbrev pub set_bytes : ArchivedHashSet K H W wt → List ℕ
   set_bytes s = map_bytes s.map
 
   -- the position of the set's header
-  abbrev pub set_pos : ArchivedHashSet K H W → ℕ
+  abbrev pub set_pos : ArchivedHashSet K H W wt → ℕ
   set_pos s = map_pos s.map
 
   -- the set's header is at this place of this archive
-  abbrev pub IsSetAt : ArchivedHashSet K H W → Bor (List ℕ) → ℕ → Type 0
+  abbrev pub IsSetAt : ArchivedHashSet K H W wt → Bor (List ℕ) → ℕ → Type 0
   IsSetAt s archive p = IsAt s.map.view archive p
 
   -- how many keys it has
-  abbrev pub set_len : Width → ArchivedHashSet K H W → ℕ
+  abbrev pub set_len : Width → ArchivedHashSet K H W wt → ℕ
   set_len w s = map_len w s.map
 
   -- where its keys stand, by ascending bucket
-  abbrev pub member_positions : Width → Shape → ArchivedHashSet K H W → List ℕ
+  abbrev pub member_positions : Width → Shape → ArchivedHashSet K H W wt → List ℕ
   member_positions w k s = key_positions w k unit_shape s.map
 
   -- the view is that of a key of the set
-  abbrev pub IsMemberIn : Width → Shape → ArchivedHashSet K H W → View K → Type 0
+  abbrev pub IsMemberIn : Width → Shape → ArchivedHashSet K H W wt → View K → Type 0
   IsMemberIn w k s key = IsKeyIn w k unit_shape s.map key
 
 -- what is told of what a lookup of a query finds, as in the map of its keys
-abbrev pub TellsMember : {K H W State : Type 0} → Width → Shape → ArchivedHashSet K H W
-    → Hasher State → List HasherCall → (List ℕ → ℕ → List HasherCall) → Comparison
-    → (List ℕ → ℕ → Bool) → (Option ℕ → Type 0) → Type 0
+abbrev pub TellsMember : {K H W State : Type 0} {wt : Words W} → Width → Shape
+    → ArchivedHashSet K H W wt → Hasher State → List HasherCall → (List ℕ → ℕ → List HasherCall)
+    → Comparison → (List ℕ → ℕ → Bool) → (Option ℕ → Type 0) → Type 0
 TellsMember w k s hasher calls key_calls same fits Told =
     TellsKey w k unit_shape s.map hasher calls key_calls same fits Told
 
 -- what such a lookup says of the key that it answers
-abbrev pub GetsMember : {K H W State : Type 0} → Width → Shape → ArchivedHashSet K H W
-    → Hasher State → List HasherCall → (List ℕ → ℕ → List HasherCall) → Comparison
-    → (List ℕ → ℕ → Bool) → Option (View K) → Type 0
+abbrev pub GetsMember : {K H W State : Type 0} {wt : Words W} → Width → Shape
+    → ArchivedHashSet K H W wt → Hasher State → List HasherCall → (List ℕ → ℕ → List HasherCall)
+    → Comparison → (List ℕ → ℕ → Bool) → Option (View K) → Type 0
 GetsMember w k s hasher calls key_calls same fits result =
     GetsKey IsKeyIn IsEntryAt w k unit_shape s.map hasher calls key_calls same fits result
 

@@ -1,9 +1,9 @@
 //! Hash maps.
+ghost use Rattle.rkyv_table.specs.Table.Decoded.{IsDecoded, decoded_prop as is_prop};
 
 mod debug;
 mod element;
 mod equality;
-pub mod finder;
 mod hashing;
 pub mod in_place;
 pub mod in_place_text;
@@ -20,8 +20,10 @@ pub mod writing;
 pub mod written;
 
 use rkyv_base::view::View;
-use rkyv_base::width::Narrow;
+use rkyv_base::width::{Narrow, Word};
 use rkyv_scan::hash::FxHasher64;
+use rkyv_table::table::decoded::Decoded;
+use std::alloc::AllocError;
 use std::marker::PhantomData;
 
 /// The header of a hash map of K to V under the hasher H, in an archive of the width W.
@@ -33,7 +35,19 @@ pub struct HashMapOf<K, V, H = FxHasher64, W = Narrow> {
 }
 
 /// A hash map of K to V under the hasher H that is read in place, in an archive of the width W.
-#[derive_where(Clone, Copy)]
-pub struct ArchivedHashMap<'a, K, V, H = FxHasher64, W = Narrow> {
+///
+/// It holds its decoded header.
+pub struct ArchivedHashMap<'a, K, V, H = FxHasher64, W: Word = Narrow> {
     pub(crate) view: View<'a, HashMapOf<K, V, H, W>>,
+    pub(crate) header: Decoded,
+    ghost decoded: { IsDecoded W.word view.archive.now view.pos header } by { is_prop _ _ _ _ },
 }
+
+impl<'a, K, V, H, W: Word> Clone for ArchivedHashMap<'a, K, V, H, W> {
+    #[inline]
+    fn clone(&self) -> Result<ArchivedHashMap<'a, K, V, H, W>, AllocError> {
+        Ok(*self)
+    }
+}
+
+impl<'a, K, V, H, W: Word> Copy for ArchivedHashMap<'a, K, V, H, W> {}

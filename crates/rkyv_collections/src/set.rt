@@ -2,15 +2,15 @@
 
 mod debug;
 mod equality;
-pub mod finder;
 pub mod laws;
 mod reading;
 pub mod writing;
 pub mod written;
 
 use crate::map::ArchivedHashMap;
-use rkyv_base::width::Narrow;
+use rkyv_base::width::{Narrow, Word};
 use rkyv_scan::hash::FxHasher64;
+use std::alloc::AllocError;
 use std::marker::PhantomData;
 
 /// The header of a hash set of K under the hasher H, in an archive of the width W.
@@ -22,7 +22,17 @@ pub struct HashSetOf<K, H = FxHasher64, W = Narrow> {
 
 /// A hash set of K under the hasher H that is read in place, in an archive of the width W: the map
 /// of its keys to the unit value.
-#[derive_where(Clone, Copy)]
-pub struct ArchivedHashSet<'a, K, H = FxHasher64, W = Narrow> {
+///
+/// It holds its decoded header.
+pub struct ArchivedHashSet<'a, K, H = FxHasher64, W: Word = Narrow> {
     pub(crate) map: ArchivedHashMap<'a, K, (), H, W>,
 }
+
+impl<'a, K, H, W: Word> Clone for ArchivedHashSet<'a, K, H, W> {
+    #[inline]
+    fn clone(&self) -> Result<ArchivedHashSet<'a, K, H, W>, AllocError> {
+        Ok(*self)
+    }
+}
+
+impl<'a, K, H, W: Word> Copy for ArchivedHashSet<'a, K, H, W> {}

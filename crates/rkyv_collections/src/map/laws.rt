@@ -38,7 +38,7 @@ pub fn lookups_find_listed<
     H: KeyHasher,
     W: Width,
 >()
-    ensures { LookupsFindListed K.shape V.shape K.stands V.stands K V H W W.word
+    ensures { LookupsFindListed K.shape V.shape K.stands V.stands K V H W W.Word
         (hash_at H.hasher K.key_calls) }
 {}
 

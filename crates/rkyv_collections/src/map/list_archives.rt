@@ -18,6 +18,6 @@ pub fn scalars_found_are_listed<
     H: KeyHasher,
     W: Width,
 >()
-    ensures { ScalarsFoundAreListed K H W W.word K.shape N.encoding K.stands
+    ensures { ScalarsFoundAreListed K H W W.Word K.shape N.encoding K.stands
         (hash_at H.hasher K.key_calls) A.fits A.eq }
 {}

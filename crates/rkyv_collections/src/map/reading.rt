@@ -1,4 +1,4 @@
-//! A map, and how many pairs it has.
+//! A map and the number of its pairs.
 ghost use Rattle.std.specs.Prelude.{IsTrue, ◌↔◌, ◌≡◌};
 ghost use Rattle.rkyv_base.specs.Entry.{entry_shape};
 ghost use Rattle.rkyv_base.specs.View.{IsAt, IsView};
@@ -14,50 +14,54 @@ use rkyv_base::width::Width;
 use rkyv_table::table::{ArchivedHashTable, TableOf};
 
 impl<'a, K: Element, V: Element, H, W: Width> ArchivedHashMap<'a, K, V, H, W> {
-    /// The map whose header is viewed.
+    /// Returns the map at a view of its header, which is decoded here, once.
     #[inline]
     pub fn of(view: View<'a, HashMapOf<K, V, H, W>>) -> ArchivedHashMap<'a, K, V, H, W>
         requires { IsView (map_shape W.word K.shape V.shape) view }
         ensures view { result.view ≡ view.entry }
         ensures map { IsMap W.word K.shape V.shape result }
     {
-        ArchivedHashMap { view }
+        let table = ArchivedHashTable::of(view.at::<TableOf<Entry<K, V>, W>>(view.pos()));
+        ArchivedHashMap {
+            view,
+            header: table.header(),
+        }
     }
 
-    /// The table of its entries.
+    /// Returns the table of its entries.
     #[inline]
     pub(crate) fn table(self) -> ArchivedHashTable<'a, Entry<K, V>, W>
         requires { IsMap W.word K.shape V.shape self }
         ensures at { IsAt result.view (map_archive self.entry) (map_pos self.entry) }
         ensures table { IsTable W.word (entry_shape K.shape V.shape) result }
     {
-        ArchivedHashTable::of(self.view.at::<TableOf<Entry<K, V>, W>>(self.view.pos()))
+        ArchivedHashTable::with_header(
+            self.view.at::<TableOf<Entry<K, V>, W>>(self.view.pos()),
+            self.header,
+        )
     }
 
-    /// Whether it has no pairs.
+    /// Returns true if it has no pairs.
     #[inline]
     pub fn is_empty(self) -> bool
-        requires { IsMap W.word K.shape V.shape self }
         ensures { IsTrue result ↔ (map_len W.word self.entry ≡ 0) }
     {
-        self.table().is_empty()
+        self.len() == 0
     }
 
-    /// How many pairs it has.
+    /// Returns the number of its pairs.
     #[inline]
     pub fn len(self) -> usize
-        requires { IsMap W.word K.shape V.shape self }
         ensures { result ≡ map_len W.word self.entry }
     {
-        self.table().len()
+        self.header.len()
     }
 
-    /// How many buckets it has.
+    /// Returns the number of its buckets.
     #[inline]
     pub fn capacity(self) -> usize
-        requires { IsMap W.word K.shape V.shape self }
         ensures { result ≡ map_cap W.word self.entry }
     {
-        self.table().capacity()
+        self.header.capacity()
     }
 }

@@ -43,7 +43,7 @@ impl<K: Element, H, W: Width> Element for HashSetOf<K, H, W> {
 }
 
 impl<'a, K: Element, H, W: Width> ArchivedHashSet<'a, K, H, W> {
-    /// The set whose header is viewed.
+    /// Returns the set at a view of its header, which is decoded here, once.
     #[inline]
     pub fn of(view: View<'a, HashSetOf<K, H, W>>) -> ArchivedHashSet<'a, K, H, W>
         requires { IsView (set_shape W.word K.shape) view }
@@ -55,19 +55,17 @@ impl<'a, K: Element, H, W: Width> ArchivedHashSet<'a, K, H, W> {
         }
     }
 
-    /// Whether it has no keys.
+    /// Returns true if it has no keys.
     #[inline]
     pub fn is_empty(self) -> bool
-        requires { IsSet W.word K.shape self }
         ensures { IsTrue result ↔ (set_len W.word self.entry ≡ 0) }
     {
         self.map.is_empty()
     }
 
-    /// How many keys it has.
+    /// Returns the number of its keys.
     #[inline]
     pub fn len(self) -> usize
-        requires { IsSet W.word K.shape self }
         ensures { result ≡ set_len W.word self.entry }
     {
         self.map.len()

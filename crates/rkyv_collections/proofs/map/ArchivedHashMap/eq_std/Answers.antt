@@ -1,4 +1,4 @@
-use Rattle.std.proofs.Common.{length, rules, subst, sym}
+use Rattle.std.proofs.Common.{length, rules, subst}
 use Rattle.rkyv_table.specs.Table.Header.{len_at}
 use Rattle.rkyv_collections.specs.Map.{map_bytes, map_pos}
 use Rattle.rkyv_collections.specs.MapFormat.{hash_of}

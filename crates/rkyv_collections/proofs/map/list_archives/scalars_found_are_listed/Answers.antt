@@ -3,7 +3,6 @@ use Rattle.std.proofs.lemmas.Option.{IfSome_then}
 use Rattle.rkyv_base.specs.Access.{root_viewed}
 use Rattle.rkyv_base.specs.Scalar.{ScalarStands, scalar_element, scalar_shape}
 use Rattle.rkyv_base.specs.Shape.{Viewed}
-use Rattle.rkyv_collections.specs.ListArchives.{map_root}
 use Rattle.rkyv_collections.specs.Map.{hash_at, map_bytes, map_pos, map_shape}
 use Rattle.rkyv_collections.specs.MapFormat.{MapStands}
 use Rattle.rkyv_collections.proofs.FoundPairs.{first_listed, value_listed}

@@ -1,4 +1,4 @@
-use Rattle.rkyv_base.specs.Empty.{unit_element, unit_is_format, unit_shape}
+use Rattle.rkyv_base.specs.Empty.{unit_element, unit_is_format}
 use Rattle.rkyv_table.specs.Table.Lent.{with_units}
 use Rattle.rkyv_collections.specs.MapFormat.{hash_of}
 use Rattle.rkyv_collections.specs.Set.{set_shape}
