@@ -1,5 +1,5 @@
 //! Hash maps.
-ghost use Rattle.rkyv_table.specs.Table.Decoded.{IsDecoded, decoded_prop as is_prop};
+ghost use Rattle.rkyv_table.specs.Table.Decoded.{IsDecoded};
 
 mod debug;
 mod element;
@@ -40,7 +40,7 @@ pub struct HashMapOf<K, V, H = FxHasher64, W = Narrow> {
 pub struct ArchivedHashMap<'a, K, V, H = FxHasher64, W: Word = Narrow> {
     pub(crate) view: View<'a, HashMapOf<K, V, H, W>>,
     pub(crate) header: Decoded,
-    ghost decoded: { IsDecoded W.word view.archive.now view.pos header } by { is_prop _ _ _ _ },
+    ghost decoded: { IsDecoded W.word view.archive.now view.pos header },
 }
 
 impl<'a, K, V, H, W: Word> Clone for ArchivedHashMap<'a, K, V, H, W> {
