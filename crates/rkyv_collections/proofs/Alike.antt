@@ -1,4 +1,4 @@
--- A map whose keys feed no `usize` and no `isize`, under hashers that differ in these alone.
+-- Maps whose keys feed no `usize` and no `isize`, under hashers that differ in these alone.
 use Rattle.std.proofs.Common.{◌≡◌, ℕ, ◌<◌, ◌∙◌, arith, sym, ap, subst, Bool, List, length, map, slice_index}
 use Rattle.std.specs.Int.{Width}
 use Rattle.std.specs.List.{find}
@@ -47,7 +47,7 @@ module _ (w : Width) (k v : Shape) (kl : IsElement k) (vl : IsElement v) (key_ca
   pub written_alike : MapWrittenAt w (entry_shape k v) (fx_hash_at other key_calls) b p homes
   written_alike = subst (λ (hashes : List ℕ). WrittenAt w b p hashes homes) hashes_alike written
 
--- a query finds the first key that it fits, under either
+-- under either hasher, a query finds the first key that it fits
 pub queried_alike : (w : Width) (k v : Shape) (kl : IsElement k) (vl : IsElement v) {Q : Type 0} (same : Comparison) (key_calls : List ℕ → ℕ → List HasherCall)
     (can_read : Q → Type 0) (calls : Q → List HasherCall) (fits : Q → List ℕ → ℕ → Bool)
     → IsQuery k same key_calls can_read calls fits → MakesFixedCalls k key_calls → QueriedAlike w k v key_calls can_read calls fits

@@ -20,7 +20,7 @@ use Rattle.rkyv_collections.specs.Equality.{EachIsIn, EqualHaveSamePairs, IsWrit
 use Rattle.rkyv_collections.proofs.Matching.{IsMatching, column_matched, rows_within}
 use Rattle.rkyv_collections.proofs.WrittenPairs.{all_handed, all_walked, first_accepted, hash_small, pair_count, pair_stands, place_of_pair}
 
--- the first of a list that passes stands at some index
+-- the first number of a list that passes the test has an index
 found_index : (test : ℕ → Bool) (xs : List ℕ) (x : ℕ) → find test xs ≡ Some x → (j : ℕ) × (j < length xs) × (get_or xs j 0 ≡ x)
 found_index test xs x e =
     let some = some_find test xs x e in
@@ -42,11 +42,12 @@ module _ (w : Width) (k v : Shape) (kl : IsElement k) (vl : IsElement v) (key_ha
     other_stands : (j : ℕ) → j < length others → Standing k c (pair_at w k v c r others j)
     other_stands j h = standing_key kl vl c (pair_at w k v c r others j) (pair_stands w k v kl vl key_hash c r others second.stands second.written j h)
 
-    -- the value of the first pair is the same as that of the pair that stands at a place
+    -- the value of the pair `i` of the first map is the same as that of the pair at `place`
     same_at : ℕ → ℕ → Bool
     same_at i place = same_value b (pair_at w k v b p homes i + value_offset k v) c (place + value_offset k v)
 
-    -- the key of the first pair is looked up among those handed in
+    -- the key of a pair of the first map is looked up among the keys of the second,
+    -- in insertion order
     matches_is : (i : ℕ) → i < length homes → pair_matches w k v key_hash same_key same_value b (pair_at w k v b p homes i) c r
         ≡ unwrap_or (option_map (same_at i) (find (same_key b (pair_at w k v b p homes i) c) (home_positions w (entry_shape k v).size c r others))) false
     unfolding same_at
@@ -56,7 +57,7 @@ module _ (w : Width) (k v : Shape) (kl : IsElement k) (vl : IsElement v) (key_ha
         (first_accepted w k v kl vl key_hash c r others second.stands second.written (key_hash b q) (same_key b q c) (hash_small w k v kl vl key_hash b p homes first.stands first.written i h)
         (λ j l fits. sym (alike b c q (pair_at w k v c r others j) (key_stands i h) (other_stands j l) fits)))
 
-    -- what matches is the same as one of the other pairs
+    -- a matched pair is the same as one of the other map
     match_same : (i : ℕ) → i < length homes → pair_matches w k v key_hash same_key same_value b (pair_at w k v b p homes i) c r ≡ true
         → (j : ℕ) × (j < length others) × (entry_same k v same_key same_value b (pair_at w k v b p homes i) c (pair_at w k v c r others j) ≡ true)
     unfolding same_at
@@ -80,7 +81,7 @@ module _ (w : Width) (k v : Shape) (kl : IsElement k) (vl : IsElement v) (key_ha
               )
         ]
 
-    -- and what is the same as one of the other pairs matches
+    -- a pair that is the same as one of the other map is matched
     same_matches : (i j : ℕ) → i < length homes → j < length others
         → entry_same k v same_key same_value b (pair_at w k v b p homes i) c (pair_at w k v c r others j) ≡ true
         → pair_matches w k v key_hash same_key same_value b (pair_at w k v b p homes i) c r ≡ true

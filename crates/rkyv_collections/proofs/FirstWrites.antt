@@ -1,4 +1,4 @@
--- A write of the first pair of a list whose key is asked for.
+-- Writes of the value of the first pair of a list with an accepted key.
 use Rattle.std.proofs.Common.{◌≡◌, ℕ, suc, ◌<◌, ◌∙◌, ap, arith, inl, inr, ◌⊎◌, Bool, true, false, List, [], ◌∷◌, length, slice_get, slice_index, Option, None, Some, refl, subst, sym}
 use Rattle.std.specs.Borrow.{MutBor}
 use Rattle.std.specs.Int.{Width}
@@ -24,7 +24,7 @@ use Rattle.rkyv_collections.proofs.ValueWrites.{written_value_stands}
 use Rattle.rkyv_collections.proofs.WrittenPairs.{pair_stands, place_of_pair}
 
 module _ {A B : Type 0} (asks : A → Bool) (value : B) where
-  -- none is asked for and none was accepted; or the place of the n-th, which is the first of both
+  -- the found position is that of the pair `n`, which is the first accepted one of both lists
   pub record IsNth (xs : List ℕ) (ys : List (A × B)) (found : Option ℕ) : Type 0 where
     pub n : ℕ
     pub pair : A × B
@@ -99,14 +99,14 @@ module _ (w : Width) (k v : Shape) (kl : IsElement k) (vl : IsElement v) {A B : 
       let entry = subst (λ z. Standing (entry_shape k v) b z) at (pair_stands w k v kl vl key_hash b p st.homes view st.written i below) in
       alike y.0 (slice_index places i) (standing_key kl vl b (slice_index places i) entry) (st.at i y get).0
 
-  -- where no key is accepted, none is asked for
+  -- if no key is accepted, the list has no accepted pair and is unchanged
   pub none_written : None ≡ find accept places → (false ≡ is_some (first_pair asks pairs)) × MapStands w k v key value key_hash factor b p (with_first asks new pairs)
   none_written found = elim (nth_found asks new accept places pairs count each_alike) [
     | inl none ↦ (ap is_some (sym none.1), subst (λ (l : List (A × B)). MapStands w k v key value key_hash factor b p l) (sym none.2) st)
     | inr r ↦ absurd (let e = found ∙ r.place in cc)
   ]
 
-  -- a map whose first asked value was written stands for the list with that value
+  -- after a write of the first accepted value, the map represents the list with that value
   pub first_written : (kn : StandsNear k key) (vn : StandsNear v value) → HashNear k key_hash → (c : List ℕ) (q : ℕ) → Some q ≡ find accept places
       → WritesValue k v b c q → value c (value_pos k v q) new
       → (true ≡ is_some (first_pair asks pairs)) × MapStands w k v key value key_hash factor c p (with_first asks new pairs)
@@ -119,7 +119,7 @@ module _ (w : Width) (k v : Shape) (kl : IsElement k) (vl : IsElement v) {A B : 
         (ap is_some (sym r.first), subst (λ (l : List (A × B)). MapStands w k v key value key_hash factor c p l) (sym r.written) there)
   ]
 
-  -- by the place of the value
+  -- the same for the position of the value
   pub none_behind : None ≡ option_map (value_pos k v) (find accept places)
       → (false ≡ is_some (first_pair asks pairs)) × MapStands w k v key value key_hash factor b p (with_first asks new pairs)
   none_behind found = none_written (no_place (value_pos k v) (find accept places) found)
@@ -132,7 +132,7 @@ module _ (w : Width) (k v : Shape) (kl : IsElement k) (vl : IsElement v) {A B : 
       first_written kn vn near c t.0 t.1 (record { sealed = subst (λ n. Sealed b n v.size c) t.2 sealed; keeps = subst (λ n. Keeps v b c n) t.2 keeps })
       (subst (λ n. value c n new) t.2 stands)
 
--- what a writer made of an archive, by the place of the value that was found
+-- the result of a writer that is called with the position of the found value
 pub found_written : {F R : Type 0} (post : F → MutBor (List ℕ) → ℕ → R → MutBor (List ℕ) → Type 0) (write : F) (x y : MutBor (List ℕ)) (r : R) (pos : ℕ) (place : Option ℕ)
     → Some pos ≡ place → post write x pos r y → WritesFound post write x.now (Some r) y.now place
 found_written post write x y r pos place e h = subst (WritesFound post write x.now (Some r) y.now) e (r, refl, (x, y, refl, refl, h))

@@ -1,4 +1,4 @@
--- What is found in the table of a map, told of the map.
+-- From a lookup in the table of a map to a lookup in the map.
 use Rattle.rkyv_base.specs.declared.width.Word.{Ghosts as Words}
 use Rattle.std.proofs.Common.{◌≡◌, ℕ, ◌<◌, ◌^◌, ◌∙◌, ap, sym, Bool, List, None, Option, Some, map}
 use Rattle.std.specs.Borrow.{Bor}
@@ -30,7 +30,7 @@ module _ {K V H W : Type 0} {wt : Words W} (w : Width) (k v : Shape) (m : Archiv
   same_place : table_pos t ≡ map_pos m
   same_place = at.1
 
-  -- what is told of an item by its key is told by the position of the key
+  -- a comparison of an entry by its key depends only on the position of the key
   told_by_key : (post : View K → Bool → Type 0) (accept : ℕ → Bool) → AnswersKeys w k v m post accept
       → (entry : View (Entry K V)) (r : Bool) → IsItem w (entry_shape k v) t entry
       → (key : View K) × IsAt key (archive_of entry) (pos_of entry) × IsView k key × post key r
@@ -38,12 +38,12 @@ module _ {K V H W : Type 0} {wt : Words W} (w : Width) (k v : Shape) (m : Archiv
   told_by_key post accept alone entry r item e =
       alone e.0 r (key_of_entry w k v m entry e.0 (entry_of_item w k v m t at entry item) e.1 e.2) e.3 ∙ ap accept e.1.1
 
-  -- an item that was found is an entry of the map
+  -- a found item is an entry of the map
   pub entry_found : (result : Option (View (Entry K V))) → IfSome result (IsItem w (entry_shape k v) t) → IfSome result (IsEntryIn w k v m)
   entry_found None item = item
   entry_found (Some entry) item = entry_of_item w k v m t at entry item
 
-  -- the table finds what the map does
+  -- the table finds the same position as the map
   found_there : (hash asked : ℕ) (accept : ℕ → Bool) → hash ≡ asked
       → pos_found generic_kind w (entry_shape k v).size (table_bytes t) (table_pos t) hash accept
       ≡ pos_found generic_kind w (entry_shape k v).size (map_bytes m) (map_pos m) asked accept
@@ -51,7 +51,8 @@ module _ {K V H W : Type 0} {wt : Words W} (w : Width) (k v : Shape) (m : Archiv
       let found : List ℕ → ℕ → ℕ → Option ℕ = λ b p h. pos_found generic_kind w (entry_shape k v).size b p h accept in
       ap (λ b. found b (table_pos t) hash) same ∙ ap (λ p. found (map_bytes m) p hash) same_place ∙ ap (found (map_bytes m) (map_pos m)) e
 
-  -- it was written with the same homes, at the same places, and what is accepted is under the hash
+  -- the table was written with the same home buckets and the same positions,
+  -- and each accepted item is under the hash
   written_there : (hashes homes : List ℕ) → WrittenAt w (map_bytes m) (map_pos m) hashes homes → WrittenAt w (table_bytes t) (table_pos t) hashes homes
   written_there hashes homes written = rw (same, same_place) written
 
@@ -68,7 +69,8 @@ module _ {K V H W : Type 0} {wt : Words W} (w : Width) (k v : Shape) (m : Archiv
       let here = under_hash w k v m hash key_hash accept homes (λ q place fits. under q place fits ∙ sym e) written in
       rw (places_there homes) here
 
-  -- what the table finds by a comparison of entries, each asked by its key, is what the map finds by the comparison of keys
+  -- a lookup in the table that compares each entry by its key finds the same as one in the map
+  -- that compares keys
   module _ (compared : View (Entry K V) → Bool → Type 0) (post : View K → Bool → Type 0) (hash asked : ℕ) (same_hash : hash ≡ asked) (result : Option (View (Entry K V))) where
     abbrev AskedByKey : Type 0
     AskedByKey = (entry : View (Entry K V)) (r : Bool) → compared entry r → (key : View K) × IsAt key (archive_of entry) (pos_of entry) × IsView k key × post key r
@@ -85,7 +87,7 @@ module _ {K V H W : Type 0} {wt : Words W} (w : Width) (k v : Shape) (m : Archiv
         found hashes homes accept (written_there hashes homes written) (answered by_key accept answers) (under_there hash asked key_hash accept homes same_hash under written)
         ∙ ap (find accept) (places_there homes)
 
--- what is found under the hash of a query is the one key that fits, where none is misplaced
+-- if no key is misplaced, a lookup under the hash of a query finds the one key that fits
 pub one_found : {K V H W Q State : Type 0} {wt : Words W} (w : Width) (k v : Shape) (m : ArchivedHashMap K V H W wt) (kl : IsElement k) (vl : IsElement v) (hasher : Hasher State)
     (same_key : Comparison) (key_calls : List ℕ → ℕ → List HasherCall) (can_read : Q → Type 0) (calls : Q → List HasherCall) (fits : Q → List ℕ → ℕ → Bool)
     → IsQuery k same_key key_calls can_read calls fits → IsMap w k v m → (q : Q) → can_read q → hash_of_calls hasher (calls q) < 2 ^ 64 → (Told : Option ℕ → Type 0)

@@ -1,4 +1,4 @@
--- What a lookup finds in a map that stands for a list, in terms of the list.
+-- Lookups in a map that represents a list, in terms of the list.
 use Rattle.std.proofs.Common.{◌≡◌, ℕ, suc, ◌+◌, ◌<◌, ap, sym, ◌∙◌, arith, inl, inr, Bool, true, false, List, [], ◌∷◌, length, slice_get, slice_index, Option, None, Some, subst, refl}
 use Rattle.std.specs.Int.{Width}
 use Rattle.std.specs.List.{find}
@@ -19,7 +19,7 @@ use Rattle.rkyv_collections.specs.MapFormat.{MapStands}
 use Rattle.rkyv_collections.proofs.WrittenPairs.{pair_stands, place_of_pair}
 
 module _ {A B : Type 0} (k v : Shape) (key : List ℕ → ℕ → A → Type 0) (value : List ℕ → ℕ → B → Type 0) (b : List ℕ) where
-  -- of lists that belong together, what is found belongs together
+  -- if two lists correspond, their first accepted items correspond
   found_together : (fits : ℕ → Bool) (asks : A → Bool) (xs : List ℕ) (ys : List (A × B)) → length xs ≡ length ys
       → ((i : ℕ) (y : A × B) → slice_get ys i ≡ Some y → (fits (slice_index xs i) ≡ asks y.0) × PairStands k v key value b (slice_index xs i) y)
       → IsPairOf k v key value b (find fits xs) (first_pair asks ys)
@@ -34,7 +34,7 @@ module _ {A B : Type 0} (k v : Shape) (key : List ℕ → ℕ → A → Type 0) 
         | inr f ↦ rw (here.0, f) rest
       ]
 
-  -- the views of what was found
+  -- the views of the found value and of the found pair
   pub value_listed : {V : Type 0} (place : Option ℕ) (o : Option (A × B)) (result : Option (View V)) → IfSome result (λ x. x.archive.now ≡ b)
       → IsPairOf k v key value b place o → IsValueAt k v result place → IsFoundValue value result (option_map (λ pair. pair.1) o)
   value_listed None None None same t e = tt
@@ -77,7 +77,7 @@ module _ {A B : Type 0} (k v : Shape) (key : List ℕ → ℕ → A → Type 0) 
   contains_listed None (Some pair) result t e = absurd t
   contains_listed (Some q) None result t e = absurd t
 
--- the first accepted key is that of the first pair that is asked for
+-- the first accepted key is that of the first accepted pair
 pub first_listed : (w : Width) (k v : Shape) (kl : IsElement k) (vl : IsElement v) {A B : Type 0} (key : List ℕ → ℕ → A → Type 0) (value : List ℕ → ℕ → B → Type 0) (hash : List ℕ → ℕ → ℕ)
     (factor : ℕ × ℕ) (b : List ℕ) (p : ℕ) (pairs : List (A × B)) → Viewed (map_shape w k v) b p → (accept : ℕ → Bool) (asks : A → Bool) → AsksFor k key b accept asks
     → (h : MapStands w k v key value hash factor b p pairs)

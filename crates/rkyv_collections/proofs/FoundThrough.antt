@@ -1,4 +1,4 @@
--- From the entry that a lookup finds to what it answers.
+-- From the entry that a lookup finds to its result.
 use Rattle.rkyv_base.specs.declared.width.Word.{Ghosts as Words}
 use Rattle.std.proofs.Common.{◌≡◌, ℕ, ◌+◌, ◌<◌, ◌^◌, ◌∙◌, Bool, List, None, Option, Some, ap, refl, sym, subst}
 use Rattle.std.specs.Borrow.{Bor}
@@ -24,7 +24,7 @@ use Rattle.rkyv_collections.proofs.FoundEntries.{entry_found, first_by_key, foun
 use Rattle.rkyv_collections.proofs.Lookups.{query_under_hash}
 
 module _ {K V H W State : Type 0} {wt : Words W} (w : Width) (k v : Shape) (m : ArchivedHashMap K V H W wt) (hasher : Hasher State) where
-  -- what is said of the one that was found is said of what is made of it
+  -- the clauses on a found value are clauses on each value that is made of it
   module _ {X Y : Type 0} (calls : List HasherCall) (key_calls : List ℕ → ℕ → List HasherCall)
       (In : Width → Shape → Shape → ArchivedHashMap K V H W wt → X → Type 0) (OutIn : Width → Shape → Shape → ArchivedHashMap K V H W wt → Y → Type 0)
       (At : Option X → Option ℕ → Type 0) (OutAt : Option Y → Option ℕ → Type 0) (found : Option X) (result : Option Y)
@@ -45,7 +45,7 @@ module _ {K V H W State : Type 0} {wt : Words W} (w : Width) (k v : Shape) (m : 
       first = λ accept answers under homes written. at _ (h.first accept answers under homes written);
     }
 
-  -- a lookup by a comparison that tells which keys fit is one of the query
+  -- a lookup by a comparison with the keys that a query fits is a lookup of the query
   pub gets_query : {Q X : Type 0} (kl : IsElement k) (vl : IsElement v) (same_key : Comparison) (key_calls : List ℕ → ℕ → List HasherCall)
       (can_read : Q → Type 0) (calls : Q → List HasherCall) (fits : Q → List ℕ → ℕ → Bool) → IsQuery k same_key key_calls can_read calls fits → IsMap w k v m
       → (q : Q) → can_read q → hash_of_calls hasher (calls q) < 2 ^ 64
@@ -64,11 +64,11 @@ module _ {K V H W State : Type 0} {wt : Words W} (w : Width) (k v : Shape) (m : 
       }
 
 module _ {K V H W : Type 0} {wt : Words W} (w : Width) (k v : Shape) (m : ArchivedHashMap K V H W wt) where
-  -- an entry of the map is viewed
+  -- an entry of the map is valid
   pub entry_viewed : (found : Option (View (Entry K V))) → IfSome found (IsEntryIn w k v m) → IfSome found (IsView (entry_shape k v))
   entry_viewed found walked = IfSome_then found walked (λ entry there. there.1)
 
-  -- the pair of an entry of the map is one of the map
+  -- the pair of an entry of the map is a pair of the map
   pair_walked : (found : Option (View (Entry K V))) (result : Option (View K × View V)) → IsPairOfEntry k v result found → IfSome found (IsEntryIn w k v m) → IfSome result (IsPairIn w k v m)
   pair_walked None result is walked = subst (λ r. IfSome r (IsPairIn w k v m)) (sym is) tt
   pair_walked (Some entry) result is walked = subst (λ r. IfSome r (IsPairIn w k v m)) (sym is.1) (record {
@@ -77,7 +77,7 @@ module _ {K V H W : Type 0} {wt : Words W} (w : Width) (k v : Shape) (m : Archiv
     at = (is.4.0 ∙ walked.0, is.4.1 ∙ ap (λ q. q + value_offset k v) (sym is.2.1));
   })
 
-  -- and its value
+  -- the value of an entry of the map is a value of the map
   value_walked : (found : Option (View (Entry K V))) (result : Option (View V)) → IsValueOfEntry k v result found → IfSome found (IsEntryIn w k v m) → IfSome result (IsValueIn w k v m)
   value_walked None result is walked = subst (λ r. IfSome r (IsValueIn w k v m)) (sym is) tt
   value_walked (Some entry) result is walked = subst (λ r. IfSome r (IsValueIn w k v m)) (sym is.1) (record {
@@ -88,17 +88,17 @@ module _ {K V H W : Type 0} {wt : Words W} (w : Width) (k v : Shape) (m : Archiv
   })
 
 module _ {K V : Type 0} (k v : Shape) where
-  -- the pair stands where the entry was found
+  -- the pair is at the position of the found entry
   pair_at : (found : Option (View (Entry K V))) (result : Option (View K × View V)) → IsPairOfEntry k v result found → (place : Option ℕ) → IsEntryAt found place → IsPairAt result place
   pair_at None result is place at = ap key_pos_found is ∙ at
   pair_at (Some entry) result is place at = ap key_pos_found is.1 ∙ ap Some is.2.1 ∙ at
 
-  -- and the value behind it
+  -- the value is behind the position of the found entry
   value_at : (found : Option (View (Entry K V))) (result : Option (View V)) → IsValueOfEntry k v result found → (place : Option ℕ) → IsEntryAt found place → IsValueAt k v result place
   value_at None result is place at = ap pos_of_found is ∙ ap (option_map (λ (q : ℕ). q + value_offset k v)) at
   value_at (Some entry) result is place at = ap pos_of_found is.1 ∙ ap Some is.2.1 ∙ ap (option_map (λ (q : ℕ). q + value_offset k v)) at
 
--- so what a lookup says of the entry that it finds is said of the pair of it, and of its value
+-- the clauses of a lookup on a found entry are clauses on its pair and on its value
 module _ {K V H W State : Type 0} {wt : Words W} {w : Width} {k v : Shape} {m : ArchivedHashMap K V H W wt} {hasher : Hasher State} {calls : List HasherCall} {key_calls : List ℕ → ℕ → List HasherCall} {found : Option (View (Entry K V))} where
   pub pair_of_key : {same : Comparison} {fits : List ℕ → ℕ → Bool} {result : Option (View K × View V)} → GetsKey IsEntryIn IsEntryAt w k v m hasher calls key_calls same fits found → IsPairOfEntry k v result found
       → GetsKey IsPairIn IsPairAt w k v m hasher calls key_calls same fits result
@@ -118,7 +118,7 @@ module _ {K V H W State : Type 0} {wt : Words W} {w : Width} {k v : Shape} {m : 
       → GetsBy IsValueIn (IsValueAt k v) w k v m hasher calls key_calls post result
   value_by {post} {result} got is = by_through w k v m hasher calls key_calls IsEntryIn IsValueIn IsEntryAt (IsValueAt k v) found result (value_walked w k v m found result is) (value_at k v found result is) post got
 
--- of the pair a set answers the key
+-- a set returns the key of the pair
 module _ {K V H W State : Type 0} {wt : Words W} {w : Width} {k v : Shape} {m : ArchivedHashMap K V H W wt} {hasher : Hasher State} {calls : List HasherCall} {key_calls : List ℕ → ℕ → List HasherCall}
     {same : Comparison} {fits : List ℕ → ℕ → Bool} where
   pub member_of_pair : {pair : View K × View V} → GetsKey IsPairIn IsPairAt w k v m hasher calls key_calls same fits (Some pair) → GetsKey IsKeyIn IsEntryAt w k v m hasher calls key_calls same fits (Some pair.0)
@@ -127,12 +127,12 @@ module _ {K V H W State : Type 0} {wt : Words W} {w : Width} {k v : Shape} {m : 
   pub no_member : GetsKey IsPairIn IsPairAt w k v m hasher calls key_calls same fits None → GetsKey IsKeyIn IsEntryAt w k v m hasher calls key_calls same fits None
   no_member got = record { walked = tt; answer = got.answer; first = got.first; complete = got.complete }
 
--- an entry that was found somewhere was found
+-- an entry that has a position is found
 pub some_found : {E : Type 0} (found : Option (View E)) (place : Option ℕ) → IsEntryAt found place → IsSome place → IsSome found
 some_found None place at some = subst IsSome (sym at) some
 some_found (Some entry) place at some = refl
 
--- what a lookup in the table by the keys that fit says is said of the map
+-- the clauses of a lookup in the table by the keys that fit are clauses on the map
 module _ {K V H W Q State : Type 0} {wt : Words W} (w : Width) (k v : Shape) (m : ArchivedHashMap K V H W wt) (t : ArchivedHashTable (Entry K V) W wt) (at : IsAt t.view (map_archive m) (map_pos m)) (kl : IsElement k) (vl : IsElement v)
     (hasher : Hasher State) (same_key : Comparison) (key_calls : List ℕ → ℕ → List HasherCall) (can_read : Q → Type 0) (calls : Q → List HasherCall) (fits : Q → List ℕ → ℕ → Bool)
     (query : IsQuery k same_key key_calls can_read calls fits) (is : IsMap w k v m) (q : Q) (can : can_read q) (hash : ℕ) (under : hash ≡ hash_of_calls hasher (calls q)) (small : hash < 2 ^ 64)

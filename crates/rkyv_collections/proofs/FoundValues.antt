@@ -1,4 +1,4 @@
--- What a lookup by a name finds is what stands in the list, and what is read at its place.
+-- A lookup by a name finds the value of the list, which is read at its position.
 use Rattle.rkyv_base.specs.declared.width.Word.{Ghosts as Words}
 use Rattle.std.proofs.Common.{◌≡◌, ℕ, List, Option, None, Some, Result, Ok, Err, MatchResult, IfOk, ap, refl, sym, ◌∙◌}
 use Rattle.std.specs.Borrow.{Bor}
@@ -9,12 +9,12 @@ use Rattle.rkyv_collections.specs.Map.{map_bytes, map_pos}
 use Rattle.rkyv_collections.specs.declared.map.ArchivedHashMap.{ArchivedHashMap}
 use Rattle.rkyv_collections.specs.declared.map.HashMapOf.{HashMapOf}
 
--- a map that is read where a view is has its bytes and its place
+-- a map that is read at a view has the bytes and the position of the view
 pub read_at : {K V H W : Type 0} {wt : Words W} (m : ArchivedHashMap K V H W wt) (v : View (HashMapOf K V H W)) (b : Bor (List ℕ)) (p : ℕ) → m.view ≡ v → IsAt v b p → (map_bytes m ≡ b.now) × (map_pos m ≡ p)
 read_at {K} {V} {H} {W} m v b p e at =
     (ap (λ (x : View (HashMapOf K V H W)). x.archive.now) e ∙ ap (λ (a : Bor (List ℕ)). a.now) at.0, ap (λ (x : View (HashMapOf K V H W)). x.pos) e ∙ at.1)
 
--- the number that was found is that of the list, and none is in the list where none was found
+-- a found number is that of the list, and the list has none if none is found
 pub number_listed : {V : Type 0} (num : List ℕ → ℕ → ℕ) (view : View V) (n : ℕ) (o : Option ℕ) → num view.archive.now view.pos ≡ n → IsFoundValue (λ b p v. num b p ≡ v) (Some view) o → Some n ≡ o
 number_listed num view n None e h = absurd h
 number_listed num view n (Some v) e h = ap Some (sym e ∙ h)
@@ -23,7 +23,7 @@ pub none_listed : {B : Type 0} (stands : List ℕ → ℕ → B → Type 0) (o :
 none_listed stands None h = refl
 none_listed stands (Some v) h = absurd h
 
--- what is known of an Ok
+-- a property of the `Ok` of a result
 pub on_ok : {T E : Type 0} (P R : T → Type 0) (Q : E → Type 0) (r : Result T E) → ((x : T) → P x → R x) → MatchResult r P Q → IfOk r R
 on_ok P R Q (Ok x) f h = f x h
 on_ok P R Q (Err e) f h = tt

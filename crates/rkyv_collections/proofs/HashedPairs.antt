@@ -1,4 +1,4 @@
--- What is written of pairs under the hashes of their keys is the map of the pairs.
+-- A table of pairs under the hashes of their keys is the map of the pairs.
 use Rattle.std.proofs.Common.{◌≡◌, ℕ, refl, ap, subst, ◌∙◌, inl, inr, List, [], ◌∷◌, map, length, Option, Result, Ok, Err, MatchResult}
 use Rattle.std.specs.Int.{Width}
 use Rattle.std.specs.Iterator.{Drains, Yields}
@@ -22,14 +22,14 @@ use Rattle.rkyv_table.proofs.Through.{drains_through, other_through, own_counted
 use Rattle.rkyv_collections.proofs.SeenItems.{seen_gave_up, seen_pairs, seen_serialized}
 
 module _ {T S BK BV A B : Type 0} (inner : T → S) (steps : S → Option (BK × BV) → S → Type 0) (hash : BK → ℕ) where
-  -- a state has the state of the pairs' iterator, and steps as that does
+  -- a state has the state of the iterator of pairs, and steps as that does
   abbrev pub Steps : T → Option (ℕ × EntryAdapter BK BV A B) → T → Type 0
   Steps s r t = HashedStep steps hash (inner s) r (inner t)
 
   abbrev pub items_in : List (ℕ × EntryAdapter BK BV A B) → List (BK × BV)
   items_in xs = map (λ x. (x.1.key, x.1.value)) xs
 
-  -- each is under the hash of its key
+  -- each pair is under the hash of its key
   abbrev pub AreHashed : List (ℕ × EntryAdapter BK BV A B) → Type 0
   AreHashed [] = Unit {0}
   AreHashed (x ∷ xs) = (x.0 ≡ hash x.1.key) × AreHashed xs
@@ -95,7 +95,7 @@ module _ {T S BK BV A B : Type 0} (inner : T → S) (steps : S → Option (BK ×
                 (seen_gave_up (pair_of key value) (pair_format k v kf vf) w (entry_shape k v) factor xs o o' limit e h.3),
           )
 
-      -- what writing the table of the hashed pairs answers, as what writing the map does
+      -- the result of writing the table of the hashed pairs is that of writing the map
       pub answers_map : (result : Result TableResolver (WriteError F))
           → MatchResult result (WroteItems (Drains Given s) len factor max TableOf o o' limit) (NoItems (Drains Given s) len factor max TableOf o o' limit (GaveOther Given len s))
           → MatchResult result (WroteItems (Drains steps (inner s)) len factor max MapOf o o' limit) (NoItems (Drains steps (inner s)) len factor max MapOf o o' limit (GaveOther steps len (inner s)))

@@ -1,4 +1,4 @@
--- What was written as the root of an archive, by any relation that its format keeps.
+-- The root of a written archive, under any relation that its format keeps.
 use Rattle.std.proofs.Common.{◌≡◌, ℕ, ◌+◌, ◌-◌, arith, List, length}
 use Rattle.std.proofs.lemmas.List.{take_all}
 use Rattle.rkyv_base.specs.Bytes.{Sits}

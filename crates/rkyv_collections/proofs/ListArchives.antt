@@ -1,4 +1,4 @@
--- The archive that was made of a list, and the scalar of a value that was found in one.
+-- The archive of a list, and the scalar of a value that is found in it.
 use Rattle.std.proofs.Common.{◌≡◌, ℕ, Err, List, MatchResult, None, Ok, Option, Result, Some, ap, refl, subst}
 use Rattle.std.specs.Int.{Width}
 use Rattle.std.specs.declared.vec.Vec.{Vec}
@@ -13,14 +13,14 @@ use Rattle.rkyv_collections.specs.ListedLookups.{IsFoundValue}
 use Rattle.rkyv_collections.specs.Map.{map_shape}
 use Rattle.rkyv_collections.specs.MapFormat.{MapStands}
 
--- what `to_bytes` makes of a list that has these pairs
+-- the result of `to_bytes` for a list with these pairs
 pub list_archive : {A B : Type 0} {limit : ℕ} {w : Width} {k v : Shape} {key : List ℕ → ℕ → A → Type 0} {value : List ℕ → ℕ → B → Type 0} {hash : List ℕ → ℕ → ℕ} {factor : ℕ × ℕ}
     {b : List ℕ} {pairs pairs' : List (A × B)} → Accepted limit (map_shape w k v) b → MapStands w k v key value hash factor b (map_root w k v b) pairs' → pairs' ≡ pairs
     → IsListArchive limit w k v key value hash b pairs
 list_archive {limit = limit} {w = w} {k = k} {v = v} {key = key} {value = value} {hash = hash} {factor = factor} {b = b} accepted stands e =
     subst (λ x. IsListArchive limit w k v key value hash b x) e (record { accepted = accepted; load_factor = factor; stands = stands })
 
--- what `to_bytes` answers of a list of texts that has these pairs
+-- the result of `to_bytes` for a list of texts with these pairs
 pub text_map_result : {F N Z : Type 0} (e : Encoding N) {factor : ℕ × ℕ} {pairs pairs' : TextPairs N} (result : Result (Vec ℕ Z) (WriteError F)) → factor ≡ (7, 8) → pairs' ≡ pairs
     → MatchResult result (λ archive. ArchiveOf 4_294_967_295 (text_map_shape e) (TextMapStands e factor) (text_map_format e factor) pairs' archive.items)
     (ArchiveRefused 4_294_967_295 (text_map_shape e) (text_map_format e factor) pairs')
@@ -29,7 +29,7 @@ text_map_result e (Ok archive) is_factor is_pairs made = list_archive made.0 mad
 text_map_result e {factor = factor} {pairs' = pairs'} (Err why) is_factor is_pairs refused =
     subst (λ x. NoTextMap e x why) is_pairs (subst (λ x. ArchiveRefused 4_294_967_295 (text_map_shape e) (text_map_format e x) pairs' why) is_factor refused)
 
--- where a value that was found stands, its scalar stands
+-- a found value is that of its scalar
 pub scalar_listed : {N : Type 0} (e : Encoding N) (found : Option (View N)) (o : Option N) → IsFoundValue (ScalarStands e) found o → scalar_found e found ≡ o
 scalar_listed e None None h = refl
 scalar_listed e (Some view) (Some v) h = ap Some h

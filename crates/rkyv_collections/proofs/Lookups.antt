@@ -1,4 +1,4 @@
--- From what a table finds to what a map does.
+-- From a lookup in a table to a lookup in a map.
 use Rattle.rkyv_base.specs.declared.width.Word.{Ghosts as Words}
 use Rattle.std.proofs.Common.{◌≡◌, ℕ, ◌<◌, ◌∙◌, None, Some, ap, sym, arith, Bool, length, map, subst, List, Option, slice_index}
 use Rattle.std.specs.Int.{Width}
@@ -22,7 +22,7 @@ use Rattle.rkyv_collections.specs.declared.map.ArchivedHashMap.{ArchivedHashMap}
 use Rattle.rkyv_table.proofs.WrittenTables.{home_count, home_pos, home_walked}
 
 module _ {K V H W : Type 0} {wt : Words W} (w : Width) (k v : Shape) (m : ArchivedHashMap K V H W wt) where
-  -- an item of its table is an entry of the map
+  -- an item of the table is an entry of the map
   pub entry_of_item : (t : ArchivedHashTable (Entry K V) W wt) → IsAt t.view (map_archive m) (map_pos m) → (entry : View (Entry K V)) → IsItem w (entry_shape k v) t entry
       → IsEntryIn w k v m entry
   entry_of_item t at entry item =
@@ -30,7 +30,7 @@ module _ {K V H W : Type 0} {wt : Words W} (w : Width) (k v : Shape) (m : Archiv
       let place : entry.pos ≡ item_at w (entry_shape k v).size (map_bytes m) (map_pos m) item.0 = rw (← at.0, ← at.1) item.1.place in
       (item.1.archive ∙ at.0, item.1.viewed, (item.0, walked, place))
 
-  -- where the key of an entry is viewed, it is a key of the map
+  -- a valid key at an entry of the map is a key of the map
   pub key_of_entry : (entry : View (Entry K V)) (key : View K) → IsEntryIn w k v m entry → IsAt key (archive_of entry) (pos_of entry) → IsView k key
       → IsKeyIn w k v m key
   key_of_entry entry key is at viewed = record {
@@ -39,7 +39,7 @@ module _ {K V H W : Type 0} {wt : Words W} (w : Width) (k v : Shape) (m : Archiv
     place = (is.2.0, is.2.1, at.1 ∙ is.2.2);
   }
 
-  -- the keys under the asked hash are the items under it
+  -- the keys under the hash are the items under it
   pub under_hash : (hash : ℕ) (key_hash : List ℕ → ℕ → ℕ) (accept : ℕ → Bool) (homes : List ℕ)
       → AreUnderHash w k v m hash key_hash accept → MapWrittenAt w (entry_shape k v) key_hash (map_bytes m) (map_pos m) homes
       → IsUnderHash hash (map (key_hash (map_bytes m)) (home_positions w (entry_shape k v).size (map_bytes m) (map_pos m) homes))
@@ -56,7 +56,7 @@ module _ {K V H W : Type 0} {wt : Words W} (w : Width) (k v : Shape) (m : Archiv
       let n : length hashes ≡ length places = length-map places (key_hash b) in
       get_or-map (key_hash b) places i 0 0 (omega arith) ∙ here
 
-  -- a query accepts keys under its own hash alone
+  -- a query accepts only keys under its own hash
   pub query_under_hash : {Q State : Type 0} (kl : IsElement k) (vl : IsElement v) (hasher : Hasher State)
       (same : Comparison) (key_calls : List ℕ → ℕ → List HasherCall) (can_read : Q → Type 0) (calls : Q → List HasherCall) (fits : Q → List ℕ → ℕ → Bool)
       → IsQuery k same key_calls can_read calls fits → IsMap w k v m → (q : Q) → can_read q
@@ -67,7 +67,7 @@ module _ {K V H W : Type 0} {wt : Words W} (w : Width) (k v : Shape) (m : Archiv
       let stands : Standing k b place = standing_key kl vl b place (subst (Standing (entry_shape k v) b) (sym key.2) item.stands) in
       ap (hash_of_calls hasher) (sym (query.alike q b place can stands accepted))
 
--- whether an entry was found is whether it was found somewhere
+-- an entry is found if and only if it has a position
 pub some_at : {E : Type 0} (found : Option (View E)) (place : Option ℕ) (answer : Bool) → answer ≡ is_some found → IsEntryAt found place → IsFoundAt answer place
 some_at None place answer e at = rw (e, ← at) (λ t. t, λ t. t)
 some_at (Some entry) place answer e at = rw (e, ← at) (λ t. t, λ t. t)

@@ -13,7 +13,7 @@ pub record IsMatching (rows columns : ℕ) (same : ℕ → ℕ → Bool) : Type 
   pub each : (i : ℕ) → i < rows → (j : ℕ) × (j < columns) × (same i j ≡ true)
   pub apart : (i i' j : ℕ) → i < rows → i' < rows → j < columns → same i j ≡ true → same i' j ≡ true → i ≡ i'
 
--- numbers that differ and lie below a bound are at most so many
+-- distinct numbers below a bound are at most as many as the bound
 few_below : (f : ℕ → ℕ) (n bound : ℕ) → ((i j : ℕ) → i < n → j < n → f i ≡ f j → i ≡ j) → ((i : ℕ) → i < n → f i < bound) → n ≤ bound
 few_below f n bound differ below =
     let l = length-map-range_with_len f 0 n in
@@ -22,7 +22,7 @@ few_below f n bound differ below =
     omega arith
 
 module _ (rows columns : ℕ) (same : ℕ → ℕ → Bool) (matching : IsMatching rows columns same) where
-  -- the first column that is the same
+  -- the first column that is the same as the row
   column : ℕ → ℕ
   column i = position_or_len (same i) (range_with_len 0 columns)
 
@@ -45,11 +45,11 @@ module _ (rows columns : ℕ) (same : ℕ → ℕ → Bool) (matching : IsMatchi
       let y = column_same j hj in
       matching.apart i j (column i) hi hj x.0 x.1 (ap (same j) e ∙ y.1)
 
-  -- there are at least as many columns
+  -- there are at least as many columns as rows
   pub rows_within : rows ≤ columns
   rows_within = few_below column rows columns columns_differ (λ i h. (column_same i h).0)
 
-  -- and where there are as many, each column has a row
+  -- if there are as many rows as columns, each column has a row
   pub column_matched : rows ≡ columns → (j : ℕ) → j < columns → (i : ℕ) × (i < rows) × (same i j ≡ true)
   column_matched equal j h = elim (cases_Bool (list_any (λ i. same i j) (range_with_len 0 rows))) [
     | inl some ↦

@@ -1,4 +1,4 @@
--- Keys of a map that a lookup doesn't answer where they stand.
+-- Keys of a map that a lookup of their own doesn't find.
 use Rattle.std.proofs.Common.{◌≡◌, ℕ, ◌^◌, ◌<◌, ◌||◌, ◌∷◌, [], ◌∙◌, inl, inr, refl, sym, ap, arith, subst, List, Bool, true, Option, Some, None, length, filter, map, take, slice_index}
 use Rattle.std.specs.Option.{option_map}
 use Rattle.std.specs.Prelude.{MatchOption}
@@ -28,7 +28,7 @@ use Rattle.rkyv_collections.specs.Map.{MapWrittenAt, hash_at, map_shape}
 use Rattle.rkyv_collections.specs.Misplaced.{FindsTheOne, RepeatedKeysAreMisplaced, map_misplaced}
 use Rattle.rkyv_collections.proofs.WrittenPairs.{hash_of_pair, pair_count, pair_stands}
 
--- what repeats among items repeats among their places
+-- the number of repeated items is that of repeated positions
 module _ (at : ℕ → ℕ) (same : ℕ → ℕ → Bool) (homes : List ℕ) where
   any_earlier : (x : ℕ) (is : List ℕ) → list_any (λ j. same x (at j)) is ≡ list_any (same x) (map at is)
   any_earlier x [] = refl
@@ -86,7 +86,7 @@ module _ (w : Width) (k v : Shape) (kl : IsElement k) (vl : IsElement v) (key_ha
   pub repeated_keys_misplaced : RepeatedKeysAreMisplaced w k v key_hash same_key
   repeated_keys_misplaced b p homes view written = repeated_keys b p homes view written
 
--- where no key is misplaced, a lookup finds the one key that fits
+-- if no key is misplaced, a lookup finds the one key that fits
 module _ {Q State : Type 0} (w : Width) (k v : Shape) (kl : IsElement k) (vl : IsElement v) (hasher : Hasher State)
     (same : Comparison) (key_calls : List ℕ → ℕ → List HasherCall) (can_read : Q → Type 0) (calls : Q → List HasherCall) (fits : Q → List ℕ → ℕ → Bool)
     (query : IsQuery k same key_calls can_read calls fits) (b : List ℕ) (p : ℕ) (view : Viewed (map_shape w k v) b p) (q : Q) (can : can_read q)

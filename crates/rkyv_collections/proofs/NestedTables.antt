@@ -22,7 +22,7 @@ use Rattle.rkyv_table.specs.Table.Reading.{IsWalked, item_at, table_controls}
 use Rattle.rkyv_table.proofs.Items.{part_of}
 use Rattle.rkyv_collections.specs.NestedWrites.{HoldsBefore, StaysAt, WritesParts}
 
--- what lies before the lower end, and from the upper end on, is the same
+-- the bytes before the lower end and those from the upper end on are the same
 module _ (b c : List ℕ) (lo l : ℕ) (o : lo ≤ l) (sealed : Sealed b lo (l - lo) c) where
   pub same_below : (i j : ℕ) → i ≤ j → j ≤ lo → Same b c i j
   same_below i j ij h = same_outside b lo (l - lo) c sealed i j ij (inl h)
@@ -30,7 +30,7 @@ module _ (b c : List ℕ) (lo l : ℕ) (o : lo ≤ l) (sealed : Sealed b lo (l -
   pub same_above : (i j : ℕ) → i ≤ j → l ≤ i → Same b c i j
   same_above i j ij h = same_outside b lo (l - lo) c sealed i j ij (inr (omega arith))
 
--- two of the values that hold one after the other: the parts of the first lie before those of the second
+-- two valid values in turn: the parts of the first are before those of the second
 pub record InTurn (s : Shape) (b : List ℕ) (q r lo hi l : ℕ) : Type 0 where
   pub first : HoldsWithin s b q lo hi l
   pub second : HoldsWithin s b r lo hi l
@@ -70,7 +70,7 @@ module _ (s : Shape) (law : IsElement s) (at : ℕ → ℕ) where
   ]
 
   module _ (b c : List ℕ) (hi : ℕ) (fixed : (j : ℕ) → Same b c (at j) (at j + s.size)) where
-    -- where all parts are the same, all hold
+    -- if all parts are the same, all items stay valid
     chain_stays : (is : List ℕ) (lo l : ℕ) → lo ≤ hi → Same b c lo hi → AllHold s at b hi is lo l → AllHold s at c hi is lo l
     chain_stays [] lo l o same h = h
     chain_stays (j ∷ is) lo l o same h =
@@ -80,7 +80,8 @@ module _ (s : Shape) (law : IsElement s) (at : ℕ → ℕ) where
           chain_stays is h.0 l k.1 (same_part b c lo hi h.0 hi k.0 (omega arith) k.1 same) h.2,
         )
 
-    -- where the parts of one were written, all hold, and the bytes before all parts are the same
+    -- if the parts of one item were written, all items stay valid, and the bytes
+    -- before all parts are the same
     pub chain_kept : (P : ℕ → Bool) (a n lo l i : ℕ) → lo ≤ hi → hi ≤ at i → WritesParts s b c (at i) → AllHold s at b hi (filter P (range_with_len a n)) lo l
         → a ≤ i → i < a + n → P i ≡ true → AllHold s at c hi (filter P (range_with_len a n)) lo l × Same b c 0 lo
     chain_kept P a zero lo l i o up writes h from to t = absurd (omega arith)
@@ -109,7 +110,7 @@ module _ (s : Shape) (law : IsElement s) (at : ℕ → ℕ) where
           ]
     ]
 
--- what becomes of a table of which one item was written among its parts
+-- a table with one item that was written among its parts
 pub record KeepsOuter (w : Width) (s : Shape) (b c : List ℕ) (p i : ℕ) : Type 0 where
   pub nested : WritesParts (table_shape w s) b c p
   pub header : Same b c p (p + 3 * byte_len w)
@@ -188,7 +189,7 @@ module _ (w : Width) (s : Shape) (law : IsElement s) (b : List ℕ) (p i : ℕ) 
         e,
       )
 
-  -- the bytes outside the part of the table are the same
+  -- the bytes outside the parts of the table are the same
   at_sealed : (lo hi l : ℕ) → TableAt s b (begin_told w s.size b p) cap (len_at w b p) lo hi l → Sealed b lo (l - lo) c
   at_sealed lo hi l (inl h) = absurd (omega (arith, h.1, walked.0))
   at_sealed lo hi l (inr (n, part, is, e)) =

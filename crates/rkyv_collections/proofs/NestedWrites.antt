@@ -1,4 +1,5 @@
--- A write among the parts of one value keeps the map, and the list that it stands for but for that value.
+-- A write among the parts of one value keeps the map. In the list that the map represents,
+-- only that value changes.
 use Rattle.std.proofs.Common.{◌≡◌, ℕ, ◌+◌, ◌-◌, ◌≤◌, ◌∙◌, inl, inr, refl, sym, ap, subst, arith, Bool, List, length, map, Some, slice_index}
 use Rattle.std.specs.Prelude.{slice_get, slice_set}
 use Rattle.std.specs.Int.{Width}
@@ -45,11 +46,11 @@ module _ (k v : Shape) (kl : IsElement k) (vl : IsElement v) (b c : List ℕ) (q
       ((h.0, m, key, writes.holds m hi l x.1 (omega arith) h.3), sealed_wider b c m (l - m) lo (l - lo) x.0 (omega (arith, x.0, y.0)) sealed) in
       record { holds = λ lo hi l o o' h. (wrote lo hi l o o' h).0; sealed = λ lo hi l o o' h. (wrote lo hi l o o' h).1 }
 
-  -- the key of an entry that holds somewhere before it does
+  -- the key of a valid entry is valid, with its parts in some range before it
   abbrev key_before : HoldsBefore S b q → HoldsBefore k b q
   key_before h = record { lower = h.lower; upper = h.upper; rest = h.holds.1; order = h.order; before = h.before; holds = h.holds.2 }
 
-  -- its key stays
+  -- the key of the entry is unchanged
   key_of_own : WritesParts v b c (value_pos k v q) → HoldsBefore S b q → StaysAt k b c q
   key_of_own writes h =
       let m = h.holds.1 in
@@ -63,7 +64,7 @@ module _ (k v : Shape) (kl : IsElement k) (vl : IsElement v) (b c : List ℕ) (q
         parts = same_below b c m h.rest y.0 sealed h.lower m x.0 (omega arith);
       }
 
-  -- of an entry that stays, the key and the value stay
+  -- the key and the value of an unchanged entry are unchanged
   key_of_other : StaysAt S b c q → StaysAt k b c q
   key_of_other s =
       let h = s.held in
@@ -89,7 +90,7 @@ module _ (k v : Shape) (kl : IsElement k) (vl : IsElement v) (b c : List ℕ) (q
         parts = same_part b c h.lower h.rest m h.rest x.0 (omega arith) y.0 s.parts;
       }
 
--- what stood where bytes stay stands there
+-- unchanged bytes represent the same value
 stands_on : {V : Type 0} (s : Shape) (stands : List ℕ → ℕ → V → Type 0) → StandsNear s stands → (x : V) (b c : List ℕ) (q : ℕ) → StaysAt s b c q → stands b q x → stands c q x
 stands_on s stands near x b c q h st = near x b c q h.held.lower h.held.upper h.held.rest h.held.order h.held.holds h.fixed h.parts st
 
@@ -154,7 +155,8 @@ module _ (w : Width) (k v : Shape) (kl : IsElement k) (vl : IsElement v) (key_ha
 module _ (w : Width) (k v : Shape) (kl : IsElement k) (vl : IsElement v) {A B : Type 0} (key : List ℕ → ℕ → A → Type 0) (value : List ℕ → ℕ → B → Type 0)
     (key_hash : List ℕ → ℕ → ℕ) (factor : ℕ × ℕ) (b : List ℕ) (p : ℕ) (pairs : List (A × B)) (new : B) (accept : ℕ → Bool) (asks : A → Bool)
     (view : Viewed (map_shape w k v) b p) (alike : AsksFor k key b accept asks) (st : MapStands w k v key value key_hash factor b p pairs) where
-  -- a map of which the parts of the first asked value were written stands for the list with that value
+  -- after a write among the parts of the first accepted value, the map represents
+  -- the list with the new value
   pub nested_first : StandsNear k key → StandsNear v value → HashNear k key_hash → (c : List ℕ) (pos : ℕ)
       → Some pos ≡ option_map (value_pos k v) (find accept (home_positions w (entry_shape k v).size b p st.homes)) → WritesParts v b c pos → value c pos new
       → MapStands w k v key value key_hash factor c p (with_first asks new pairs)
@@ -190,13 +192,13 @@ value_nested w k v kl vl b c p i view walked writes =
           sealed_wider b c (value_pos k v q) v.size lo (l - lo) (omega (arith, above, x.1)) (omega (arith, above, x.1, x.2, small, within.1)) writes.sealed;
     }
 
--- where the key stands at q, and the value at pos
+-- the same for a key at `q` and its value at `pos`
 pub value_nested_at : (w : Width) (k v : Shape) (kl : IsElement k) (vl : IsElement v) (b c : List ℕ) (p q pos : ℕ) → Viewed (map_shape w k v) b p
     → IsKeyPosAt w k v b p q → pos ≡ value_pos k v q → Sealed b pos v.size c → Keeps v b c pos → WritesParts (map_shape w k v) b c p
 value_nested_at w k v kl vl b c p q pos view at is sealed keeps =
     let there : pos ≡ value_pos k v (item_at w (entry_shape k v).size b p at.0) = is ∙ ap (value_pos k v) at.2 in
     value_nested w k v kl vl b c p at.0 view at.1 (record { sealed = subst (λ n. Sealed b n v.size c) there sealed; keeps = subst (Keeps v b c) there keeps })
 
--- where nothing is written, nothing changes
+-- without a write, nothing changes
 pub unwritten : (s : Shape) (b : List ℕ) (p : ℕ) → WritesParts s b b p
 unwritten s b p = record { holds = λ lo hi l o o' h. h; sealed = λ lo hi l o o' h. record { same_length = refl; before = refl; after = refl } }

@@ -1,4 +1,4 @@
--- A map of which one value was written stands for the list with the new value.
+-- After a write of one value, a map represents the list with the new value.
 use Rattle.std.proofs.Common.{◌≡◌, ◌≢◌, ℕ, ◌+◌, ◌*◌, ◌<◌, ◌∙◌, inl, inr, sym, ap, subst, arith, List, length, map, Some, slice_index}
 use Rattle.std.specs.Prelude.{slice_get, slice_set}
 use Rattle.std.specs.Int.{Width, byte_len}
@@ -19,7 +19,7 @@ use Rattle.rkyv_table.proofs.WrittenTables.{home_count, home_pos, home_walked}
 use Rattle.rkyv_collections.specs.Map.{MapWrittenAt}
 use Rattle.rkyv_collections.specs.MapFormat.{MapStands}
 
--- where all entries stand where they stood, with keys of the same hashes, a written map stays one
+-- if all entries have the same positions and their keys the same hashes, a written map is still one
 pub written_again : (w : Width) (s : Shape) (key_hash : List ℕ → ℕ → ℕ) (b c : List ℕ) (p : ℕ) → ((j : ℕ) → item_at w s.size c p j ≡ item_at w s.size b p j)
     → ((j : ℕ) → IsWalked w b p j → key_hash c (item_at w s.size b p j) ≡ key_hash b (item_at w s.size b p j)) → (homes : List ℕ) → MapWrittenAt w s key_hash b p homes
     → WrittenAt w c p (map (key_hash b) (home_positions w s.size b p homes)) homes → MapWrittenAt w s key_hash c p homes
@@ -55,7 +55,7 @@ module _ (w : Width) (k v : Shape) {A B : Type 0} (key : List ℕ → ℕ → A 
   has_home : (j : ℕ) → j < length pairs → j < length st.homes
   has_home j h = omega (arith, counted)
 
-  -- the bucket of each pair
+  -- the home bucket of the pair `j`
   pub home : ℕ → ℕ
   home j = slice_index st.homes j
 
@@ -70,14 +70,14 @@ module _ (w : Width) (k v : Shape) {A B : Type 0} (key : List ℕ → ℕ → A 
   inside : n < length pairs
   inside = slice_get_within pairs n pair at_n
 
-  -- the bucket of the pair is walked, and the pair stands in it
+  -- the home bucket of the pair is full, and the pair is in it
   pub own_walked : IsWalked w b p (home n)
   own_walked = walked_home n inside
 
   pub own_place : slice_index (places b) n ≡ at (home n)
   own_place = place_home n inside
 
-  -- no two pairs have one home
+  -- no two pairs have one home bucket
   homes_differ : (j : ℕ) → j < length pairs → j ≢ n → home j ≢ home n
   unfolding home
   homes_differ j h ne e = elim st.written.placed [
@@ -105,7 +105,7 @@ module _ (w : Width) (k v : Shape) {A B : Type 0} (key : List ℕ → ℕ → A 
         let before = subst (λ z. PairStands k v key value b z x) (place_home j h) (st.at j x at_j) in
         subst (λ z. PairStands k v key value c z x) (sym (place_stays j h)) (others (home j) (walked_home j h) (homes_differ j h ne) x before)
 
-    -- where the pair stands with the new value, and all others as before
+    -- the pair has the new value, and all other pairs are unchanged
     pub new_value_stands : MapStands w k v key value key_hash factor c p (slice_set pairs n (pair.0, new))
     new_value_stands =
         let y : A × B = (pair.0, new) in

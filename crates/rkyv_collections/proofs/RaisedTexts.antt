@@ -1,4 +1,4 @@
--- A text of a map that is written in upper case in place.
+-- Texts of a map that are written in upper case in place.
 use Rattle.std.proofs.Common.{◌≡◌, ℕ, ◌+◌, ◌≤◌, ◌∙◌, ap, inl, inr, Bool, true, false, List, [], ◌∷◌, length, Option, None, Some, refl, subst, sym}
 use Rattle.std.specs.Borrow.{Bor}
 use Rattle.std.specs.Char.{to_ascii_uppercase}
@@ -27,7 +27,7 @@ use Rattle.rkyv_collections.specs.MapFormat.{MapStands}
 use Rattle.rkyv_collections.proofs.FirstWrites.{first_behind, some_place}
 use Rattle.rkyv_collections.proofs.FoundPairs.{first_listed}
 
--- the list with the first asked text raised is the list with that new value
+-- the list with the first accepted text in upper case is the list with that new value
 raised_first : {A : Type 0} (asks : A → Bool) (pairs : List (A × Bor (List ℕ))) (pair : A × Bor (List ℕ)) → first_pair asks pairs ≡ Some pair → with_first asks (text_raised pair.1) pairs ≡ with_first_raised asks pairs
 raised_first asks [] pair e = absurd cc
 raised_first {A} asks (x ∷ xs) pair e = elim (cases_Bool (asks x.0)) [
@@ -40,7 +40,7 @@ raised_first {A} asks (x ∷ xs) pair e = elim (cases_Bool (asks x.0)) [
 ]
 
 module _ {A : Type 0} (k v : Shape) (key : List ℕ → ℕ → A → Type 0) (value : List ℕ → ℕ → Bor (List ℕ) → Type 0) (b : List ℕ) where
-  -- the pair that was found, by where it was found
+  -- the found pair, by its position
   pair_of : (place : Option ℕ) (q : ℕ) (o : Option (A × Bor (List ℕ))) → Some q ≡ place → IsPairOf k v key value b place o → (pair : A × Bor (List ℕ)) × (o ≡ Some pair) × PairStands k v key value b q pair
   pair_of None q o e h = absurd cc
   pair_of (Some r) q None e h = absurd h

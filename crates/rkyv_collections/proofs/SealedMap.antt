@@ -1,4 +1,4 @@
--- What a lookup tells of the map that is read tells of the seal.
+-- From a lookup in the map that is read to one in the map at the seal.
 use Rattle.rkyv_base.specs.declared.width.Word.{Ghosts as Words}
 use Rattle.std.proofs.Common.{◌≡◌, ℕ, ◌+◌, ◌≤◌, ◌∙◌, sym, ap, subst, Bool, List, None, Option, Some, length}
 use Rattle.std.specs.Borrow.{Bor}
@@ -18,11 +18,11 @@ use Rattle.rkyv_collections.specs.SealedMap.{AnswersKeysAt, FindsByAt, FindsFirs
 use Rattle.rkyv_collections.specs.declared.map.ArchivedHashMap.{ArchivedHashMap}
 
 module _ (w : Width) (k v : Shape) (kl : IsElement k) (vl : IsElement v) (b : List ℕ) (p : ℕ) (view : Viewed (map_shape w k v) b p) where
-  -- at a key's place an entry stands
+  -- an entry is valid at the position of a key
   pub entry_viewed : (q : ℕ) → IsKeyPosAt w k v b p q → Viewed (entry_shape k v) b q
   entry_viewed q at = subst (Viewed (entry_shape k v) b) (sym at.2) (item_viewed w (entry_shape k v) (entry_element k v kl vl) b p view at.0 at.1)
 
-  -- and the pair whose value may be written
+  -- the pair is one whose value may be written
   pub pair_place : (q : ℕ) (at : IsKeyPosAt w k v b p q) → IsPairPos w k v b p at.0 q
   pair_place q at =
       let entry = entry_viewed q at in
@@ -34,7 +34,7 @@ module _ (w : Width) (k v : Shape) (kl : IsElement k) (vl : IsElement v) (b : Li
         kept = λ c sealed keeps. value_kept w k v kl vl b p at.0 view at.1 c sealed keeps;
       }
 
-  -- the pair whose key was found
+  -- the pair of the found key
   pub found_place : (found : Option ℕ) (q : ℕ) → found ≡ Some q → IfSome found (IsKeyPosAt w k v b p) → (i : ℕ) × IsPairPos w k v b p i q
   found_place found q is walked =
       let at = subst (λ (o : Option ℕ). IfSome o (IsKeyPosAt w k v b p)) is walked in
@@ -43,17 +43,17 @@ module _ (w : Width) (k v : Shape) (kl : IsElement k) (vl : IsElement v) (b : Li
   pub found_entry : (found : Option ℕ) (q : ℕ) → found ≡ Some q → IfSome found (IsKeyPosAt w k v b p) → Viewed (entry_shape k v) b q
   found_entry found q is walked = entry_viewed q (subst (λ (o : Option ℕ). IfSome o (IsKeyPosAt w k v b p)) is walked)
 
-  -- a value behind a key lies in the bytes
+  -- a value behind a key ends inside the bytes
   pub value_inside : (pos : Option ℕ) → IfSome pos (λ q. (key : ℕ) × IsKeyPosAt w k v b p key × (q ≡ value_pos k v key)) → IfSome pos (λ q. q + v.size ≤ length b)
   value_inside None h = tt
   value_inside (Some q) h = subst (λ n. n + v.size ≤ length b) (sym h.2) (pair_place h.0 h.1).value.inside
 
--- what was found, told by where it stands
+-- a property of a found value, by its position
 found_told : {E : Type 0} (P : View E → Type 0) (Q : ℕ → Type 0) → ((x : View E) → P x → Q (pos_of x)) → (result : Option (View E)) (pos : Option ℕ) → IsEntryAt result pos → IfSome result P → IfSome pos Q
 found_told P Q says None pos at h = subst (λ (o : Option ℕ). IfSome o Q) at tt
 found_told P Q says (Some x) pos at h = subst (λ (o : Option ℕ). IfSome o Q) at (says x h)
 
--- the map that is read has these bytes and this place
+-- the map that is read has these bytes and this position
 module _ {K V H W : Type 0} {wt : Words W} (m : ArchivedHashMap K V H W wt) (b : List ℕ) (p : ℕ) (bytes : map_bytes m ≡ b) (place : map_pos m ≡ p) where
   pub as_read : (F : List ℕ → ℕ → Type 0) → F (map_bytes m) (map_pos m) → F b p
   as_read F x = moved F (map_bytes m) b (map_pos m) p bytes place x
@@ -67,7 +67,7 @@ module _ {K V H W : Type 0} {wt : Words W} (m : ArchivedHashMap K V H W wt) (b :
           place = as_read (λ c q. IsKeyPosAt w k v c q (pos_of key)) is.place;
         }) told
 
-    -- an entry that was found has its key in the map, and a value that was found stands behind one
+    -- a found entry has its key in the map, and a found value is behind a key
     pub entry_read : (result : Option (View (Entry K V))) (pos : Option ℕ) → IsEntryAt result pos → IfSome result (IsEntryIn w k v m) → IfSome pos (IsKeyPosAt w k v b p)
     entry_read result pos at found =
         found_told (IsEntryIn w k v m) (IsKeyPosAt w k v b p) (λ x is. as_read (λ c q. IsKeyPosAt w k v c q (pos_of x)) is.2) result pos at found
@@ -78,7 +78,7 @@ module _ {K V H W : Type 0} {wt : Words W} (m : ArchivedHashMap K V H W wt) (b :
         found_told (IsValueIn w k v m) (λ q. (key : ℕ) × IsKeyPosAt w k v b p key × (q ≡ value_pos k v key))
         (λ x is. (is.key, as_read (λ c q. IsKeyPosAt w k v c q is.key) is.walked, is.at.1)) result pos at found
 
-    -- what a lookup in the map that is read tells, said of its bytes and its place
+    -- the property of a lookup in the map that is read, for its bytes and its position
     module _ (Told Said : Option ℕ → Type 0) (says : (found : Option ℕ) → Told found → Said found) where
       pub key_read : (hash : ℕ) (fits : List ℕ → ℕ → Bool) → FindsKey w k v m hash (fits (map_bytes m)) Told → FindsKeyAt w k v b p hash (fits b) Said
       key_read hash fits found = says _ (as_read (λ c q. FindsKeyAt w k v c q hash (fits c) Told) found)

@@ -1,4 +1,4 @@
--- The steps of a cursor over the pairs of a map that lends values to be written.
+-- The steps of a cursor over the pairs of a map that writes values.
 use Rattle.std.proofs.Common.{◌≡◌, ℕ, zero, suc, ◌+◌, ◌<◌, ◌≤◌, ◌∙◌, inl, inr, sym, ap, subst, arith, List, [], ◌∷◌, Option, Some, None, slice_index, take, drop}
 use Rattle.std.specs.Prelude.{IfSome, IsSome, MatchOption}
 use Rattle.std.specs.Int.{Width}
@@ -26,7 +26,7 @@ use Rattle.rkyv_table.specs.Table.PairSeals.{LendsPair}
 use Rattle.rkyv_table.proofs.PairSeals.{pair_lent}
 use Rattle.rkyv_collections.proofs.SealedMap.{pair_place}
 
--- where no control is full, no bucket is left
+-- if no control byte is full, no bucket remains
 none_full : (controls : List ℕ) (cap : ℕ) → ((i : ℕ) → i < cap → slice_index controls i < 128 → ⊥) → (n from : ℕ) → cap ≤ from + n → full_from controls cap from ≡ []
 none_full controls cap none_at zero from h = full_end controls cap from (omega arith)
 none_full controls cap none_at (suc n) from h = elim (cases_lt from cap) [
@@ -38,7 +38,7 @@ none_full controls cap none_at (suc n) from h = elim (cases_lt from cap) [
 ]
 
 module _ {K V : Type 0} (k v : Shape) (kl : IsElement k) (vl : IsElement v) where
-  -- a map of entries that are too large has none
+  -- a map of entries that are too large has no entries
   pub none_large : (w : Width) (p : ℕ) (r : RawIterSeal (Entry K V)) → 1073741824 < whole_size k v → IsPairIter k v w p r → buckets_left w p r ≡ []
   none_large w p r large is =
       let b = r.archive.now in
@@ -61,7 +61,7 @@ module _ {K V : Type 0} (k v : Shape) (kl : IsElement k) (vl : IsElement v) wher
         iter = t.iter;
       }
 
-  -- what is lent where the first key was found
+  -- the key and the seal at the first found key
   pub lends_first : (w : Width) (p q : ℕ) (before after : RawIterSeal (Entry K V)) (archive : List ℕ) → archive ≡ cursor_bytes before → TakesPairAt k v w p before after q
       → (result : Option (View K × Seal V)) → IfSome result (λ (pair : View K × Seal V). IsView k pair.0)
       → IfSome result (λ (pair : View K × Seal V). (pos_of pair.0 ≡ q) × (bytes_of pair.0 ≡ take (value_pos k v q) archive))

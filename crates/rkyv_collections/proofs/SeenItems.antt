@@ -1,4 +1,4 @@
--- A table that is written of items is the table of what is seen in them.
+-- A table that is written of items is the table of the values that `seen` gives of them.
 use Rattle.std.proofs.Common.{◌≡◌, ℕ, suc, ◌+◌, ◌-◌, ◌*◌, ◌<◌, refl, ap, sym, subst, ◌∙◌, inl, inr, List, [], ◌∷◌, map, take, drop, length, slice_get, slice_index, Option, Some, None}
 use Rattle.std.specs.List.{take-map, drop-map}
 use Rattle.std.specs.Option.{option_map}
@@ -19,7 +19,7 @@ use Rattle.rkyv_table.specs.Table.Slots.{Above, BeforeBuckets, BucketNext, Bucke
 use Rattle.rkyv_table.specs.Table.TableFormat.{InBuckets, PairsNext, TableParts, TableResolver, TableWritten, table_format}
 use Rattle.rkyv_table.specs.Table.Taking.{Placed, Slotted, hashes_of, items_of}
 
--- what is seen in each item, under the item's hash
+-- the value of each item, under the hash of the item
 abbrev pub seen_pairs : {X Y : Type 0} → (X → Y) → List (ℕ × X) → List (ℕ × Y)
 seen_pairs seen pairs = map (λ pair. (pair.0, seen pair.1)) pairs
 

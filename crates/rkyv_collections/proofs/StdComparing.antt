@@ -1,4 +1,4 @@
--- What a lookup that is compared with a value says of the map.
+-- Lookups whose result is compared with a value.
 use Rattle.std.proofs.Common.{◌≡◌, ℕ, ◌↔◌, ◌∙◌, arith, refl, sym, subst, Bool, false, true, List, [], ◌∷◌, Option, Some, None}
 use Rattle.std.specs.Prelude.{IsSomeAnd, IsTrue}
 use Rattle.std.specs.List.{All}
@@ -7,18 +7,18 @@ use Rattle.std.proofs.lemmas.Bool.{true≢false}
 use Rattle.std.proofs.lemmas.List.Elements.{All-cons, All-head, All-tail}
 use Rattle.std.proofs.lemmas.Option.{none-some, same_Some}
 
--- what holds of what was found, a step behind a place, holds of that step from the place
+-- a property of the found position after a step is one of the step from that position
 pub of_found : (f : ℕ → ℕ) (P : ℕ → Type 0) (o : Option ℕ) (x : ℕ) → Some x ≡ option_map f o → P x ↔ IsSomeAnd o (λ q. P (f q))
 of_found f P None x e = absurd (none-some x (sym e))
 of_found f P (Some q) x e = (λ h. subst P (same_Some x (f q) e) h, λ h. subst P (sym (same_Some x (f q) e)) h)
 
--- none was found
+-- no position is found
 pub none_found : (f : ℕ → ℕ) (P : ℕ → Type 0) (o : Option ℕ) → None ≡ option_map f o → IsSomeAnd o P → ⊥
 none_found f P None e h = h
 none_found f P (Some q) e h = none-some (f q) e
 
 module _ {X : Type 0} (P : X → Type 0) (whole : List X) where
-  -- what is left decides for the whole
+  -- the remaining items decide for all
   abbrev pub Decides : List X → Type 0
   Decides left = All P left ↔ All P whole
 
@@ -28,7 +28,8 @@ module _ {X : Type 0} (P : X → Type 0) (whole : List X) where
   decides_not : (x : X) (left : List X) → Decides (x ∷ left) → (P x → ⊥) → All P whole → ⊥
   decides_not x left d h all = h (All-head P x left (d.1 all))
 
-  -- what is answered of as many: no where another number is there, or one of what is left fails, and yes where nothing is left
+  -- The result of a comparison of all items. It is `false` if the numbers differ
+  -- or a remaining item fails, and `true` if no item remains.
   module _ (n m : ℕ) where
     pub other_count : (n ≡ m → ⊥) → IsTrue false ↔ ((n ≡ m) × All P whole)
     other_count ne = (λ t. absurd (true≢false (sym t)), λ h. absurd (ne h.0))

@@ -1,4 +1,4 @@
--- What a lookup finds in an archive that was written of a map of std's.
+-- Lookups in an archive of a map of std.
 use Rattle.std.proofs.Common.{◌≡◌, ℕ, ◌+◌, refl, sym, ap, subst, ◌∙◌, cond, inl, inr, ◌↔◌, Bool, true, false, List, [], ◌∷◌, None, Option, Some}
 use Rattle.std.specs.Int.{Width}
 use Rattle.std.specs.List.{find, list_any}
@@ -35,7 +35,7 @@ use Rattle.rkyv_collections.proofs.FoundPairs.{first_listed}
 use Rattle.rkyv_collections.proofs.StdReading.{unit_lookup}
 use Rattle.rkyv_collections.proofs.WrittenPairs.{first_accepted, pair_stands}
 
--- the value of the first pair that is asked for
+-- the value of the first accepted pair
 first_looked_up : {A B : Type 0} (asks : A → Bool) (entries : List (A × B)) → option_map (λ pair. pair.1) (first_pair asks entries) ≡ lookup asks entries
 first_looked_up asks [] = refl
 first_looked_up asks (e ∷ es) = elim (cases_Bool (asks e.0)) [
@@ -43,7 +43,7 @@ first_looked_up asks (e ∷ es) = elim (cases_Bool (asks e.0)) [
   | inr other ↦ rw other (first_looked_up asks es)
 ]
 
--- what was found of a value that is looked up, by whether it was found with an equal one
+-- the result of a lookup with a value, if an equal value is found
 as_value : {B : Type 0} (value : List ℕ → ℕ → B → Type 0) (b : List ℕ) (offset : ℕ) (place : Option ℕ) (o : Option B) (x : B) (r : Bool) → Some x ≡ o
     → IsTrue r ↔ IsSomeAnd place (λ q. value b (q + offset) x) → IsTrue r ↔ IsValueBehind value b offset place o
 as_value value b offset place None x r e h = absurd (none-some x (sym e))
@@ -51,7 +51,7 @@ as_value value b offset None (Some y) x r e h = h
 as_value value b offset (Some q) (Some y) x r e h =
     (λ t. subst (value b (q + offset)) (same_Some x y e) (h.0 t), λ v. h.1 (subst (value b (q + offset)) (sym (same_Some x y e)) v))
 
--- and where there is none to be found
+-- the result of a lookup without a value
 as_none : {B : Type 0} (value : List ℕ → ℕ → B → Type 0) (b : List ℕ) (offset : ℕ) (place : Option ℕ) (o : Option B) (found r : Bool) → None ≡ o
     → IsTrue found ↔ IsSome place → r ≡ not found → IsTrue r ↔ IsValueBehind value b offset place o
 as_none value b offset place (Some x) found r e h n = absurd (none-some x e)
@@ -60,7 +60,8 @@ as_none value b offset None None false r e h n = (λ t. tt, λ t. n)
 as_none value b offset (Some q) None true r e h n = (λ t. absurd (true≢false (sym t ∙ n)), λ t. absurd t)
 as_none value b offset (Some q) None false r e h n = absurd (true≢false (sym (h.1 refl)))
 
--- what is answered of a key that is looked up in entries, by whether it was found with an equal value, and by whether it was found
+-- The result for a key that is looked up in entries. If they have a value,
+-- an equal one must be found. If they have none, none may be found.
 module _ {A B : Type 0} (w : Width) (k v : Shape) (hash : A → ℕ) (fits : A → List ℕ → ℕ → Bool) (equals : List ℕ → ℕ → B → Type 0) (b : List ℕ) (p : ℕ) (key : A) (asks : A → Bool) (entries : List (A × B)) where
   abbrev place : Option ℕ
   place = pos_found generic_kind w (entry_shape k v).size b p (hash key) (fits key b)
@@ -71,7 +72,7 @@ module _ {A B : Type 0} (w : Width) (k v : Shape) (hash : A → ℕ) (fits : A �
   pub asked_none : (found r : Bool) → None ≡ lookup asks entries → IsTrue found ↔ IsSome place → r ≡ not found → IsTrue r ↔ FindsAsked w k hash fits v equals b p key asks entries
   asked_none found r e h n = as_none equals b (value_offset k v) place (lookup asks entries) found r e h n
 
--- where a pair stands its value stands behind the key
+-- at the position of a pair, its value is behind the key
 value_behind : {A B : Type 0} (k v : Shape) (key : List ℕ → ℕ → A → Type 0) (value : List ℕ → ℕ → B → Type 0) (b : List ℕ) (place : Option ℕ) (o : Option (A × B))
     → IsPairOf k v key value b place o → IsValueBehind value b (value_offset k v) place (option_map (λ pair. pair.1) o)
 value_behind k v key value b None None h = tt
@@ -79,7 +80,7 @@ value_behind k v key value b (Some q) (Some pair) h = h.1
 value_behind k v key value b None (Some pair) h = absurd h
 value_behind k v key value b (Some q) None h = absurd h
 
--- what is found or not is so in both
+-- both find something, or neither does
 both_or_none : {B : Type 0} (value : List ℕ → ℕ → B → Type 0) (b : List ℕ) (offset : ℕ) (place : Option ℕ) (o : Option B) → IsValueBehind value b offset place o → is_some place ≡ is_some o
 both_or_none value b offset None None h = refl
 both_or_none value b offset (Some q) (Some x) h = refl
@@ -95,7 +96,7 @@ some_either x t = elim (cases_Bool t) [
 module _ {State : Type 0} (hasher : Hasher State) (small : NumbersFit hasher) (w : Width) {k v : Shape} (kl : IsElement k) (vl : IsElement v)
     {A B Q : Type 0} {key : List ℕ → ℕ → A → Type 0} {value : List ℕ → ℕ → B → Type 0} {same : Comparison} {key_calls : List ℕ → ℕ → List HasherCall}
     {can_read : Q → Type 0} {calls : Q → List HasherCall} {fits : Q → List ℕ → ℕ → Bool} (query : IsQuery k same key_calls can_read calls fits) (factor : ℕ × ℕ) where
-  -- in a map that stands for these entries
+  -- in a map that represents these entries
   entries_found : (b : List ℕ) (p : ℕ) → Viewed (map_shape w k v) b p → (entries : List (A × B))
       → MapStands w k v key value (hash_at hasher key_calls) factor b p entries
       → FindsEntries w k (hash_of hasher calls) fits key can_read v value b p entries
@@ -112,14 +113,15 @@ module _ {State : Type 0} (hasher : Hasher State) (small : NumbersFit hasher) (w
       subst (λ (place : Option ℕ). IsValueBehind value b (value_offset k v) place (lookup asks entries)) (sym found)
       (subst (λ (o : Option B). IsValueBehind value b (value_offset k v) (find accept places) o) (first_looked_up asks entries) behind)
 
-  -- in every archive in which what was written of a map of std's sits
+  -- in any archive with the written bytes of a map of std
   looked_up : IsArchiveWord w → (equal : A → A → Bool) {R : Type 0} (f : Format (List (A × B)) R)
       → IsFormat (map_shape w k v) (MapStands w k v key value (hash_at hasher key_calls) factor) f
       → IsFormat (map_shape w k v) (FindsEntries w k (hash_of hasher calls) fits key can_read v value) (of_entries equal f)
   looked_up kind equal f base =
       entries_told w kind kl vl factor equal (FindsEntries w k (hash_of hasher calls) fits key can_read v value) (λ b p view es st apart. entries_found b p view es st) f base
 
--- in every archive in which what was written of a value sits, that is written as a list of entries with distinct keys
+-- in any archive with the written bytes of a value that is written as a list of entries
+-- with distinct keys
 module _ {State : Type 0} (hasher : Hasher State) (small : NumbersFit hasher) (w : Width) (kind : IsArchiveWord w) (max : ℕ) {k v : Shape} (kl : IsElement k) (vl : IsElement v)
     {A B Q X R S : Type 0} {key : List ℕ → ℕ → A → Type 0} {value : List ℕ → ℕ → B → Type 0} {same : Comparison} {key_calls : List ℕ → ℕ → List HasherCall}
     {can_read : Q → Type 0} {calls : Q → List HasherCall} {fits : Q → List ℕ → ℕ → Bool} (query : IsQuery k same key_calls can_read calls fits)
@@ -135,7 +137,7 @@ module _ {State : Type 0} (hasher : Hasher State) (small : NumbersFit hasher) (w
       written_as-format seen (map_shape w k v) (FindsEntries w k (hash_of hasher calls) fits key can_read v value) (of_entries equal f)
       (looked_up hasher small w kl vl query (7, 8) kind equal f (listed_map_sound hasher w kl vl (7, 8) max kind own native itself reads key_law value_law))
 
--- and of a set
+-- the same for a set
 pub members_looked_up : {X A Q R : Type 0} (w : Width) (k s : Shape) (key : List ℕ → ℕ → A → Type 0) (can_read : Q → Type 0) (hash : Q → ℕ) (fits : Q → List ℕ → ℕ → Bool) (seen : X → List A) (f : Format X R)
     → IsFormat s (λ b p x. FindsEntries w k hash fits key can_read unit_shape unit_stands b p (with_units (seen x))) f
     → IsFormat s (λ b p x. FindsMembers w k hash fits key can_read b p (seen x)) f

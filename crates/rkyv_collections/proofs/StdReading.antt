@@ -1,4 +1,4 @@
--- Reading a map of std's back, pair by pair.
+-- Deserializing a map of std, pair by pair.
 use Rattle.std.proofs.Common.{◌≡◌, ℕ, refl, ap, ◌∙◌, Bool, true, false, cond, inl, inr, subst, sym, List, [], ◌∷◌, Option, Some, None}
 use Rattle.std.specs.Borrow.{Bor}
 use Rattle.std.specs.Int.{Width}
@@ -20,7 +20,7 @@ use Rattle.rkyv_collections.specs.Map.{IsKeyPosAt}
 use Rattle.rkyv_table.specs.Table.Lent.{with_units}
 use Rattle.rkyv_collections.specs.StdMap.{ArePairsAt}
 
--- at each place of the walk a key of the map stands
+-- each position of the walk is that of a key of the map
 keys_walked : (w : Width) (k v : Shape) → IsElement k → IsElement v → (b : List ℕ) (p : ℕ) → All (IsKeyPosAt w k v b p) (item_positions w (entry_shape k v).size b p)
 keys_walked w k v kl vl b p =
     let ws = walk (table_controls w b p) (cap_at w b p) in
@@ -28,7 +28,8 @@ keys_walked w k v kl vl b p =
     (All-weaker (IsWalked w b p) (λ i. IsKeyPosAt w k v b p (item_at w (entry_shape k v).size b p i)) (λ i h. (i, h, refl)) ws (walked_all w (entry_shape k v) (entry_element k v kl vl) b p))
 
 module _ {A B : Type 0} (k v : Shape) (key : List ℕ → ℕ → A → Type 0) (value : List ℕ → ℕ → B → Type 0) (equal : A → A → Bool) (b : List ℕ) (all : List ℕ) where
-  -- inserting the pairs that are left into what is found now gives what inserting all pairs in order into nothing does
+  -- the insertion of the remaining pairs into the found ones is that of all pairs in order
+  -- into an empty map
   abbrev LeadsOn : List ℕ → (A → Option B) → Type 0
   LeadsOn left f =
       (rest : List (A × B)) → ArePairsAt k v key value b left rest → (g : A → Option B) → ((q : A) → g q ≡ update_all equal f rest q)
@@ -46,7 +47,8 @@ module _ {A B : Type 0} (k v : Shape) (key : List ℕ → ℕ → A → Type 0) 
       → (pairs : List (A × B)) × ArePairsAt k v key value b all pairs × ((q : A) → f q ≡ update_all equal (λ _. None) pairs q)
   leads_last f h = h [] tt f (λ q. refl)
 
--- the pairs that are left of a walk stand in the archived map at p, and inserting them into what is found now leads to all pairs inserted in order
+-- The remaining pairs of a walk are in the archived map at `p`. Their insertion into the found ones
+-- is that of all pairs in order
 module _ {A B : Type 0} (w : Width) (k v : Shape) (key : List ℕ → ℕ → A → Type 0) (value : List ℕ → ℕ → B → Type 0) (equal : A → A → Bool) (archive : Bor (List ℕ)) (p : ℕ) where
   abbrev pub all_positions : List ℕ
   all_positions = item_positions w (entry_shape k v).size archive.now p
@@ -66,7 +68,7 @@ module _ {A B : Type 0} (w : Width) (k v : Shape) (key : List ℕ → ℕ → A 
       )
 
   module _ (before after : ItemsLeft) (place : ℕ) (found : A → Option B) (step : TakesFirst before place after) (on : WalksOn before found) where
-    -- the key that is taken is one of the map, in the same bytes
+    -- the next key is one of the map, in the same bytes
     pub walks_key : IsKeyPosAt w k v archive.now p place
     walks_key = All-head (IsKeyPosAt w k v archive.now p) place after.places (subst (All (IsKeyPosAt w k v archive.now p)) step.first on.2)
 
@@ -86,7 +88,7 @@ module _ {A B : Type 0} (w : Width) (k v : Shape) (key : List ℕ → ℕ → A 
   walks_last left found on none =
       leads_last k v key value equal archive.now all_positions found (subst (λ (xs : List ℕ). LeadsOn k v key value equal archive.now all_positions xs found) none on.3)
 
--- what is found among keys, each with the unit value
+-- a lookup among keys, each with the unit value
 pub unit_lookup : {A : Type 0} (test : A → Bool) (keys : List A) → lookup test (with_units keys) ≡ cond (list_any test keys) (Some tt) None
 unit_lookup test [] = refl
 unit_lookup test (x ∷ xs) = elim (cases_Bool (test x)) [
@@ -98,7 +100,7 @@ either_way : {X : Type 0} (x : X) (s t : Bool) → cond (cond s true t) (Some x)
 either_way x true t = refl
 either_way x false t = refl
 
--- what is found among the keys of a set
+-- a lookup among the keys of a set
 abbrev pub found_units : {A : Type 0} → (A → A → Bool) → List A → A → Option (Unit {0})
 found_units equal keys q = lookup (equal q) (with_units keys)
 

@@ -1,4 +1,4 @@
--- What writing exactly the pairs of a map of std's answers.
+-- The result of writing exactly the pairs of a map of std.
 use Rattle.std.proofs.Common.{◌≡◌, ℕ, sym, ap, ◌∙◌, Bool, List, length, map, Result, Ok, Err, MatchResult}
 use Rattle.std.specs.List.{IsDistinct}
 use Rattle.std.specs.Map.{keys_of}
@@ -17,7 +17,7 @@ use Rattle.rkyv_table.specs.Table.Lent.{lent_keys, with_units}
 use Rattle.rkyv_collections.specs.StdMap.{of_entries}
 use Rattle.rkyv_table.proofs.Listing.{all_came, answers_listed, no_other_came}
 
--- an iterator that shows the items of the list, of which exactly these were claimed
+-- an iterator over the items of the list, with the length of the list
 module _ {A V F : Type 0} (shows : A → V) (lent : List A → List V) (seen : (xs : List A) → lent xs ≡ map shows xs) (items from : List V) (rest : from ≡ items) (len : ℕ) (count : len ≡ length items)
     (factor : ℕ × ℕ) (max limit : ℕ) (f : Format (List V) TableResolver) (o o' : Output) where
   pub answers_shown : (result : Result TableResolver (WriteError F))
@@ -37,7 +37,7 @@ pub answers_distinct : {K X R F : Type 0} (equal : K → K → Bool) (f : Format
 answers_distinct equal f es unique limit o o' (Ok r) h = (h.0, h.1, (unique, h.2), h.3)
 answers_distinct equal f es unique limit o o' (Err e) h = h
 
--- an iterator over the keys of a set of std's, each with the unit value
+-- an iterator over the keys of a set of std, each with the unit value
 module _ {A F : Type 0} (keys from : List A) (rest : from ≡ keys) (len : ℕ) (count : len ≡ length keys)
     (factor : ℕ × ℕ) (max limit : ℕ) (f : Format (List (A × Unit {0})) TableResolver) (o o' : Output) where
   pub answers_keys : (result : Result TableResolver (WriteError F))

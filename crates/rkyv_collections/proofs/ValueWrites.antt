@@ -1,4 +1,5 @@
--- A write of one value in place keeps the map, and the list that it stands for but for that value.
+-- A write of one value in place keeps the map. In the list that the map represents,
+-- only that value changes.
 use Rattle.std.proofs.Common.{◌≡◌, ℕ, ◌<◌, ◌^◌, ◌∙◌, inl, inr, refl, sym, ap, subst, arith, Bool, List, map, Option, Some, None, slice_index}
 use Rattle.std.specs.Prelude.{slice_get, slice_set}
 use Rattle.std.specs.Int.{Width}
@@ -33,7 +34,7 @@ map_of_found f g same None = refl
 map_of_found f g same (Some i) = ap Some (same i)
 
 module _ (k v : Shape) (kl : IsElement k) (vl : IsElement v) where
-  -- an entry that is the same has the same key
+  -- an unchanged entry has an unchanged key
   key_of_entry : (b c : List ℕ) (q : ℕ) → Viewed (entry_shape k v) b q → SameValue (entry_shape k v) b c q → SameValue k b c q
   key_of_entry b c q view same =
       let e = view.stands.1 in
@@ -45,7 +46,7 @@ module _ (k v : Shape) (kl : IsElement k) (vl : IsElement v) where
             same_part b c 0 view.stands.0 0 l (omega arith) (omega (arith, one, y.0)) (omega arith) (same.parts view.stands.0 e);
       }
 
-  -- a key that is the same has the same hash
+  -- an unchanged key has the same hash
   hash_same : (key_hash : List ℕ → ℕ → ℕ) → HashNear k key_hash → (b c : List ℕ) (q : ℕ) → Viewed k b q → SameValue k b c q → key_hash c q ≡ key_hash b q
   hash_same key_hash near b c q view same =
       sym (near b c q 0 q view.stands.0 (omega arith) view.stands.1 same.fixed (same.parts view.stands.0 view.stands.1))
@@ -111,11 +112,11 @@ module _ (k v : Shape) (kl : IsElement k) (vl : IsElement v) where
       written = written_same;
     }
 
--- a test that rests on the keys rests on each
+-- a comparison that depends only on the keys depends only on each key
 pub rests_on_each : {Q : Type 0} (k : Shape) (can_read : Q → Type 0) (fits : Q → List ℕ → ℕ → Bool) → RestsOnKeys k can_read fits → (q : Q) → can_read q → RestsOnKey k (fits q)
 rests_on_each k can_read fits rests q can b c p stands same = rests q b c p stands.0 can stands.1 same.fixed (same.parts stands.0 stands.1)
 
--- where the key stands at q, and the value at pos
+-- the same for a key at `q` and its value at `pos`
 pub map_kept_at : (k v : Shape) (kl : IsElement k) (vl : IsElement v) (w : Width) (key_hash : List ℕ → ℕ → ℕ) → HashNear k key_hash → (b c : List ℕ) (p q pos : ℕ) → Viewed (map_shape w k v) b p
     → (at : IsKeyPosAt w k v b p q) → pos ≡ value_pos k v q → Sealed b pos v.size c → Keeps v b c pos → KeepsMap w k v key_hash b c p at.0
 map_kept_at k v kl vl w key_hash near b c p q pos view at is sealed keeps =
@@ -134,7 +135,7 @@ module _ (k v : Shape) (kl : IsElement k) (vl : IsElement v) (w : Width) (key_ha
   entry_there : (j : ℕ) → IsWalked w b p j → Viewed (entry_shape k v) b (at j)
   entry_there j there = item_viewed w (entry_shape k v) (entry_element k v kl vl) b p view j there
 
-  -- the written pair stands with the new value, and every other one as before
+  -- the written pair has the new value, and each other pair is unchanged
   pub written_value_stands : WritesValue k v b c place → value c (value_pos k v place) new → MapStands w k v key value key_hash factor c p (slice_set pairs n (pair.0, new))
   written_value_stands writes stands =
       let i = home w k v key value key_hash b c p n factor pairs pair new st at_n n in
@@ -153,7 +154,8 @@ module _ (k v : Shape) (kl : IsElement k) (vl : IsElement v) (w : Width) (key_ha
       let kept_entry = kept.table.others j full ne in
       pair_near k v kl vl key value kn vn x b c (at j) 0 (at j) entry.stands.0 (omega arith) entry.stands.1 kept_entry.fixed (kept_entry.parts entry.stands.0 entry.stands.1) before)
 
--- whether a value that stands as a whole is equal to one that is asked for rests on the bytes on which it rests that it stands
+-- the comparison of a valid value with another depends only on the bytes on which its validity
+-- depends
 pub value_rests : {V Q : Type 0} (k : Shape) (at : List ℕ → ℕ → V) → StandsNear k (IsValueAt at (λ v. v)) → (equal : V → V → Bool) (seen : Q → V) (asked : Q) → RestsOnKey k (value_fits at equal seen asked)
 value_rests k at near equal seen asked b c q stands same =
     ap (equal (seen asked)) (near (at b q) b c q 0 q stands.0 (omega arith) stands.1 same.fixed (same.parts stands.0 stands.1) refl)

@@ -1,4 +1,4 @@
--- A walk over a map that stands for a list gives each item of the list once.
+-- A walk over a map that represents a list returns each item of the list once.
 use Rattle.std.proofs.Common.{◌≡◌, ◌∙◌, ℕ, zero, suc, ◌<◌, List, [], ◌∷◌, false, Some, ap, arith, eqb, get_or, inl, inr, length, map, refl, remove, slice_get, slice_index, slice_set, subst, swap, sym, IsPermutation}
 use Rattle.std.specs.Int.{Width}
 use Rattle.std.specs.List.{AllZip, Contains, IsDistinct}
@@ -22,9 +22,9 @@ use Rattle.rkyv_table.proofs.WrittenTables.{home_count, home_pos}
 use Rattle.rkyv_collections.specs.ListedWalks.{GivesEach, SetWalksGiveListed, WalksGiveListed, WalksVisitPairs, key_positions_at}
 use Rattle.rkyv_collections.specs.MapFormat.{MapStands}
 
--- ---- distinct numbers, and a list as long in which each of them stands
+-- ---- distinct numbers, and a list of the same length that has each of them
 
--- what stands in a list and isn't its first stands behind it
+-- a number of a list that isn't its first is behind it
 behind : (x z : ℕ) (xs : List ℕ) → (x ≡ z → ⊥) → Contains (x ∷ xs) z → Contains xs z
 behind x z xs other (zero, inside, is) = absurd (other is)
 behind x z xs other (suc k, inside, is) = (k, omega (arith, inside), is)
@@ -45,7 +45,7 @@ permuted (x ∷ xs) ys distinct long within =
     (λ z c. behind x z rest (other z c) (Contains-permutation ys (x ∷ rest) z moved (within z (suc c.0, omega (arith, c.1), c.2))))))
     (IsPermutation-sym ys (x ∷ rest) moved)
 
--- ---- two lists place by place
+-- ---- two lists, position by position
 
 module _ {X : Type 0} (R : ℕ → X → Type 0) where
   zip_from : (places : List ℕ) (xs : List X) → length places ≡ length xs → ((n : ℕ) (x : X) → slice_get xs n ≡ Some x → R (slice_index places n) x) → AllZip R places xs
@@ -82,7 +82,7 @@ module _ {X : Type 0} (R : ℕ → X → Type 0) where
       zip_set (slice_set qs i (get_or qs j q)) (slice_set ys i (get_or ys j x)) j (get_or qs i q) (get_or ys i x)
       (zip_set qs ys i (get_or qs j q) (get_or ys j x) h (zip_at qs ys j q x h hj)) (zip_at qs ys i q x h hi)
 
-  -- what stands at places stands at them in another order
+  -- the items at some positions are at the same positions in another order
   pub given_along : (places others : List ℕ) (xs : List X) → IsPermutation places others → AllZip R places xs → GivesEach R others xs
   given_along places others xs moved h =
       IsPermutation-keeps places (λ qs. GivesEach R qs xs) (record { given = xs; each = IsPermutation-refl xs; stand = h })
@@ -96,8 +96,8 @@ module _ {X : Type 0} (R : ℕ → X → Type 0) where
       })
       others moved
 
--- What a caller reads at the places that a walk has is a function of what stands there: so the walk
--- reads what the function tells of the items of the list, in some order.
+-- If `read` is a function of the item at each position, a walk reads that function of the items,
+-- in some order.
 pub given_seen : {X Y : Type 0} (R : ℕ → X → Type 0) (read : ℕ → Y) (told : X → Y) → ((q : ℕ) (x : X) → R q x → read q ≡ told x)
     → (places : List ℕ) (items : List X) → GivesEach R places items → IsPermutation (map told items) (map read places)
 given_seen {X} R read told same places items gives = subst (IsPermutation (map told items)) (sym (zip_seen places gives.given gives.stand)) (IsPermutation-map told items gives.given gives.each)
@@ -136,7 +136,7 @@ module _ {A B : Type 0} (w : Width) (k v : Shape) (key : List ℕ → ℕ → A 
           | inr some ↦ walked_homes (cap_at w b p) hashes stands.homes controls some.0 written.fit some.1
         ]
 
-    -- the places of the walk are those of the homes, in another order
+    -- the positions of the walk are those of the home buckets, in another order
     walk_moved : IsPermutation places (key_positions_at w k v b p)
     unfolding places
     walk_moved =
@@ -145,7 +145,8 @@ module _ {A B : Type 0} (w : Width) (k v : Shape) (key : List ℕ → ℕ → A 
         IsPermutation-map (item_at w (entry_shape k v).size b p) stands.homes walked
         (permuted stands.homes walked visits.once visits.count (λ bucket. (visits.members bucket).1))
 
-    -- what each pair has where it stands is given at the places of the walk
+    -- if the items of `xs` are at the positions of the pairs, the positions of the walk
+    -- have each of them once
     pub given_walked : {X : Type 0} (R : ℕ → X → Type 0) (xs : List X) → length xs ≡ length pairs → ((n : ℕ) (x : X) → slice_get xs n ≡ Some x → R (slice_index (home_positions w (entry_shape k v).size b p stands.homes) n) x)
         → GivesEach R (key_positions_at w k v b p) xs
     unfolding places

@@ -1,4 +1,4 @@
--- Where the pairs of a written map stand, and how a walk and a lookup see them.
+-- The positions of the pairs of a written map, in a walk and in a lookup.
 use Rattle.std.proofs.Common.{◌≡◌, ℕ, ◌^◌, ◌<◌, ◌∙◌, inl, inr, sym, ap, arith, subst, List, Bool, true, length, map, slice_index}
 use Rattle.std.specs.Int.{Width}
 use Rattle.std.specs.List.{Contains, find, list_all}
@@ -37,7 +37,7 @@ module _ (w : Width) (k v : Shape) (kl : IsElement k) (vl : IsElement v) (key_ha
   pub place_of_pair : (i : ℕ) → i < length homes → slice_index (home_positions w (entry_shape k v).size b p homes) i ≡ pair_at w k v b p homes i
   place_of_pair i h = home_pos w (entry_shape k v).size b p homes i h
 
-  -- the i-th hash is that of the i-th key
+  -- the hash with the number `i` is that of the key with that number
   pub hash_of_pair : (i : ℕ) → i < length homes
       → slice_index (map (key_hash b) (home_positions w (entry_shape k v).size b p homes)) i ≡ key_hash b (pair_at w k v b p homes i)
   unfolding hashes places
@@ -56,12 +56,12 @@ module _ (w : Width) (k v : Shape) (kl : IsElement k) (vl : IsElement v) (key_ha
   pub pair_stands : (i : ℕ) → i < length homes → Standing (entry_shape k v) b (pair_at w k v b p homes i)
   pair_stands i h = (item_viewed w (entry_shape k v) (entry_element k v kl vl) b p view (slice_index homes i) (pair_walked i h)).stands
 
-  -- as many pairs as the header tells
+  -- the length in the header is the number of pairs
   pub pair_count : len_at w b p ≡ length homes
   unfolding hashes places
   pair_count = written.count ∙ hash_count
 
-  -- a walked bucket is the home of a pair
+  -- a full bucket is the home bucket of a pair
   walked_pair : (bucket : ℕ) → Contains (walk (table_controls w b p) (cap_at w b p)) bucket → Contains homes bucket
   unfolding hashes places
   walked_pair bucket at = elim written.placed [
@@ -72,7 +72,7 @@ module _ (w : Width) (k v : Shape) (kl : IsElement k) (vl : IsElement v) (key_ha
     | inr placed ↦ ((walked_homes (cap_at w b p) hashes homes (table_controls w b p) placed.0 written.fit placed.1).members bucket).0 at
   ]
 
-  -- what holds of each walked pair holds of each pair handed in, and the other way
+  -- a property of each walked pair is one of each inserted pair, and the other way round
   pub all_handed : (matches : ℕ → Bool) → list_all matches (item_positions w (entry_shape k v).size b p) ≡ true
       → (i : ℕ) → i < length homes → matches (pair_at w k v b p homes i) ≡ true
   all_handed matches every i h =
@@ -96,7 +96,7 @@ module _ (w : Width) (k v : Shape) (kl : IsElement k) (vl : IsElement v) (key_ha
       subst (λ x. matches (at x) ≡ true) is (every home.0 home.1))
       ws (All-contains_itself ws))
 
-  -- a lookup that accepts keys under the hash alone finds the first of those that are accepted
+  -- a lookup that accepts only keys under the hash finds the first accepted one
   pub first_accepted : (hash : ℕ) (accept : ℕ → Bool) → hash < 2 ^ 64
       → ((i : ℕ) → i < length homes → accept (pair_at w k v b p homes i) ≡ true → key_hash b (pair_at w k v b p homes i) ≡ hash)
       → pos_found generic_kind w (entry_shape k v).size b p hash accept ≡ find accept (home_positions w (entry_shape k v).size b p homes)

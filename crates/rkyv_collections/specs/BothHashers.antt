@@ -1,4 +1,4 @@
--- What hashers that differ in `usize` and `isize` alone make of a map whose keys feed neither.
+-- Lookups under two hashers that differ in `usize` and `isize` alone.
 use Rattle.std.specs.Prelude.{◌≡◌, ℕ, All, Bool, List, Option}
 use Rattle.std.specs.Int.{Width}
 use Rattle.rkyv_scan.specs.Groups.{generic_kind}
@@ -9,30 +9,30 @@ use Rattle.rkyv_base.specs.Shape.{Shape, Viewed}
 use Rattle.rkyv_table.specs.Table.Reading.{pos_found}
 use Rattle.rkyv_collections.specs.Map.{MapWrittenAt, map_shape}
 
--- the hash of the key at a position under a rule for `usize` and `isize`
+-- the hash of the key at `q`, under a rule for `usize` and `isize`
 abbrev pub fx_hash_at : SizeWords → (List ℕ → ℕ → List HasherCall) → List ℕ → ℕ → ℕ
 fx_hash_at sizes key_calls b q = fx_hash sizes (key_calls b q)
 
 module _ (w : Width) (k v : Shape) where
-  -- where a lookup under the hash of these calls finds a key
+  -- the position that a lookup under the hash of `calls` finds
   abbrev pub fx_found : SizeWords → List HasherCall → List ℕ → ℕ → (ℕ → Bool) → Option ℕ
   fx_found sizes calls b p accept =
       pos_found generic_kind w (entry_shape k v).size b p (fx_hash sizes calls) accept
 
-  -- what was written under one rule was written under each other
+  -- a map that was written under one rule was written under each other rule
   abbrev pub WrittenAlike : (List ℕ → ℕ → List HasherCall) → Type 0
   WrittenAlike key_calls = (one other : SizeWords) (b : List ℕ) (p : ℕ) (homes : List ℕ)
       → Viewed (map_shape w k v) b p
       → MapWrittenAt w (entry_shape k v) (fx_hash_at one key_calls) b p homes
       → MapWrittenAt w (entry_shape k v) (fx_hash_at other key_calls) b p homes
 
-  -- on any map, a key that feeds no `usize` and no `isize` is looked up alike by any comparison
+  -- in any map, a lookup by calls without `usize` and `isize` finds the same key under both rules
   abbrev pub ComparedAlike : Type 0
   ComparedAlike = (one other : SizeWords) (calls : List HasherCall) → All IsFixed calls
       → (b : List ℕ) (p : ℕ) (accept : ℕ → Bool)
       → fx_found one calls b p accept ≡ fx_found other calls b p accept
 
-  -- in a map that was written, each query is looked up alike
+  -- in a written map, a query finds the same key under both rules
   abbrev pub QueriedAlike : {Q : Type 0} → (List ℕ → ℕ → List HasherCall) → (Q → Type 0)
       → (Q → List HasherCall) → (Q → List ℕ → ℕ → Bool) → Type 0
   QueriedAlike {Q} key_calls can_read calls fits =

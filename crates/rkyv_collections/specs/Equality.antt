@@ -1,4 +1,4 @@
--- When two maps are equal.
+-- The equality of two maps.
 use Rattle.std.specs.Prelude.{◌≡◌, ℕ, ◌+◌, ◌<◌, ◌↔◌, List, Bool, true, false, ◌&&◌, ◌==◌, length}
 use Rattle.std.specs.Prelude.{slice_index}
 use Rattle.std.specs.Int.{Width}
@@ -13,25 +13,25 @@ use Rattle.rkyv_table.specs.Table.Header.{len_at}
 use Rattle.rkyv_table.specs.Table.Reading.{item_at, item_positions, pos_found}
 use Rattle.rkyv_collections.specs.Map.{MapWrittenAt, map_shape}
 
--- where the i-th pair handed in stands
+-- the position of the pair with the number `i`, in insertion order
 abbrev pub pair_at : Width → Shape → Shape → List ℕ → ℕ → List ℕ → ℕ → ℕ
 pair_at w k v b p homes i = item_at w (entry_shape k v).size b p (slice_index homes i)
 
 module _ (w : Width) (k v : Shape) (key_hash : List ℕ → ℕ
     → ℕ) (same_key same_value : Comparison) where
-  -- the key that stands in b at q is found in the map of c at r, with a value that is the same
+  -- a lookup of the key at `q` in `b` finds the same value in the map at `r` in `c`
   abbrev pub pair_matches : List ℕ → ℕ → List ℕ → ℕ → Bool
   pair_matches b q c r =
       unwrap_or (option_map (λ at. same_value b (q + value_offset k v) c (at + value_offset k v))
       (pos_found generic_kind w (entry_shape k v).size c r (key_hash b q) (same_key b q c)))
       false
 
-  -- the maps have equal lengths, and each pair of the first is matched in the second
+  -- the maps have the same length, and each pair of the first is matched in the second
   abbrev pub map_equal : Comparison
   map_equal b p c r = (len_at w b p == len_at w c r)
       && list_all (λ q. pair_matches b q c r) (item_positions w (entry_shape k v).size b p)
 
-  -- a map that stands and was written with these homes, no two keys of which are the same
+  -- a valid map, written with the home buckets `homes`, of distinct keys
   pub record IsWrittenApart (b : List ℕ) (p : ℕ) (homes : List ℕ) : Type 0 where
     pub stands : Viewed (map_shape w k v) b p
     pub written : MapWrittenAt w (entry_shape k v) key_hash b p homes
@@ -45,7 +45,7 @@ module _ (w : Width) (k v : Shape) (key_hash : List ℕ → ℕ
       × (entry_same k v same_key same_value b (pair_at w k v b p homes i) c
       (pair_at w k v c r others j) ≡ true)
 
-  -- two such maps are equal exactly where each pair of either is the same as one of the other
+  -- two such maps are equal if and only if each pair of either is the same as one of the other
   abbrev pub EqualHaveSamePairs : Type 0
   EqualHaveSamePairs = (b c : List ℕ) (p r : ℕ) (homes others : List ℕ) → IsWrittenApart b p homes
       → IsWrittenApart c r others

@@ -1,4 +1,4 @@
--- What a call does that writes the value of a key over the bare bytes of an archive.
+-- Calls that write the value of a key over the bytes of an archive.
 use Rattle.std.specs.Prelude.{◌≡◌, ℕ, ◌+◌, ◌≤◌, Bool, List, [], ◌∷◌, MatchOption, None, Option}
 use Rattle.std.specs.Prelude.{Some, cond, false, length, true}
 use Rattle.std.specs.Borrow.{MutBor}
@@ -14,52 +14,53 @@ use Rattle.rkyv_collections.specs.MapFormat.{MapStands}
 use Rattle.rkyv_collections.specs.ValueWrites.{KeepsMap}
 
 module _ (w : Width) (k v : Shape) (b : List ℕ) (p : ℕ) where
-  -- what is told is told of the position of the value behind the key that a lookup under the hash
-  -- finds
+  -- the property applies to the position of the value that a lookup under the hash finds,
+  -- or to `None`
   abbrev pub FindsValueAt : ℕ → (ℕ → Bool) → (Option ℕ → Type 0) → Type 0
   FindsValueAt hash accept Told =
       FindsKeyAt w k v b p hash accept (λ place. Told (option_map (value_pos k v) place))
 
-  -- and on a written map: of the value behind the first accepted key in the order handed in
+  -- if the map at `p` was written, the property applies to the position of the value
+  -- of the first accepted key in insertion order
   abbrev pub FindsFirstValueAt : (List ℕ → ℕ → ℕ) → (ℕ → Bool) → (Option ℕ → Type 0) → Type 0
   FindsFirstValueAt key_hash accept Told =
       FindsFirstKeyAt w k v b p key_hash accept (λ place. Told (option_map (value_pos k v) place))
 
--- a writer may be given the archive, at each place at which a value fits
+-- the writer can be called with the archive and each position at which a value fits
 abbrev pub MayWriteFound : {F : Type 0} → Shape → (F → MutBor (List ℕ) → ℕ → Type 0) → List ℕ → F
     → Type 0
 MayWriteFound v pre archive write =
     (b : MutBor (List ℕ)) (q : ℕ) → b.now ≡ archive → q + v.size ≤ length b.now → pre write b q
 
--- no value was found, and the archive is as before; or the writer was given the archive and the
--- value's place
+-- No value is found, and the archive is unchanged. Or the writer is called with the archive
+-- and the position of the value
 abbrev pub WritesFound : {F R : Type 0} → (F → MutBor (List ℕ) → ℕ → R → MutBor (List ℕ) → Type 0)
     → F → List ℕ → Option R → List ℕ → Option ℕ → Type 0
 WritesFound {F} {R} post write b result c place = MatchOption place ((result ≡ None) × (c ≡ b))
     (λ q. (r : R) × (result ≡ Some r) × WrittenBy post write r b q c)
 
--- the list, with this value in the first pair whose key is asked for
+-- the list with `value` in the first pair with an accepted key
 abbrev pub with_first : {A B : Type 0} → (A → Bool) → B → List (A × B) → List (A × B)
 with_first asks value [] = []
 with_first asks value (pair ∷ rest) =
     cond (asks pair.0) ((pair.0, value) ∷ rest) (pair ∷ with_first asks value rest)
 
 module _ {N : Type 0} (w : Width) (k : Shape) (e : Encoding N) where
-  -- No value was found, and the archive is as before; or the value at the place is the new one, all
-  -- other bytes are as before, and the map is kept.
+  -- No value is found, and the archive is unchanged. Or the value at the position is the new one,
+  -- all other bytes are unchanged, and the map is kept
   abbrev pub SetsFound : (List ℕ → ℕ → ℕ) → List ℕ → ℕ → N → Bool → List ℕ → Option ℕ → Type 0
   SetsFound key_hash b p value result c place = MatchOption place ((result ≡ false) × (c ≡ b))
       (λ q. (result ≡ true) × (c ≡ with_value e b q value)
       × ((i : ℕ) × KeepsMap w k (scalar_shape e) key_hash b c p i))
 
-  -- what is written of the value of the key that a lookup under the hash finds
+  -- the value that a lookup under the hash finds is written, if it finds one
   abbrev pub SetsValueAt : (List ℕ → ℕ → ℕ) → List ℕ → ℕ → ℕ → (ℕ → Bool) → N → Bool → List ℕ
       → Type 0
   SetsValueAt key_hash b p hash accept value result c =
       FindsValueAt w k (scalar_shape e) b p hash accept (SetsFound key_hash b p value result c)
 
-  -- a map that stands for a list of pairs stands for the list with the new value in the first pair
-  -- whose key is asked for
+  -- a map that represents a list of pairs represents the list with the new value in the first pair
+  -- with an accepted key
   abbrev pub SetsFirst : {A : Type 0} → (List ℕ → ℕ → A → Type 0) → (List ℕ → ℕ → ℕ) → (A → Bool)
       → List ℕ → ℕ → N → Bool → List ℕ → Type 0
   SetsFirst {A} key key_hash asks b p value result c = (factor : ℕ × ℕ) (pairs : List (A × N))

@@ -1,4 +1,4 @@
--- Lemmas that laws of traits and their impls need: a law may import from specs/ alone.
+-- Lemmas that the laws of traits and implementations need. A law imports from specs/ alone.
 pub mod MapLaws
 pub mod MapSound
 pub mod SetSound

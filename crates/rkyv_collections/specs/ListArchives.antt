@@ -1,5 +1,4 @@
--- Archives whose root is a map that stands for a list of pairs, and the scalars that are found in
--- one.
+-- Archives with a root map that represents a list of pairs, and the scalars that are found in one.
 use Rattle.rkyv_base.specs.declared.width.Word.{Ghosts as Words}
 use Rattle.std.specs.Prelude.{◌≡◌, ℕ, ◌-◌, Bool, IfSome, List, MatchResult, Option, Result, length}
 use Rattle.std.specs.Borrow.{Bor}
@@ -31,12 +30,12 @@ use Rattle.rkyv_collections.specs.MapFormat.{MapStands, hash_of, map_format}
 use Rattle.rkyv_collections.specs.declared.map.ArchivedHashMap.{ArchivedHashMap}
 use Rattle.rkyv_collections.specs.declared.map.HashMapOf.{HashMapOf}
 
--- where the root of an archive stands that is a map
+-- the position of the root of an archive, if the root is a map
 abbrev pub map_root : Width → Shape → Shape → List ℕ → ℕ
 map_root w k v b = length b - (map_shape w k v).size
 
--- The bytes are an archive of at most so many, its root is a map, and the map stands for the pairs,
--- under some load factor.
+-- `b`: archive of at most `limit` bytes. Its root is a map that represents `pairs` under some
+-- load factor
 pub record IsListArchive {A B : Type 0} (limit : ℕ) (w : Width) (k v : Shape) (key : List ℕ → ℕ → A
     → Type 0) (value : List ℕ → ℕ → B → Type 0) (hash : List ℕ → ℕ → ℕ) (b : List ℕ)
     (pairs : List (A × B)) : Type 0 where
@@ -48,59 +47,59 @@ pub record IsListArchive {A B : Type 0} (limit : ℕ) (w : Width) (k v : Shape) 
 abbrev pub TextPairs : Type 0 → Type 0
 TextPairs N = List (Bor (List ℕ) × N)
 
--- the fixed bytes of a narrow map of texts to scalars
+-- the element of a narrow map of texts to scalars
 abbrev pub text_map_shape : {N : Type 0} → Encoding N → Shape
 text_map_shape e = map_shape w32 (text_shape w32) (scalar_shape e)
 
--- a narrow map of texts to scalars under FxHasher64 and a load factor stands for the pairs
+-- a narrow map of texts to scalars under `FxHasher64` and a load factor, which represents the pairs
 abbrev pub TextMapStands : {N : Type 0} → Encoding N → ℕ × ℕ → List ℕ → ℕ → TextPairs N → Type 0
 TextMapStands e factor b p pairs = MapStands w32 (text_shape w32) (scalar_shape e)
     (IsTextOf w32 (λ text. text.now)) (ScalarStands e)
     (hash_at (fx_hasher low_halves) (text_key_calls w32)) factor b p pairs
 
--- The bytes are a narrow archive whose root is a map of texts to scalars under FxHasher64, and the
--- map stands for the pairs.
+-- `b`: narrow archive. Its root is a map of texts to scalars under `FxHasher64`
+-- that represents `pairs`
 abbrev pub IsTextMap : {N : Type 0} → Encoding N → List ℕ → TextPairs N → Type 0
 IsTextMap e b pairs = IsListArchive 4_294_967_295 w32 (text_shape w32) (scalar_shape e)
     (IsTextOf w32 (λ text. text.now)) (ScalarStands e)
     (hash_at (fx_hasher low_halves) (text_key_calls w32)) b pairs
 
--- how the pairs are written under a load factor
+-- the format of the pairs under a load factor
 abbrev pub text_map_format : {N : Type 0} → Encoding N → ℕ × ℕ → Format (TextPairs N) TableResolver
 text_map_format e factor = listed 4_294_967_295 factor
     (map_format w32 (text_shape w32) (scalar_shape e)
     (written_as (λ text. text.now) (text_format w32)) (scalar_format e)
     (hash_of (fx_hasher low_halves) (λ text. text_calls text.now)) factor)
 
--- no such archive was made of the pairs, under the load factor 7 / 8, and this is why
+-- `why`: error of archiving the pairs under the load factor 7 / 8
 abbrev pub NoTextMap : {F N : Type 0} → Encoding N → TextPairs N → WriteError F → Type 0
 NoTextMap e pairs why =
     ArchiveRefused 4_294_967_295 (text_map_shape e) (text_map_format e (7, 8)) pairs why
 
--- what writing such an archive answers: its bytes, or why there is none
+-- the result of archiving the pairs: the bytes of such an archive, or an error
 abbrev pub TextMapResult : {F N Z : Type 0} → Encoding N → TextPairs N
     → Result (Vec ℕ Z) (WriteError F) → Type 0
 TextMapResult e pairs result =
     MatchResult result (λ archive. IsTextMap e archive.items pairs) (NoTextMap e pairs)
 
--- Any bytes are opened exactly where they are a narrow archive whose root is a map of texts to
--- scalars, and else the first point at which they are none is told.
+-- The bytes are opened if and only if they are a narrow archive whose root is a map of texts
+-- to scalars. The error is the first fault of the bytes
 abbrev pub OpensTextMap : {N R : Type 0} → Encoding N → List ℕ → Result R VerifyError → Type 0
 OpensTextMap e b result = MatchResult result
     (λ _. Accepted 4_294_967_295 (text_map_shape e) b)
     (AccessFails 4_294_967_295 (text_map_shape e) b)
 
--- the value of the first pair whose key is the text
+-- the value of the first pair whose key is `text`
 abbrev pub first_of_text : {N : Type 0} → List ℕ → TextPairs N → Option N
 first_of_text text pairs = first_value (λ held. same_bytes text held.now) pairs
 
--- the scalar that stands where the view is, where there is a view
+-- the scalar at the view, if there is a view
 abbrev pub scalar_found : {N : Type 0} → Encoding N → Option (View N) → Option N
 scalar_found e found = option_map (λ view. value_at e (bytes_of view) (pos_of view)) found
 
--- If the root of an archive is a map that represents a list of pairs, the scalar that a lookup
--- finds is the value of the first pair with an equal key, and `None` if no pair has one. `wt` is
--- the word of the archive.
+-- The root of the archive is a map that represents a list of pairs. The scalar that a lookup
+-- finds is the value of the first pair with an equal key, and `None` if no pair has one.
+-- `wt`: word of the archive
 abbrev pub ScalarsFoundAreListed : {A N : Type 0} → (K H W : Type 0) → Words W → Shape → Encoding N
     → (List ℕ → ℕ → A → Type 0) → (List ℕ → ℕ → ℕ) → (A → List ℕ → ℕ → Bool) → (A → A → Bool)
     → Type 0

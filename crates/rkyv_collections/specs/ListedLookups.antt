@@ -1,4 +1,4 @@
--- What a lookup answers in a map that stands for a list of pairs, in terms of the list alone.
+-- Lookups in a map that represents a list of pairs, in terms of the list alone.
 use Rattle.rkyv_base.specs.declared.width.Word.{Ghosts as Words}
 use Rattle.std.specs.Prelude.{◌≡◌, ℕ, Bool, IfSome, List, None, Option, Some}
 use Rattle.std.specs.Int.{Width}
@@ -13,19 +13,19 @@ use Rattle.rkyv_collections.specs.Map.{IsPairAt, IsPairIn, IsValueAt, IsValueIn,
 use Rattle.rkyv_collections.specs.MapFormat.{MapStands}
 use Rattle.rkyv_collections.specs.declared.map.ArchivedHashMap.{ArchivedHashMap}
 
--- of each key the comparison accepts exactly that which was written of a value that is asked for
+-- a valid key is accepted if and only if `asks` accepts the value that it represents
 abbrev pub AsksFor : {A : Type 0} → Shape → (List ℕ → ℕ → A → Type 0) → List ℕ → (ℕ → Bool)
     → (A → Bool) → Type 0
 AsksFor {A} k key b accept asks = (a : A) (q : ℕ) → Standing k b q → key b q a → accept q ≡ asks a
 
--- the first pair whose key is asked for, and its value
+-- the first pair with an accepted key
 abbrev pub first_pair : {A B : Type 0} → (A → Bool) → List (A × B) → Option (A × B)
 first_pair asks pairs = find (λ pair. asks pair.0) pairs
 
 abbrev pub first_value : {A B : Type 0} → (A → Bool) → List (A × B) → Option B
 first_value asks pairs = option_map (λ pair. pair.1) (first_pair asks pairs)
 
--- the value stands where the view is, or there is neither
+-- the view is of the value, or there is neither
 abbrev pub IsFoundValue : {V B : Type 0} → (List ℕ → ℕ → B → Type 0) → Option (View V) → Option B
     → Type 0
 IsFoundValue stands None None = Unit {0}
@@ -33,7 +33,7 @@ IsFoundValue stands (Some view) (Some value) = StandsAt stands view value
 IsFoundValue stands None (Some value) = ⊥
 IsFoundValue stands (Some view) None = ⊥
 
--- the key and the value of the pair stand where the views are, or there is neither
+-- the views are of the key and the value of the pair, or there is neither
 abbrev pub IsFoundPair : {K V A B : Type 0} → (List ℕ → ℕ → A → Type 0) → (List ℕ → ℕ → B → Type 0)
     → Option (View K × View V) → Option (A × B) → Type 0
 IsFoundPair key value None None = Unit {0}
@@ -44,16 +44,16 @@ IsFoundPair key value (Some views) None = ⊥
 
 module _ {A B : Type 0} (k v : Shape) (key : List ℕ → ℕ → A → Type 0)
     (value : List ℕ → ℕ → B → Type 0) where
-  -- the pair stands at the position, or there is neither
+  -- the position is that of the pair, or there is neither
   abbrev pub IsPairOf : List ℕ → Option ℕ → Option (A × B) → Type 0
   IsPairOf b None None = Unit {0}
   IsPairOf b (Some q) (Some pair) = PairStands k v key value b q pair
   IsPairOf b None (Some pair) = ⊥
   IsPairOf b (Some q) None = ⊥
 
-  -- What `get_key_value`, a set's `get`, `get` and `contains_key` answer, by their clauses on the
-  -- first accepted key: the first pair of the list whose key is asked for, its key, its value, and
-  -- whether there is one.
+  -- The results of `get_key_value`, a set's `get`, `get` and `contains_key`,
+  -- by their clauses on the first accepted key. They are the first pair
+  -- of the list with an accepted key, its key, its value, and `true` if there is one
   pub record FindsListed {K V H W : Type 0} {wt : Words W} (w : Width) (key_hash : List ℕ → ℕ → ℕ)
       (m : ArchivedHashMap K V H W wt) (accept : ℕ → Bool) (asks : A → Bool) (pairs : List (A × B))
       : Type 0 where
@@ -69,8 +69,8 @@ module _ {A B : Type 0} (k v : Shape) (key : List ℕ → ℕ → A → Type 0)
     pub contains : (result : Bool) → FindsFirstKey w k v m key_hash accept (IsFoundAt result)
         → result ≡ is_some (first_pair asks pairs)
 
-  -- in a map that represents a list of pairs, a lookup finds the first pair of the list with an
-  -- accepted key; `wt` is the word of the archive
+  -- In a map that represents a list of pairs, a lookup finds the first pair
+  -- of the list with an accepted key. `wt`: word of the archive
   abbrev pub LookupsFindListed : (K V H W : Type 0) → Words W → (List ℕ → ℕ → ℕ) → Type 0
   LookupsFindListed K V H W wt key_hash =
       (m : ArchivedHashMap K V H W wt) (accept : ℕ → Bool) (asks : A → Bool) (factor : ℕ × ℕ)

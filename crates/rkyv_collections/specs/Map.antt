@@ -1,4 +1,4 @@
--- What a hash map is in an archive, and what a lookup in it answers.
+-- Hash maps in an archive, and the results of lookups in them.
 use Rattle.rkyv_base.specs.declared.width.Word.{Ghosts as Words}
 use Rattle.std.specs.Prelude.{◌≡◌, ℕ, ◌+◌, ◌↔◌, List, Bool, true, Option, IsSome, IsTrue, map}
 use Rattle.std.specs.Borrow.{Bor}
@@ -19,16 +19,16 @@ use Rattle.rkyv_table.specs.Table.Layout.{table_shape}
 use Rattle.rkyv_collections.specs.declared.map.ArchivedHashMap.{ArchivedHashMap}
 use Rattle.rkyv_collections.specs.declared.map.HashMapOf.{HashMapOf}
 
--- the header of a map: that of a table of its entries
+-- the element of a map: the header of a table of its entries
 abbrev pub map_shape : Width → Shape → Shape → Shape
 map_shape w k v = table_shape w (entry_shape k v)
 
--- a key of the map at p stands at q
+-- the map at `p` has a key at `q`
 abbrev pub IsKeyPosAt : Width → Shape → Shape → List ℕ → ℕ → ℕ → Type 0
 IsKeyPosAt w k v b p q = (i : ℕ) × IsWalked w b p i × (q ≡ item_at w (entry_shape k v).size b p i)
 
 module _ {K V H W : Type 0} {wt : Words W} where
-  -- the header of a map stands where the map is
+  -- the view of `m` is of a valid map
   abbrev pub IsMap : Width → Shape → Shape → ArchivedHashMap K V H W wt → Type 0
   IsMap w k v m = IsView (map_shape w k v) m.view
 
@@ -36,7 +36,7 @@ module _ {K V H W : Type 0} {wt : Words W} where
   abbrev pub map_view : ArchivedHashMap K V H W wt → View (HashMapOf K V H W)
   map_view m = m.view
 
-  -- the archive of the map, its bytes, and the position of its header
+  -- the archive of the map
   abbrev pub map_archive : ArchivedHashMap K V H W wt → Bor (List ℕ)
   map_archive m = archive_of m.view
 
@@ -48,19 +48,19 @@ module _ {K V H W : Type 0} {wt : Words W} where
   abbrev pub map_pos : ArchivedHashMap K V H W wt → ℕ
   map_pos m = pos_of m.view
 
-  -- how many pairs it has, and how many buckets
+  -- the number of pairs
   abbrev pub map_len : Width → ArchivedHashMap K V H W wt → ℕ
   map_len w m = len_at w (map_bytes m) (map_pos m)
 
-  -- how many buckets it has
+  -- the number of buckets
   abbrev pub map_cap : Width → ArchivedHashMap K V H W wt → ℕ
   map_cap w m = cap_at w (map_bytes m) (map_pos m)
 
-  -- where its keys stand, by ascending bucket
+  -- the positions of the keys, in bucket order
   abbrev pub key_positions : Width → Shape → Shape → ArchivedHashMap K V H W wt → List ℕ
   key_positions w k v m = item_positions w (entry_shape k v).size (map_bytes m) (map_pos m)
 
-  -- a key of the map stands at the position
+  -- the map has a key at `q`
   abbrev pub IsKeyPos : Width → Shape → Shape → ArchivedHashMap K V H W wt → ℕ → Type 0
   IsKeyPos w k v m q = IsKeyPosAt w k v (map_bytes m) (map_pos m) q
 
@@ -86,30 +86,31 @@ module _ {K V H W : Type 0} {wt : Words W} where
     pub viewed : IsView v pair.1
     pub at : IsAt pair.1 (map_archive m) (pos_of pair.0 + value_offset k v)
 
--- the hash of the key that stands at q
+-- the hash of the key at `q`
 abbrev pub hash_at : {State : Type 0} → Hasher State → (List ℕ → ℕ → List HasherCall) → List ℕ → ℕ
     → ℕ
 hash_at hasher calls b q = hash_of_calls hasher (calls b q)
 
--- the table at p was written of entries under the hashes of their keys, handed in in this order,
--- with their homes
+-- the table at `p` was written of entries under the hashes of their keys, in insertion order,
+-- with the home buckets `homes`
 abbrev pub MapWrittenAt : Width → Shape → (List ℕ → ℕ → ℕ) → List ℕ → ℕ → List ℕ → Type 0
 MapWrittenAt w s hash b p homes =
     WrittenAt w b p (map (hash b) (home_positions w s.size b p homes)) homes
 
 module _ (w : Width) (k v : Shape) (b : List ℕ) (p : ℕ) where
-  -- only keys under the hash are accepted, in the map at p
+  -- each accepted key of the map at `p` is under the hash
   abbrev pub AreUnderHashAt : ℕ → (List ℕ → ℕ → ℕ) → (ℕ → Bool) → Type 0
   AreUnderHashAt hash key_hash accept = (q : ℕ) → IsKeyPosAt w k v b p q → accept q ≡ true
       → key_hash b q ≡ hash
 
-  -- what is told is told of the position of the key that a lookup under the hash finds, on any
-  -- accepted map
+  -- the property applies to the position of the key that a lookup under the hash finds,
+  -- or to `None`
   abbrev pub FindsKeyAt : ℕ → (ℕ → Bool) → (Option ℕ → Type 0) → Type 0
   FindsKeyAt hash accept Told = Told
       (pos_found generic_kind w (entry_shape k v).size b p hash accept)
 
-  -- and on a written one: of the position of the first accepted key in the order handed in
+  -- if the map at `p` was written, the property applies to the position of the first accepted key
+  -- in insertion order, or to `None`
   abbrev pub FindsFirstKeyAt : (List ℕ → ℕ → ℕ) → (ℕ → Bool) → (Option ℕ → Type 0) → Type 0
   FindsFirstKeyAt key_hash accept Told =
       (homes : List ℕ) → MapWrittenAt w (entry_shape k v) key_hash b p homes
@@ -117,35 +118,37 @@ module _ (w : Width) (k v : Shape) (b : List ℕ) (p : ℕ) where
 
 module _ {K V H W : Type 0} {wt : Words W} (w : Width) (k v : Shape)
     (m : ArchivedHashMap K V H W wt) where
-  -- the comparison may be asked of each key
+  -- the comparison can be called with each key
   abbrev pub MayAskKeys : (View K → Type 0) → Type 0
   MayAskKeys pre = (key : View K) → IsKeyIn w k v m key → pre key
 
-  -- of each key the comparison answers what accept tells of its position
+  -- the comparison returns `accept` of the position of a key
   abbrev pub AnswersKeys : (View K → Bool → Type 0) → (ℕ → Bool) → Type 0
   AnswersKeys post accept = (key : View K) (r : Bool) → IsKeyIn w k v m key → post key r
       → r ≡ accept key.pos
 
-  -- the same of the map that is read
+  -- each accepted key of the map is under the hash
   abbrev pub AreUnderHash : ℕ → (List ℕ → ℕ → ℕ) → (ℕ → Bool) → Type 0
   AreUnderHash hash key_hash accept =
       AreUnderHashAt w k v (map_bytes m) (map_pos m) hash key_hash accept
 
-  -- what is told is told of the key that a lookup under the hash finds in the map
+  -- the property applies to the position of the key that a lookup under the hash finds in the map,
+  -- or to `None`
   abbrev pub FindsKey : ℕ → (ℕ → Bool) → (Option ℕ → Type 0) → Type 0
   FindsKey hash accept Told = FindsKeyAt w k v (map_bytes m) (map_pos m) hash accept Told
 
-  -- what is told is told of the first accepted key that was handed in, where the map was written
+  -- if the map was written, the property applies to the position of the first accepted key
+  -- in insertion order, or to `None`
   abbrev pub FindsFirstKey : (List ℕ → ℕ → ℕ) → (ℕ → Bool) → (Option ℕ → Type 0) → Type 0
   FindsFirstKey key_hash accept Told =
       FindsFirstKeyAt w k v (map_bytes m) (map_pos m) key_hash accept Told
 
-  -- what is told of what a lookup by a comparison finds, for each function of positions as which
-  -- the comparison answers
+  -- the property applies to the position that a lookup by a comparison finds,
+  -- if the comparison depends only on the position of a key
   abbrev pub FindsBy : (View K → Bool → Type 0) → ℕ → (Option ℕ → Type 0) → Type 0
   FindsBy post hash Told = (accept : ℕ → Bool) → AnswersKeys post accept → FindsKey hash accept Told
 
-  -- and on a written map, where it accepts keys under the hash alone
+  -- the same for a written map, if each accepted key is under the hash
   abbrev pub FindsFirstBy : (View K → Bool → Type 0) → ℕ → (List ℕ → ℕ → ℕ) → (Option ℕ → Type 0)
       → Type 0
   FindsFirstBy post hash key_hash Told =
@@ -158,22 +161,22 @@ abbrev pub IsEntryIn : {K V H W : Type 0} {wt : Words W} → Width → Shape →
 IsEntryIn w k v m entry = (entry.archive ≡ map_archive m) × IsView (entry_shape k v) entry
     × IsKeyPos w k v m entry.pos
 
--- the key that was found stands at the position, or none was found
+-- the position is that of the found entry or key, or there is neither
 abbrev pub IsEntryAt : {E : Type 0} → Option (View E) → Option ℕ → Type 0
 IsEntryAt result place = pos_of_found result ≡ place
 
--- where the key of a pair that may have been found stands
+-- the position of the key of a found pair
 abbrev pub key_pos_found : {K V : Type 0} → Option (View K × View V) → Option ℕ
 key_pos_found {K} {V} result = option_map (λ (pair : View K × View V). pos_of pair.0) result
 
--- the pair that was found has its key at the position, or none was found
+-- the position is that of the key of the found pair, or there is neither
 abbrev pub IsPairAt : {K V : Type 0} → Option (View K × View V) → Option ℕ → Type 0
 IsPairAt result place = key_pos_found result ≡ place
 
--- the value that was found stands behind the key at the position, or none was found
+-- the found value is behind the key at the position, or there is neither
 abbrev pub IsValueAt : {V : Type 0} → Shape → Shape → Option (View V) → Option ℕ → Type 0
 IsValueAt k v result place = pos_of_found result ≡ option_map (λ q. q + value_offset k v) place
 
--- the answer is true exactly where a key was found
+-- the result is `true` if and only if a key is found
 abbrev pub IsFoundAt : Bool → Option ℕ → Type 0
 IsFoundAt result place = IsTrue result ↔ IsSome place

@@ -1,4 +1,4 @@
--- How the pairs of a map are written: as a table of entries, each under the hash of its key.
+-- The format of the pairs of a map: a table of entries, each under the hash of its key.
 use Rattle.std.specs.Prelude.{◌≡◌, ℕ, List, length, map, slice_get, slice_index, Some}
 use Rattle.std.specs.Int.{Width}
 use Rattle.rkyv_base.specs.Entry.{entry_shape}
@@ -12,7 +12,7 @@ use Rattle.rkyv_table.specs.Table.Reading.{home_positions}
 use Rattle.rkyv_table.specs.Table.TableFormat.{TableResolver, table_format}
 use Rattle.rkyv_collections.specs.Map.{MapWrittenAt, map_shape}
 
--- the hash of a value that makes these calls
+-- the hash of a value with the hasher calls `calls`
 abbrev pub hash_of : {State A : Type 0} → Hasher State → (A → List HasherCall) → A → ℕ
 hash_of hasher calls value = hash_of_calls hasher (calls value)
 
@@ -20,16 +20,16 @@ hash_of hasher calls value = hash_of_calls hasher (calls value)
 abbrev pub keyed : {A B : Type 0} → (A → ℕ) → List (A × B) → List (ℕ × (A × B))
 keyed hash pairs = map (λ pair. (hash pair.0, pair)) pairs
 
--- how a list of pairs, in the order handed in, is written as a map under a load factor
+-- the format of a list of pairs, in insertion order, as a map under a load factor
 abbrev pub map_format : {A B R Q : Type 0} → Width → Shape → Shape → Format A R → Format B Q
     → (A → ℕ) → ℕ × ℕ → Format (List (A × B)) TableResolver
 map_format w k v key value hash load_factor =
     written_as (keyed hash) (table_format w (entry_shape k v) (pair_format k v key value)
     load_factor)
 
--- A header of a map of the pairs stands at p: the map was written of them in this order, under the
--- hashes of their keys,
--- and each pair stands in its home. `hash b q` is the hash of the key that stands at q.
+-- The map at `p` represents the pairs. It was written of them in this order,
+-- under the hashes of their keys, and each pair is in its home bucket. `hash b q`: hash of the key
+-- at `q`
 pub record MapStands {A B : Type 0} (w : Width) (k v : Shape) (key : List ℕ → ℕ → A
     → Type 0) (value : List ℕ → ℕ → B → Type 0) (hash : List ℕ → ℕ → ℕ) (load_factor : ℕ × ℕ)
     (b : List ℕ) (p : ℕ) (pairs : List (A × B)) : Type 0 where
@@ -41,8 +41,8 @@ pub record MapStands {A B : Type 0} (w : Width) (k v : Shape) (key : List ℕ �
       → PairStands k v key value b (slice_index (home_positions w (entry_shape k v).size b p homes)
       i) pair
 
--- In every archive in which what was written of a map sits, and its header, that map stands, under
--- whatever load factor: `hash` tells the hash of the key at a position, `own` that of a key.
+-- In any archive with the written bytes of a map and its header, the map represents the pairs,
+-- under each load factor. `hash`: hash of the key at a position, `own`: hash of a native key
 abbrev pub WrittenMapsStand : {A B R Q : Type 0} → Width → Shape → Shape → (List ℕ → ℕ → A → Type 0)
     → (List ℕ → ℕ → B → Type 0) → (List ℕ → ℕ → ℕ) → Format A R → Format B Q → (A → ℕ) → Type 0
 WrittenMapsStand w k v key value hash key_format value_format own = (load_factor : ℕ × ℕ)

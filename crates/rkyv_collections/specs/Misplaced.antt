@@ -1,4 +1,4 @@
--- How many keys of a map a lookup doesn't answer where they stand.
+-- The keys of a map that a lookup of their own doesn't find.
 use Rattle.rkyv_base.specs.declared.width.Word.{Ghosts as Words}
 use Rattle.std.specs.Prelude.{◌≡◌, ℕ, List, Bool, true, false, Option, MatchOption}
 use Rattle.std.specs.Int.{Width}
@@ -12,15 +12,15 @@ use Rattle.rkyv_table.specs.Table.Reading.{IsWalked, home_positions, item_at, ta
 use Rattle.rkyv_collections.specs.Map.{MapWrittenAt, map_bytes, map_pos, map_shape}
 use Rattle.rkyv_collections.specs.declared.map.ArchivedHashMap.{ArchivedHashMap}
 
--- of how many buckets a lookup of their own key answers another bucket, or none
+-- the number of buckets for whose keys a lookup finds another bucket, or none
 abbrev pub map_misplaced : Width → Shape → Shape → (List ℕ → ℕ → ℕ) → Comparison → List ℕ → ℕ → ℕ
 map_misplaced w k v key_hash same_key b p =
     let at : ℕ → ℕ = item_at w (entry_shape k v).size b p in
     misplaced generic_kind (table_controls w b p) (cap_at w b p) (len_at w b p)
     (λ i. key_hash b (at i)) (λ i j. same_key b (at i) b (at j))
 
--- In a map that stands and was written, those keys are misplaced that are the same as one handed in
--- earlier.
+-- in a valid written map, the number of misplaced keys is that of keys
+-- that are the same as an earlier key
 abbrev pub RepeatedKeysAreMisplaced : Width → Shape → Shape → (List ℕ → ℕ → ℕ) → Comparison → Type 0
 RepeatedKeysAreMisplaced w k v key_hash same_key =
     (b : List ℕ) (p : ℕ) (homes : List ℕ) → Viewed (map_shape w k v) b p
@@ -33,7 +33,7 @@ module _ (w : Width) (size : ℕ) (b : List ℕ) (p : ℕ) (fits : ℕ → Bool)
   abbrev pub NoneFits : Type 0
   NoneFits = (i : ℕ) → IsWalked w b p i → fits (item_at w size b p i) ≡ false
 
-  -- the key at the place fits, and no other key of the map does
+  -- the key at `place` fits, and no other key of the map does
   pub record FitsAlone (place : ℕ) : Type 0 where
     pub bucket : ℕ
     pub walked : IsWalked w b p bucket
@@ -41,12 +41,12 @@ module _ (w : Width) (size : ℕ) (b : List ℕ) (p : ℕ) (fits : ℕ → Bool)
     pub fitting : fits place ≡ true
     pub alone : (i : ℕ) → IsWalked w b p i → fits (item_at w size b p i) ≡ true → i ≡ bucket
 
-  -- the one key that fits was found, or there is none
+  -- the position is that of the one key that fits, or no key fits
   abbrev pub FindsTheOne : Option ℕ → Type 0
   FindsTheOne found = MatchOption found NoneFits FitsAlone
 
--- where no key of the map is misplaced, what is told is told of the position of the one key that
--- fits, or of none where none does
+-- If no key of the map is misplaced, the property applies to the position of the one key that fits.
+-- It applies to `None` if no key fits
 abbrev pub FindsOneKey : {K V H W : Type 0} {wt : Words W} → Width → Shape → Shape
     → ArchivedHashMap K V H W wt → (List ℕ → ℕ → ℕ) → Comparison
     → (ℕ → Bool) → (Option ℕ → Type 0) → Type 0

@@ -1,4 +1,4 @@
--- What becomes of a map of which one value is written among its parts, as a map that is a value.
+-- Maps with a value that is written among its parts, as a map that is a value.
 use Rattle.std.specs.Prelude.{◌≡◌, ◌≢◌, ℕ, ◌+◌, ◌*◌, ◌-◌, ◌≤◌, Bool, List, Some}
 use Rattle.std.specs.Int.{Width, byte_len}
 use Rattle.std.specs.Option.{option_map}
@@ -13,13 +13,13 @@ use Rattle.rkyv_collections.specs.MapFormat.{MapStands}
 use Rattle.rkyv_table.specs.Table.SealedTable.{WritesValue}
 use Rattle.rkyv_collections.specs.ValueWrites.{entry_at}
 
--- The value at q in b is written in c, and no bytes change but some of its parts: where it holds,
--- it holds again with the same lower end, and what lies outside its parts is as before.
+-- `c`: bytes `b` after a write among the parts of the value at `q`. A valid value
+-- stays valid with the same lower end, and the bytes outside its parts are unchanged
 pub record WritesParts (s : Shape) (b c : List ℕ) (q : ℕ) : Type 0 where
   pub holds : (lo hi l : ℕ) → lo ≤ hi → hi ≤ q → s.holds b q lo hi l → s.holds c q lo hi l
   pub sealed : (lo hi l : ℕ) → lo ≤ hi → hi ≤ q → s.holds b q lo hi l → Sealed b lo (l - lo) c
 
--- the value at q holds somewhere before it
+-- the value at `q` is valid, with its parts in some range before it
 pub record HoldsBefore (s : Shape) (b : List ℕ) (q : ℕ) : Type 0 where
   pub lower : ℕ
   pub upper : ℕ
@@ -28,16 +28,17 @@ pub record HoldsBefore (s : Shape) (b : List ℕ) (q : ℕ) : Type 0 where
   pub before : upper ≤ q
   pub holds : s.holds b q lower upper rest
 
--- the value at q is the same in both: its own bytes, and all among which its parts lie
+-- the value at `q` is the same in both: its own bytes, and the range of its parts
 pub record StaysAt (s : Shape) (b c : List ℕ) (q : ℕ) : Type 0 where
   pub held : HoldsBefore s b q
   pub fixed : Same b c q (q + s.size)
   pub parts : Same b c held.lower held.rest
 
 module _ (w : Width) (k v : Shape) where
-  -- The map at p in b is one in c, of which the value in bucket i was written among its parts: its
-  -- header, its controls, where its entries stand, all keys and all other values are the same, a
-  -- map that was written stays one, and the write is one among the parts of the map.
+  -- The map at `p` in `b`, after a write among the parts of the value in bucket `i`, is a map
+  -- in `c`. Its header, its control bytes, the positions of its entries,
+  -- all keys and all other values are unchanged. A written map is still one,
+  -- and the write is among the parts of the map
   pub record KeepsOuterMap (key_hash : List ℕ → ℕ → ℕ) (b c : List ℕ) (p i : ℕ) : Type 0 where
     pub stands : Viewed (map_shape w k v) c p
     pub nested : WritesParts (map_shape w k v) b c p
@@ -52,7 +53,7 @@ module _ (w : Width) (k v : Shape) where
     pub written : (homes : List ℕ) → MapWrittenAt w (entry_shape k v) key_hash b p homes
         → MapWrittenAt w (entry_shape k v) key_hash c p homes
 
-  -- a write of one value in place is one among the parts of the map
+  -- a write of one value in place is a write among the parts of the map
   abbrev pub ValueWritesAreNested : Type 0
   ValueWritesAreNested =
       (b c : List ℕ) (p i : ℕ) → Viewed (map_shape w k v) b p → IsWalked w b p i
@@ -64,8 +65,9 @@ module _ (w : Width) (k v : Shape) where
       (b c : List ℕ) (p q : ℕ) → Viewed (map_shape w k v) b p → (at : IsKeyPosAt w k v b p q)
       → WritesParts v b c (value_pos k v q) → KeepsOuterMap key_hash b c p at.0
 
-  -- a map that stands for a list of pairs stands for the list with the new value in the first pair
-  -- whose key equals the one that is asked for, where that pair's value was written among its parts
+  -- The map represents a list of pairs, and the value of the first pair with a key
+  -- equal to `asked` is written among its parts. The map then represents
+  -- the list with the new value there
   abbrev pub NestedWritesStand : {A B : Type 0} → (List ℕ → ℕ → A → Type 0)
       → (List ℕ → ℕ → B → Type 0) → (List ℕ → ℕ → ℕ) → (A → List ℕ → ℕ → Bool) → (A → A → Bool)
       → Type 0

@@ -1,11 +1,11 @@
--- What the archive of a value says of it.
+-- The value of an archive, and its root.
 use Rattle.std.specs.Prelude.{◌≡◌, ℕ, ◌-◌, Bool, List, length, true}
 use Rattle.rkyv_base.specs.Format.{Format}
 use Rattle.rkyv_base.specs.Root.{ArchiveOf}
 use Rattle.rkyv_base.specs.Shape.{Shape}
 
--- At the root of the archive of a value stands what equals it in place, and each value that stands
--- there, as what is read back does, is equal to it.
+-- the root of the archive of a value equals the value, and each value that the root
+-- represents is equal to it
 abbrev pub ArchivesComeBack : {V R : Type 0} → ℕ → Shape → (List ℕ → ℕ → V → Type 0)
     → (List ℕ → ℕ → V → Type 0) → Format V R → (V → V → Bool) → Type 0
 ArchivesComeBack {V} limit s stands equals format equal =

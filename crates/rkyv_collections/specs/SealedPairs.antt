@@ -1,4 +1,4 @@
--- What a cursor over the pairs of a map has left, which lends each value to be written.
+-- Cursors over the pairs of a map, for writing its values.
 use Rattle.std.specs.Prelude.{◌≡◌, ℕ, ◌+◌, ◌≤◌, List, [], ◌∷◌, Option, MatchOption, length}
 use Rattle.std.specs.Borrow.{MutBor}
 use Rattle.std.specs.Int.{Width}
@@ -30,18 +30,18 @@ module _ {K V H W : Type 0} where
   entries_of values = values.pairs.entries
 
 module _ {K V : Type 0} (k v : Shape) where
-  -- a map stands at p in the bytes of the cursor, whose numbers are those of the map
+  -- a cursor over the valid map at `p` of its archive, with the numbers of the map
   abbrev pub IsPairIter : Width → ℕ → RawIterSeal (Entry K V) → Type 0
   IsPairIter w p r = IsSealIter w (entry_shape k v) p r
 
-  -- all pairs of the map at p in these bytes are left
+  -- all pairs of the map at `p` in `b` remain
   pub record HasAllPairs (w : Width) (b : List ℕ) (p : ℕ) (r : RawIterSeal (Entry K V)) : Type 0
     where
       pub iter : IsPairIter w p r
       pub buckets : buckets_left w p r ≡ walk (table_controls w b p) (cap_at w b p)
       pub count : items_left r ≡ len_at w b p
 
-  -- the first of the pairs that are left is taken, and its key stands at q
+  -- the first remaining pair is taken, and its key is at `q`
   pub record TakesPairAt (w : Width) (p : ℕ) (before after : RawIterSeal (Entry K V)) (q : ℕ) : Type
       0 where
     pub bucket : ℕ
@@ -49,26 +49,26 @@ module _ {K V : Type 0} (k v : Shape) where
     pub pair : IsPairPos w k v (cursor_bytes before) p bucket q
     pub iter : IsPairIter w p after
 
-  -- none is left, and the cursor is as before
+  -- no pair remains, before and after the step
   pub record IsDone (w : Width) (p : ℕ) (before after : RawIterSeal (Entry K V)) : Type 0 where
     pub none : buckets_left w p before ≡ []
     pub still : buckets_left w p after ≡ []
     pub iter : IsPairIter w p after
 
-  -- a step over the positions of a map's keys; of its values
+  -- a step over the positions of the keys of a map: none remains, or the first is taken
   abbrev pub TakesKeyPos : RawIterSeal (Entry K V) → Option ℕ → RawIterSeal (Entry K V) → Type 0
   TakesKeyPos before result after =
       (w : Width) (p : ℕ) → IsPairIter w p before
       → MatchOption result (IsDone w p before after) (TakesPairAt w p before after)
 
-  -- a step answers where the value of the first pair that is left stands, or none is left
+  -- a step over the positions of the values of a map: none remains, or the first is taken
   abbrev pub TakesValuePos : RawIterSeal (Entry K V) → Option ℕ → RawIterSeal (Entry K V) → Type 0
   TakesValuePos before result after =
       (w : Width) (p : ℕ) → IsPairIter w p before
       → MatchOption result (IsDone w p before after) (λ q. (key : ℕ) × (q ≡ value_pos k v key)
       × TakesPairAt w p before after key)
 
-  -- the first pair that a cursor over a map has left is lent; none is where none is left
+  -- the key and the seal of the value of the first remaining pair, or `None` if none remains
   abbrev pub LendsFirstPair : RawIterSeal (Entry K V) → Option (View K × Seal V) → Type 0
   LendsFirstPair before result =
       (w : Width) (p : ℕ) → IsPairIter w p before
@@ -76,7 +76,7 @@ module _ {K V : Type 0} (k v : Shape) where
       (λ pair. (i : ℕ) × (rest : List ℕ) × (buckets_left w p before ≡ i ∷ rest)
       × LendsPair k v (cursor_bytes before) (IsPairPos w k v (cursor_bytes before) p i) pair)
 
-  -- the value of the first pair
+  -- the seal of the value of the first remaining pair, or `None` if none remains
   abbrev pub LendsFirstValue : RawIterSeal (Entry K V) → Option (Seal V) → Type 0
   LendsFirstValue before result =
       (w : Width) (p : ℕ) → IsPairIter w p before
@@ -84,8 +84,8 @@ module _ {K V : Type 0} (k v : Shape) where
       (λ value. (i : ℕ) × (rest : List ℕ) × (buckets_left w p before ≡ i ∷ rest)
       × LendsValue k v (cursor_bytes before) (IsPairPos w k v (cursor_bytes before) p i) value)
 
-  -- a cursor over a map of which the value behind the key at q was written is one over the map,
-  -- which is kept, with the same pairs left
+  -- a cursor over a map whose value behind the key at `q` was written is still one.
+  -- The map is kept, and the same pairs remain
   abbrev pub KeepsPairs : RawIterSeal (Entry K V) → ℕ → RawIterSeal (Entry K V) → Type 0
   KeepsPairs before q after =
       (w : Width) (p i : ℕ) → IsPairIter w p before → IsPairPos w k v (cursor_bytes before) p i q
@@ -93,24 +93,23 @@ module _ {K V : Type 0} (k v : Shape) where
       × SameValue k (cursor_bytes before) (cursor_bytes after) q
       × IsPairIter w p after × (buckets_left w p after ≡ buckets_left w p before)
 
-  -- of which the value at q was written
+  -- the same for a map whose value at `q` was written
   abbrev pub KeepsValues : RawIterSeal (Entry K V) → ℕ → RawIterSeal (Entry K V) → Type 0
   KeepsValues before q after = (key : ℕ) → q ≡ value_pos k v key → KeepsPairs before key after
 
-  -- a writer may be given the bytes of the cursor, at each place at which a value fits
+  -- the writer can be called with the bytes of the cursor and each position at which a value fits
   abbrev pub MayWriteValue : {F : Type 0} → (F → MutBor (List ℕ) → ℕ → Type 0)
       → RawIterSeal (Entry K V) → F → Type 0
   MayWriteValue pre before write = (b : MutBor (List ℕ)) (q : ℕ) → b.now ≡ cursor_bytes before
       → q + v.size ≤ length b.now → pre write b q
 
-  -- at each place at which a pair fits
+  -- the writer can be called with the bytes of the cursor and each position at which a pair fits
   abbrev pub MayWritePair : {F : Type 0} → (F → MutBor (List ℕ) → ℕ → Type 0)
       → RawIterSeal (Entry K V) → F → Type 0
   MayWritePair pre before write = (b : MutBor (List ℕ)) (q : ℕ)
       → b.now ≡ cursor_bytes before → value_pos k v q + v.size ≤ length b.now → pre write b q
 
-  -- a step over the positions of a map's keys, and what the writer does to the archive where a pair
-  -- was left
+  -- a step over the positions of the keys of a map, and the write to the archive if a pair remained
   pub record StepsAndWritesPair (Writes : List ℕ → ℕ → List ℕ
       → Type 0) (before : RawIterSeal (Entry K V))
       (result : Option ℕ) (after : RawIterSeal (Entry K V)) : Type 0 where
@@ -121,8 +120,8 @@ module _ {K V : Type 0} (k v : Shape) where
     pub writes : MatchOption result (after ≡ stepped)
         (λ q. StaysThere stepped after × Writes (cursor_bytes stepped) q (cursor_bytes after))
 
-  -- a step over the positions of a map's values, and what the writer does to the archive where a
-  -- value was left
+  -- a step over the positions of the values of a map, and the write to the archive
+  -- if a value remained
   pub record StepsAndWritesValue (Writes : List ℕ → ℕ → List ℕ
       → Type 0) (before : RawIterSeal (Entry K V)) (result : Option ℕ)
       (after : RawIterSeal (Entry K V)) : Type 0 where

@@ -1,5 +1,4 @@
--- What a hash set is in an archive, and what a lookup in it answers: all of it as in the map of its
--- keys.
+-- Hash sets in an archive, and the results of lookups in them, as in the map of the keys.
 use Rattle.rkyv_base.specs.declared.width.Word.{Ghosts as Words}
 use Rattle.std.specs.Prelude.{ℕ, List, Bool, Option}
 use Rattle.std.specs.Borrow.{Bor}
@@ -20,20 +19,20 @@ use Rattle.rkyv_collections.specs.Misplaced.{map_misplaced}
 use Rattle.rkyv_collections.specs.declared.map.HashMapOf.{HashMapOf}
 use Rattle.rkyv_collections.specs.declared.set.ArchivedHashSet.{ArchivedHashSet}
 
--- the header of a set: that of a map to the unit value
+-- the element of a set: that of a map to the unit value
 abbrev pub set_shape : Width → Shape → Shape
 set_shape w k = map_shape w k unit_shape
 
 module _ {K H W : Type 0} {wt : Words W} where
-  -- the header of a set stands where the set is
+  -- the view of `s` is of a valid set
   abbrev pub IsSet : Width → Shape → ArchivedHashSet K H W wt → Type 0
   IsSet w k s = IsMap w k unit_shape s.map
 
-  -- the view of the set's header, as that of the map of its keys
+  -- the view of the set's header, as that of the map of the keys
   abbrev pub set_view : ArchivedHashSet K H W wt → View (HashMapOf K (Unit {0}) H W)
   set_view s = map_view s.map
 
-  -- the archive of the set, its bytes, and the position of its header
+  -- the archive of the set
   abbrev pub set_archive : ArchivedHashSet K H W wt → Bor (List ℕ)
   set_archive s = map_archive s.map
 
@@ -45,15 +44,15 @@ module _ {K H W : Type 0} {wt : Words W} where
   abbrev pub set_pos : ArchivedHashSet K H W wt → ℕ
   set_pos s = map_pos s.map
 
-  -- the set's header is at this place of this archive
+  -- the set's header is at `p` of the archive
   abbrev pub IsSetAt : ArchivedHashSet K H W wt → Bor (List ℕ) → ℕ → Type 0
   IsSetAt s archive p = IsAt s.map.view archive p
 
-  -- how many keys it has
+  -- the number of keys
   abbrev pub set_len : Width → ArchivedHashSet K H W wt → ℕ
   set_len w s = map_len w s.map
 
-  -- where its keys stand, by ascending bucket
+  -- the positions of the keys, in bucket order
   abbrev pub member_positions : Width → Shape → ArchivedHashSet K H W wt → List ℕ
   member_positions w k s = key_positions w k unit_shape s.map
 
@@ -61,24 +60,24 @@ module _ {K H W : Type 0} {wt : Words W} where
   abbrev pub IsMemberIn : Width → Shape → ArchivedHashSet K H W wt → View K → Type 0
   IsMemberIn w k s key = IsKeyIn w k unit_shape s.map key
 
--- what is told of what a lookup of a query finds, as in the map of its keys
+-- the property applies to the position that a lookup of a query finds, as in the map of the keys
 abbrev pub TellsMember : {K H W State : Type 0} {wt : Words W} → Width → Shape
     → ArchivedHashSet K H W wt → Hasher State → List HasherCall → (List ℕ → ℕ → List HasherCall)
     → Comparison → (List ℕ → ℕ → Bool) → (Option ℕ → Type 0) → Type 0
 TellsMember w k s hasher calls key_calls same fits Told =
     TellsKey w k unit_shape s.map hasher calls key_calls same fits Told
 
--- what such a lookup says of the key that it answers
+-- the clauses of such a lookup on the key that it finds
 abbrev pub GetsMember : {K H W State : Type 0} {wt : Words W} → Width → Shape
     → ArchivedHashSet K H W wt → Hasher State → List HasherCall → (List ℕ → ℕ → List HasherCall)
     → Comparison → (List ℕ → ℕ → Bool) → Option (View K) → Type 0
 GetsMember w k s hasher calls key_calls same fits result =
     GetsKey IsKeyIn IsEntryAt w k unit_shape s.map hasher calls key_calls same fits result
 
--- equally many keys, and each of the first is found in the other
+-- the sets have the same length, and each key of the first is found in the second
 abbrev pub set_equal : Width → Shape → (List ℕ → ℕ → ℕ) → Comparison → Comparison
 set_equal w k key_hash same = map_equal w k unit_shape key_hash same unit_same
 
--- how many keys a lookup doesn't answer where they stand
+-- the number of keys that a lookup of their own doesn't find
 abbrev pub set_misplaced : Width → Shape → (List ℕ → ℕ → ℕ) → Comparison → List ℕ → ℕ → ℕ
 set_misplaced w k key_hash same = map_misplaced w k unit_shape key_hash same

@@ -1,4 +1,4 @@
--- How the items of a set are written: as the keys of a map, each with the unit value.
+-- The format of the keys of a set: a map of the keys, each with the unit value.
 use Rattle.std.specs.Prelude.{ℕ, List}
 use Rattle.std.specs.Int.{Width}
 use Rattle.rkyv_base.specs.Empty.{unit_format, unit_shape, unit_stands}
@@ -10,20 +10,20 @@ use Rattle.rkyv_table.specs.Table.TableFormat.{TableResolver}
 use Rattle.rkyv_collections.specs.MapFormat.{MapStands, map_format}
 use Rattle.rkyv_collections.specs.Set.{set_shape}
 
--- how a list of keys, in the order handed in, is written as a set under a load factor
+-- the format of a list of keys, in insertion order, as a set under a load factor
 abbrev pub set_format : {A R : Type 0} → Width → Shape → Format A R → (A → ℕ) → ℕ × ℕ
     → Format (List A) TableResolver
 set_format w k key hash load_factor =
     written_as with_units (map_format w k unit_shape key unit_format hash load_factor)
 
--- a header of a set of the keys stands at p
+-- the set at `p` represents the keys
 abbrev pub SetStands : {A : Type 0} → Width → Shape → (List ℕ → ℕ → A → Type 0) → (List ℕ → ℕ → ℕ)
     → ℕ × ℕ → List ℕ → ℕ → List A → Type 0
 SetStands w k key hash load_factor b p keys =
     MapStands w k unit_shape key unit_stands hash load_factor b p (with_units keys)
 
--- in every archive in which what was written of a set sits, and its header, that set stands, under
--- whatever load factor
+-- in any archive with the written bytes of a set and its header, the set represents the keys,
+-- under each load factor
 abbrev pub WrittenSetsStand : {A R : Type 0} → Width → Shape → (List ℕ → ℕ → A → Type 0)
     → (List ℕ → ℕ → ℕ) → Format A R → (A → ℕ) → Type 0
 WrittenSetsStand w k key hash format own = (load_factor : ℕ × ℕ)

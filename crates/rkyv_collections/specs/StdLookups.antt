@@ -1,4 +1,4 @@
--- What a lookup answers in an archive that was written of a map or a set of std's.
+-- Lookups in an archive of a map or a set of std.
 use Rattle.std.specs.Prelude.{◌≡◌, ℕ, ◌+◌, Bool, List, None, Option, Some}
 use Rattle.std.specs.HashMap.{HashMap}
 use Rattle.std.specs.HashSet.{HashSet}
@@ -17,7 +17,7 @@ use Rattle.rkyv_collections.specs.Map.{map_shape}
 use Rattle.rkyv_collections.specs.Set.{set_shape}
 use Rattle.rkyv_collections.specs.declared.std_maps.hashed.Hashed.{Hashed}
 
--- the value stands so far behind the place, or there is neither
+-- the value is `offset` bytes behind the position, or there is neither
 abbrev pub IsValueBehind : {B : Type 0} → (List ℕ → ℕ → B → Type 0) → List ℕ → ℕ → Option ℕ
     → Option B → Type 0
 IsValueBehind value b offset None None = Unit {0}
@@ -27,8 +27,8 @@ IsValueBehind value b offset (Some q) None = ⊥
 
 module _ {Q A : Type 0} (w : Width) (k : Shape) (hash : Q → ℕ) (fits : Q → List ℕ → ℕ → Bool)
   where
-    -- What the query finds in the map at p is what these entries have: the value of the first key
-    -- that is asked for, and none exactly where they have none.
+    -- The query finds the value of the first entry with an accepted key, in the map at `p`.
+    -- It finds none if and only if no entry has one
     abbrev pub FindsAsked : {B : Type 0} → Shape → (List ℕ → ℕ → B → Type 0) → List ℕ → ℕ → Q
         → (A → Bool) → List (A × B) → Type 0
     FindsAsked v value b p q asks entries =
@@ -37,13 +37,13 @@ module _ {Q A : Type 0} (w : Width) (k : Shape) (hash : Q → ℕ) (fits : Q →
         (lookup asks entries)
 
     module _ (key : List ℕ → ℕ → A → Type 0) (can_read : Q → Type 0) where
-      -- each query that can be read finds in the map at p what these entries have
+      -- each query that can be read finds in the map at `p` the value that `entries` have
       abbrev pub FindsEntries : {B : Type 0} → Shape → (List ℕ → ℕ → B → Type 0) → List ℕ → ℕ
           → List (A × B) → Type 0
       FindsEntries v value b p entries = (q : Q) (asks : A → Bool) → can_read q
           → AsksFor k key b (fits q b) asks → FindsAsked v value b p q asks entries
 
-      -- each query that can be read is found in the set at p exactly where a key is asked for
+      -- each query that can be read is found in the set at `p` if and only if a key is accepted
       abbrev pub FindsMembers : List ℕ → ℕ → List A → Type 0
       FindsMembers b p keys = (q : Q) (asks : A → Bool) → can_read q
           → AsksFor k key b (fits q b) asks
@@ -51,13 +51,14 @@ module _ {Q A : Type 0} (w : Width) (k : Shape) (hash : Q → ℕ) (fits : Q →
           (pos_found generic_kind w (entry_shape k unit_shape).size b p (hash q) (fits q b))
           ≡ list_any asks keys
 
-      -- in every archive in which what was written of a map of std's sits, each query that can be
-      -- read finds what that map has
+      -- in any archive with the written bytes of a map of std, each query that can be read finds
+      -- the value that the map has
       abbrev pub FindsInWrittenMap : {B S H R : Type 0} → Shape → (List ℕ → ℕ → B → Type 0)
           → Format (Hashed (HashMap A B S) H) R → Type 0
       FindsInWrittenMap v value f =
           IsFormat (map_shape w k v) (λ b p x. FindsEntries v value b p x.map.entries) f
 
-      -- and of a set of std's: it is found exactly where that set has a key that is asked for
+      -- In any archive with the written bytes of a set of std, each query
+      -- that can be read is looked up. It is found if and only if the set has an accepted key
       abbrev pub FindsInWrittenSet : {S H R : Type 0} → Format (Hashed (HashSet A S) H) R → Type 0
       FindsInWrittenSet f = IsFormat (set_shape w k) (λ b p x. FindsMembers b p x.map.keys) f

@@ -1,4 +1,4 @@
--- Std's sets: as their keys, each with the unit value.
+-- Sets of std, as their keys, each with the unit value.
 use Rattle.std.specs.Prelude.{◌≡◌, ℕ, ◌⊎◌, Bool, true, List, [], ◌∷◌, MatchResult, Result, length}
 use Rattle.std.proofs.Common.{refl, ap, ◌∙◌, arith}
 use Rattle.std.specs.HashSet.{HashSet, IsUnique, Updates, hash_set_len, hasher_of}
@@ -21,7 +21,7 @@ use Rattle.rkyv_table.specs.Table.Lent.{with_units}
 use Rattle.rkyv_collections.specs.StdEquality.{EntriesEqual, FindsPair}
 use Rattle.rkyv_collections.specs.StdMap.{EntriesStand}
 
--- a set of std's stands: its keys do, each with the unit value
+-- the set at `p` represents a set of std: its keys, each with the unit value
 abbrev pub StdSetStands : {A S : Type 0} → Shape → (List ℕ → ℕ → A → Type 0) → Width
     → (A → A → Bool) → List ℕ → ℕ → HashSet A S → Type 0
 StdSetStands k key w equal b p s =
@@ -31,30 +31,30 @@ pub keys_with_units : {A : Type 0} (keys : List A) → keys_of (with_units keys)
 keys_with_units [] = refl
 keys_with_units {A} (x ∷ xs) = ap (λ (t : List A). x ∷ t) (keys_with_units xs)
 
--- a key of which this is told was inserted
+-- a key with the property was inserted
 abbrev pub InsertsKey : {A S : Type 0} → (A → A → Bool) → (A → Type 0) → HashSet A S → HashSet A S
     → Type 0
 InsertsKey {A} equal Told s n =
     (key : A) × Told key × Updates equal s n key true × IsUnique equal n
     × (hasher_of n ≡ hasher_of s)
 
--- reading a key and inserting it may fail for want of memory, and where reading the key may
+-- `e`: error of inserting a key. Memory could not be allocated, or the key has the error
 abbrev pub key_refuses : Refusals → Refusals
 key_refuses key b q e = (e ≡ Memory) ⊎ key b q e
 
--- reading a set of std's back may fail for want of memory, and where reading a key of the set at p
--- may
+-- `e`: error of deserializing the set at `p`. Memory could not be allocated,
+-- or a key of the set has the error
 abbrev pub std_set_refuses : Width → Shape → Refusals → Refusals
 std_set_refuses w k key b p e =
     (e ≡ Memory) ⊎ ((q : ℕ) × IsKeyPosAt w k unit_shape b p q × key b q e)
 
--- a set of std's was read back, which stands at the view and has this state; or reading was refused
+-- `result`: set of std that the view represents, with the hash state `state`, or an error
 abbrev pub ReadsStdSet : {A S T : Type 0} → (List ℕ → ℕ → HashSet A S → Type 0) → Refusals → View T
     → S → Result (HashSet A S) ReadError → Type 0
 ReadsStdSet stands refuses view state result = MatchResult result
     (λ s. StandsAt stands view s × (hasher_of s ≡ state)) (StandsAt refuses view)
 
--- the set at p has as many keys as the set of std's, each key of which is found in it
+-- the set at `p` has as many keys as the set of std, and each of these is found in it
 abbrev pub StdSetEquals : {A S : Type 0} → Width → Shape → (A → ℕ) → (A → List ℕ → ℕ → Bool)
     → List ℕ → ℕ → HashSet A S → Type 0
 StdSetEquals w k hash fits b p s =
@@ -68,7 +68,7 @@ all_units P (x ∷ xs) all =
     All-cons (λ key. P (key, tt)) x xs (All-head P (x, tt) (with_units xs) all)
     (all_units P xs (All-tail P (x, tt) (with_units xs) all))
 
--- what equals the keys, each with the unit value, equals the set
+-- a set that equals the keys, each with the unit value, equals the set of std
 pub set_equal_entries : {A : Type 0} (w : Width) (k : Shape) (hash : A → ℕ) (fits : A → List ℕ → ℕ
     → Bool) (b : List ℕ) (p : ℕ) (keys : List A)
     → EntriesEqual w k unit_shape hash fits unit_stands b p (with_units keys)
@@ -79,7 +79,7 @@ set_equal_entries w k hash fits b p keys h = (
   all_units (FindsPair w k unit_shape hash fits unit_stands b p) keys h.1,
 )
 
--- what is written of a set of std's equals it
+-- a set of std equals its archived form
 pub set_equal_written : {X A R : Type 0} (w : Width) (k s : Shape) (hash : A → ℕ) (fits : A → List ℕ
     → ℕ → Bool) (seen : X → List A) (f : Format X R)
     → IsFormat s (λ b p x. EntriesEqual w k unit_shape hash fits unit_stands b p

@@ -1,4 +1,4 @@
--- What becomes of a map of which one value is written in place.
+-- Maps with a value that is written in place.
 use Rattle.std.specs.Prelude.{◌≡◌, ℕ, ◌<◌, ◌^◌, List, Bool, Some, slice_get, slice_index, slice_set}
 use Rattle.std.specs.Int.{Width}
 use Rattle.rkyv_scan.specs.Groups.{generic_kind}
@@ -11,14 +11,13 @@ use Rattle.rkyv_collections.specs.Map.{MapWrittenAt, map_shape}
 use Rattle.rkyv_collections.specs.MapFormat.{MapStands}
 
 module _ (w : Width) (k v : Shape) where
-  -- where the entry in bucket i stands, and where its value begins
+  -- the position of the entry in bucket `i`
   abbrev pub entry_at : List ℕ → ℕ → ℕ → ℕ
   entry_at b p i = item_at w (entry_shape k v).size b p i
 
-  -- The map at p in b is one in c, of which the value in bucket i was written: its header, its
-  -- controls, all keys and all
-  -- other values are the same, each lookup finds the same key, and a map that was written stays
-  -- one.
+  -- The map at `p` in `b`, after a write of the value in bucket `i`, is a map in `c`.
+  -- Its header, its control bytes, all keys and all other values are unchanged.
+  -- Each lookup that depends only on the key finds the same key, and a written map is still one
   pub record KeepsMap (key_hash : List ℕ → ℕ → ℕ) (b c : List ℕ) (p i : ℕ) : Type 0 where
     pub table : KeepsTable w (entry_shape k v) b c p i
     pub stands : Viewed (map_shape w k v) c p
@@ -38,8 +37,7 @@ module _ (w : Width) (k v : Shape) where
       (b c : List ℕ) (p i : ℕ) → Viewed (map_shape w k v) b p → IsWalked w b p i
       → WritesValue k v b c (entry_at b p i) → KeepsMap key_hash b c p i
 
-  -- a write of one value in place keeps the answer of each query, whose hash is a function of the
-  -- query
+  -- after a write of one value in place, a query with a hash of its own finds the same key
   abbrev pub ValueWritesKeepAnswers : {Q : Type 0} → (Q → Type 0) → (Q → ℕ)
       → (Q → List ℕ → ℕ → Bool) → Type 0
   ValueWritesKeepAnswers {Q} can_read hash fits =
@@ -49,7 +47,8 @@ module _ (w : Width) (k v : Shape) where
       → pos_found generic_kind w (entry_shape k v).size c p (hash q) (fits q c)
       ≡ pos_found generic_kind w (entry_shape k v).size b p (hash q) (fits q b)
 
-  -- a map that stands for a list of pairs stands for the list with the new value
+  -- a map that represents a list of pairs represents the list with the new value,
+  -- after the write of that value
   abbrev pub ValuesWrittenStand : {A B : Type 0} → (List ℕ → ℕ → A → Type 0)
       → (List ℕ → ℕ → B → Type 0) → (List ℕ → ℕ → ℕ) → Type 0
   ValuesWrittenStand {A} {B} key value key_hash =

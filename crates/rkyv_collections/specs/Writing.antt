@@ -1,4 +1,4 @@
--- What writing a map or a set of what an iterator gives answers.
+-- The results of writing a map or a set of the items of an iterator.
 use Rattle.std.specs.Prelude.{ℕ, Option, Result}
 use Rattle.std.specs.Int.{Width}
 use Rattle.rkyv_base.specs.Format.{Format}
@@ -14,9 +14,8 @@ use Rattle.rkyv_collections.specs.MapFormat.{map_format}
 use Rattle.rkyv_collections.specs.SetFormat.{set_format}
 
 module _ {Y F : Type 0} (w : Width) (max limit : ℕ) where
-  -- What is lent by the pairs that an iterator gives, which are to be so many, was written as a map
-  -- under the hashes of the keys and the load factor; or nothing was, for a cause that stands.
-  -- `output` tells what a writer holds.
+  -- `len` pairs of an iterator are written as a map, under the hashes of the keys
+  -- and the load factor. The result is its resolver, or an error. `output`: output of a writer
   abbrev pub WritesMap : {A B R Q BK BV S : Type 0} → Shape → Shape → Format A R → Format B Q
       → (A → ℕ) → ℕ × ℕ → (BK → A) → (BV → B) → ℕ → (S → Option (BK × BV) → S → Type 0) → S
       → (Y → Output) → Y → Y → Result TableResolver (WriteError F) → Type 0
@@ -25,7 +24,7 @@ module _ {Y F : Type 0} (w : Width) (max limit : ℕ) where
       (written_as (lent_pairs key_lent value_lent) (map_format w k v key value hash load_factor))
       (output old) (output new)
 
-  -- the same of the keys that an iterator gives, as a set
+  -- the same for the keys of an iterator, as a set
   abbrev pub WritesSet : {A R BK S : Type 0} → Shape → Format A R → (A → ℕ) → ℕ × ℕ → (BK → A) → ℕ
       → (S → Option BK → S → Type 0) → S → (Y → Output) → Y → Y
       → Result TableResolver (WriteError F) → Type 0

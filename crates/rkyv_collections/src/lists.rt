@@ -1,4 +1,6 @@
 //! Lists that are archived as maps and as sets.
+//!
+//! `MapPairs` is a list of pairs, and `SetItems` a list of items.
 
 mod items;
 mod pairs;

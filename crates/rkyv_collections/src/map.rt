@@ -1,4 +1,9 @@
 //! Hash maps.
+//!
+//! - `writing` writes maps from iterators, and `written` has the law of their bytes.
+//! - `iter` has the iterators over a map, and `iter_seal` the cursors that write values.
+//! - `in_place` and `in_place_text` write the value of one key over the bytes of an archive.
+//! - `laws`, `list_archives`, `nested` and `sealed` have laws that a proof cites.
 ghost use Rattle.rkyv_table.specs.Table.Decoded.{IsDecoded};
 
 mod debug;
@@ -26,7 +31,7 @@ use rkyv_table::table::decoded::Decoded;
 use std::alloc::AllocError;
 use std::marker::PhantomData;
 
-/// The header of a hash map of K to V under the hasher H, in an archive of the width W.
+/// The header of a hash map of `K` to `V` under the hasher `H`, in an archive of the width `W`.
 pub struct HashMapOf<K, V, H = FxHasher64, W = Narrow> {
     key: PhantomData<K>,
     value: PhantomData<V>,
@@ -34,7 +39,7 @@ pub struct HashMapOf<K, V, H = FxHasher64, W = Narrow> {
     width: PhantomData<W>,
 }
 
-/// A hash map of K to V under the hasher H that is read in place, in an archive of the width W.
+/// A hash map of `K` to `V` under the hasher `H` that is read in an archive of the width `W`.
 ///
 /// It holds its decoded header.
 pub struct ArchivedHashMap<'a, K, V, H = FxHasher64, W: Word = Narrow> {

@@ -1,4 +1,7 @@
 //! Hash sets.
+//!
+//! A set is the map of its keys to the unit value. `writing` writes sets from iterators,
+//! `written` has the law of their bytes, and `laws` that of a walk.
 
 mod debug;
 mod equality;
@@ -13,17 +16,16 @@ use rkyv_scan::hash::FxHasher64;
 use std::alloc::AllocError;
 use std::marker::PhantomData;
 
-/// The header of a hash set of K under the hasher H, in an archive of the width W.
+/// The header of a hash set of `K` under the hasher `H`, in an archive of the width `W`.
 pub struct HashSetOf<K, H = FxHasher64, W = Narrow> {
     key: PhantomData<K>,
     hasher: PhantomData<H>,
     width: PhantomData<W>,
 }
 
-/// A hash set of K under the hasher H that is read in place, in an archive of the width W: the map
-/// of its keys to the unit value.
+/// A hash set of `K` under the hasher `H` that is read in an archive of the width `W`.
 ///
-/// It holds its decoded header.
+/// It is the map of its keys to the unit value, and holds its decoded header.
 pub struct ArchivedHashSet<'a, K, H = FxHasher64, W: Word = Narrow> {
     pub(crate) map: ArchivedHashMap<'a, K, (), H, W>,
 }

@@ -1,4 +1,8 @@
-//! Std's maps and sets, archived as maps and sets.
+//! Maps and sets of std: archiving, comparing and deserializing them.
+//!
+//! - `hashed` has the wrapper for archiving them.
+//! - `equality` compares them with archived maps and sets.
+//! - `laws` and `round_trip` have the laws of their archives.
 
 pub mod equality;
 mod hash_map;

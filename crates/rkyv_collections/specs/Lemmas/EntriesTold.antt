@@ -1,5 +1,5 @@
--- What is told of each map that was written of entries of distinct keys is told of it wherever the
--- bytes sit that were written of them.
+-- A property of each map that was written of entries with distinct keys.
+-- Each archive with the written bytes has it.
 use Rattle.std.proofs.Common.{ℕ, ◌+◌, arith, Bool, List, length}
 use Rattle.std.specs.Int.{Width}
 use Rattle.std.specs.List.{IsDistinct}

@@ -1,5 +1,4 @@
--- A map that was written holds and stands wherever its bytes sit, and stands where the same bytes
--- do.
+-- Written maps are valid in each archive with their bytes, and so are copies of their bytes.
 use Rattle.std.proofs.Common.{◌≡◌, ℕ, ◌+◌, ◌-◌, ◌*◌, ◌<◌, ◌≤◌, refl, sym, ap, subst, ◌∙◌, arith}
 use Rattle.std.proofs.Common.{inl, inr, List, [], ◌∷◌, map, length, slice_get, slice_index, Some}
 use Rattle.std.specs.Int.{Width, byte_len}
@@ -28,12 +27,12 @@ use Rattle.rkyv_collections.specs.Map.{map_shape}
 use Rattle.rkyv_collections.specs.MapFormat.{MapStands, keyed, map_format}
 use Rattle.rkyv_table.specs.Lemmas.SameControls.{same_controls}
 
--- the hash of a key rests on the bytes on which it rests that the key holds
+-- the hash of a key depends only on the bytes on which the validity of the key depends
 abbrev pub HashNear : Shape → (List ℕ → ℕ → ℕ) → Type 0
 HashNear k hash = (b c : List ℕ) (q lo hi l : ℕ) → lo ≤ hi → k.holds b q lo hi l
     → Same b c q (q + k.size) → Same b c lo l → hash b q ≡ hash c q
 
--- a key that was written of a value has the value's hash
+-- a key that represents a value has the hash of the value
 abbrev pub HashesAlike : {A : Type 0} → Shape → (List ℕ → ℕ → A → Type 0) → (List ℕ → ℕ → ℕ)
     → (A → ℕ) → Type 0
 HashesAlike {A = A} k key hash own = (a : A) (b : List ℕ) (q : ℕ) → Standing k b q → key b q a
@@ -56,11 +55,11 @@ module _ (k v : Shape) (kl : IsElement k) (vl : IsElement v) (w : Width) where
   abbrev law : IsElement S
   law = entry_element k v kl vl
 
-  -- the place of the i-th item handed in
+  -- the position of the item with the number `i`, in insertion order
   abbrev place : List ℕ → ℕ → List ℕ → ℕ → ℕ
   place b p homes i = slice_index (home_positions w S.size b p homes) i
 
-  -- the key of an entry that holds
+  -- the key of a valid entry is valid
   pub key_standing : (b : List ℕ) (q lo hi l : ℕ) → HoldsWithin S b q lo hi l → hi ≤ q
       → Standing k b q
   key_standing b q lo hi l h o =
@@ -69,7 +68,7 @@ module _ (k v : Shape) (kl : IsElement k) (vl : IsElement v) (w : Width) where
 
   module _ (b : List ℕ) (p lo hi l : ℕ) (h : TableHolds w S b p lo hi l) (hashes homes : List ℕ)
       (written : WrittenAt w b p hashes homes) where
-    -- the entry of each item handed in
+    -- the entry of each item is valid
     pub entry_there : (i : ℕ) → i < length homes
         → (t : HeldPart w S b p lo hi l) × HoldsWithin S b (place b p homes i) lo t.begin t.begin
         × (t.begin ≤ place b p homes i) × (place b p homes i + S.size ≤ l)
@@ -245,9 +244,8 @@ module _ (k v : Shape) (kl : IsElement k) (vl : IsElement v) (w : Width) where
 
       module _ {R Q : Type 0} (kind : IsArchiveWord w) (kf : Format A R) (vf : Format B Q)
           (kw : IsFormat k key kf) (vw : IsFormat v value vf) where
-        -- In every archive in which what was written of a map sits, and, aligned behind it, its
-        -- header, the map holds, with its
-        -- parts in their place, and stands.
+        -- In any archive with the written bytes of a map and its aligned header after them,
+        -- the map is valid. Its parts are in their range, and it represents the pairs.
         pub map_is_format : IsFormat (map_shape w k v) (MapStands w k v key value hash factor)
             (map_format w k v kf vf own factor)
         map_is_format =

@@ -1,4 +1,4 @@
--- The laws that an archived list of pairs keeps as a map.
+-- The laws of an archived list of pairs as a map.
 use Rattle.std.specs.Prelude.{◌≡◌, ℕ, Bool, true, List}
 use Rattle.std.proofs.Common.{ap}
 use Rattle.std.specs.Int.{Width}
@@ -19,7 +19,7 @@ module _ {State : Type 0} (hasher : Hasher State) (w : Width) {k v : Shape} (kl 
     {A B : Type 0} {key : List ℕ → ℕ → A → Type 0} {value : List ℕ → ℕ → B
     → Type 0} {same : Comparison} {key_calls : List ℕ → ℕ
     → List HasherCall} (factor : ℕ × ℕ) where
-  -- what stands as a map rests on the bytes on which it rests that the map holds
+  -- the represented pairs depend only on the bytes on which the validity of the map depends
   pub map_near : IsKey k same key_calls → StandsNear k key → StandsNear v value
       → StandsNear (map_shape w k v) (MapStands w k v key value (hash_at hasher key_calls) factor)
   map_near law kn vn pairs b c p lo hi l o h fixed part st =
@@ -28,8 +28,8 @@ module _ {State : Type 0} (hasher : Hasher State) (w : Width) {k v : Shape} (kl 
       ap (hash_of_calls hasher) (law.near b' c' q lo' hi' l' o' h' fixed' part')) kn vn pairs b
       c p lo hi l o h fixed part st
 
-  -- in every archive in which what was written of a map sits, and its header, the map holds and
-  -- stands
+  -- in any archive with the written bytes of a map and its header, the map is valid and represents
+  -- the pairs
   pub map_sound : IsArchiveWord w
       → {can_read : A → Type 0} {calls : A → List HasherCall} {fits : A → List ℕ → ℕ
       → Bool} {equal : A → A → Bool} {R Q : Type 0} {kf : Format A R} {vf : Format B Q}
@@ -46,7 +46,7 @@ module _ {State : Type 0} (hasher : Hasher State) (w : Width) {k v : Shape} (kl 
       q (reads a) stands there))
       kind kf vf kw vw
 
-  -- and of a list that is written by a call which takes exactly its pairs
+  -- the same for a list, written by a call that takes exactly its pairs
   pub listed_map_sound : (max : ℕ) → IsArchiveWord w
       → {can_read : A → Type 0} {calls : A → List HasherCall} {fits : A → List ℕ → ℕ
       → Bool} {equal : A → A → Bool}

@@ -1,4 +1,4 @@
--- The laws that an archived list of keys keeps as a set.
+-- The laws of an archived list of keys as a set.
 use Rattle.std.specs.Prelude.{◌≡◌, ℕ, Bool, true, List}
 use Rattle.std.specs.Int.{Width}
 use Rattle.rkyv_base.specs.Empty.{unit_element, unit_format, unit_is_format, unit_near, unit_shape}
@@ -21,13 +21,13 @@ use Rattle.rkyv_table.specs.Table.Lent.{with_units}
 module _ {State : Type 0} (hasher : Hasher State) (w : Width) {k : Shape} (kl : IsElement k)
     {A : Type 0} {key : List ℕ → ℕ → A → Type 0} {same : Comparison} {key_calls : List ℕ → ℕ
     → List HasherCall} (factor : ℕ × ℕ) where
-  -- what stands as a set rests on the bytes on which it rests that the set holds
+  -- the represented keys depend only on the bytes on which the validity of the set depends
   pub set_near : IsKey k same key_calls → StandsNear k key
       → StandsNear (set_shape w k) (SetStands w k key (hash_at hasher key_calls) factor)
   set_near law kn keys = map_near hasher w kl unit_element factor law kn unit_near (with_units keys)
 
-  -- in every archive in which what was written of a set sits, and its header, the set holds and
-  -- stands
+  -- in any archive with the written bytes of a set and its header, the set is valid and represents
+  -- the keys
   pub set_sound : IsArchiveWord w
       → {can_read : A → Type 0} {calls : A → List HasherCall} {fits : A → List ℕ → ℕ
       → Bool} {equal : A → A → Bool} {R : Type 0} {kf : Format A R}
@@ -41,7 +41,7 @@ module _ {State : Type 0} (hasher : Hasher State) (w : Width) {k : Shape} (kl : 
       (map_format w k unit_shape kf unit_format (hash_of hasher calls) factor)
       (map_sound hasher w kl unit_element factor kind query native itself reads kw unit_is_format)
 
-  -- and of a list that is written by a call which takes exactly its keys
+  -- the same for a list, written by a call that takes exactly its keys
   pub listed_set_sound : (max : ℕ) → IsArchiveWord w
       → {can_read : A → Type 0} {calls : A → List HasherCall} {fits : A → List ℕ → ℕ
       → Bool} {equal : A → A → Bool} {R : Type 0} {kf : Format A R}

@@ -1,4 +1,4 @@
--- Maps of std's that stand at one place are equal.
+-- The maps of std that one archived map represents are equal.
 use Rattle.std.proofs.Common.{◌≡◌, ℕ, ◌+◌, refl, sym, ap, ◌∙◌, inl, inr, arith, Bool, true, false}
 use Rattle.std.proofs.Common.{cond, List, [], ◌∷◌, Option, Some, None}
 use Rattle.std.specs.Cmp.{IsEquivalence}
@@ -118,7 +118,7 @@ module _ {A B : Type 0} (equal : A → A → Bool) (laws : IsEquivalence equal) 
             zip_alike b xs ps qs (All-tail (Standing (entry_shape k v) b) x xs all) r.1 t.1,
           )
 
-      -- two lists of entries that stand at one place find the same at each key
+      -- two lists of entries that one map represents have equal values at each key
       pub entries_alike : (b : List ℕ) (p : ℕ) → Standing (map_shape w k v) b p
           → (es fs : List (A × B)) → EntriesStand k v key value w equal b p es
           → EntriesStand k v key value w equal b p fs → (q : A)

@@ -1,4 +1,4 @@
--- A map of std's equals what was written of it.
+-- A map of std equals its archived form.
 use Rattle.std.proofs.Common.{◌≡◌, ℕ, zero, suc, ◌+◌, ◌<◌, ◌^◌, refl, sym, ap, subst, ◌∙◌, arith}
 use Rattle.std.proofs.Common.{Bool, true, false, List, [], ◌∷◌, map, length, slice_get, slice_index}
 use Rattle.std.proofs.Common.{get_or, Some}
@@ -31,7 +31,7 @@ use Rattle.rkyv_collections.specs.Lemmas.EntriesTold.{entries_told}
 use Rattle.rkyv_collections.specs.StdEquality.{EntriesEqual, FindsPair}
 use Rattle.rkyv_collections.specs.StdMap.{of_entries}
 
--- the first number of a list that passes
+-- the first number of a list that passes the test
 find_only : (test : ℕ → Bool) (xs : List ℕ) (n : ℕ) → n < length xs → test (get_or xs n 0) ≡ true
     → ((j : ℕ) → j < n → test (get_or xs j 0) ≡ false)
     → find test xs ≡ Some (get_or xs n 0)
@@ -142,7 +142,7 @@ module _ (w : Width) (k v : Shape) (kl : IsElement k) (vl : IsElement v) {A B : 
         subst (λ o. IsSomeAnd o (λ q. equals b (q + value_offset k v) y.1)) (sym (pair_found n y e))
         (pair_stands n y (omega (arith, h, homes_total)) e).1
 
-  -- in every archive in which what was written of a map of std's sits, the map there equals it
+  -- in any archive with the written bytes of a map of std, the map there equals it
   pub written_equal : {R : Type 0} (kind : IsArchiveWord w) (f : Format (List (A × B)) R)
       → IsFormat (map_shape w k v) (MapStands w k v key equals there factor) f
       → IsFormat (map_shape w k v) (EntriesEqual w k v own fits equals) (of_entries equal f)
@@ -150,7 +150,7 @@ module _ (w : Width) (k v : Shape) (kl : IsElement k) (vl : IsElement v) {A B : 
       entries_told w kind kl vl factor equal (EntriesEqual w k v own fits equals)
       (λ b p view es st apart. (st.len, each_found b p view es st apart)) f base
 
--- of keys that are asked for by themselves
+-- the same for keys that are looked up by themselves
 pub entries_equal : {State : Type 0} (hasher : Hasher State) (w : Width) (kind : IsArchiveWord w)
     {k v : Shape} (kl : IsElement k) (vl : IsElement v) {A B R : Type 0} {key : List ℕ → ℕ → A
     → Type 0} {equals : List ℕ → ℕ → B → Type 0} {same : Comparison} {key_calls : List ℕ → ℕ

@@ -1,4 +1,4 @@
--- What was written of a map of std's stands as that map, and stands where the same bytes do.
+-- Written bytes of a map of std represent that map, and so do copies of these bytes.
 use Rattle.std.proofs.Common.{◌≡◌, ℕ, zero, suc, ◌+◌, ◌-◌, ◌*◌, ◌<◌, ◌≤◌, ◌↔◌, refl, sym, ap, subst}
 use Rattle.std.proofs.Common.{◌∙◌, arith, inl, inr, ◌⊎◌, Bool, true, false, cond, eqb, List, []}
 use Rattle.std.proofs.Common.{◌∷◌, map, length, slice_get, slice_index, Option, Some, None}
@@ -57,7 +57,7 @@ module _ (k v : Shape) (kl : IsElement k) (vl : IsElement v) (w : Width) where
           ∙ ap (walk (table_controls w c p)) (cap_same w b c p fixed)
     ]
 
-    -- the same pairs are walked at the same places
+    -- a walk has the same positions in both
     pub same_positions : item_positions w S.size b p ≡ item_positions w S.size c p
     same_positions =
         ap (map (item_at w S.size b p)) same_walk
@@ -104,18 +104,18 @@ module _ (k v : Shape) (kl : IsElement k) (vl : IsElement v) (w : Width) where
         inserted = st.inserted;
       }
 
-  -- that entries stand rests on the bytes on which it rests that the map holds
+  -- the represented entries depend only on the bytes on which the validity of the map depends
   pub entries_near : {A B : Type 0} {key : List ℕ → ℕ → A → Type 0} {value : List ℕ → ℕ → B
       → Type 0} (equal : A → A → Bool) → StandsNear k key → StandsNear v value
       → StandsNear {V = List (A × B)} (map_shape w k v) (EntriesStand k v key value w equal)
   entries_near equal kn vn es b c p lo hi l o h fixed part st =
       entries_again b c p lo hi l o h fixed part kn vn equal es st
 
--- Pairs of distinct keys, each with a home of its own.
+-- Pairs of distinct keys, each with its own home bucket.
 module _ {A B : Type 0} (equal : A → A → Bool) (laws : IsEquivalence equal) (pairs : List (A × B))
     (apart : IsDistinct equal (keys_of pairs))
     (homes : List ℕ) (once : IsDistinct eqb homes) (count : length homes ≡ length pairs) where
-  -- the pair has its home in bucket i
+  -- bucket `i` is the home bucket of the pair
   abbrev Picks : ℕ → A × B → Type 0
   Picks i y = (n : ℕ) × (n < length homes) × (slice_index homes n ≡ i)
       × (slice_get pairs n ≡ Some y)
@@ -139,13 +139,13 @@ module _ {A B : Type 0} (equal : A → A → Bool) (laws : IsEquivalence equal) 
   same_lookup : (x q : A) → equal x q ≡ true → lookup (equal x) pairs ≡ lookup (equal q) pairs
   same_lookup x q h = ap (λ (test : A → Bool). lookup test pairs) (λ i z. laws.congr x q z h i)
 
-  -- a pair that is picked is found by its key
+  -- a pair in a bucket is found by its key
   picked_found : (i : ℕ) (y : A × B) → Picks i y → (q : A) → equal y.0 q ≡ true
       → Some y.1 ≡ lookup (equal q) pairs
   picked_found i y h q e = sym (lookup_from_place laws pairs h.0 y.0 y.1 apart h.3)
       ∙ same_lookup y.0 q e
 
-  -- a key that is found is that of the pair in some home
+  -- a found key is that of the pair in some home bucket
   Hits : A → Type 0
   Hits q = (i : ℕ) × Contains homes i × ((y : A × B) → Picks i y → equal y.0 q ≡ true)
 
@@ -167,7 +167,8 @@ module _ {A B : Type 0} (equal : A → A → Bool) (laws : IsEquivalence equal) 
             ap (λ (z : A × B). equal z.0 q) is ∙ laws.symm at.1 q ∙ at.3,
       )
 
-  -- inserting the picked pairs in turn gives what is found among the pairs
+  -- after the insertion of the pairs of the buckets in turn, a lookup is the same as among
+  -- all pairs
   inserted : (q : A) (is : List ℕ) (ys : List (A × B)) → AllZip Picks is ys → (f : A → Option B)
       → (f q ≡ lookup (equal q) pairs)
       ⊎ ((i : ℕ) × Contains is i × ((y : A × B) → Picks i y → equal y.0 q ≡ true))
@@ -196,7 +197,7 @@ module _ {A B : Type 0} (equal : A → A → Bool) (laws : IsEquivalence equal) 
   beyond : (n : ℕ) → n < length homes → length pairs ≤ n → ⊥
   beyond n h g = omega (arith, h, g, count)
 
-  -- the pairs that the buckets pick
+  -- the pairs of the buckets
   pick_all : (P : ℕ → A × B → Type 0)
       → ((n : ℕ) (y : A × B) → n < length homes → slice_get pairs n ≡ Some y
       → P (slice_index homes n) y)
@@ -220,9 +221,7 @@ module _ (k v : Shape) (kl : IsElement k) (vl : IsElement v) (w : Width) {A B : 
     {key : List ℕ → ℕ → A → Type 0} {value : List ℕ → ℕ → B → Type 0}
     (equal : A → A → Bool) (laws : IsEquivalence equal) (hash : List ℕ → ℕ → ℕ) (factor : ℕ × ℕ)
   where
-    -- a map of distinct keys that was written stands as a map of std's that finds what is found
-    -- among
-    -- its pairs
+    -- a written map of distinct keys represents a map of std with the same lookups as its pairs
     module _ (b : List ℕ) (p : ℕ) (view : Viewed (map_shape w k v) b p) (pairs : List (A × B))
         (st : MapStands w k v key value hash factor b p pairs)
         (apart : IsDistinct equal (keys_of pairs)) where
@@ -234,7 +233,7 @@ module _ (k v : Shape) (kl : IsElement k) (vl : IsElement v) (w : Width) {A B : 
           let hashes = map (hash b) (home_positions w (entry_shape k v).size b p st.homes) in
           home_count w b p hashes st.homes st.written ∙ sym st.written.count ∙ st.len
 
-      -- the walk visits each home, and nothing else
+      -- the walk visits each home bucket, and no other
       Visits : Type 0
       Visits = ((i : ℕ) → Contains walked i ↔ Contains st.homes i) × IsDistinct eqb st.homes
 
@@ -299,7 +298,7 @@ module _ (k v : Shape) (kl : IsElement k) (vl : IsElement v) (w : Width) {A B : 
                 ])),
           )
 
-    -- what is written of entries of distinct keys stands as them
+    -- written bytes of entries with distinct keys represent them
     pub entries_sound : {R : Type 0} (kind : IsArchiveWord w) (f : Format (List (A × B)) R)
         → IsFormat (map_shape w k v) (MapStands w k v key value hash factor) f
         → IsFormat (map_shape w k v) (EntriesStand k v key value w equal) (of_entries equal f)

@@ -20,8 +20,9 @@ use rkyv_table::table::lent::Refs;
 use std::alloc::Global;
 use std::marker::PhantomData;
 
-/// A list of items that is archived as a set under the hasher H and a load factor: its items in
-/// order, equal ones too. A lookup finds the first of these.
+/// A list of items that is archived as a set under the hasher `H` and a load factor.
+///
+/// The items are inserted in order, and equal items are kept. A lookup finds the first of them.
 #[derive_where(Clone, Copy)]
 pub struct SetItems<'a, A, H = FxHasher64> {
     items: &'a [A],
@@ -30,7 +31,7 @@ pub struct SetItems<'a, A, H = FxHasher64> {
 }
 
 impl<'a, A, H> SetItems<'a, A, H> {
-    /// The list under the load factor 7 / 8.
+    /// Returns the list under the load factor 7 / 8.
     #[inline]
     pub fn new(items: &'a [A]) -> SetItems<'a, A, H>
         ensures items { result.items.now ≡ items.now }
@@ -39,8 +40,9 @@ impl<'a, A, H> SetItems<'a, A, H> {
         SetItems::with_load_factor(items, (7, 8))
     }
 
-    /// The list under a load factor, of which archiving refuses one that is not above 0 and at most
-    /// 1.
+    /// Returns the list under a load factor: a numerator and a denominator.
+    ///
+    /// Archiving fails with `InvalidLoadFactor` unless the load factor is above 0 and at most 1.
     #[inline]
     pub fn with_load_factor(items: &'a [A], load_factor: (usize, usize)) -> SetItems<'a, A, H>
         ensures items { result.items.now ≡ items.now }

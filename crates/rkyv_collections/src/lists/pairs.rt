@@ -18,8 +18,10 @@ use rkyv_table::table::lent::Halves;
 use std::alloc::Global;
 use std::marker::PhantomData;
 
-/// A list of pairs that is archived as a map under the hasher H and a load factor: its pairs in
-/// order, equal keys too. A lookup finds the first of these.
+/// A list of pairs that is archived as a map under the hasher `H` and a load factor.
+///
+/// The pairs are inserted in order, and pairs with equal keys are kept. A lookup finds
+/// the first of them.
 #[derive_where(Clone, Copy)]
 pub struct MapPairs<'a, A, B, H = FxHasher64> {
     pairs: &'a [(A, B)],
@@ -28,7 +30,7 @@ pub struct MapPairs<'a, A, B, H = FxHasher64> {
 }
 
 impl<'a, A, B, H> MapPairs<'a, A, B, H> {
-    /// The list under the load factor 7 / 8.
+    /// Returns the list under the load factor 7 / 8.
     #[inline]
     pub fn new(pairs: &'a [(A, B)]) -> MapPairs<'a, A, B, H>
         ensures pairs { result.pairs.now ≡ pairs.now }
@@ -37,8 +39,9 @@ impl<'a, A, B, H> MapPairs<'a, A, B, H> {
         MapPairs::with_load_factor(pairs, (7, 8))
     }
 
-    /// The list under a load factor, of which archiving refuses one that is not above 0 and at most
-    /// 1.
+    /// Returns the list under a load factor: a numerator and a denominator.
+    ///
+    /// Archiving fails with `InvalidLoadFactor` unless the load factor is above 0 and at most 1.
     #[inline]
     pub fn with_load_factor(
         pairs: &'a [(A, B)],

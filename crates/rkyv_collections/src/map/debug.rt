@@ -1,4 +1,4 @@
-//! Printing maps.
+//! Formatting of maps by `Debug`.
 ghost use Rattle.rkyv_base.specs.View.{IsView};
 ghost use Rattle.rkyv_collections.specs.Map.{map_shape};
 

@@ -15,7 +15,7 @@ use rkyv_keys::keys::KeyElement;
 use rkyv_scan::hash::KeyHasher;
 
 impl<'a, K: KeyElement, V: ElementEq, H: KeyHasher, W: Width> ArchivedHashMap<'a, K, V, H, W> {
-    /// Whether the key is found, with a value that is the same.
+    /// Returns `true` if and only if a lookup of the key finds a value that is the same.
     #[inline]
     fn matches(self, key: View<'_, K>, value: View<'_, V>) -> bool
         requires map { IsMap W.word K.shape V.shape self }
@@ -32,11 +32,17 @@ impl<'a, K: KeyElement, V: ElementEq, H: KeyHasher, W: Width> ArchivedHashMap<'a
         }
     }
 
-    /// Whether both maps have equally many pairs, and the key of each pair of this one is found in
-    /// the other with the same value.
+    /// Returns `true` if and only if both maps have the same length and the same pairs.
     ///
-    /// In maps of which one was written with a key twice, or comes from strangers, this may tell
-    /// a map apart from itself.
+    /// They have the same pairs if a lookup of each key of this map finds the same value
+    /// in `other`. A map with misplaced keys may differ from itself.
+    ///
+    /// Each pair costs a lookup in `other`. In an untrusted map, keys that share a hash make
+    /// the cost quadratic in their number.
+    ///
+    /// # Requires
+    ///
+    /// - Both maps are valid.
     #[inline]
     pub fn eq_map(self, other: ArchivedHashMap<'_, K, V, H, W>) -> bool
         requires own { IsMap W.word K.shape V.shape self }

@@ -1,4 +1,4 @@
-//! Pairs under the hashes of their keys.
+//! Pairs under the hashes of their keys, as the input of a call that writes a table.
 
 ghost use Rattle.std.specs.Prelude.{◌≡◌};
 ghost use Rattle.rkyv_collections.specs.Handing.{HashedStep};

@@ -1,4 +1,23 @@
-//! Writing the value of a key over the bare bytes of an archive.
+//! Writing values of a map in place.
+//!
+//! A write in place changes the value of a key that is in the map. It adds and removes no key.
+//!
+//! | To write | Call | Takes |
+//! |---|---|---|
+//! | a scalar | `set_value_of` | bytes, a native key and the scalar |
+//! | an inline text in upper case | `make_ascii_uppercase_of` | bytes and a native key |
+//! | a value of any type | `ArchivedHashMap::found_with` | bytes, a query and a closure |
+//! | a value by its seal | `ArchivedHashMap::get_seal` | a seal of the map and a query |
+//! | a value while its key is read | `ArchivedHashMap::get_key_value_seal` | the same |
+//! | each value | `ArchivedHashMap::values_over` or `values_seal` | bytes or a seal of the map |
+//! | each value while its key is read | `ArchivedHashMap::iter_over` or `iter_seal` | the same |
+//!
+//! Take the first call that fits. The contract of `set_value_of` also has the list that the map
+//! represents afterwards. The contract of `found_with` covers all bytes of the archive afterwards.
+//!
+//! `make_ascii_uppercase_of` is in `map::in_place_text`.
+//! `get_seal_with` and `get_key_value_seal_with` look up by a comparison.
+//! If the map is a value of another map, `map::nested` has the laws of the outer map.
 ghost use Rattle.std.specs.Prelude.{IfSome, length, ℕ, ◌+◌, ◌≡◌, ◌≤◌};
 ghost use Rattle.rkyv_base.specs.Scalar.{scalar_shape};
 ghost use Rattle.rkyv_base.specs.Sealing.{value_pos};
@@ -20,7 +39,7 @@ use rkyv_base::width::Width;
 use rkyv_keys::keys::{KeyElement, NativeKey, Query};
 use rkyv_scan::hash::KeyHasher;
 
-/// The map whose header stands at a position of an archive.
+/// Returns the map whose header is at `root` of an archive.
 #[inline]
 fn map_over<K: Element, V: Element, H, W: Width>(
     archive: &[u8],
@@ -35,8 +54,7 @@ fn map_over<K: Element, V: Element, H, W: Width>(
 }
 
 impl<'a, K: KeyElement, V: Element, H: KeyHasher, W: Width> ArchivedHashMap<'a, K, V, H, W> {
-    /// Where the value of the key stands that is asked for, in the map whose header stands at
-    /// `root`.
+    /// Returns the position of the value that a lookup finds, in the map at `root` of an archive.
     #[inline]
     pub(crate) fn value_pos_in<Q: Query<K>>(archive: &[u8], root: u64, key: &Q) -> Option<u64>
         requires map { Viewed (map_shape W.word K.shape V.shape) archive.now root }
@@ -55,10 +73,18 @@ impl<'a, K: KeyElement, V: Element, H: KeyHasher, W: Width> ArchivedHashMap<'a, 
         found_pos(map_over::<K, V, H, W>(archive, root).get(key))
     }
 
-    /// What `write` answers of the archive and the place of the value of the key that is asked for,
-    /// in the map whose header stands at `root`.
+    /// Calls `write` with the archive and the position of the value that a lookup finds.
     ///
-    /// Where the key isn't found, nothing is written.
+    /// The map is at `root` of the archive. The result is that of `write`. If no key is found,
+    /// the result is `None`, and nothing is written.
+    ///
+    /// In an untrusted archive, the lookup may read every group of control bytes once.
+    ///
+    /// # Requires
+    ///
+    /// - The archive has a valid map at `root`.
+    /// - The query can be read.
+    /// - `write` can be called with the archive and each position at which a value fits.
     #[inline]
     pub fn found_with<Q: Query<K>, R, F: FnOnce(&mut [u8], u64) -> R>(
         archive: &mut [u8],
@@ -83,10 +109,18 @@ impl<'a, K: KeyElement, V: Element, H: KeyHasher, W: Width> ArchivedHashMap<'a, 
     }
 }
 
-/// Writes the value of a key, in the map whose header stands at `root`, and tells whether the key
-/// is found: in a map that stands for a list of pairs, the value of the first pair of that key.
+/// Writes the value of a key in the map at `root` of an archive, and returns `true`.
 ///
-/// Where the key isn't found, nothing is written.
+/// In a map that represents a list of pairs, it is the value of the first pair with an equal key.
+/// All other bytes are unchanged. If no key is found, the result is `false`,
+/// and nothing is written.
+///
+/// In an untrusted archive, the lookup may read every group of control bytes once.
+///
+/// # Requires
+///
+/// - The archive has a valid map at `root`.
+/// - The key can be read, as each native key can.
 pub fn set_value_of<
     A: NativeKey<K>,
     K: KeyElement + StandsFor<A>,

@@ -1,4 +1,6 @@
-//! Writing the inline text of a key over the bare bytes of an archive.
+//! Writing the inline text of a key in place.
+//!
+//! `map::in_place` has a table of all calls that write values.
 ghost use Rattle.std.specs.Prelude.{length, ◌+◌, ◌≤◌};
 ghost use Rattle.rkyv_base.specs.SealedText.{Raised};
 ghost use Rattle.rkyv_base.specs.Shape.{Viewed};
@@ -16,8 +18,7 @@ use rkyv_base::width::Width;
 use rkyv_keys::keys::{KeyElement, NativeKey};
 use rkyv_scan::hash::KeyHasher;
 
-/// Writes the text at a position of some bytes in upper case, where it stands inline, and answers
-/// whether it does.
+/// Writes the inline text at a position in upper case, and returns `true` if it is inline.
 #[inline]
 fn uppercase_at<W: Width>(bytes: &mut [u8], pos: usize) -> bool
     requires { pos + text_size W.word ≤ length bytes.old }
@@ -29,12 +30,21 @@ fn uppercase_at<W: Width>(bytes: &mut [u8], pos: usize) -> bool
     is_inline
 }
 
-/// Writes the text of a key in upper case, each letter from a to z, in the map whose header stands
-/// at `root`, and answers whether the text stands inline: in a map that stands for a list of pairs,
-/// the text of the first pair of that key. None where the key isn't found.
+/// Writes each letter from a to z of the text of a key in upper case, if the text is inline.
 ///
-/// Where the key isn't found, or its text stands elsewhere, outside its fixed bytes, nothing is
-/// written.
+/// The map is at `root` of the archive. If it represents a list of pairs,
+/// the text is that of the first pair with an equal key.
+///
+/// - `Some(true)`: the text is inline, and is written. All other bytes are unchanged.
+/// - `Some(false)`: the text is out of line. Nothing is written.
+/// - `None`: no key is found. Nothing is written.
+///
+/// In an untrusted archive, the lookup may read every group of control bytes once.
+///
+/// # Requires
+///
+/// - The archive has a valid map to texts at `root`.
+/// - The key can be read, as each native key can.
 pub fn make_ascii_uppercase_of<
     A: NativeKey<K>,
     K: KeyElement + StandsFor<A>,

@@ -1,4 +1,7 @@
-//! Walking over the pairs of a map.
+//! Iterators over the pairs, the keys and the values of a map.
+//!
+//! Each returns views, in bucket order. `map::laws::walks_give_listed` relates them
+//! to the list that the map represents.
 ghost use Rattle.std.specs.Prelude.{length, ◌≡◌};
 ghost use Rattle.std.specs.Iterator.{at_most};
 ghost use Rattle.rkyv_base.specs.Entry.{entry_shape};
@@ -16,7 +19,7 @@ use rkyv_scan::hash::FxHasher64;
 use rkyv_table::table::raw_iter::RawIter;
 use std::marker::{Model, PhantomData};
 
-/// The pairs of a map that are still to come, by ascending bucket.
+/// The pairs of a map that remain, in bucket order.
 #[derive(Drop)]
 pub struct Iter<'a, K, V, H = FxHasher64, W = Narrow> {
     entries: RawIter<'a, Entry<K, V>>,
@@ -64,7 +67,7 @@ impl<'a, K: Element, V: Element, H, W> ExactSizeIterator for Iter<'a, K, V, H, W
     }
 }
 
-/// The keys of a map that are still to come, by ascending bucket.
+/// The keys of a map that remain, in bucket order.
 #[derive(Drop)]
 pub struct Keys<'a, K, V, H = FxHasher64, W = Narrow> {
     pairs: Iter<'a, K, V, H, W>,
@@ -110,7 +113,7 @@ impl<'a, K: Element, V: Element, H, W> ExactSizeIterator for Keys<'a, K, V, H, W
     }
 }
 
-/// The values of a map that are still to come, by ascending bucket.
+/// The values of a map that remain, in bucket order.
 #[derive(Drop)]
 pub struct Values<'a, K, V, H = FxHasher64, W = Narrow> {
     rest: Iter<'a, K, V, H, W>,
@@ -157,7 +160,11 @@ impl<'a, K: Element, V: Element, H, W> ExactSizeIterator for Values<'a, K, V, H,
 }
 
 impl<'a, K: Element, V: Element, H, W: Width> ArchivedHashMap<'a, K, V, H, W> {
-    /// Its pairs, by ascending bucket.
+    /// Returns an iterator over the pairs, in bucket order.
+    ///
+    /// # Requires
+    ///
+    /// - The map is valid.
     #[inline]
     pub fn iter(self) -> Iter<'a, K, V, H, W>
         requires { IsMap W.word K.shape V.shape self }
@@ -173,7 +180,11 @@ impl<'a, K: Element, V: Element, H, W: Width> ArchivedHashMap<'a, K, V, H, W> {
         }
     }
 
-    /// Its keys, by ascending bucket.
+    /// Returns an iterator over the keys, in bucket order.
+    ///
+    /// # Requires
+    ///
+    /// - The map is valid.
     #[inline]
     pub fn keys(self) -> Keys<'a, K, V, H, W>
         requires { IsMap W.word K.shape V.shape self }
@@ -185,7 +196,11 @@ impl<'a, K: Element, V: Element, H, W: Width> ArchivedHashMap<'a, K, V, H, W> {
         Keys { pairs: self.iter() }
     }
 
-    /// Its values, by ascending bucket.
+    /// Returns an iterator over the values, in bucket order.
+    ///
+    /// # Requires
+    ///
+    /// - The map is valid.
     #[inline]
     pub fn values(self) -> Values<'a, K, V, H, W>
         requires { IsMap W.word K.shape V.shape self }

@@ -1,4 +1,12 @@
-//! Walking over the pairs of a map to write their values.
+//! Cursors over the pairs and the values of a map, for writing the values in place.
+//!
+//! - `next_with` passes the archive and the position of the next key or value to a closure.
+//!   Its contract also covers the cursor afterwards.
+//! - `next_pos` returns the position of the next key or value. `set_at` then writes a scalar there,
+//!   and `key_at` reads a key.
+//! - `next_seal` returns a seal of the next value, and leaves the cursor afterwards unspecified.
+//!
+//! `map::in_place` has a table of all calls that write values.
 ghost use Rattle.std.specs.Prelude.{IfSome, IsSome, IsTrue, drop, length, take, ◌+◌, ◌↔◌, ◌≡◌, ◌≤◌};
 ghost use Rattle.std.specs.Int.{byte_len};
 ghost use Rattle.rkyv_base.specs.Scalar.{scalar_shape};
@@ -29,7 +37,7 @@ use rkyv_table::table::ArchivedHashTable;
 use rkyv_table::table::raw_iter_seal::RawIterSeal;
 use std::marker::PhantomData;
 
-/// Whether a value stands at a position of some bytes.
+/// Returns `true` if and only if the bytes have a valid value at `pos`.
 #[inline]
 fn stands<T: Element>(bytes: &[u8], pos: u64) -> bool
     requires { pos + T.shape.size ≤ length bytes.now }
@@ -44,7 +52,9 @@ fn stands<T: Element>(bytes: &[u8], pos: u64) -> bool
     }
 }
 
-/// The key at a position, where it stands, and the value behind it.
+/// Returns a view of the key at `pos` and a seal of the value behind it.
+///
+/// Returns `None` if the archive has no valid key at `pos`.
 #[inline]
 fn pair_at<K: Element, V: Element>(
     archive: &mut [u8],
@@ -67,7 +77,7 @@ fn pair_at<K: Element, V: Element>(
     Some((View::new(front, pos), Seal::over(back, 0)))
 }
 
-/// Where the value behind a key at a position stands, which lies in the bytes.
+/// Returns the position of the value behind the key at `pos`.
 #[inline]
 fn behind<K: Element, V: Element>(bytes: &[u8], pos: u64) -> u64
     requires { value_pos K.shape V.shape pos ≤ length bytes.now }
@@ -76,7 +86,10 @@ fn behind<K: Element, V: Element>(bytes: &[u8], pos: u64) -> u64
     pos + value_offset::<K, V>() as u64
 }
 
-/// The pairs of a map, by ascending bucket, each with its value to be written.
+/// A cursor over the pairs of a map, in bucket order, for writing their values in place.
+///
+/// `iter_seal` and `iter_over` return it. While the archive has a valid map,
+/// `next_pos` and `next_with` return each pair once, and then `None`.
 #[derive(Drop)]
 pub struct IterMut<'a, K, V, H = FxHasher64, W = Narrow> {
     entries: RawIterSeal<'a, Entry<K, V>>,
@@ -85,7 +98,7 @@ pub struct IterMut<'a, K, V, H = FxHasher64, W = Narrow> {
 }
 
 impl<'a, K: Element, V: Element, H, W> IterMut<'a, K, V, H, W> {
-    /// How many pairs are left.
+    /// Returns the number of pairs that remain.
     #[inline]
     pub fn len(&self) -> usize
         ensures { result ≡ items_left (entries_in self.now) }
@@ -93,7 +106,7 @@ impl<'a, K: Element, V: Element, H, W> IterMut<'a, K, V, H, W> {
         self.entries.len()
     }
 
-    /// Where the key of the next pair stands.
+    /// Returns the position of the key of the next pair, or `None` at the end.
     #[inline]
     pub fn next_pos(&mut self) -> Option<u64>
         ensures archive { SameArchive (entries_in self.old) (entries_in self.new) }
@@ -109,9 +122,13 @@ impl<'a, K: Element, V: Element, H, W> IterMut<'a, K, V, H, W> {
         self.entries.next_pos()
     }
 
-    /// Where the key of the next pair stands, after `write` was given the archive and that place.
+    /// Calls `write` with the archive and the position of the next key, and returns the position.
     ///
-    /// Where none is left, nothing is written.
+    /// If no pair remains, the result is `None`, and nothing is written.
+    ///
+    /// # Requires
+    ///
+    /// - `write` can be called with the archive and each position at which a pair fits.
     #[inline]
     pub fn next_with<F: FnOnce(&mut [u8], u64)>(&mut self, write: F) -> Option<u64>
         requires { MayWritePair K.shape V.shape F.pre (entries_in self.old) write }
@@ -125,7 +142,11 @@ impl<'a, K: Element, V: Element, H, W> IterMut<'a, K, V, H, W> {
         next
     }
 
-    /// The key at a position.
+    /// Returns a view of the key at `pos`.
+    ///
+    /// # Requires
+    ///
+    /// - The archive has a valid key at `pos`.
     #[inline]
     pub fn key_at(&self, pos: u64) -> View<'_, K>
         requires { Viewed K.shape (cursor_bytes (entries_in self.now)) pos }
@@ -136,10 +157,13 @@ impl<'a, K: Element, V: Element, H, W> IterMut<'a, K, V, H, W> {
         View::new(self.entries.bytes(), pos)
     }
 
-    /// The key of the next pair, and its value to be written.
+    /// Returns a view of the next key and a seal of its value, or `None` at the end.
     ///
-    /// The bytes are cut in two at the value's begin, as by `get_key_value_seal`. The key is looked
-    /// at again, since the bytes were lent before: where it stands no more, the answer is `None`.
+    /// The archive is cut in two at the start of the value. The view is of the front,
+    /// and the seal is at the start of the back.
+    ///
+    /// The key is validated again. If it is not valid any more, the result is `None`.
+    /// The contract of `next_with` also covers the pairs that remain.
     #[inline]
     pub fn next_seal(&mut self) -> Option<(View<'_, K>, Seal<'_, V>)>
         ensures inside { IfSome result (λ pair. LiesIn V.shape pair.1) }
@@ -154,7 +178,11 @@ impl<'a, K: Element, V: Element, H, W> IterMut<'a, K, V, H, W> {
 }
 
 impl<'a, K: Element, N: Scalar, H, W> IterMut<'a, K, N, H, W> {
-    /// Writes the value behind the key at a position.
+    /// Writes a scalar as the value behind the key at `pos`. All other bytes are unchanged.
+    ///
+    /// # Requires
+    ///
+    /// - The value behind the key ends inside the archive.
     #[inline]
     pub fn set_at(&mut self, pos: u64, value: N)
         requires { value_pos K.shape (scalar_shape N.encoding) pos + byte_len N.encoding.word
@@ -170,14 +198,17 @@ impl<'a, K: Element, N: Scalar, H, W> IterMut<'a, K, N, H, W> {
     }
 }
 
-/// The values of a map, by ascending bucket, each of which is lent to be written.
+/// A cursor over the values of a map, in bucket order, for writing them in place.
+///
+/// `values_seal` and `values_over` return it. While the archive has a valid map,
+/// `next_pos` and `next_with` return each value once, and then `None`.
 #[derive(Drop)]
 pub struct ValuesMut<'a, K, V, H = FxHasher64, W = Narrow> {
     pairs: IterMut<'a, K, V, H, W>,
 }
 
 impl<'a, K: Element, V: Element, H, W> ValuesMut<'a, K, V, H, W> {
-    /// How many values are left.
+    /// Returns the number of values that remain.
     #[inline]
     pub fn len(&self) -> usize
         ensures { result ≡ items_left (entries_of self.now) }
@@ -185,7 +216,7 @@ impl<'a, K: Element, V: Element, H, W> ValuesMut<'a, K, V, H, W> {
         self.pairs.len()
     }
 
-    /// Where the next value stands.
+    /// Returns the position of the next value, or `None` at the end.
     #[inline]
     pub fn next_pos(&mut self) -> Option<u64>
         ensures archive { SameArchive (entries_of self.old) (entries_of self.new) }
@@ -201,9 +232,13 @@ impl<'a, K: Element, V: Element, H, W> ValuesMut<'a, K, V, H, W> {
         }
     }
 
-    /// Where the next value stands, after `write` was given the archive and that place.
+    /// Calls `write` with the archive and the position of the next value, and returns the position.
     ///
-    /// Where none is left, nothing is written.
+    /// If no value remains, the result is `None`, and nothing is written.
+    ///
+    /// # Requires
+    ///
+    /// - `write` can be called with the archive and each position at which a value fits.
     #[inline]
     pub fn next_with<F: FnOnce(&mut [u8], u64)>(&mut self, write: F) -> Option<u64>
         requires { MayWriteValue K.shape V.shape F.pre (entries_of self.old) write }
@@ -217,7 +252,9 @@ impl<'a, K: Element, V: Element, H, W> ValuesMut<'a, K, V, H, W> {
         next
     }
 
-    /// The next value, to be written.
+    /// Returns a seal of the next value, or `None` at the end.
+    ///
+    /// The contract of `next_with` also covers the values that remain.
     #[inline]
     pub fn next_seal(&mut self) -> Option<Seal<'_, V>>
         ensures inside { IfSome result (LiesIn V.shape) }
@@ -234,7 +271,11 @@ impl<'a, K: Element, V: Element, H, W> ValuesMut<'a, K, V, H, W> {
 }
 
 impl<'a, K: Element, N: Scalar, H, W> ValuesMut<'a, K, N, H, W> {
-    /// Writes the value at a position.
+    /// Writes a scalar as the value at `pos`. All other bytes are unchanged.
+    ///
+    /// # Requires
+    ///
+    /// - The value ends inside the archive.
     #[inline]
     pub fn set_at(&mut self, pos: u64, value: N)
         requires { pos + byte_len N.encoding.word ≤ length (cursor_bytes (entries_of self.old)) }
@@ -249,7 +290,11 @@ impl<'a, K: Element, N: Scalar, H, W> ValuesMut<'a, K, N, H, W> {
 }
 
 impl<'a, K: Element, V: Element, H, W: Width> ArchivedHashMap<'a, K, V, H, W> {
-    /// Its pairs, by ascending bucket, each with its value to be written.
+    /// Returns a cursor over the pairs of a sealed map, in bucket order, for writing their values.
+    ///
+    /// # Requires
+    ///
+    /// - The archive has a valid map at the position of the seal.
     #[inline]
     pub fn iter_seal(this: ArchiveSeal<'a, HashMapOf<K, V, H, W>>) -> IterMut<'a, K, V, H, W>
         requires map { IsMapSeal W.word K.shape V.shape this }
@@ -261,8 +306,13 @@ impl<'a, K: Element, V: Element, H, W: Width> ArchivedHashMap<'a, K, V, H, W> {
         Self::iter_over(archive, pos)
     }
 
-    /// The pairs of the map whose header stands at a position of an archive, by ascending bucket,
-    /// each with its value to be written.
+    /// Returns a cursor over the pairs of the map at `pos` of an archive, for writing their values.
+    ///
+    /// The pairs are in bucket order.
+    ///
+    /// # Requires
+    ///
+    /// - The archive has a valid map at `pos`.
     #[inline]
     pub fn iter_over(archive: &'a mut [u8], pos: u64) -> IterMut<'a, K, V, H, W>
         requires map { Viewed (map_shape W.word K.shape V.shape) archive.old pos }
@@ -277,7 +327,11 @@ impl<'a, K: Element, V: Element, H, W: Width> ArchivedHashMap<'a, K, V, H, W> {
         }
     }
 
-    /// Its values, by ascending bucket, to be written.
+    /// Returns a cursor over the values of a sealed map, in bucket order, for writing them.
+    ///
+    /// # Requires
+    ///
+    /// - The archive has a valid map at the position of the seal.
     #[inline]
     pub fn values_seal(this: ArchiveSeal<'a, HashMapOf<K, V, H, W>>) -> ValuesMut<'a, K, V, H, W>
         requires map { IsMapSeal W.word K.shape V.shape this }
@@ -290,8 +344,13 @@ impl<'a, K: Element, V: Element, H, W: Width> ArchivedHashMap<'a, K, V, H, W> {
         }
     }
 
-    /// The values of the map whose header stands at a position of an archive, by ascending bucket,
-    /// to be written.
+    /// Returns a cursor over the values of the map at `pos` of an archive, for writing them.
+    ///
+    /// The values are in bucket order.
+    ///
+    /// # Requires
+    ///
+    /// - The archive has a valid map at `pos`.
     #[inline]
     pub fn values_over(archive: &'a mut [u8], pos: u64) -> ValuesMut<'a, K, V, H, W>
         requires map { Viewed (map_shape W.word K.shape V.shape) archive.old pos }

@@ -1,4 +1,4 @@
-//! Laws of maps, over their definitions alone.
+//! Laws of equality, lookups and walks of maps, over their definitions alone.
 ghost use Rattle.rkyv_collections.specs.BothHashers.{ComparedAlike, QueriedAlike, WrittenAlike};
 ghost use Rattle.rkyv_collections.specs.Equality.{EqualHaveSamePairs};
 ghost use Rattle.rkyv_collections.specs.ListedLookups.{LookupsFindListed};
@@ -12,24 +12,28 @@ use rkyv_keys::equality::ElementEquiv;
 use rkyv_keys::keys::{FixedKey, KeyElement, Query};
 use rkyv_scan::hash::KeyHasher;
 
-/// Two maps that were written of distinct keys are equal exactly where each pair of either is the
-/// same as one of the other.
+/// Two written maps of distinct keys are equal if and only if they have the same pairs.
+///
+/// They have the same pairs if each pair of either is the same as one of the other.
 pub fn equal_maps_have_the_same_pairs<K: KeyElement, V: ElementEquiv, H: KeyHasher, W: Width>()
     ensures { EqualHaveSamePairs W.word K.shape V.shape (hash_at H.hasher K.key_calls) K.same
         V.same }
 {}
 
-/// In a map that was written, `misplaced` is the number of keys that are the same as one handed in
-/// earlier.
+/// In a written map, `misplaced` is the number of keys that are the same as an earlier key.
+///
+/// Earlier keys are those that were inserted before.
 pub fn repeated_keys_are_misplaced<K: KeyElement, V: Element, H: KeyHasher, W: Width>()
     ensures { RepeatedKeysAreMisplaced W.word K.shape V.shape (hash_at H.hasher K.key_calls)
         K.same }
 {}
 
-/// In a map that stands for a list of pairs, what a lookup answers by its clause `first` is the
-/// first pair of the list whose key is asked for, and none where none is: where the comparison
-/// accepts a key exactly if it was written of a value that is asked for, as by a native key those
-/// that equal it.
+/// In a map that represents a list of pairs, a lookup finds the first pair with an accepted key.
+///
+/// It finds none if the list has no such pair. The clause `first` of a lookup is about this pair.
+///
+/// The comparison must decide by the values that the keys represent. That of a native key accepts
+/// the keys that equal it.
 pub fn lookups_find_listed<
     A,
     B,
@@ -42,9 +46,11 @@ pub fn lookups_find_listed<
         (hash_at H.hasher K.key_calls) }
 {}
 
-/// In a map that stands for a list of pairs, a walk visits the home of each pair once, ascending,
-/// and nothing else, and in the n-th home stands the n-th pair. So at the places that `iter`,
-/// `keys` and `values` begin with stand the pairs of the list, each exactly once, in some order.
+/// In a map that represents a list of pairs, `iter`, `keys` and `values` return each pair once.
+///
+/// - `homes`: a walk visits the home bucket of each pair once, and no other bucket.
+///   The buckets are in ascending order, and the n-th home bucket has the n-th pair.
+/// - `pairs`: the positions of a walk have the pairs of the list, each once, in some order.
 pub fn walks_give_listed<
     A,
     B,
@@ -59,10 +65,15 @@ pub fn walks_give_listed<
         (hash_at H.hasher K.key_calls) }
 {}
 
-/// `FxHasher64` and `FxHasher64Wide` differ in `usize` and `isize` alone. A map whose keys feed
-/// neither was written under the one as it was under the other, and is looked up alike under both:
-/// by every query, and by a comparison where the key that is asked for feeds neither. So it is of
-/// all keys of `rkyv_keys`.
+/// A map whose keys hash no `usize` and no `isize` is looked up alike under both hashers.
+///
+/// `FxHasher64` and `FxHasher64Wide` differ in the calls for `usize` and `isize` alone.
+/// A `FixedKey` makes none of them, and all keys of `rkyv_keys` implement it.
+///
+/// - `written`: a map that was written under one hasher was written under the other.
+/// - `compared`: in any map, a comparison finds the same key under both, if the query makes none
+///   of these calls.
+/// - `queried`: in a written map, a query finds the same key under both.
 pub fn both_hashers_look_up_alike<Q: Query<K>, K: FixedKey, V: Element, W: Width>()
     ensures written { WrittenAlike W.word K.shape V.shape K.key_calls }
     ensures compared { ComparedAlike W.word K.shape V.shape }

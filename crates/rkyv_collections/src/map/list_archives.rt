@@ -8,9 +8,10 @@ use rkyv_base::width::Width;
 use rkyv_keys::keys::{KeyElement, NativeKey};
 use rkyv_scan::hash::KeyHasher;
 
-/// In an archive whose root is a map of keys to scalars that stands for a list of pairs, what `get`
-/// finds by a native key is the value of the first pair whose key equals it, and it finds none
-/// where there is none.
+/// In a root map of scalars, `get` of a native key finds the value of the first equal key.
+///
+/// The map represents a list of pairs. The result is the value of the first pair whose key equals
+/// the native key, and `None` if the list has no such pair.
 pub fn scalars_found_are_listed<
     A: NativeKey<K>,
     N: Scalar,

@@ -1,4 +1,11 @@
-//! Finding a pair by its key.
+//! Lookups: finding a pair of a map by its key.
+//!
+//! - `get` returns a view of the value, and `get_key_value` also of the key.
+//! - `contains_key` returns `true` if a key is found. `index` takes a key that must be found.
+//! - `get_with` and `get_key_value_with` take a comparison in place of the query's own.
+//!
+//! A lookup in an untrusted map may read every group of its control bytes once.
+//! `FxHasher64` takes no secret key, so it doesn't protect from chosen input.
 ghost use Rattle.std.specs.Prelude.{IfSome, IsSome, Option, Some, ◌<◌, ◌^◌, ◌≡◌, ℕ};
 ghost use Rattle.rkyv_scan.specs.Hash.{hash_of_calls};
 ghost use Rattle.rkyv_base.specs.Entry.{entry_shape};
@@ -20,7 +27,7 @@ use rkyv_keys::hash::{KeyHash, hash_value};
 use rkyv_keys::keys::{KeyElement, Query};
 use rkyv_scan::hash::KeyHasher;
 
-/// Where it stands that may have been found.
+/// Returns the position of a found value.
 #[inline]
 pub(crate) fn found_pos<T: Element>(found: Option<View<'_, T>>) -> Option<u64>
     ensures { IsEntryAt found.entry result }
@@ -31,7 +38,7 @@ pub(crate) fn found_pos<T: Element>(found: Option<View<'_, T>>) -> Option<u64>
     }
 }
 
-/// Whether an entry was found.
+/// Returns `true` if and only if an entry is found.
 #[inline]
 pub(crate) fn is_found<T: Element>(found: Option<View<'_, T>>) -> bool
     ensures { (place : Option ℕ) → IsEntryAt found.entry place → IsFoundAt result place }
@@ -39,7 +46,7 @@ pub(crate) fn is_found<T: Element>(found: Option<View<'_, T>>) -> bool
     found.is_some()
 }
 
-/// The key and the value of an entry that may have been found.
+/// Returns the key and the value of a found entry.
 #[inline]
 pub(crate) fn found_pair<'a, K: Element, V: Element>(
     found: Option<View<'a, Entry<K, V>>>,
@@ -53,7 +60,7 @@ pub(crate) fn found_pair<'a, K: Element, V: Element>(
     }
 }
 
-/// The value of an entry that may have been found.
+/// Returns the value of a found entry.
 #[inline]
 pub(crate) fn found_value<'a, K: Element, V: Element>(
     found: Option<View<'a, Entry<K, V>>>,
@@ -69,7 +76,7 @@ pub(crate) fn found_value<'a, K: Element, V: Element>(
 
 // Every lookup is one call of `find`.
 impl<'a, K: KeyElement, V: Element, H: KeyHasher, W: Width> ArchivedHashMap<'a, K, V, H, W> {
-    /// Finds the entry of a key under the hash of `key` that the comparison accepts.
+    /// Returns an entry whose key the comparison accepts, under the hash of `key`, or `None`.
     #[inline]
     pub(crate) fn find<Q: KeyHash, F>(self, key: &Q, cmp: F) -> Option<View<'a, Entry<K, V>>>
     where
@@ -94,13 +101,22 @@ impl<'a, K: KeyElement, V: Element, H: KeyHasher, W: Width> ArchivedHashMap<'a, 
         )
     }
 
-    /// The first pair under the hash of `key` whose key the comparison accepts, in the order in
-    /// which the pairs were handed in, where the map was written and no key under another hash is
-    /// accepted.
+    /// Returns a pair whose key the comparison accepts, in a lookup under the hash of `key`.
     ///
-    /// On any accepted map the answer is `None` or one of its pairs, whatever the comparison
-    /// answers; which one, the table decides. The comparison is asked for keys of the map alone,
-    /// and may be asked twice of one.
+    /// The result is `None` or a pair of the map, whatever the comparison returns.
+    /// The comparison is called with keys of the map alone, and may be called twice with one.
+    ///
+    /// If the comparison depends only on the position of a key, the control bytes decide which pair
+    /// it is. In a written map, it is the first accepted pair in insertion order
+    /// if each accepted key is under the hash of `key`.
+    ///
+    /// A lookup in an untrusted map may read every group of its control bytes once.
+    ///
+    /// # Requires
+    ///
+    /// - The map is valid.
+    /// - `key` can be read.
+    /// - The comparison can be called with `key` and each key of the map.
     #[inline]
     pub fn get_key_value_with<Q: KeyHash, F>(self, key: &Q, cmp: F) -> Option<PairView<'a, K, V>>
     where
@@ -114,7 +130,15 @@ impl<'a, K: KeyElement, V: Element, H: KeyHasher, W: Width> ArchivedHashMap<'a, 
         found_pair(self.find(key, cmp))
     }
 
-    /// The value of the pair that `get_key_value_with` answers.
+    /// Returns the value of the pair that `get_key_value_with` returns.
+    ///
+    /// A lookup in an untrusted map may read every group of its control bytes once.
+    ///
+    /// # Requires
+    ///
+    /// - The map is valid.
+    /// - `key` can be read.
+    /// - The comparison can be called with `key` and each key of the map.
     #[inline]
     pub fn get_with<Q: KeyHash, F>(self, key: &Q, cmp: F) -> Option<View<'a, V>>
     where
@@ -128,7 +152,7 @@ impl<'a, K: KeyElement, V: Element, H: KeyHasher, W: Width> ArchivedHashMap<'a, 
         found_value(self.find(key, cmp))
     }
 
-    /// Finds the entry of the key that is asked for.
+    /// Returns the entry of the key that the query finds, or `None`.
     #[inline]
     pub(crate) fn find_key<Q: Query<K>>(self, key: &Q) -> Option<View<'a, Entry<K, V>>>
         requires map { IsMap W.word K.shape V.shape self }
@@ -146,12 +170,21 @@ impl<'a, K: KeyElement, V: Element, H: KeyHasher, W: Width> ArchivedHashMap<'a, 
         )
     }
 
-    /// The pair whose key is the one that is asked for: in a map that was written the first such
-    /// one, in the order in which the pairs were handed in.
+    /// Returns the pair of the key that the query finds, or `None`.
     ///
-    /// In a map of strangers a key may stand where its hash doesn't lead; then it isn't found.
-    /// Where `misplaced` is 0 none does: the one key that fits is found, and none exactly where
-    /// none fits.
+    /// In a written map, it is the first pair in insertion order whose key the query fits.
+    ///
+    /// In an untrusted map, a lookup may miss a key that the query fits.
+    /// No key is missed if `misplaced` is 0. The lookup then finds the one key that the query fits,
+    /// and `None` if and only if it fits none.
+    ///
+    /// A lookup in an untrusted map may read every group of its control bytes once.
+    /// `FxHasher64` takes no secret key, so it doesn't protect from chosen input.
+    ///
+    /// # Requires
+    ///
+    /// - The map is valid.
+    /// - The query can be read.
     #[inline]
     pub fn get_key_value<Q: Query<K>>(self, key: &Q) -> Option<PairView<'a, K, V>>
         requires map { IsMap W.word K.shape V.shape self }
@@ -162,7 +195,14 @@ impl<'a, K: KeyElement, V: Element, H: KeyHasher, W: Width> ArchivedHashMap<'a, 
         found_pair(self.find_key(key))
     }
 
-    /// The value of the key that is asked for, by `get_key_value`.
+    /// Returns the value of the pair that `get_key_value` returns, or `None`.
+    ///
+    /// A lookup in an untrusted map may read every group of its control bytes once.
+    ///
+    /// # Requires
+    ///
+    /// - The map is valid.
+    /// - The query can be read.
     #[inline]
     pub fn get<Q: Query<K>>(self, key: &Q) -> Option<View<'a, V>>
         requires map { IsMap W.word K.shape V.shape self }
@@ -173,7 +213,14 @@ impl<'a, K: KeyElement, V: Element, H: KeyHasher, W: Width> ArchivedHashMap<'a, 
         found_value(self.find_key(key))
     }
 
-    /// Whether the key that is asked for is found.
+    /// Returns `true` if and only if the query finds a key.
+    ///
+    /// A lookup in an untrusted map may read every group of its control bytes once.
+    ///
+    /// # Requires
+    ///
+    /// - The map is valid.
+    /// - The query can be read.
     #[inline]
     pub fn contains_key<Q: Query<K>>(self, key: &Q) -> bool
         requires map { IsMap W.word K.shape V.shape self }
@@ -184,7 +231,15 @@ impl<'a, K: KeyElement, V: Element, H: KeyHasher, W: Width> ArchivedHashMap<'a, 
         is_found(self.find_key(key))
     }
 
-    /// The value of the key that is asked for, which must be found, as `contains_key` tells.
+    /// Returns the value of the key that the query finds.
+    ///
+    /// A lookup in an untrusted map may read every group of its control bytes once.
+    ///
+    /// # Requires
+    ///
+    /// - The map is valid.
+    /// - The query can be read.
+    /// - The query finds a key. `contains_key` then returns `true`.
     #[inline]
     pub fn index<Q: Query<K>>(self, key: &Q) -> View<'a, V>
         requires map { IsMap W.word K.shape V.shape self }

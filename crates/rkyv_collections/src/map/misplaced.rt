@@ -1,4 +1,4 @@
-//! Counting the keys that a lookup doesn't answer.
+//! Counting the keys of a map that a lookup of their own doesn't find.
 ghost use Rattle.std.specs.Prelude.{◌≡◌};
 ghost use Rattle.rkyv_base.specs.Entry.{entry_shape};
 ghost use Rattle.rkyv_base.specs.View.{IsView, bytes_of, pos_of};
@@ -14,10 +14,21 @@ use rkyv_keys::keys::KeyElement;
 use rkyv_scan::hash::KeyHasher;
 
 impl<'a, K: KeyElement, V: Element, H: KeyHasher, W: Width> ArchivedHashMap<'a, K, V, H, W> {
-    /// How many of its keys a lookup doesn't answer where they stand: another such key is found
-    /// first, or a stranger put the key where its hash doesn't lead.
+    /// Returns the number of keys that a lookup of their own doesn't find.
     ///
-    /// In a map that was written these are the keys that are the same as one handed in earlier.
+    /// A key is found if the lookup returns its own bucket. Otherwise the lookup finds another key
+    /// that is the same, or none.
+    ///
+    /// In a written map, it is the number of keys that are the same as an earlier key
+    /// in insertion order. An untrusted map may have other misplaced keys.
+    ///
+    /// Each key is looked up once, and each lookup may read every group of the control bytes.
+    /// Keys that share a hash cost a number of comparisons that is quadratic in their number.
+    /// `FxHasher64` takes no secret key, so chosen keys can share one.
+    ///
+    /// # Requires
+    ///
+    /// - The map is valid.
     pub fn misplaced(self) -> usize
         requires { IsMap W.word K.shape V.shape self }
         ensures { let key_hash = hash_at H.hasher K.key_calls in

@@ -1,4 +1,4 @@
-//! A map and the number of its pairs.
+//! Opening a map, and the numbers of its header.
 ghost use Rattle.std.specs.Prelude.{IsTrue, ◌↔◌, ◌≡◌};
 ghost use Rattle.rkyv_base.specs.Entry.{entry_shape};
 ghost use Rattle.rkyv_base.specs.View.{IsAt, IsView};
@@ -15,6 +15,10 @@ use rkyv_table::table::{ArchivedHashTable, TableOf};
 
 impl<'a, K: Element, V: Element, H, W: Width> ArchivedHashMap<'a, K, V, H, W> {
     /// Returns the map at a view of its header, which is decoded here, once.
+    ///
+    /// # Requires
+    ///
+    /// - The view is of a valid map.
     #[inline]
     pub fn of(view: View<'a, HashMapOf<K, V, H, W>>) -> ArchivedHashMap<'a, K, V, H, W>
         requires { IsView (map_shape W.word K.shape V.shape) view }
@@ -28,7 +32,7 @@ impl<'a, K: Element, V: Element, H, W: Width> ArchivedHashMap<'a, K, V, H, W> {
         }
     }
 
-    /// Returns the table of its entries.
+    /// Returns the table of the entries.
     #[inline]
     pub(crate) fn table(self) -> ArchivedHashTable<'a, Entry<K, V>, W>
         requires { IsMap W.word K.shape V.shape self }
@@ -41,7 +45,7 @@ impl<'a, K: Element, V: Element, H, W: Width> ArchivedHashMap<'a, K, V, H, W> {
         )
     }
 
-    /// Returns true if it has no pairs.
+    /// Returns `true` if and only if the map has no pairs.
     #[inline]
     pub fn is_empty(self) -> bool
         ensures { IsTrue result ↔ (map_len W.word self.entry ≡ 0) }
@@ -49,7 +53,7 @@ impl<'a, K: Element, V: Element, H, W: Width> ArchivedHashMap<'a, K, V, H, W> {
         self.len() == 0
     }
 
-    /// Returns the number of its pairs.
+    /// Returns the number of pairs.
     #[inline]
     pub fn len(self) -> usize
         ensures { result ≡ map_len W.word self.entry }
@@ -57,7 +61,7 @@ impl<'a, K: Element, V: Element, H, W: Width> ArchivedHashMap<'a, K, V, H, W> {
         self.header.len()
     }
 
-    /// Returns the number of its buckets.
+    /// Returns the number of buckets.
     #[inline]
     pub fn capacity(self) -> usize
         ensures { result ≡ map_cap W.word self.entry }

@@ -1,4 +1,12 @@
-//! Writing the values of a map in place.
+//! Lookups that return a seal of the value, and laws of writes in place.
+//!
+//! - `get_seal` returns a seal of the value, and `get_key_value_seal` also a view of the key.
+//! - `get_seal_with` and `get_key_value_seal_with` take a comparison.
+//!
+//! Take `found_with` of `map::in_place` if the contract must cover the bytes afterwards.
+//! That module has a table of all calls that write values.
+//!
+//! A lookup in an untrusted map may read every group of its control bytes once.
 ghost use Rattle.std.specs.Prelude.{IfSome, length, ◌+◌, ◌≡◌, ◌≤◌};
 ghost use Rattle.rkyv_base.specs.Seal.{LiesIn, SealAt, archive_in, bytes_in, pos_in, seal_pos};
 ghost use Rattle.rkyv_base.specs.Sealing.{value_pos};
@@ -24,7 +32,7 @@ use rkyv_keys::hash::KeyHash;
 use rkyv_keys::keys::{KeyElement, Query};
 use rkyv_scan::hash::KeyHasher;
 
-/// The map that is read where the seal is.
+/// Returns the map at the seal, to be read.
 #[inline]
 fn map_in<'s, K: Element, V: Element, H, W: Width>(
     this: &'s ArchiveSeal<'_, HashMapOf<K, V, H, W>>,
@@ -37,7 +45,7 @@ fn map_in<'s, K: Element, V: Element, H, W: Width>(
     ArchivedHashMap::of(this.as_view())
 }
 
-/// The value behind the key at a position, to be written.
+/// Returns a seal of the value behind the key at `pos`.
 #[inline]
 fn value_seal<'a, K: Element, V: Element, H, W>(
     this: ArchiveSeal<'a, HashMapOf<K, V, H, W>>,
@@ -51,10 +59,9 @@ fn value_seal<'a, K: Element, V: Element, H, W>(
     Seal::over(archive, pos as usize + value_offset::<K, V>())
 }
 
-// Every sealed lookup is one of the first two, which ask the map that is read where the seal is,
-// and then one of the others.
+// Every sealed lookup is a call of one of the first two functions, and then of one of the others.
 impl<'a, K: KeyElement, V: Element, H: KeyHasher, W: Width> ArchivedHashMap<'a, K, V, H, W> {
-    /// Where the key stands that `find` answers.
+    /// Returns the position of the key that `find` finds, or `None`.
     #[inline]
     fn find_pos<Q: KeyHash, F: Fn(&Q, View<'_, K>) -> bool>(
         this: &ArchiveSeal<'_, HashMapOf<K, V, H, W>>,
@@ -75,7 +82,7 @@ impl<'a, K: KeyElement, V: Element, H: KeyHasher, W: Width> ArchivedHashMap<'a, 
         found_pos(map_in(this).find(key, cmp))
     }
 
-    /// Where the key stands that is asked for.
+    /// Returns the position of the key that the query finds, or `None`.
     #[inline]
     fn find_key_pos<Q: Query<K>>(
         this: &ArchiveSeal<'_, HashMapOf<K, V, H, W>>,
@@ -94,7 +101,7 @@ impl<'a, K: KeyElement, V: Element, H: KeyHasher, W: Width> ArchivedHashMap<'a, 
         found_pos(map_in(this).find_key(key))
     }
 
-    /// The pair whose key stands at a position that was found.
+    /// Returns a view of the found key and a seal of its value.
     #[inline]
     fn lend_pair(
         this: ArchiveSeal<'a, HashMapOf<K, V, H, W>>,
@@ -113,7 +120,7 @@ impl<'a, K: KeyElement, V: Element, H: KeyHasher, W: Width> ArchivedHashMap<'a, 
         }
     }
 
-    /// The value behind a key whose position was found.
+    /// Returns a seal of the value of the found key.
     #[inline]
     fn lend_value(
         this: ArchiveSeal<'a, HashMapOf<K, V, H, W>>,
@@ -134,10 +141,16 @@ impl<'a, K: KeyElement, V: Element, H: KeyHasher, W: Width> ArchivedHashMap<'a, 
 }
 
 impl<'a, K: KeyElement, V: Element, H: KeyHasher, W: Width> ArchivedHashMap<'a, K, V, H, W> {
-    /// As `get_key_value_with`, and lends the value to be written.
+    /// Looks up as `get_key_value_with` does, and returns the key and a seal of the value.
     ///
-    /// The archive is cut in two at the value's begin: the key is viewed in the front, and the seal
-    /// is at the begin of the back.
+    /// The archive is cut in two at the start of the value. The view is of the front,
+    /// and the seal is at the start of the back.
+    ///
+    /// # Requires
+    ///
+    /// - The archive has a valid map at the position of the seal.
+    /// - `key` can be read.
+    /// - The comparison can be called with `key` and each key of the map.
     #[inline]
     pub fn get_key_value_seal_with<Q: KeyHash, F: Fn(&Q, View<'_, K>) -> bool>(
         this: ArchiveSeal<'a, HashMapOf<K, V, H, W>>,
@@ -161,7 +174,15 @@ impl<'a, K: KeyElement, V: Element, H: KeyHasher, W: Width> ArchivedHashMap<'a, 
         Self::lend_pair(this, found)
     }
 
-    /// As `get_key_value`, and lends the value to be written, by `get_key_value_seal_with`.
+    /// Looks up as `get_key_value` does, and returns the key and a seal of the value.
+    ///
+    /// The archive is cut in two at the start of the value. The view is of the front,
+    /// and the seal is at the start of the back.
+    ///
+    /// # Requires
+    ///
+    /// - The archive has a valid map at the position of the seal.
+    /// - The query can be read.
     #[inline]
     pub fn get_key_value_seal<Q: Query<K>>(
         this: ArchiveSeal<'a, HashMapOf<K, V, H, W>>,
@@ -183,7 +204,15 @@ impl<'a, K: KeyElement, V: Element, H: KeyHasher, W: Width> ArchivedHashMap<'a, 
         Self::lend_pair(this, found)
     }
 
-    /// As `get_with`, and lends the value to be written.
+    /// Looks up as `get_with` does, and returns a seal of the value.
+    ///
+    /// The contract of `found_with` also covers the bytes of the archive afterwards.
+    ///
+    /// # Requires
+    ///
+    /// - The archive has a valid map at the position of the seal.
+    /// - `key` can be read.
+    /// - The comparison can be called with `key` and each key of the map.
     #[inline]
     pub fn get_seal_with<Q: KeyHash, F: Fn(&Q, View<'_, K>) -> bool>(
         this: ArchiveSeal<'a, HashMapOf<K, V, H, W>>,
@@ -207,7 +236,14 @@ impl<'a, K: KeyElement, V: Element, H: KeyHasher, W: Width> ArchivedHashMap<'a, 
         Self::lend_value(this, found)
     }
 
-    /// As `get`, and lends the value to be written, by `get_key_value_seal`.
+    /// Looks up as `get` does, and returns a seal of the value.
+    ///
+    /// The contract of `found_with` also covers the bytes of the archive afterwards.
+    ///
+    /// # Requires
+    ///
+    /// - The archive has a valid map at the position of the seal.
+    /// - The query can be read.
     #[inline]
     pub fn get_seal<Q: Query<K>>(
         this: ArchiveSeal<'a, HashMapOf<K, V, H, W>>,
@@ -230,21 +266,23 @@ impl<'a, K: KeyElement, V: Element, H: KeyHasher, W: Width> ArchivedHashMap<'a, 
     }
 }
 
-/// A write of one value in place that keeps the value keeps the map: all keys and all other values
-/// are as before, each lookup finds the same key, and a map that was written stays one.
+/// A write of one value in place that keeps it valid keeps the map.
+///
+/// - The map is valid. All keys and all other values are unchanged.
+/// - Each lookup whose comparison depends only on the key finds the same key.
+/// - A written map is still one.
 pub fn value_writes_keep_maps<K: KeyElement, V: Element, H: KeyHasher, W: Width>()
     ensures { ValueWritesKeepMaps W.word K.shape V.shape
         (hash_at H.hasher K.key_calls) }
 {}
 
-/// After such a write each query finds the same key.
+/// After a write of one value in place that keeps it valid, each query finds the same key.
 pub fn value_writes_keep_answers<K: KeyElement, V: Element, Q: Query<K>, H: KeyHasher, W: Width>()
     ensures { let hash = hash_of H.hasher Q.calls in
         ValueWritesKeepAnswers W.word K.shape V.shape Q.can_read hash Q.fits }
 {}
 
-/// A map that stands for a list of pairs stands, once a value of it was written in place, for the
-/// list with the new value.
+/// A write of one value in place replaces it in the list of pairs that the map represents.
 pub fn values_written_stand<A, B, K: KeyElement, V: StandsFor<B>, H: KeyHasher, W: Width>()
 where
     K: StandsFor<A>,

@@ -1,4 +1,7 @@
-//! Writing hash maps from iterators of pairs.
+//! Writing maps from iterators of pairs.
+//!
+//! `serialize_from_iter` writes the entries and returns a resolver. Its `resolve` then writes
+//! the header.
 
 ghost use Rattle.std.specs.Prelude.{◌≡◌, ◌+◌, ◌<◌, ◌^◌, length};
 ghost use Rattle.rkyv_table.specs.Table.Header.{WritesHeader};
@@ -21,24 +24,37 @@ use rkyv_table::table::ArchivedHashTable;
 use rkyv_table::table::resolve::HashTableResolver;
 use std::alloc::Global;
 
-/// What resolves a written map: what resolves the table of its entries.
+/// The resolver of a written map: that of the table of its entries.
 pub type HashMapResolver<W = Narrow> = HashTableResolver<W>;
 
 impl<'a, K: KeyElement, V, H: KeyHasher, W: Width> ArchivedHashMap<'a, K, V, H, W> {
-    /// Writes a map of `len` pairs, each a key and a value as themselves or by reference, and
-    /// answers what resolves it.
+    /// Writes a map of `len` pairs and returns its resolver.
     ///
-    /// Each pair is taken once. Equal keys are kept; a lookup then finds the first. Where the bytes
-    /// of a table stand is told by the table's own `serialize_from_iter`: the items are the
-    /// entries, each under the hash of its key. The iterator is asked at most `len + 1` times, and
-    /// never after it gave `None`.
+    /// The pairs have their keys and values as themselves or by reference.
+    /// Pairs with equal keys are kept, and a lookup finds the first.
+    ///
+    /// The bytes are those of a table of the entries, each under the hash of its key.
+    /// The table's own `serialize_from_iter` has the layout. Nothing is written for no pairs.
+    ///
+    /// By tests alone: the iterator is called at most `len + 1` times,
+    /// and not after it returned `None`. No pair is taken before an allocation failure
+    /// of this call.
+    ///
+    /// # Requires
+    ///
+    /// - The iterator can be called.
     ///
     /// # Errors
-    /// The first that stands of: `InvalidLoadFactor`; `CapacityTooLarge`, where more buckets are
-    /// needed than the width can count; `Memory`, before any pair is taken; and
-    /// `IteratorLengthMismatch`, with the number of pairs, counted up to `len + 1`. Nothing is
-    /// written then. Else the cause is that of the first key, value or piece that fails. What the
-    /// writer held before is kept.
+    ///
+    /// - `InvalidLoadFactor`: the load factor isn't above 0 and at most 1.
+    /// - `CapacityTooLarge`: the capacity is above `W::MAX_CAPACITY`.
+    /// - `Memory`: memory for placing the pairs could not be allocated.
+    /// - `IteratorLengthMismatch`: the number of pairs isn't `len`. The number is counted up
+    ///   to `len + 1`.
+    /// - The error of the first key, value or piece that fails.
+    ///
+    /// Nothing is written with the first four errors. The bytes written before the call
+    /// are unchanged.
     pub fn serialize_from_iter<
         S: Writer,
         A: NativeKey<K> + Serialize<S, W, Archived = K>,
@@ -71,12 +87,18 @@ impl<'a, K: KeyElement, V, H: KeyHasher, W: Width> ArchivedHashMap<'a, K, V, H, 
         >(alloc, entries, len, load_factor, serializer)
     }
 
-    /// Writes the header of a written map, which is to stand at `pos`, over the whole of `out`.
+    /// Writes the header of a written map over the whole of `out`, for a header at `pos`.
     ///
-    /// The length and the load factor are those of the resolver.
+    /// # Requires
+    ///
+    /// - `len` and `load_factor` are those of the resolver.
+    /// - `out` has the size of a header.
+    /// - The header ends below 2^64.
     ///
     /// # Errors
-    /// Where the map isn't empty, and the distance doesn't fit the width; `out` is unchanged.
+    ///
+    /// - `DistanceTooLarge`: the map isn't empty, and the distance doesn't fit in the width.
+    ///   `out` is unchanged.
     pub fn resolve_from_len(
         len: usize,
         load_factor: (usize, usize),

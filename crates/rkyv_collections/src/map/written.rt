@@ -1,4 +1,4 @@
-//! What was written of a map, wherever it stands.
+//! The law of written maps, in any archive that contains their bytes.
 
 ghost use Rattle.rkyv_collections.specs.Map.{hash_at};
 ghost use Rattle.rkyv_collections.specs.MapFormat.{WrittenMapsStand, hash_of};
@@ -9,9 +9,11 @@ use rkyv_base::width::Width;
 use rkyv_keys::keys::{KeyElement, NativeKey};
 use rkyv_scan::hash::KeyHasher;
 
-/// In every archive in which what was written of a map sits, and, aligned behind it, its header,
-/// the map holds; its header tells its length and its capacity, its entries were written in the
-/// order handed in, under the hashes of their keys, and each pair stands in its home.
+/// Written bytes of a map and its header are a valid map in any archive that has them.
+///
+/// The header is aligned and after the written bytes. It has the length and the capacity
+/// of the map. The entries are under the hashes of their keys in insertion order.
+/// Each pair is in its home bucket.
 pub fn written_maps_stand<
     W: Width,
     H: KeyHasher,

@@ -1,4 +1,4 @@
-//! Printing sets.
+//! Formatting of sets by `Debug`.
 ghost use Rattle.rkyv_base.specs.View.{IsView};
 ghost use Rattle.rkyv_collections.specs.Set.{set_shape};
 

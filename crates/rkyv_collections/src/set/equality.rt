@@ -1,4 +1,4 @@
-//! Equality of sets, and the keys that a lookup doesn't answer.
+//! Equality of sets, and the keys that a lookup of their own doesn't find.
 ghost use Rattle.std.specs.Prelude.{◌≡◌};
 ghost use Rattle.rkyv_base.specs.View.{IsView};
 ghost use Rattle.rkyv_keys.specs.Places.{at_views};
@@ -14,10 +14,17 @@ use rkyv_keys::keys::KeyElement;
 use rkyv_scan::hash::KeyHasher;
 
 impl<'a, K: KeyElement, H: KeyHasher, W: Width> ArchivedHashSet<'a, K, H, W> {
-    /// Whether both sets have equally many keys, and each of this one is found in the other.
+    /// Returns `true` if and only if both sets have the same length and the same keys.
     ///
-    /// In sets of which one was written with a key twice, or comes from strangers, this may tell a
-    /// set apart from itself.
+    /// They have the same keys if a lookup finds each key of this set in `other`.
+    /// A set with misplaced keys may differ from itself.
+    ///
+    /// Each key costs a lookup in `other`. In an untrusted set, keys that share a hash make
+    /// the cost quadratic in their number.
+    ///
+    /// # Requires
+    ///
+    /// - Both sets are valid.
     #[inline]
     pub fn eq_set(self, other: ArchivedHashSet<'_, K, H, W>) -> bool
         requires own { IsSet W.word K.shape self }
@@ -29,10 +36,21 @@ impl<'a, K: KeyElement, H: KeyHasher, W: Width> ArchivedHashSet<'a, K, H, W> {
         self.map.eq_map(other.map)
     }
 
-    /// How many of its keys a lookup doesn't answer where they stand: another such key is found
-    /// first, or a stranger put the key where its hash doesn't lead.
+    /// Returns the number of keys that a lookup of their own doesn't find.
     ///
-    /// In a set that was written these are the keys that are the same as one handed in earlier.
+    /// A key is found if the lookup returns its own bucket. Otherwise the lookup finds another key
+    /// that is the same, or none.
+    ///
+    /// In a written set, it is the number of keys that are the same as an earlier key
+    /// in insertion order. An untrusted set may have other misplaced keys.
+    ///
+    /// Each key is looked up once, and each lookup may read every group of the control bytes.
+    /// Keys that share a hash cost a number of comparisons that is quadratic in their number.
+    /// `FxHasher64` takes no secret key, so chosen keys can share one.
+    ///
+    /// # Requires
+    ///
+    /// - The set is valid.
     #[inline]
     pub fn misplaced(self) -> usize
         requires { IsSet W.word K.shape self }

@@ -1,4 +1,4 @@
-//! Laws of sets, over their definitions alone.
+//! A law of walks over sets, over their definitions alone.
 
 ghost use Rattle.rkyv_collections.specs.ListedWalks.{SetWalksGiveListed};
 ghost use Rattle.rkyv_collections.specs.Map.{hash_at};
@@ -8,8 +8,9 @@ use rkyv_base::width::Width;
 use rkyv_keys::keys::KeyElement;
 use rkyv_scan::hash::KeyHasher;
 
-/// In a set that stands for a list of keys, at the places that `iter` begins with stand the keys of
-/// the list, each exactly once, in some order.
+/// In a set that represents a list of keys, `iter` returns each key of the list once.
+///
+/// The positions of a walk have the keys of the list, each once, in some order.
 pub fn walks_give_listed<A, K: KeyElement + StandsFor<A>, H: KeyHasher, W: Width>()
     ensures { SetWalksGiveListed W.word K.shape K.stands (hash_at H.hasher K.key_calls) }
 {}

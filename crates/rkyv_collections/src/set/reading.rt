@@ -1,4 +1,10 @@
-//! A set, how many keys it has, and finding one of them.
+//! Opening, walking over and looking up in a set.
+//!
+//! `get` returns a view of the key that a query finds, and `contains` returns `true`
+//! if there is one.
+//!
+//! A lookup in an untrusted set may read every group of its control bytes once.
+//! `FxHasher64` takes no secret key, so it doesn't protect from chosen input.
 
 ghost use Rattle.std.specs.Prelude.{IsTrue, length, ◌↔◌, ◌≡◌};
 ghost use Rattle.rkyv_base.specs.Empty.{unit_element, unit_shape};
@@ -44,6 +50,10 @@ impl<K: Element, H, W: Width> Element for HashSetOf<K, H, W> {
 
 impl<'a, K: Element, H, W: Width> ArchivedHashSet<'a, K, H, W> {
     /// Returns the set at a view of its header, which is decoded here, once.
+    ///
+    /// # Requires
+    ///
+    /// - The view is of a valid set.
     #[inline]
     pub fn of(view: View<'a, HashSetOf<K, H, W>>) -> ArchivedHashSet<'a, K, H, W>
         requires { IsView (set_shape W.word K.shape) view }
@@ -55,7 +65,7 @@ impl<'a, K: Element, H, W: Width> ArchivedHashSet<'a, K, H, W> {
         }
     }
 
-    /// Returns true if it has no keys.
+    /// Returns `true` if and only if the set has no keys.
     #[inline]
     pub fn is_empty(self) -> bool
         ensures { IsTrue result ↔ (set_len W.word self.entry ≡ 0) }
@@ -63,7 +73,7 @@ impl<'a, K: Element, H, W: Width> ArchivedHashSet<'a, K, H, W> {
         self.map.is_empty()
     }
 
-    /// Returns the number of its keys.
+    /// Returns the number of keys.
     #[inline]
     pub fn len(self) -> usize
         ensures { result ≡ set_len W.word self.entry }
@@ -71,7 +81,11 @@ impl<'a, K: Element, H, W: Width> ArchivedHashSet<'a, K, H, W> {
         self.map.len()
     }
 
-    /// Its keys, by ascending bucket.
+    /// Returns an iterator over the keys, in bucket order.
+    ///
+    /// # Requires
+    ///
+    /// - The set is valid.
     #[inline]
     pub fn iter(self) -> Keys<'a, K, (), H, W>
         requires { IsSet W.word K.shape self }
@@ -85,12 +99,20 @@ impl<'a, K: Element, H, W: Width> ArchivedHashSet<'a, K, H, W> {
 }
 
 impl<'a, K: KeyElement, H: KeyHasher, W: Width> ArchivedHashSet<'a, K, H, W> {
-    /// The key that is asked for: in a set that was written the first such one, in the order in
-    /// which the keys were handed in.
+    /// Returns the key that the query finds, or `None`.
     ///
-    /// In a set of strangers a key may stand where its hash doesn't lead; then it isn't found.
-    /// Where `misplaced` is 0 none does: the one key that fits is found, and none exactly where
-    /// none fits.
+    /// In a written set, it is the first key in insertion order that the query fits.
+    ///
+    /// In an untrusted set, a lookup may miss a key that the query fits.
+    /// No key is missed if `misplaced` is 0. The lookup then finds the one key that the query fits,
+    /// and `None` if and only if it fits none.
+    ///
+    /// A lookup in an untrusted set may read every group of its control bytes once.
+    ///
+    /// # Requires
+    ///
+    /// - The set is valid.
+    /// - The query can be read.
     #[inline]
     pub fn get<Q: Query<K>>(self, key: &Q) -> Option<View<'a, K>>
         requires set { IsSet W.word K.shape self }
@@ -104,7 +126,14 @@ impl<'a, K: KeyElement, H: KeyHasher, W: Width> ArchivedHashSet<'a, K, H, W> {
         }
     }
 
-    /// Whether the key that is asked for is found.
+    /// Returns `true` if and only if the query finds a key.
+    ///
+    /// A lookup in an untrusted set may read every group of its control bytes once.
+    ///
+    /// # Requires
+    ///
+    /// - The set is valid.
+    /// - The query can be read.
     #[inline]
     pub fn contains<Q: Query<K>>(self, key: &Q) -> bool
         requires set { IsSet W.word K.shape self }

@@ -1,4 +1,4 @@
-//! What was written of a set, wherever it stands.
+//! The law of written sets, in any archive that contains their bytes.
 
 ghost use Rattle.rkyv_collections.specs.Map.{hash_at};
 ghost use Rattle.rkyv_collections.specs.MapFormat.{hash_of};
@@ -10,9 +10,10 @@ use rkyv_base::width::Width;
 use rkyv_keys::keys::{KeyElement, NativeKey};
 use rkyv_scan::hash::KeyHasher;
 
-/// In every archive in which what was written of a set sits, and, aligned behind it, its header,
-/// the set holds; its header tells its length and its capacity, its keys were written in the order
-/// handed in, under their hashes, and each stands in its home.
+/// Written bytes of a set and its header are a valid set in any archive that has them.
+///
+/// The header is aligned and after the written bytes. It has the length and the capacity
+/// of the set. The keys are under their hashes in insertion order. Each key is in its home bucket.
 pub fn written_sets_stand<
     W: Width,
     H: KeyHasher,

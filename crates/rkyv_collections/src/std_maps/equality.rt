@@ -1,4 +1,4 @@
-//! Comparing maps with std's.
+//! Comparing archived maps with maps of std.
 
 ghost use Rattle.std.specs.Prelude.{IsTrue, ◌↔◌};
 ghost use Rattle.rkyv_base.specs.Pairs.{written_as-format};
@@ -26,7 +26,7 @@ use std::collections::HashMap;
 use std::hash::{BuildHasher, Hash};
 
 impl<'a, K: KeyElement, V, H: KeyHasher, W: Width> ArchivedHashMap<'a, K, V, H, W> {
-    /// Whether the key is found, with a value that equals this one.
+    /// Returns `true` if and only if a lookup of the key finds a value that equals `value`.
     #[inline]
     pub(crate) fn finds_equal<A: Query<K>, B>(self, key: &A, value: &B) -> bool
     where
@@ -43,8 +43,9 @@ impl<'a, K: KeyElement, V, H: KeyHasher, W: Width> ArchivedHashMap<'a, K, V, H, 
         }
     }
 
-    /// Whether a lookup of the key answers as in the map of std's: a value that equals the one
-    /// there, or none where there is none.
+    /// Returns `true` if and only if a lookup of the key agrees with that in the map of std.
+    ///
+    /// They agree if both find a value and the values are equal, or if neither finds one.
     #[inline]
     pub(crate) fn answers_as<A: NativeKey<K> + Hash, B, T: BuildHasher>(
         self,
@@ -65,8 +66,17 @@ impl<'a, K: KeyElement, V, H: KeyHasher, W: Width> ArchivedHashMap<'a, K, V, H, 
         }
     }
 
-    /// Whether it has as many pairs as the map of std's, and each pair of that one is found in it
-    /// with an equal value.
+    /// Returns `true` if and only if this map equals a map of std.
+    ///
+    /// They are equal if they have the same length, and a lookup of each key of `other` finds
+    /// an equal value in this map.
+    ///
+    /// Each pair of `other` costs a lookup. In an untrusted map, a lookup may read every group
+    /// of control bytes once.
+    ///
+    /// # Requires
+    ///
+    /// - The map is valid.
     #[inline]
     pub fn eq_std<A: NativeKey<K> + Hash, B, T: BuildHasher>(self, other: &HashMap<A, B, T>) -> bool
     where
@@ -154,15 +164,19 @@ where
         A.query A.native A.Eq.laws.refl A.reads A.Archive.laws B.equal)) };
 }
 
-/// A map or set of std's that is compared with an archived one, the collection C.
+/// A map or set of std that can be compared with an archived one of the type `C`.
 pub trait EqArchived<C> {
-    // The collection stands in its archive.
+    // The condition under which the archived map or set can be compared: it is valid.
     ghost can_compare: { C → Type 0 };
 
-    // The collection equals a value.
+    // The archived map or set equals the value.
     ghost equals_archived: { C → Self → Type 0 };
 
-    /// Whether the archived one equals it, as its `eq_std` answers.
+    /// Returns the result of `eq_std` of the archived map or set.
+    ///
+    /// # Requires
+    ///
+    /// - `other` is valid.
     fn eq_archived(&self, other: C) -> bool
         requires { can_compare other }
         ensures { IsTrue result ↔ equals_archived other self.now };

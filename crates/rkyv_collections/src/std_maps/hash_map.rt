@@ -1,4 +1,4 @@
-//! Std's hash maps as what stands in archives.
+//! Maps of std as values that archived maps represent, and their serialization.
 
 ghost use Rattle.rkyv_base.specs.Pairs.{written_as, written_as-format};
 ghost use Rattle.rkyv_table.specs.Table.Listed.{listed};

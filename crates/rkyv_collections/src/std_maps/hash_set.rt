@@ -1,4 +1,4 @@
-//! Std's hash sets as what stands in archives.
+//! Sets of std: archiving, comparing and deserializing them.
 
 ghost use Rattle.std.specs.Prelude.{IsTrue, MatchResult, ◌↔◌};
 ghost use Rattle.rkyv_base.specs.View.{IsView, StandsAt};
@@ -106,7 +106,7 @@ where
     }
 }
 
-/// Reads a key and inserts it.
+/// Deserializes a key and inserts it.
 #[inline]
 fn insert_read<K: Deserialize<A>, A: Eq + Hash + Drop, T: BuildHasher>(
     set: &mut HashSet<A, T>,
@@ -126,10 +126,18 @@ fn insert_read<K: Deserialize<A>, A: Eq + Hash + Drop, T: BuildHasher>(
 }
 
 impl<'a, K: Element, H, W: Width> ArchivedHashSet<'a, K, H, W> {
-    /// The set of std's with this hash state into which its keys are inserted, by ascending bucket.
+    /// Returns the set of std of the keys, with the hash state `state`.
+    ///
+    /// The keys are inserted in bucket order.
+    ///
+    /// # Requires
+    ///
+    /// - The set is valid.
     ///
     /// # Errors
-    /// `Memory` where a growth is refused, and those of reading a key.
+    ///
+    /// - The error of deserializing a key.
+    /// - `Memory`: memory for an insertion could not be allocated.
     pub fn deserialize_std<A: Eq + Hash + Drop, T: BuildHasher + Drop>(
         self,
         alloc: Global,
@@ -153,7 +161,17 @@ impl<'a, K: Element, H, W: Width> ArchivedHashSet<'a, K, H, W> {
 }
 
 impl<'a, K: KeyElement, H: KeyHasher, W: Width> ArchivedHashSet<'a, K, H, W> {
-    /// Whether it has as many keys as the set of std's, and each key of that one is found in it.
+    /// Returns `true` if and only if this set equals a set of std.
+    ///
+    /// They are equal if they have the same length, and a lookup finds each key
+    /// of `other` in this set.
+    ///
+    /// Each key of `other` costs a lookup. In an untrusted set, a lookup may read every group
+    /// of control bytes once.
+    ///
+    /// # Requires
+    ///
+    /// - The set is valid.
     #[inline]
     pub fn eq_std<A: NativeKey<K> + Hash, T: BuildHasher>(self, other: &HashSet<A, T>) -> bool
     where

@@ -1,4 +1,4 @@
-//! What is archived of a map or set of std's.
+//! The wrapper for archiving a map or set of std.
 
 ghost use Rattle.std.specs.Prelude.{◌≡◌};
 
@@ -6,8 +6,9 @@ use rkyv_scan::hash::FxHasher64;
 use std::fmt::{self, Debug, Formatter, Write};
 use std::marker::PhantomData;
 
-/// A map or set of std's that is archived as a map or set under the hasher H, with the load factor
-/// 7 / 8: its pairs or keys in the order of its own iterator.
+/// A map or set of std that is archived under the hasher `H`, with the load factor 7 / 8.
+///
+/// Its pairs or keys are inserted in the order of its own iterator.
 #[derive(Drop)]
 pub struct Hashed<M, H = FxHasher64> {
     pub(crate) map: M,
@@ -15,7 +16,7 @@ pub struct Hashed<M, H = FxHasher64> {
 }
 
 impl<M, H> Hashed<M, H> {
-    /// It around a map or set.
+    /// Returns the wrapper of a map or set.
     #[inline]
     pub fn new(map: M) -> Hashed<M, H>
         ensures { result.map ≡ map }
@@ -26,7 +27,7 @@ impl<M, H> Hashed<M, H> {
         }
     }
 
-    /// The map or set.
+    /// Returns a reference to the map or set.
     #[inline]
     pub fn get(&self) -> &M
         ensures { result.now ≡ self.now.map }
@@ -34,7 +35,7 @@ impl<M, H> Hashed<M, H> {
         &self.map
     }
 
-    /// The map or set itself.
+    /// Returns the map or set itself.
     #[inline]
     pub fn into_inner(self) -> M
         ensures { result ≡ self.map }
@@ -65,7 +66,7 @@ impl<M: Eq, H> Eq for Hashed<M, H> {
         } };
 }
 
-/// It is printed as the map or set itself.
+/// It is formatted as the map or set itself.
 impl<M: Debug, H> Debug for Hashed<M, H> {
     ghost debug_output = { λ x. M.debug_output x.map };
 

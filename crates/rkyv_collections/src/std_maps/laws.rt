@@ -1,4 +1,4 @@
-//! Laws of std's maps and sets in archives, over their definitions alone.
+//! Laws of lookups in archives of maps and sets of std, over their definitions alone.
 
 ghost use Rattle.rkyv_collections.specs.MapFormat.{hash_of};
 ghost use Rattle.rkyv_collections.specs.StdLookups.{FindsInWrittenMap, FindsInWrittenSet};
@@ -11,10 +11,13 @@ use rkyv_scan::hash::KeyHasher;
 use std::collections::{HashMap, HashSet};
 use std::hash::{BuildHasher, Hash};
 
-/// In every archive in which what was written of a map of std's sits, each query is answered as in
-/// that map: the value of the key that is asked for stands where a lookup finds it, and none is
-/// found exactly where the map has none. So it is where the comparison accepts a key exactly if it
-/// was written of a value that is asked for, as by a native key those that equal it.
+/// In an archive of a map of std, a lookup agrees with that map.
+///
+/// It finds the value of the accepted key, and no key if and only if the map has none.
+/// The law is about any archive that has the written bytes, and about any query that can be read.
+///
+/// The comparison must decide by the values that the keys represent. That of a native key accepts
+/// the keys that equal it.
 pub fn written_maps_are_looked_up<
     Q: Query<A::Archived>,
     W: Width,
@@ -31,8 +34,11 @@ where
         ⟦<Hashed<HashMap<A, B, T>, H> as Archive<W>>⟧.format }
 {}
 
-/// In every archive in which what was written of a set of std's sits, each query is found exactly
-/// where the set has a key that is asked for.
+/// In an archive of a set of std, a lookup finds a key if and only if the set has an accepted key.
+///
+/// The law is about any archive that has the written bytes, and about any query that can be read.
+///
+/// The comparison must decide by the values that the keys represent.
 pub fn written_sets_are_looked_up<
     Q: Query<A::Archived>,
     W: Width,

@@ -1,4 +1,4 @@
-//! Reading std's hash maps back.
+//! Deserializing archived maps as maps of std.
 
 ghost use Rattle.std.specs.Prelude.{MatchResult, ◌+◌};
 ghost use Rattle.rkyv_base.specs.Entry.{value_offset};
@@ -19,7 +19,7 @@ use std::alloc::Global;
 use std::collections::HashMap;
 use std::hash::{BuildHasher, BuildHasherDefault, Hash};
 
-/// Reads a pair and inserts it.
+/// Deserializes a pair and inserts it.
 #[inline]
 fn insert_read<K: Deserialize<A>, V: Deserialize<B>, A: Eq + Hash + Drop, B: Drop, T: BuildHasher>(
     map: &mut HashMap<A, B, T>,
@@ -44,11 +44,19 @@ fn insert_read<K: Deserialize<A>, V: Deserialize<B>, A: Eq + Hash + Drop, B: Dro
 }
 
 impl<'a, K: Element, V: Element, H, W: Width> ArchivedHashMap<'a, K, V, H, W> {
-    /// The map of std's with this hash state into which its pairs are inserted, by ascending
-    /// bucket, so that of equal keys the later has its value.
+    /// Returns the map of std of the pairs, with the hash state `state`.
+    ///
+    /// The pairs are inserted in bucket order. Of pairs with equal keys,
+    /// the value of the last is kept.
+    ///
+    /// # Requires
+    ///
+    /// - The map is valid.
     ///
     /// # Errors
-    /// `Memory` where a growth is refused, and those of reading a key or a value.
+    ///
+    /// - The error of deserializing a key or a value.
+    /// - `Memory`: memory for an insertion could not be allocated.
     pub fn deserialize_std<A: Eq + Hash + Drop, B: Drop, T: BuildHasher + Drop>(
         self,
         alloc: Global,

@@ -1,4 +1,4 @@
-//! A value written, read in place, compared and read back.
+//! Round trips: values that are written, opened, compared and deserialized.
 
 ghost use Rattle.std.specs.Prelude.{◌≡◌, IfOk, true};
 ghost use Rattle.rkyv_collections.specs.RoundTrips.{ArchivesComeBack};
@@ -19,17 +19,19 @@ use std::alloc::Global;
 use std::collections::HashMap;
 use std::hash::{BuildHasher, Hash};
 
-/// Why a value didn't come back.
+/// The error of a round trip.
 #[derive(Debug, Drop)]
 pub enum Lost {
-    /// It wasn't written.
+    /// The value could not be written.
     Write(WriteError<NoMemory>),
-    /// It wasn't read back.
+    /// The value could not be deserialized.
     Read(ReadError),
 }
 
-/// At the root of the archive of a value, as `to_bytes` makes it, stands what equals the value in
-/// place, and what is read back there equals it by `==`.
+/// The root of an archive of a value equals the value, and so does each value that it represents.
+///
+/// The archive is one that `to_bytes` makes. The root equals the value in place.
+/// A deserialized value is represented by the root, and so it is `==` to the value.
 pub fn archives_come_back<W: Width, M: EqualsWritten<W> + PartialEq>()
 where
     M::Archived: MatchesNative<M> + StandsAlone<M>,
@@ -37,11 +39,15 @@ where
         M.format M.eq }
 {}
 
-/// Whether the archive of a value is accepted, equals the value, and is read back as an equal one:
-/// wherever it can be written and read back.
+/// Writes a value, opens the archive, compares the root with the value, and deserializes it.
+///
+/// Returns `Ok(true)` if the archive is valid, the root equals the value,
+/// and the deserialized value is `==` to it. The result is never `Ok(false)`.
 ///
 /// # Errors
-/// Those of `to_bytes_in` and of `deserialize`.
+///
+/// - `Lost::Write`: the error of `to_bytes_in`.
+/// - `Lost::Read`: the error of `deserialize`.
 pub fn comes_back<W: Width, M: Serialize<VecWriter, W> + EqualsWritten<W> + PartialEq + Drop>(
     alloc: Global,
     value: &M,
@@ -67,11 +73,14 @@ where
     }
 }
 
-/// Whether a lookup of the key in the archive of a map of std's answers as that map does: with a
-/// value that equals the map's, and none where the map has none: wherever it can be written.
+/// Writes a map of std, and compares a lookup in the archive with one in the map.
+///
+/// Returns `Ok(true)` if both find equal values, or neither finds one.
+/// The result is never `Ok(false)`.
 ///
 /// # Errors
-/// Those of `to_bytes_in`.
+///
+/// - `Lost::Write`: the error of `to_bytes_in`.
 pub fn lookups_agree<
     W: Width,
     H: KeyHasher,

@@ -4,7 +4,8 @@ use Rattle.rkyv_collections.specs.Map.{map_archive, map_pos}
 use Rattle.rkyv_collections.proofs.StdReading.{WalksOn}
 use Rattle.rkyv_collections.proofs.map.ArchivedHashMap.deserialize_std.Given as goal
 
--- the pairs that are left stand in the archived map; inserting them ends with all pairs inserted in order
+-- the remaining pairs are in the archived map, and their insertion ends with all pairs
+-- inserted in order
 abbrev pub invariant-loop-key : goal.invariant-loop-key
 invariant-loop-key g l =
     WalksOn g.W.Word.word g.K.Element.shape g.V.Element.shape g.K.StandsFor.stands g.V.StandsFor.stands g.A.PartialEq.eq

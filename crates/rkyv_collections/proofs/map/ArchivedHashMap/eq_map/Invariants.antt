@@ -6,7 +6,7 @@ use Rattle.rkyv_collections.specs.Equality.{pair_matches}
 use Rattle.rkyv_collections.specs.Map.{hash_at, key_positions, map_archive, map_bytes, map_pos}
 use Rattle.rkyv_collections.proofs.map.ArchivedHashMap.eq_map.Given as goal
 
--- the pairs that are left stand in the first map; and all pairs match if those that are left do
+-- the remaining pairs are in the first map, and all pairs match if the remaining ones do
 abbrev pub invariant-loop-key : goal.invariant-loop-key
 invariant-loop-key g l =
     let w = g.W.Word.word in

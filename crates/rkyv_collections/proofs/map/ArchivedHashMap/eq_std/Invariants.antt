@@ -4,7 +4,7 @@ use Rattle.rkyv_collections.specs.StdEquality.{FindsPair}
 use Rattle.rkyv_collections.proofs.StdComparing.{Decides}
 use Rattle.rkyv_collections.proofs.map.ArchivedHashMap.eq_std.Given as goal
 
--- all pairs are found exactly where those that are left are
+-- all pairs are found if and only if the remaining ones are
 abbrev pub invariant-loop-key : goal.invariant-loop-key
 invariant-loop-key g l =
     let hash = hash_of g.H.KeyHasher.hasher g.A.KeyHash.calls in

@@ -6,7 +6,7 @@ use Rattle.rkyv_base.specs.View.{bytes_of, pos_of}
 use Rattle.rkyv_collections.specs.Map.{map_bytes}
 use Rattle.rkyv_collections.proofs.map.ArchivedHashMap.matches.Goals as goal
 
--- a value `offset` bytes behind the key that was found compares as the value there
+-- a value `offset` bytes behind the position of the found key compares as the value there
 some_matches : (same : ℕ → Bool) (offset : ℕ) (place : Option ℕ) (at : ℕ) → Some at ≡ option_map (λ q. q + offset) place
     → same at ≡ unwrap_or (option_map (λ q. same (q + offset)) place) false
 some_matches same offset None at e = cc

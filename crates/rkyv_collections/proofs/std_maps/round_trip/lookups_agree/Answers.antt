@@ -33,7 +33,7 @@ returns g c =
     let viewed = subst (λ (q : ℕ). told c.in-Ok-access_in.root.archive.now q) (sym root.1) there in
     c.answers_as.ensures.1 (subst (λ view. told (bytes_of view) (pos_of view)) (sym c.of.ensures.view) viewed)
 
--- what was written is accepted
+-- the written archive is accepted
 pub returns-in-Err-access_in : goal.returns-in-Err-access_in
 returns-in-Err-access_in g c =
     let s = map_shape g.W.Word.word g.A.Archived.Element.shape g.B.Archived.Element.shape in
