@@ -2,10 +2,10 @@
 
 mod answers;
 mod asks;
-mod finders;
 mod first;
 mod in_place;
 mod lists;
+mod lookups;
 mod nested;
 mod reading;
 mod sealed;
