@@ -8,10 +8,10 @@ returns-in_err-access-clause-found c = λ symbols is.
 pub returns-in-Some-clause-found : goal.returns-in-Some-clause-found
 returns-in-Some-clause-found c = λ symbols is. let found = c.in-Some.ensures in
     ap Ok (ap Some (sym c.to_native.ensures)
-    ∙ c.scalars_found_are_listed.ensures _ _ _ _ symbols c.args.name (Some c.in-Some.address)
+    ∙ c.scalars_found_are_listed.ensures c.of-symbols.result _ _ _ symbols c.args.name (Some c.in-Some.address)
     c.of-symbols.ensures.view c.in_ok-access.ensures.root.1 is found.walked found.first)
 
 pub returns-in-None-clause-found : goal.returns-in-None-clause-found
 returns-in-None-clause-found c = λ symbols is. let found = c.in-None.ensures in
-    ap Ok (c.scalars_found_are_listed.ensures _ _ _ _ symbols c.args.name None
+    ap Ok (c.scalars_found_are_listed.ensures c.of-symbols.result _ _ _ symbols c.args.name None
     c.of-symbols.ensures.view c.in_ok-access.ensures.root.1 is found.walked found.first)
