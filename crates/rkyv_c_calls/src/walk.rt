@@ -7,8 +7,7 @@ ghost use Rattle.rkyv_base.specs.Bytes.{signed_at};
 ghost use Rattle.rkyv_base.specs.Entry.{entry_shape};
 ghost use Rattle.rkyv_base.specs.Shape.{Viewed};
 ghost use Rattle.rkyv_table.specs.Controls.Numbers.{control_count};
-ghost use Rattle.rkyv_table.specs.Table.Header.{cap_at};
-ghost use Rattle.rkyv_table.specs.Table.Reading.{controls_pos};
+ghost use Rattle.rkyv_table.specs.Table.Header.{cap_at, controls_pos};
 ghost use Rattle.rkyv_c_calls.specs.Archives.{IsMapAt, IsPairAt};
 ghost use Rattle.rkyv_c_calls.specs.Walking.{IsNextPlace, value_at};
 
