@@ -1,6 +1,6 @@
 //! Tests of calls whose allocations fail.
 //!
-//! `tools/refuse-growths` runs them, and makes each allocation fail in turn.
+//! `tools/fail-allocations` runs them, and makes each allocation fail in turn.
 //!
 //! A test whose name ends in `succeeds` passes only if no allocation fails. Each other test has one
 //! beside it that makes the same calls. If all tests of a run pass, no allocation failed.
