@@ -38,7 +38,7 @@ pub struct TableOf<T, W = Narrow> {
 
 /// A table of T that is read in place, in an archive of the width W.
 ///
-/// It holds its decoded header, and takes 56 bytes.
+/// It holds its decoded header.
 pub struct ArchivedHashTable<'a, T, W: Word = Narrow> {
     view: View<'a, TableOf<T, W>>,
     header: Decoded,
