@@ -1,7 +1,7 @@
 //! Links the static library of `rkyv_bench`.
 //!
-//! It is taken from `RKYV_BENCH_LIB`, the path of `librkyv_bench.a`, or, where that isn't set, from
-//! where `rt lib` leaves it in the crate.
+//! `RKYV_BENCH_LIB` is the path of `librkyv_bench.a`. If it isn't set, the library is the one in the
+//! crate, which `rt lib` builds.
 
 use std::env;
 use std::path::PathBuf;

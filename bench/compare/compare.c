@@ -43,7 +43,7 @@ struct library {
     uint64_t (*walk_text)(const uint8_t *, size_t);
 };
 
-/* Keys as numbers, and as texts: their bytes one after the other, and where each ends. */
+/* Keys as numbers, and as texts: their bytes one after the other, and the position of each end. */
 struct keys {
     uint32_t *numbers;
     uint8_t *bytes;
@@ -103,7 +103,7 @@ static uint32_t random_number(void) {
     return state;
 }
 
-/* The texts of the numbers: their digits, and up to 15 letters more. */
+/* Adds the texts of the numbers: their digits, and up to 15 letters more. */
 static void add_texts(struct keys *keys, size_t count) {
     size_t end = 0;
     keys->bytes = room_for(count * LONGEST_TEXT);
@@ -153,7 +153,7 @@ static uint64_t lookup_text(const struct library *it, const struct workload *w,
                            w->count);
 }
 
-/* One turn of a measure, and its sum. */
+/* Runs one turn of a measure, and returns its sum. */
 static uint64_t turn(enum measure measure, const struct library *it, const struct workload *w) {
     switch (measure) {
     case BUILD: return build(it, w, w->out);
@@ -171,7 +171,7 @@ static uint64_t turn(enum measure measure, const struct library *it, const struc
     return 0;
 }
 
-/* Makes keys and archives; both builds have to make the same bytes. */
+/* Makes keys and archives. Both builds have to make the same bytes. */
 static struct workload prepared(size_t count, const struct library both[2]) {
     struct workload w = {.count = count, .room = count * 48 + 4096};
     w.stored = random_keys(count);
@@ -191,7 +191,7 @@ static struct workload prepared(size_t count, const struct library both[2]) {
     return w;
 }
 
-/* The thread's own running time, in nanoseconds. */
+/* Returns the thread's own running time, in nanoseconds. */
 static double now(void) {
     struct timespec time;
     clock_gettime(CLOCK_THREAD_CPUTIME_ID, &time);
@@ -212,7 +212,7 @@ struct result {
     double before, after, ratio;
 };
 
-/* The nanoseconds of an entry, before and after, and the median ratio. */
+/* Returns the nanoseconds of an entry, before and after, and the median ratio. */
 static struct result measured(enum measure measure, const struct library both[2],
                               const struct workload *w) {
     size_t rounds = w->count < KEYS_A_VALUE ? MOST_ROUNDS : 15;

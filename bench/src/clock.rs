@@ -1,8 +1,8 @@
-//! The clock by which calls are timed.
+//! The clock that times the calls.
 
 use std::time::Duration;
 
-/// How long this thread has run. The turns of other programs on a busy machine don't count.
+/// Returns the running time of this thread, without that of other programs on a busy machine.
 #[cfg(target_os = "linux")]
 pub fn now() -> Duration {
     #[repr(C)]
@@ -18,13 +18,13 @@ pub fn now() -> Duration {
         seconds: 0,
         nanoseconds: 0,
     };
-    // SAFETY: there is room for what is written.
+    // SAFETY: `time` has room for the result.
     let failed = unsafe { clock_gettime(THREAD, &mut time) };
     assert_eq!(failed, 0, "the thread has no clock");
     Duration::new(time.seconds as u64, time.nanoseconds as u32)
 }
 
-/// How long it is since the first call.
+/// Returns the time since the first call.
 #[cfg(not(target_os = "linux"))]
 pub fn now() -> Duration {
     use std::sync::OnceLock;

@@ -1,12 +1,11 @@
 //! Safe Rust over the static library `rkyv_bench`.
 //!
-//! Nothing checks a call from Rust against a contract. So each call here keeps what the contract
-//! requires: texts are made from `&str`s alone, and lookups and walks are given archives that were
-//! accepted.
+//! Nothing checks a call from Rust against a contract. So each call here satisfies the contract:
+//! texts are only made from `&str`s, and lookups and walks only get valid archives.
 
 use std::ffi::{c_int, c_void};
 
-// A slice crosses as a pointer and then a length. An allocator takes no bytes.
+// A slice is passed as a pointer and then a length. An allocator has no bytes, and isn't passed.
 unsafe extern "C" {
     fn rkyv_bench_hash_u32(keys: *const u32, key_count: usize) -> u64;
     fn rkyv_bench_hash_text(bytes: *const u8, len: usize, ends: *const u32, count: usize) -> u64;
@@ -79,18 +78,18 @@ unsafe extern "C" {
     fn mallopt(what: c_int, value: c_int) -> c_int;
 }
 
-/// Has the C library keep what is freed, where it would give large blocks back to the system, which
-/// makes them anew of zeros, page by page, when they are first touched. It stands for both sides:
-/// std's maps ask the same functions for memory.
+/// Makes the C library keep freed memory. Otherwise it returns large blocks to the system, which
+/// makes them anew of zeros, page by page, at the first use. Std's maps allocate by the same
+/// functions, so this applies to both sides.
 pub fn keep_memory() {
     const M_TRIM_THRESHOLD: c_int = -1;
     const M_MMAP_MAX: c_int = -4;
-    // SAFETY: both are glibc's own settings; one that isn't known is refused with 0.
+    // SAFETY: both are glibc's own settings; `mallopt` returns 0 for an unknown one.
     let kept = unsafe { mallopt(M_TRIM_THRESHOLD, c_int::MAX) != 0 && mallopt(M_MMAP_MAX, 0) != 0 };
     assert!(kept, "this C library has no such settings");
 }
 
-/// What the library's allocator is answered: whether there is memory, and where.
+/// The result of an allocation for the library: whether it succeeds, and the block.
 #[repr(C)]
 pub struct Tried {
     is_there: bool,
@@ -104,7 +103,7 @@ fn tried(block: *mut c_void) -> Tried {
     }
 }
 
-// The three functions by which the library asks for memory: those of the C library. A block of no
+// The library allocates by these three functions, which call those of the C library. A block of no
 // bytes takes as many as its alignment.
 
 #[unsafe(no_mangle)]
@@ -120,45 +119,45 @@ unsafe extern "C" fn rattle_realloc(
     size: usize,
     align: usize,
 ) -> Tried {
-    // SAFETY: the library gives back what it was given here.
+    // SAFETY: the library only passes blocks that these functions returned.
     tried(unsafe { realloc(block, if size == 0 { align } else { size }) })
 }
 
 #[unsafe(no_mangle)]
 unsafe extern "C" fn rattle_dealloc(block: *mut c_void) {
-    // SAFETY: the library gives back what it was given here.
+    // SAFETY: the library only passes blocks that these functions returned.
     unsafe { free(block) }
 }
 
 /// Keys as the library takes them.
 pub trait Keys {
-    /// The sum of the keys' hashes.
+    /// Returns the sum of the keys' hashes.
     fn hash(&self) -> u64;
 
-    /// Archives a map of them, and answers the archive's length, or 0.
+    /// Archives a map of the keys. Returns the archive's length, or 0 if this fails.
     fn build(&self, values: &[u32], out: &mut [u8]) -> usize;
 
-    /// The length of the archived map and one more, or 0.
+    /// Returns the length of the archived map plus one, or 0 if the archive is invalid.
     fn access(archive: &[u8]) -> usize;
 
-    /// The sum of the values that are found, and of 2^32 for each key that isn't.
+    /// Returns the sum of the found values, plus 2^32 for each key that isn't found.
     fn lookup(&self, archive: &Accepted<'_, Self>) -> u64;
 
-    /// The sum of all pairs of an archive.
+    /// Returns the sum of all pairs of an archive.
     fn walk(archive: &Accepted<'_, Self>) -> u64;
 
-    /// How many entries a map of std's has that is read back from an archive.
+    /// Reads an archive back into a map of std's. Returns its number of entries.
     fn read_back(archive: &Accepted<'_, Self>) -> usize;
 }
 
-/// An archive of a map with such keys.
+/// A valid archive of a map with such keys.
 pub struct Accepted<'a, K: ?Sized> {
     archive: &'a [u8],
     kind: std::marker::PhantomData<K>,
 }
 
 impl<'a, K: Keys> Accepted<'a, K> {
-    /// The archive, where it is one, of a map of this length.
+    /// Returns the archive, if it is valid and its map has this length.
     pub fn new(archive: &'a [u8], len: usize) -> Option<Self> {
         (K::access(archive) == len + 1).then_some(Accepted {
             archive,
@@ -197,7 +196,7 @@ impl Keys for Numbers {
 
     fn lookup(&self, archive: &Accepted<'_, Self>) -> u64 {
         let archive = archive.archive;
-        // SAFETY: as above, and the archive was accepted.
+        // SAFETY: as above, and the archive is valid.
         unsafe {
             rkyv_bench_lookup_u32(
                 archive.as_ptr(),
@@ -209,12 +208,12 @@ impl Keys for Numbers {
     }
 
     fn walk(archive: &Accepted<'_, Self>) -> u64 {
-        // SAFETY: as above, and the archive was accepted.
+        // SAFETY: as above, and the archive is valid.
         unsafe { rkyv_bench_walk_u32(archive.archive.as_ptr(), archive.archive.len()) }
     }
 
     fn read_back(archive: &Accepted<'_, Self>) -> usize {
-        // SAFETY: as above, and the archive was accepted.
+        // SAFETY: as above, and the archive is valid.
         unsafe { rkyv_bench_read_std_u32(archive.archive.as_ptr(), archive.archive.len()) }
     }
 }
@@ -249,14 +248,14 @@ impl Keys for Ordered {
 
     fn lookup(&self, archive: &Accepted<'_, Self>) -> u64 {
         let (archive, keys) = (archive.archive, &self.0 .0);
-        // SAFETY: as above, and the archive was accepted.
+        // SAFETY: as above, and the archive is valid.
         unsafe {
             rkyv_bench_lookup_index_u32(archive.as_ptr(), archive.len(), keys.as_ptr(), keys.len())
         }
     }
 
     fn walk(archive: &Accepted<'_, Self>) -> u64 {
-        // SAFETY: as above, and the archive was accepted.
+        // SAFETY: as above, and the archive is valid.
         unsafe { rkyv_bench_walk_index_u32(archive.archive.as_ptr(), archive.archive.len()) }
     }
 
@@ -269,7 +268,7 @@ impl Keys for Ordered {
 pub struct InStd(pub Numbers);
 
 impl<'a> Accepted<'a, InStd> {
-    /// The same archive, as that of a hash map.
+    /// Returns the same archive, as that of a hash map.
     fn as_map(&self) -> Accepted<'a, Numbers> {
         Accepted {
             archive: self.archive,
@@ -315,7 +314,7 @@ impl Keys for InStd {
     }
 }
 
-/// Texts, one behind the other, and where each ends.
+/// Texts, one behind the other, and the position of each end.
 pub struct Texts {
     bytes: String,
     ends: Vec<u32>,
@@ -380,7 +379,7 @@ impl Keys for Texts {
     }
 
     fn lookup(&self, archive: &Accepted<'_, Self>) -> u64 {
-        // SAFETY: as above, and the archive was accepted.
+        // SAFETY: as above, and the archive is valid.
         unsafe {
             rkyv_bench_lookup_text(
                 archive.archive.as_ptr(),
@@ -394,7 +393,7 @@ impl Keys for Texts {
     }
 
     fn walk(archive: &Accepted<'_, Self>) -> u64 {
-        // SAFETY: as above, and the archive was accepted.
+        // SAFETY: as above, and the archive is valid.
         unsafe { rkyv_bench_walk_text(archive.archive.as_ptr(), archive.archive.len()) }
     }
 

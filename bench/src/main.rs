@@ -1,8 +1,8 @@
 //! Measures archived hash maps against std's `HashMap`, and prints a table in Markdown.
 //!
-//! With the argument `--keep-memory`, what is freed stays with the program.
+//! With the argument `--keep-memory`, the program keeps freed memory.
 
-// What an older library doesn't have isn't measured of it.
+// With the feature `older`, the measures that an older library lacks are left out.
 #![cfg_attr(feature = "older", allow(dead_code, unused_imports))]
 
 mod clock;
@@ -22,24 +22,24 @@ use std::time::Duration;
 
 const MISS: u64 = 1 << 32;
 
-// Each measured value is the time of at least so many keys.
+// The least number of keys for each measured time.
 const KEYS_A_VALUE: usize = 1_000_000;
 
 #[derive(Clone, Copy, PartialEq, Eq)]
 enum Measure {
     Hash,
     Build,
-    // As `Build`, but std's map borrows its texts, where the archive has its own.
+    // As `Build`, but std's map borrows its texts, and the archive owns them.
     BuildBorrowed,
     Access,
     Hits,
     Misses,
     Walk,
-    // An archive is read back into a map of std's, where std's map is filled anew.
+    // Reads an archive back into a map of std's. For std's side, a new map is filled.
     ReadBack,
 }
 
-// Those of each kind of keys.
+// The measures of each kind of keys.
 
 const OF_NUMBERS: &[Measure] = &[
     Measure::Hash,
@@ -96,7 +96,7 @@ enum Contestant {
 
 const CONTESTANTS: [Contestant; 3] = [Contestant::Ours, Contestant::Sip, Contestant::Fx];
 
-/// A key by which std's maps are asked, and the key that they own.
+/// A key for lookups in std's maps, and the key that they own.
 trait Key: Copy + Eq + Hash {
     type Asked: ?Sized + Eq + Hash;
 
@@ -106,7 +106,7 @@ trait Key: Copy + Eq + Hash {
 
     fn own(self) -> Self::Owned;
 
-    /// What a walk counts of it.
+    /// Returns the number that a walk adds for a key.
     fn weight(key: &Self::Asked) -> u64;
 }
 
@@ -146,8 +146,7 @@ impl Key for &str {
     }
 }
 
-/// Keys and values to be put into a map, keys to be asked for that are in it, in another order, and
-/// keys that aren't.
+/// Keys and values of a map, the same keys in another order for lookups, and keys that it lacks.
 struct Workload<'a, K, Q> {
     keys: &'a K,
     hits: &'a K,
@@ -174,7 +173,7 @@ fn workload<'a, K, Q>(
     }
 }
 
-/// The time of one call, of several in a row, and what the last one answered.
+/// Returns the mean time of several calls in a row, and the result of the last one.
 fn time<T>(times: usize, mut call: impl FnMut() -> T) -> (Duration, T) {
     let mut answer = None;
     let begin = now();
@@ -199,8 +198,8 @@ fn build_std<K: Eq + Hash, S: BuildHasher + Default>(
     map
 }
 
-/// The time of one build, of several in a row, and what the last one answered. Each is clocked by
-/// itself, and what it built is dropped outside of the clock, before the next one begins.
+/// Returns the mean time of several builds in a row, and the result of the last one. Each build is
+/// timed by itself. Its result is dropped outside of that time, before the next build begins.
 fn time_build<T>(times: usize, mut build: impl FnMut() -> T) -> (Duration, T) {
     let mut taken = Duration::ZERO;
     let mut built = None;

@@ -1,6 +1,6 @@
-//! Small generators, which give the same numbers in each run.
+//! Small generators, which return the same numbers in each run.
 
-/// Numbers of 32 bits, of which none comes twice before all but 0 have come.
+/// Numbers of 32 bits. No number repeats before all but 0 have come.
 pub struct XorShift32(u32);
 
 impl XorShift32 {

@@ -1,4 +1,4 @@
--- A step of a walk over values that stand leaves values that stand.
+-- A step of a walk leaves only valid values, if all are valid before it.
 use Rattle.std.proofs.Common.{◌≡◌, ◌∷◌, ℕ, subst, sym}
 use Rattle.std.proofs.lemmas.List.Elements.{All-tail}
 use Rattle.std.specs.List.{All}

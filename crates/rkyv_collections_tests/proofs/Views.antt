@@ -1,4 +1,4 @@
--- What is told of the map that a view shows is told of the view's bytes and its place.
+-- A property of the bytes and the position of a map, for those of its view.
 use Rattle.rkyv_base.specs.declared.width.Word.{Ghosts as Words}
 use Rattle.std.proofs.Common.{◌≡◌, ℕ, ◌∙◌, List, ap}
 use Rattle.std.specs.Borrow.{Bor}

@@ -1,4 +1,4 @@
-//! The tests, by what they call.
+//! The tests, one module for each topic.
 
 mod answers;
 mod asks;

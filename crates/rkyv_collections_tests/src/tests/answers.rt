@@ -1,4 +1,4 @@
-//! What tests ask of archived maps and sets, answered in plain numbers.
+//! Queries of archived maps and sets, with results in plain numbers.
 
 use rkyv_base::access::access_in;
 use rkyv_base::element::Element;
@@ -13,7 +13,7 @@ use rkyv_keys::keys::{KeyElement, Query};
 use rkyv_scan::hash::KeyHasher;
 use std::alloc::Global;
 
-/// Whether a map is empty, its length and its capacity.
+/// Returns whether a map is empty, its length and its capacity.
 pub(crate) fn counts<K: Element, V: Element, H, W: Width>(
     bytes: &[u8],
 ) -> Result<(bool, usize, usize), VerifyError> {
@@ -22,7 +22,7 @@ pub(crate) fn counts<K: Element, V: Element, H, W: Width>(
     Ok((map.is_empty(), map.len(), map.capacity()))
 }
 
-/// The number that a key leads to.
+/// Returns the number that a map has for a key, if it has the key.
 pub(crate) fn number_of<K: KeyElement, N: Scalar, H: KeyHasher, W: Width, Q: Query<K>>(
     bytes: &[u8],
     key: &Q,
@@ -37,7 +37,7 @@ pub(crate) fn number_of<K: KeyElement, N: Scalar, H: KeyHasher, W: Width, Q: Que
     }
 }
 
-/// Where the pair of a key stands: its key and its value.
+/// Returns the positions of a key and its value, if the map has the key.
 pub(crate) fn pair_of<K: KeyElement, V: Element, H: KeyHasher, W: Width, Q: Query<K>>(
     bytes: &[u8],
     key: &Q,
@@ -52,7 +52,7 @@ pub(crate) fn pair_of<K: KeyElement, V: Element, H: KeyHasher, W: Width, Q: Quer
     }
 }
 
-/// Whether a map has a key.
+/// Returns whether a map has a key.
 pub(crate) fn has_key<K: KeyElement, V: Element, H: KeyHasher, W: Width, Q: Query<K>>(
     bytes: &[u8],
     key: &Q,
@@ -64,7 +64,7 @@ pub(crate) fn has_key<K: KeyElement, V: Element, H: KeyHasher, W: Width, Q: Quer
     Ok(map.contains_key(key))
 }
 
-/// Whether two maps are equal, by the call of maps and by that of elements.
+/// Returns whether two maps are equal, by `eq_map` and by `ElementEq::same`.
 pub(crate) fn equal_maps<K: KeyElement, V: ElementEq, H: KeyHasher, W: Width>(
     bytes: &[u8],
     other: &[u8],
@@ -77,7 +77,7 @@ pub(crate) fn equal_maps<K: KeyElement, V: ElementEq, H: KeyHasher, W: Width>(
     Ok((map.eq_map(others), same))
 }
 
-/// The same of sets.
+/// Returns whether two sets are equal, by `eq_set` and by `ElementEq::same`.
 pub(crate) fn equal_sets<K: KeyElement, H: KeyHasher, W: Width>(
     bytes: &[u8],
     other: &[u8],
@@ -90,7 +90,7 @@ pub(crate) fn equal_sets<K: KeyElement, H: KeyHasher, W: Width>(
     Ok((set.eq_set(others), same))
 }
 
-/// How many keys of a map are misplaced.
+/// Returns the number of misplaced keys of a map.
 pub(crate) fn misplaced<K: KeyElement, V: Element, H: KeyHasher, W: Width>(
     bytes: &[u8],
 ) -> Result<usize, VerifyError> {
@@ -99,7 +99,7 @@ pub(crate) fn misplaced<K: KeyElement, V: Element, H: KeyHasher, W: Width>(
     Ok(map.misplaced())
 }
 
-/// Whether a map is printed as this text.
+/// Returns whether the bytes are valid and their map prints as `text`.
 pub(crate) fn map_prints<K: ElementDebug, V: ElementDebug, H, W: Width>(
     alloc: Global,
     bytes: &[u8],
@@ -114,7 +114,7 @@ pub(crate) fn map_prints<K: ElementDebug, V: ElementDebug, H, W: Width>(
     }
 }
 
-/// Whether a set is printed as this text.
+/// Returns whether the bytes are valid and their set prints as `text`.
 pub(crate) fn set_prints<K: ElementDebug, H, W: Width>(
     alloc: Global,
     bytes: &[u8],
@@ -129,7 +129,7 @@ pub(crate) fn set_prints<K: ElementDebug, H, W: Width>(
     }
 }
 
-/// Whether a set is empty, its length, how many of its keys are misplaced.
+/// Returns whether a set is empty, its length and the number of its misplaced keys.
 pub(crate) fn set_counts<K: KeyElement, H: KeyHasher, W: Width>(
     bytes: &[u8],
 ) -> Result<(bool, usize, usize), VerifyError> {
@@ -138,7 +138,7 @@ pub(crate) fn set_counts<K: KeyElement, H: KeyHasher, W: Width>(
     Ok((set.is_empty(), set.len(), set.misplaced()))
 }
 
-/// Whether a set has a key, and where that stands.
+/// Returns whether a set has a key, and the position of the key in it.
 pub(crate) fn member_of<K: KeyElement, H: KeyHasher, W: Width, Q: Query<K>>(
     bytes: &[u8],
     key: &Q,

@@ -1,4 +1,4 @@
-//! How often the iterators of pairs and of keys are asked.
+//! Tests of the number of calls of the iterators of pairs and of keys.
 
 use rkyv_base::width::Narrow;
 use rkyv_base::writer::VecWriter;
@@ -14,8 +14,8 @@ type Numbers = ArchivedHashMap<'static, i8, i8, FxHasher64, Narrow>;
 
 type Keys = ArchivedHashSet<'static, i8, FxHasher64, Narrow>;
 
-// Writes a map of so many pairs under a claimed length: the answer, and how often the iterator was
-// asked.
+// Writes a map of `pairs` pairs under the claimed length `len`.
+// Returns the result, and the number of calls of the iterator.
 fn asks_of_map(
     alloc: Global,
     pairs: usize,
@@ -38,7 +38,7 @@ fn asks_of_map(
     (answer_of(answer, &writer), asks.get())
 }
 
-// The same of a set of so many keys.
+// Does the same with a set of `keys` keys.
 fn asks_of_set(
     alloc: Global,
     keys: usize,
@@ -57,8 +57,8 @@ fn asks_of_set(
     (answer_of(answer, &writer), asks.get())
 }
 
-// How many maps and how many sets of up to five items, claimed to be up to three, are answered as
-// they should be, without an ask too many.
+// Writes maps and sets of up to five items under claimed lengths of up to three.
+// Returns the numbers of maps and of sets with the expected result and without a surplus call.
 fn right_of_both(alloc: Global) -> (usize, usize) {
     let (mut maps, mut sets) = (0usize, 0usize);
     for len in 0..4 {

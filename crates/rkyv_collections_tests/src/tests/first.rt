@@ -1,4 +1,4 @@
-//! A first example: a map of std's, archived, opened and looked up in place.
+//! A first example: a map of std's is archived, opened and looked up in place.
 
 use rkyv_base::access::access;
 use rkyv_base::root::to_bytes;
@@ -8,8 +8,8 @@ use std::alloc::Global;
 use std::collections::HashMap;
 use std::test::Fail;
 
-// The map of 1 to 2 is archived, and its bytes are opened; whether the key is found there with its
-// value, and the archived map equals std's.
+// Archives the map of 1 to 2 and opens the bytes. Returns whether the archived map has the value of
+// the key, and equals std's map.
 fn comes_through(alloc: Global) -> Result<bool, Fail> {
     let mut map = HashMap::new(alloc);
     map.insert(1, 2)?;

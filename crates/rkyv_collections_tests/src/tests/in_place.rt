@@ -1,5 +1,4 @@
-//! Values of maps that are written over the bare bytes, by a call that is handed the archive and a
-//! place.
+//! Tests of values of maps that a closure or a cursor writes over the plain bytes.
 
 use rkyv_base::access::{access_in, access_mut};
 use rkyv_base::element::Element;
@@ -13,7 +12,7 @@ use rkyv_testing::archives::four_pairs;
 
 type Small = HashMapOf<i8, i8>;
 
-// Writes this byte over a byte of an archive: where.
+// Writes `byte` at `pos`, if the archive has this position. Returns `pos`.
 fn change(archive: &mut [u8], pos: u64, byte: u8) -> u64 {
     match archive.get_mut(pos as usize) {
         Some(old) => *old = byte,
@@ -22,14 +21,14 @@ fn change(archive: &mut [u8], pos: u64, byte: u8) -> u64 {
     pos
 }
 
-// The archive of the four pairs with other buckets.
+// Returns the archive of the four pairs with other buckets.
 fn four_with(buckets: [u8; 10]) -> [u8; 56] {
     let mut bytes = four_pairs();
     bytes[..10].copy_from_slice(&buckets);
     bytes
 }
 
-// Writes a byte over the value of a key: where that stands.
+// Writes a byte over the value of a key. Returns the position of the value, if the key is found.
 fn change_found<K: KeyElement, N: Scalar, H: KeyHasher, W: Width, Q: Query<K>>(
     bytes: &mut [u8],
     key: &Q,
@@ -49,7 +48,7 @@ fn change_found<K: KeyElement, N: Scalar, H: KeyHasher, W: Width, Q: Query<K>>(
     ))
 }
 
-// The same of numbers of eight bits.
+// Does the same in a map of `i8` to `i8`.
 fn change_small(bytes: &mut [u8], key: i8, byte: u8) -> Option<Option<u64>> {
     change_found::<i8, i8, FxHasher64, Narrow, i8>(bytes, &key, byte).ok()
 }
@@ -69,8 +68,8 @@ fn where_no_key_fits_the_bare_bytes_stay(rt: HostRuntime) {
     assert_eq!(rt; (place, bytes == four_pairs()), (Some(None), true));
 }
 
-// Writes a byte behind the key of each pair while the cursor steps: where the keys stand, what is
-// answered behind the last, and how many pairs are left.
+// Writes a byte behind the key of each pair while the cursor steps. Returns the results of five
+// steps, which are positions of keys or `None`, and the number of pairs left.
 fn change_stepping(bytes: &mut [u8], byte: u8) -> Result<([Option<u64>; 5], usize), VerifyError> {
     let whole = access_mut::<Small>(bytes)?;
     let mut rest = ArchivedHashMap::iter_seal(whole);
@@ -94,8 +93,8 @@ fn pairs_are_written_while_the_cursor_steps(rt: HostRuntime) {
     );
 }
 
-// Writes these numbers over the values of the map that stands in the bare bytes, one after the
-// other: how many values are left.
+// Writes these numbers over the values of the map in the plain bytes, one after the other.
+// Returns the number of values left.
 fn write_over<K: Element, N: Scalar, H, W: Width>(
     bytes: &mut [u8],
     values: &[N],

@@ -1,4 +1,4 @@
-//! Lists of items that are archived as sets.
+//! Tests of lists of items that are archived as sets.
 
 use rkyv_base::access::access;
 use rkyv_base::errors::{VerifyError, WriteError};
@@ -8,12 +8,12 @@ use rkyv_collections::set::{ArchivedHashSet, HashSetOf};
 use rkyv_testing::archives::{archive, three_keys};
 use std::alloc::Global;
 
-// The archive of a list of items as a set.
+// Returns the archive of a list of items, as a set.
 fn archive_of(alloc: Global, items: SetItems<'_, u8>) -> Option<Vec<u8>> {
     to_bytes(alloc, &items).ok()
 }
 
-// Of an archived set: its length, how many items a walk gives, and whether it has 1 and 4.
+// Returns the length of an archived set, the number of items in a walk, and whether it has 1 and 4.
 fn read(bytes: &[u8]) -> Result<(usize, usize, [bool; 2]), VerifyError> {
     let set = ArchivedHashSet::of(access::<HashSetOf<u8>>(bytes)?);
     let mut walked = 0usize;
@@ -24,7 +24,7 @@ fn read(bytes: &[u8]) -> Result<(usize, usize, [bool; 2]), VerifyError> {
     Ok((set.len(), walked, has))
 }
 
-// What is so read of the archive of a list, and whether that has these bytes.
+// Returns whether the archive of a list is `archive`, and the results of `read` for it.
 fn written_and_read(
     alloc: Global,
     items: SetItems<'_, u8>,
@@ -35,8 +35,7 @@ fn written_and_read(
     Some((bytes.as_slice() == archive, answers))
 }
 
-// The set of 1, handed in twice, in four buckets: these from 0 on, controls from 4 on, header at
-// 36.
+// Returns the set of the items 1 and 1, in four buckets: entries at 0, controls at 4, header at 36.
 fn one_item_twice() -> [u8; 48] {
     archive(
         &[0, 1, 1, 0, 0xff, 0x28, 0x28, 0xff, 0xff, 0x28, 0x28],
@@ -59,7 +58,7 @@ fn equal_items_of_a_list_are_kept(rt: HostRuntime) {
     assert_eq!(rt; read, Some((true, (2, 2, [true, false]))));
 }
 
-// Whether the archive of a list is refused for its load factor.
+// Returns whether writing a list fails with the error for its load factor.
 fn is_refused(alloc: Global, items: SetItems<'_, u8>) -> bool {
     matches!(
         to_bytes(alloc, &items),

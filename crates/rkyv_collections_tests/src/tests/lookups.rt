@@ -1,4 +1,4 @@
-//! Several lookups in one map.
+//! Tests of several lookups in one map.
 
 use rkyv_base::access::access_in;
 use rkyv_base::errors::VerifyError;
@@ -9,7 +9,7 @@ use rkyv_keys::keys::{KeyElement, Query};
 use rkyv_scan::hash::{FxHasher64, KeyHasher};
 use rkyv_testing::archives::{four_pairs, no_items, one_key_twice, one_wide_number};
 
-// The number of a key, the positions of the key and the number, and whether the map has the key.
+// Returns the value of a key, the positions of both, and whether the map has the key.
 fn found<K: KeyElement, N: Scalar, H: KeyHasher, W: Width, Q: Query<K>>(
     bytes: &[u8],
     key: &Q,
@@ -29,7 +29,7 @@ fn found<K: KeyElement, N: Scalar, H: KeyHasher, W: Width, Q: Query<K>>(
     }
 }
 
-// The same of small numbers.
+// Does the same in a map of `i8` to `i8`.
 fn small(bytes: &[u8], key: i8) -> Option<(Option<i8>, Option<(u64, u64)>, bool)> {
     found::<i8, i8, FxHasher64, Narrow, i8>(bytes, &key).ok()
 }

@@ -1,5 +1,4 @@
-//! A map whose values are maps: what is written of it, and what becomes of it where a byte is
-//! changed or the end is missing.
+//! Tests of a map whose values are maps: writing, reading, and values that share bytes.
 
 use rkyv_base::access::access;
 use rkyv_base::entry::Entry;
@@ -16,7 +15,7 @@ type Outer = HashMapOf<Entry<u8, u8>, Inner>;
 
 type Numbers<'a> = MapPairs<'a, u16, u16>;
 
-// Whether the pairs (1, 2) and (3, 4), each to the map of 1337 to 42, are archived as these bytes.
+// Returns whether (1, 2) and (3, 4), each mapped to the map of 1337 to 42, are archived as `bytes`.
 fn two_maps_are(alloc: Global, bytes: &[u8]) -> bool {
     let inner: Numbers<'_> = MapPairs::new(&[(1337, 42)]);
     let pairs = [((1u8, 2u8), inner), ((3, 4), inner)];
@@ -24,7 +23,8 @@ fn two_maps_are(alloc: Global, bytes: &[u8]) -> bool {
     is_archived_as(alloc, &list, bytes)
 }
 
-// How many values of the outer map lead 1337 to 42, and whether it has each of these keys.
+// Returns the number of values that map 1337 to 42. Then comes whether the outer map has the keys
+// (1, 2), (3, 4) and (1, 4).
 fn reads(bytes: &[u8]) -> Result<(usize, [bool; 3]), VerifyError> {
     let map = ArchivedHashMap::of(access::<Outer>(bytes)?);
     let mut count = 0usize;
@@ -52,7 +52,7 @@ fn two_maps_are_read(rt: HostRuntime) {
     assert_eq!(rt; reads(&two_maps()).ok(), Some((2, [true, true, false])));
 }
 
-// The two maps, of which the value in the highest bucket is told to be the first.
+// Returns the archive of the two maps, with both values at the bytes of the first map.
 fn one_map_twice() -> [u8; 172] {
     let mut bytes = two_maps();
     bytes[84..88].copy_from_slice(&(-76i32).to_le_bytes());

@@ -1,4 +1,4 @@
-//! Maps of given bytes, read in place.
+//! Tests of reading maps in place, from fixed bytes.
 ghost use Rattle.std.specs.Int.{w32};
 ghost use Rattle.rkyv_base.specs.Entry.{entry_shape};
 ghost use Rattle.rkyv_base.specs.Text.{text_shape};
@@ -29,12 +29,12 @@ type Small = HashMapOf<i8, i8>;
 
 type Nested = HashMapOf<i8, Small>;
 
-// The value of a key in a map of small numbers.
+// Returns the value of a key in a map of `i8` to `i8`.
 fn small(bytes: &[u8], key: i8) -> Option<Option<i8>> {
     number_of::<i8, i8, FxHasher64, Narrow, i8>(bytes, &key).ok()
 }
 
-// Where the key and the value of a key stand in it.
+// Returns the positions of a key and its value in such a map.
 fn small_pair(bytes: &[u8], key: i8) -> Option<Option<(u64, u64)>> {
     pair_of::<i8, i8, FxHasher64, Narrow, i8>(bytes, &key).ok()
 }
@@ -99,14 +99,14 @@ fn one_pair_is_found(rt: HostRuntime) {
     );
 }
 
-// Counts an ask, and answers it.
+// Counts a call of a comparison, and returns `accepts`.
 fn answer(asks: &Cell<usize>, accepts: bool) -> bool {
     asks.set(asks.get().wrapping_add(1));
     accepts
 }
 
-// The value that a comparison finds under a key which always answers this, and how often it is
-// asked.
+// Looks a key up by a comparison that always returns `accepts`.
+// Returns the position of the value, if one is found, and the number of calls of the comparison.
 fn value_with(bytes: &[u8], key: i8, accepts: bool) -> Result<(Option<u64>, usize), VerifyError> {
     let map = ArchivedHashMap::of(access::<Small>(bytes)?);
     let asks = Cell::new(0usize);
@@ -116,7 +116,7 @@ fn value_with(bytes: &[u8], key: i8, accepts: bool) -> Result<(Option<u64>, usiz
     }
 }
 
-// The same of the lookup that gives the key too.
+// Does the same by the lookup that also returns the key.
 fn pair_with(bytes: &[u8], key: i8, accepts: bool) -> Result<(Option<u64>, usize), VerifyError> {
     let map = ArchivedHashMap::of(access::<Small>(bytes)?);
     let asks = Cell::new(0usize);
@@ -126,7 +126,7 @@ fn pair_with(bytes: &[u8], key: i8, accepts: bool) -> Result<(Option<u64>, usize
     }
 }
 
-// What both find.
+// Returns the results of both lookups.
 fn small_with(bytes: &[u8], key: i8, accepts: bool) -> [Option<(Option<u64>, usize)>; 2] {
     [
         value_with(bytes, key, accepts).ok(),
@@ -134,7 +134,7 @@ fn small_with(bytes: &[u8], key: i8, accepts: bool) -> [Option<(Option<u64>, usi
     ]
 }
 
-// In a small table each control stands twice, and each pair is asked of twice.
+// In a small table each control byte is mirrored, so a comparison that fails sees each pair twice.
 #[test]
 fn a_comparison_may_be_handed_in(rt: HostRuntime) {
     let one = one_pair();
@@ -158,14 +158,14 @@ fn a_comparison_may_be_handed_in(rt: HostRuntime) {
     );
 }
 
-// Whether both texts of a key are those that are asked for.
+// Returns whether the two texts of a key are those of `asked`.
 fn has_names(asked: &(&str, &str), key: View<'_, Entry<Text, Text>>) -> bool
     requires { IsView (entry_shape (text_shape w32) (text_shape w32)) key }
 {
     key.key().as_str() == asked.0 && key.value().as_str() == asked.1
 }
 
-// Whether the value of a key of two texts is this one.
+// Returns whether the value of a key of two texts is `text`.
 fn is_text_of_two(
     bytes: &[u8],
     key: (&str, &str),
@@ -184,7 +184,7 @@ fn is_text_of_two(
     }
 }
 
-// Whether it is the value of such a key in an archive of two.
+// Returns the result of `is_text_of_two` for a key in an archive of two pairs.
 fn is_found_of_two(alloc: Global) -> Option<Option<bool>> {
     let pairs = [(("my", "key"), "value"), (("wrong", "key"), "wrong value")];
     let list: MapPairs<'_, (&str, &str), &str> = MapPairs::new(&pairs);
@@ -275,7 +275,7 @@ fn keys_that_a_lookup_does_not_answer_are_counted(rt: HostRuntime) {
     );
 }
 
-// Where a symbol stands, in the table of a stranger.
+// Returns the address of a symbol, from an untrusted archive.
 fn address(symbols: &[u8], name: &str) -> Result<Option<u64>, VerifyError> {
     let map = ArchivedHashMap::of(access::<HashMapOf<Text, u64>>(symbols)?);
     match map.get(&name) {
@@ -291,7 +291,7 @@ fn a_symbol_is_found(rt: HostRuntime) {
     assert_eq!(rt; found, [Some(Some(4096)), Some(None)]);
 }
 
-// The number that a key leads to in the map that another key leads to.
+// Returns the number at `inner_key` in the map at `key`.
 fn inner_value(bytes: &[u8], key: i8, inner_key: i8) -> Result<Option<i8>, VerifyError> {
     let map = ArchivedHashMap::of(access::<Nested>(bytes)?);
     match map.get(&key) {
@@ -334,7 +334,7 @@ fn a_map_inside_is_checked(rt: HostRuntime) {
     assert_eq!(rt; (unwrapped, outside), (true, true));
 }
 
-// A front is no archive, but for those that end in eight zeros: an empty map.
+// Each valid front of the archive ends with eight zeros, and is an empty map.
 #[test]
 fn each_front_of_an_archive_is_answered(rt: HostRuntime) {
     let bytes = nested();
@@ -349,7 +349,7 @@ fn each_front_of_an_archive_is_answered(rt: HostRuntime) {
     assert!(rt; right);
 }
 
-// The value at a key by its index, where the key is there.
+// Returns the value of a key by `index`, if the map has the key.
 fn indexed(bytes: &[u8], key: u32) -> Result<Option<u32>, VerifyError> {
     let root = access_in::<Wide, HashMapOf<u32, u32, FxHasher64, Wide>>(bytes)?;
     let map = ArchivedHashMap::of(root);

@@ -1,4 +1,4 @@
-//! Values of maps that are written in place.
+//! Tests of values of maps that are written in place.
 ghost use Rattle.std.specs.Prelude.{IfOk, IfSome, ℕ, ◌≡◌};
 ghost use Rattle.std.specs.Option.{option_map};
 ghost use Rattle.rkyv_base.specs.Scalar.{scalar_shape};
@@ -32,7 +32,7 @@ type Small = HashMapOf<i8, i8>;
 
 type Texts = HashMapOf<Text, Text>;
 
-// Where the value of a key stands, by a plain lookup in the map at `root`.
+// Returns the position of a key's value, by a plain lookup in the map at `root`.
 fn value_found<K: KeyElement, V: Element, H: KeyHasher, W: Width, Q: Query<K>>(
     bytes: &[u8],
     root: u64,
@@ -54,7 +54,7 @@ fn value_found<K: KeyElement, V: Element, H: KeyHasher, W: Width, Q: Query<K>>(
     }
 }
 
-// Writes the value of a map that stands at `pos`, over the bare bytes.
+// Writes the value at `pos` of the map at `root`, over the plain bytes.
 fn write_value<K: KeyElement, N: Scalar, H: KeyHasher, W: Width>(
     bytes: &mut [u8],
     root: u64,
@@ -72,8 +72,8 @@ fn write_value<K: KeyElement, N: Scalar, H: KeyHasher, W: Width>(
     set_at(bytes, pos as usize, value);
 }
 
-// Writes the value of a key in place, where the key is found, and looks it up again: the answer is
-// the new value.
+// Writes the value of a key in place, if the map has the key, and looks the key up again.
+// Returns the value from the second lookup, which is the new value.
 fn stored<K: KeyElement, N: Scalar, H: KeyHasher, W: Width, Q: Query<K>>(
     bytes: &mut [u8],
     root: u64,
@@ -97,7 +97,7 @@ fn stored<K: KeyElement, N: Scalar, H: KeyHasher, W: Width, Q: Query<K>>(
     }
 }
 
-// As `stored`, in an archive that is checked first.
+// Does the same as `stored`, after it validates the archive.
 fn stored_in<K: KeyElement, N: Scalar, H: KeyHasher, W: Width, Q: Query<K>>(
     bytes: &mut [u8],
     key: &Q,
@@ -113,7 +113,7 @@ fn stored_in<K: KeyElement, N: Scalar, H: KeyHasher, W: Width, Q: Query<K>>(
     Ok(stored::<K, N, H, W, Q>(bytes, root, key, value))
 }
 
-// As `stored_in`, of numbers.
+// Does the same as `stored_in`, with numbers.
 fn number_stored(bytes: &mut [u8], key: u32, value: u32) -> Result<Option<u32>, VerifyError>
     ensures { IfOk result (λ found. IfSome found (λ n. n ≡ value)) }
 {
@@ -130,7 +130,7 @@ fn a_stored_value_is_looked_up(rt: HostRuntime) {
     assert_eq!(rt; (stored, bytes[4]), ([Some(Some(7)), Some(None)], 7));
 }
 
-// Writes a number over the value of a key: what stood there, and what stands there.
+// Writes a number over the value of a key. Returns the values before and after the write.
 fn replace(bytes: &mut [u8], key: u32, value: u32) -> Result<Option<(u32, u32)>, VerifyError> {
     let whole = access_mut::<Numbers>(bytes)?;
     match ArchivedHashMap::get_seal(whole, &key) {
@@ -143,7 +143,7 @@ fn replace(bytes: &mut [u8], key: u32, value: u32) -> Result<Option<(u32, u32)>,
     }
 }
 
-// The same with the key that is lent beside it: the key, and what stood there.
+// Does the same by `get_key_value_seal`. Returns the key, and the value before the write.
 fn replace_beside_key(
     bytes: &mut [u8],
     key: u32,
@@ -196,8 +196,8 @@ fn a_pair_is_lent_with_its_key(rt: HostRuntime) {
     assert_eq!(rt; (before, bytes[4]), (Some(Some((1, 2))), 7));
 }
 
-// Writes a number over the value that a comparison finds which always answers this: what stood
-// there.
+// Writes a number over the value that is found by a comparison that always returns `accepts`.
+// Returns the value before the write.
 fn replace_by(
     bytes: &mut [u8],
     key: u32,
@@ -215,7 +215,7 @@ fn replace_by(
     }
 }
 
-// The key that such a comparison finds.
+// Returns the key that is found by such a comparison.
 fn key_by(bytes: &mut [u8], key: u32, accepts: bool) -> Result<Option<u32>, VerifyError> {
     let whole = access_mut::<Numbers>(bytes)?;
     match ArchivedHashMap::get_key_value_seal_with(
@@ -236,8 +236,8 @@ fn a_comparison_may_be_handed_in(rt: HostRuntime) {
     assert_eq!(rt; (key, before, bytes[4]), (Some(Some(1)), Some(Some(2)), 7));
 }
 
-// Writes these numbers over the values that a cursor lends, one after the other. Whether there are
-// as many values, the cursor tells each time how many are left, and lends nothing after the last.
+// Writes these numbers over the values that a cursor reaches, one after the other.
+// Returns `true` if the map has as many values, each `len` is right, and no seal follows the last.
 fn write_values(bytes: &mut [u8], values: &[i8]) -> Result<bool, VerifyError> {
     let whole = access_mut::<Small>(bytes)?;
     let mut rest = ArchivedHashMap::values_seal(whole);
@@ -255,7 +255,7 @@ fn write_values(bytes: &mut [u8], values: &[i8]) -> Result<bool, VerifyError> {
     Ok(right && ended && rest.next_seal().is_none() && rest.len() == 0)
 }
 
-// The same by the positions of the values.
+// Does the same by the positions of the values, but compares only the last `len`.
 fn write_values_by_pos(bytes: &mut [u8], values: &[i8]) -> Result<bool, VerifyError> {
     let whole = access_mut::<Small>(bytes)?;
     let mut rest = ArchivedHashMap::values_seal(whole);
@@ -269,7 +269,8 @@ fn write_values_by_pos(bytes: &mut [u8], values: &[i8]) -> Result<bool, VerifyEr
     Ok(ended && rest.next_pos().is_none() && rest.len() == 0)
 }
 
-// The same of pairs: whether their keys are these.
+// Writes the numbers of these pairs over the values.
+// Returns `true` if the map has exactly their keys, in this order.
 fn write_pairs(bytes: &mut [u8], pairs: &[(i8, i8)]) -> Result<bool, VerifyError> {
     let whole = access_mut::<Small>(bytes)?;
     let mut rest = ArchivedHashMap::iter_seal(whole);
@@ -287,7 +288,7 @@ fn write_pairs(bytes: &mut [u8], pairs: &[(i8, i8)]) -> Result<bool, VerifyError
     Ok(right && ended && rest.next_seal().is_none() && rest.len() == 0)
 }
 
-// The archive of the four pairs with other buckets.
+// Returns the archive of the four pairs with other buckets.
 fn four_with(buckets: [u8; 10]) -> [u8; 56] {
     let mut bytes = four_pairs();
     bytes[..10].copy_from_slice(&buckets);
@@ -319,7 +320,7 @@ fn values_are_written_by_position(rt: HostRuntime) {
     assert_eq!(rt; (written, same), (Some(true), true));
 }
 
-// Writes this byte over a byte of an archive.
+// Writes `byte` at `pos`, if the archive has this position.
 fn change(archive: &mut [u8], pos: u64, byte: u8) {
     match archive.get_mut(pos as usize) {
         Some(old) => *old = byte,
@@ -327,7 +328,7 @@ fn change(archive: &mut [u8], pos: u64, byte: u8) {
     }
 }
 
-// Writes 20 and 21 over the first two values while the cursor steps: where they stand.
+// Writes 20 and 21 over the first two values while the cursor steps. Returns their positions.
 fn write_stepping(bytes: &mut [u8]) -> Result<[Option<u64>; 2], VerifyError> {
     let whole = access_mut::<Small>(bytes)?;
     let mut rest = ArchivedHashMap::values_seal(whole);
@@ -352,8 +353,8 @@ fn pairs_are_lent_by_ascending_bucket(rt: HostRuntime) {
     assert_eq!(rt; (written, same), (Some(true), true));
 }
 
-// Writes a number behind the first key: how many pairs were there, where the key stands, which it
-// is, and how many pairs are left.
+// Writes a number behind the first key. Returns the number of pairs before the step, the key and
+// its position, and the number of pairs left.
 fn write_first(
     bytes: &mut [u8],
     value: i8,
@@ -379,14 +380,14 @@ fn pairs_are_written_by_position(rt: HostRuntime) {
     assert_eq!(rt; (first, same), (Some(Some((4, 8, 5, 3))), true));
 }
 
-// The archive of three texts, to these values.
+// Returns the archive of three texts, mapped to these values.
 fn archive_of(alloc: Global, values: [&str; 3]) -> Option<Vec<u8>> {
     let pairs = [("hello", values[0]), ("foo", values[1]), ("baz", values[2])];
     let list: MapPairs<'_, &str, &str> = MapPairs::new(&pairs);
     to_bytes(alloc, &list).ok()
 }
 
-// Whether these are the bytes of that archive.
+// Returns whether `bytes` are that archive.
 fn is_archived_as(alloc: Global, values: [&str; 3], bytes: &[u8]) -> bool {
     match archive_of(alloc, values) {
         Some(archive) => archive.as_slice() == bytes,
@@ -394,7 +395,7 @@ fn is_archived_as(alloc: Global, values: [&str; 3], bytes: &[u8]) -> bool {
     }
 }
 
-// Whether the value of a key is this text, read by a seal.
+// Returns whether the value of a key is `text`, as read by a seal.
 fn is_text_in_place(bytes: &mut [u8], key: &str, text: &str) -> Result<Option<bool>, VerifyError> {
     let whole = access_mut::<Texts>(bytes)?;
     match ArchivedHashMap::get_seal(whole, &key) {
@@ -403,7 +404,7 @@ fn is_text_in_place(bytes: &mut [u8], key: &str, text: &str) -> Result<Option<bo
     }
 }
 
-// Whether the value of a key is this text.
+// Returns whether the value of a key is `text`.
 fn is_text(bytes: &[u8], key: &str, text: &str) -> Result<Option<bool>, VerifyError> {
     let map = ArchivedHashMap::of(access::<Texts>(bytes)?);
     match map.get(&key) {
@@ -412,7 +413,7 @@ fn is_text(bytes: &[u8], key: &str, text: &str) -> Result<Option<bool>, VerifyEr
     }
 }
 
-// Raises the value of a key to upper case: what the seal answers.
+// Writes the value of a key in upper case. Returns the result of the seal.
 fn raise(bytes: &mut [u8], key: &str) -> Result<Option<bool>, VerifyError> {
     let whole = access_mut::<Texts>(bytes)?;
     match ArchivedHashMap::get_seal(whole, &key) {
@@ -421,7 +422,7 @@ fn raise(bytes: &mut [u8], key: &str) -> Result<Option<bool>, VerifyError> {
     }
 }
 
-// Raises three values: how many of the seals answer that they did.
+// Writes three values in upper case. Returns the number of seals that return `true`.
 fn raise_three(bytes: &mut [u8]) -> Result<Option<usize>, VerifyError> {
     let whole = access_mut::<Texts>(bytes)?;
     let mut rest = ArchivedHashMap::values_seal(whole);
@@ -439,7 +440,7 @@ fn raise_three(bytes: &mut [u8]) -> Result<Option<usize>, VerifyError> {
     Ok(Some(raised))
 }
 
-// What is read of a key before, what raising it answers, and what is read of it then.
+// Compares a value, writes it in upper case, and compares it again. Returns the three results.
 fn raise_and_read(bytes: &mut [u8]) -> [Option<Option<bool>>; 3] {
     [
         is_text_in_place(&mut *bytes, "hello", "world").ok(),
@@ -448,7 +449,7 @@ fn raise_and_read(bytes: &mut [u8]) -> [Option<Option<bool>>; 3] {
     ]
 }
 
-// The same of an archive, and whether that is then the archive of the other text.
+// Does the same in a new archive. Returns the results, and whether the archive is as expected.
 fn raised(alloc: Global) -> Option<([Option<Option<bool>>; 3], bool)> {
     let mut bytes = archive_of(alloc, ["world", "bar", "bat"])?;
     let answers = raise_and_read(bytes.as_mut_slice());
@@ -461,7 +462,8 @@ fn a_text_is_raised_in_place(rt: HostRuntime) {
     assert_eq!(rt; raised(rt.alloc()), Some(([Some(Some(true)); 3], true)));
 }
 
-// How many texts of an archive are raised, and whether it is then that of the other texts.
+// Writes each text of an archive in upper case. Returns the number of texts that are written,
+// and whether the archive is as expected.
 fn each_raised(alloc: Global) -> Option<(Option<Option<usize>>, bool)> {
     let mut bytes = archive_of(alloc, ["world", "bar", "bat"])?;
     let raised = raise_three(bytes.as_mut_slice()).ok();
@@ -474,7 +476,7 @@ fn each_text_is_raised_in_place(rt: HostRuntime) {
     assert_eq!(rt; each_raised(rt.alloc()), Some((Some(Some(3)), true)));
 }
 
-// What raising a text out of line answers, and whether its archive stays.
+// Writes a text out of line in upper case. Returns the result, and whether the archive is the same.
 fn raised_out_of_line(alloc: Global) -> Option<(Option<Option<bool>>, bool)> {
     let mut bytes = archive_of(alloc, ["wonderful", "bar", "bat"])?;
     let raised = raise(bytes.as_mut_slice(), "hello").ok();

@@ -1,4 +1,4 @@
-//! Sets of given bytes, read in place.
+//! Tests of reading sets in place, from fixed bytes.
 
 use crate::tests::answers::{
     equal_maps, equal_sets, map_prints, member_of, set_counts, set_prints,
@@ -87,7 +87,7 @@ fn sets_of_units_are_read(rt: HostRuntime) {
 
 type Inner = HashSetOf<i8, FxHasher64Wide, Wide>;
 
-// Of the set that the key 1 leads to: its length, whether it has 1, and whether it has 2.
+// Returns the length of the set at key 1, whether it has 1, and whether it has 2.
 fn inner_set(bytes: &[u8]) -> Result<Option<(usize, bool, bool)>, VerifyError> {
     let root = access_in::<Wide, HashMapOf<i8, Inner, FxHasher64Wide, Wide>>(bytes)?;
     let map = ArchivedHashMap::of(root);

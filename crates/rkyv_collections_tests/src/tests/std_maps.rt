@@ -1,4 +1,4 @@
-//! Std's maps and sets there and back.
+//! Round trips of std's maps and sets.
 
 use rkyv_base::access::access;
 use rkyv_base::archive::Serialize;
@@ -28,7 +28,7 @@ type Nested = Hashed<HashMap<i8, Hashed<HashMap<i8, i8>>>>;
 
 type Pairs = Hashed<HashMap<(u8, u8), Hashed<HashMap<u16, u16>>>>;
 
-// Whether a map comes back through an archive.
+// Returns whether a map is the same after a round trip through an archive.
 fn map_comes_back<
     W: Width,
     H: KeyHasher,
@@ -43,7 +43,7 @@ where
     comes_back::<W, Hashed<HashMap<A, B>, H>>(alloc, map).ok()
 }
 
-// Whether a set does.
+// Returns whether a set is the same after a round trip through an archive.
 fn set_comes_back<W: Width, A: Serialize<VecWriter, W> + Eq + Hash + Drop>(
     alloc: Global,
     set: &Hashed<HashSet<A>>,
@@ -55,7 +55,7 @@ where
     comes_back::<W, Hashed<HashSet<A>>>(alloc, set).ok()
 }
 
-// The archive of a map.
+// Returns the archive of a map.
 fn archived<
     H: KeyHasher,
     A: Serialize<VecWriter, Narrow> + Eq + Hash,
@@ -68,7 +68,7 @@ where
     to_bytes(alloc, map).ok()
 }
 
-// Whether it has these bytes.
+// Returns whether the archive of a map is `bytes`.
 fn is_archived<
     H: KeyHasher,
     A: Serialize<VecWriter, Narrow> + Eq + Hash,
@@ -84,7 +84,7 @@ where
     }
 }
 
-// The map of these pairs.
+// Returns the map of these pairs.
 fn map_of<A: Eq + Hash + Copy + Drop, B: Copy + Drop>(
     alloc: Global,
     pairs: &[(A, B)],
@@ -96,7 +96,7 @@ fn map_of<A: Eq + Hash + Copy + Drop, B: Copy + Drop>(
     Ok(map)
 }
 
-// The map of one pair.
+// Returns the map of one pair.
 fn one_of<A: Eq + Hash + Drop, B: Drop>(
     alloc: Global,
     key: A,
@@ -107,14 +107,14 @@ fn one_of<A: Eq + Hash + Drop, B: Drop>(
     Ok(map)
 }
 
-// The set of one key.
+// Returns the set of one key.
 fn set_of_one<A: Eq + Hash + Drop>(alloc: Global, key: A) -> Result<HashSet<A>, AllocError> {
     let mut set = HashSet::new(alloc);
     set.insert(key)?;
     Ok(set)
 }
 
-// The map of texts to numbers.
+// Returns the map of these texts to numbers.
 fn numbers_of(alloc: Global, pairs: &[(&str, i32)]) -> Result<HashMap<String, i32>, AllocError> {
     let mut map = HashMap::new(alloc);
     for (key, value) in pairs {
@@ -149,7 +149,7 @@ fn insert_small<T: BuildHasher>(
     Ok(())
 }
 
-// The set of these texts.
+// Returns the set of these texts.
 fn words_of(alloc: Global, words: &[&str]) -> Result<HashSet<String>, AllocError> {
     let mut set = HashSet::new(alloc);
     for word in words {
@@ -158,7 +158,7 @@ fn words_of(alloc: Global, words: &[&str]) -> Result<HashSet<String>, AllocError
     Ok(set)
 }
 
-// The texts of the numbers from 0 to 99, with their numbers.
+// Returns the map of the texts of 0 to 99 to their numbers.
 fn hundred(alloc: Global) -> Result<HashMap<String, u32>, AllocError> {
     let mut map = HashMap::new(alloc);
     for number in 0..100 {
@@ -167,20 +167,20 @@ fn hundred(alloc: Global) -> Result<HashMap<String, u32>, AllocError> {
     Ok(map)
 }
 
-// Whether an archived map equals this one of std's, by the calls of both sides.
+// Returns whether an archived map equals a map of std's, by the calls of both sides.
 fn equals_small(bytes: &[u8], map: &HashMap<i8, i8>) -> Result<(bool, bool), VerifyError> {
     let root = ArchivedHashMap::of(access::<HashMapOf<i8, i8>>(bytes)?);
     Ok((root.eq_std(map), map.eq_archived(root)))
 }
 
-// The same of the map of 1 to 2 and 3 to 4.
+// Does the same with the map of 1 to 2 and 3 to 4.
 fn equals_two(alloc: Global, bytes: &[u8]) -> Option<(bool, bool)> {
     let two = map_of(alloc, &[(1i8, 2i8), (3, 4)]).ok()?;
     equals_small(bytes, &two).ok()
 }
 
-// Of the map of 1 to 2: whether its archive is as it should be, whether that equals it by the calls
-// of both sides, whether it comes back in both widths, and its length.
+// Tests the map of 1 to 2. Returns whether its archive is as expected, and whether that equals the
+// map by the calls of both sides. Then come the round trips in both widths, and the length.
 fn of_one_pair(alloc: Global) -> Option<(bool, Option<(bool, bool)>, [Option<bool>; 2], usize)> {
     let map: Hashed<HashMap<i8, i8>> = Hashed::new(map_of(alloc, &[(1, 2)]).ok()?);
     let written = is_archived(alloc, &map, &one_pair());
@@ -205,7 +205,7 @@ fn a_map_of_one_pair(rt: HostRuntime) {
     );
 }
 
-// Whether the map of four pairs comes back.
+// Returns whether the map of four pairs is the same after a round trip.
 fn four_come_back(alloc: Global) -> Option<bool> {
     let pairs = [(1i8, 2i8), (3, 4), (5, 6), (7, 8)];
     let map: Hashed<HashMap<i8, i8>> = Hashed::new(map_of(alloc, &pairs).ok()?);
@@ -217,7 +217,7 @@ fn four_pairs(rt: HostRuntime) {
     assert_eq!(rt; four_come_back(rt.alloc()), Some(true));
 }
 
-// Whether the archive of the empty map is as it should be, and whether it comes back.
+// Returns whether the archive of the empty map is as expected, and the result of its round trip.
 fn of_no_pair(alloc: Global) -> (bool, Option<bool>) {
     let map: Hashed<HashMap<i8, i32>> = Hashed::new(HashMap::new(alloc));
     let written = is_archived(alloc, &map, &no_items());
@@ -229,13 +229,13 @@ fn the_empty_map(rt: HostRuntime) {
     assert_eq!(rt; of_no_pair(rt.alloc()), (true, Some(true)));
 }
 
-// The map of 1 to the map of 1 to 2.
+// Returns the map of 1 to the map of 1 to 2.
 fn map_in_a_map(alloc: Global) -> Result<Nested, AllocError> {
     let inner = one_of(alloc, 1, 2)?;
     Ok(Hashed::new(one_of(alloc, 1, Hashed::new(inner))?))
 }
 
-// Whether its archive is as it should be, and whether it comes back in both widths.
+// Returns whether the archive of that map is as expected, and its round trips in both widths.
 fn of_nested(alloc: Global) -> Option<(bool, [Option<bool>; 2])> {
     let outer = map_in_a_map(alloc).ok()?;
     let written = is_archived(alloc, &outer, &nested());
@@ -251,7 +251,7 @@ fn a_map_in_a_map(rt: HostRuntime) {
     assert_eq!(rt; of_nested(rt.alloc()), Some((true, [Some(true); 2])));
 }
 
-// The map of (1, 2) and (3, 4), each to the map of 1337 to 42.
+// Returns the map of (1, 2) and (3, 4), each mapped to the map of 1337 to 42.
 fn two_maps(alloc: Global) -> Result<Pairs, AllocError> {
     let mut pairs = one_of(alloc, (1, 2), Hashed::new(one_of(alloc, 1337, 42)?))?;
     let inner = one_of(alloc, 1337, 42)?;
@@ -259,7 +259,7 @@ fn two_maps(alloc: Global) -> Result<Pairs, AllocError> {
     Ok(Hashed::new(pairs))
 }
 
-// The length of its archive, and whether it comes back.
+// Returns the length of the archive of that map, and the result of its round trip.
 fn of_two_maps(alloc: Global) -> Option<(usize, Option<bool>)> {
     let pairs = two_maps(alloc).ok()?;
     let len = archived(alloc, &pairs)?.len();
@@ -271,7 +271,7 @@ fn two_maps_in_a_map(rt: HostRuntime) {
     assert_eq!(rt; of_two_maps(rt.alloc()), Some((172, Some(true))));
 }
 
-// Whether the map of these texts to numbers comes back.
+// Returns whether the map of these texts to numbers is the same after a round trip.
 fn numbers_come_back(alloc: Global, pairs: &[(&str, i32)]) -> Option<bool> {
     let map: Hashed<HashMap<String, i32>> = Hashed::new(numbers_of(alloc, pairs).ok()?);
     map_comes_back::<Narrow, _, _, _>(alloc, &map)
@@ -289,7 +289,7 @@ fn texts_to_numbers(rt: HostRuntime) {
     assert_eq!(rt; numbers_come_back(rt.alloc(), &pairs), Some(true));
 }
 
-// Whether the map of these texts comes back.
+// Returns whether the map of these texts is the same after a round trip.
 fn texts_come_back(alloc: Global, pairs: &[(&str, &str)]) -> Option<bool> {
     let mut texts = HashMap::new(alloc);
     insert_texts(&mut texts, alloc, pairs).ok()?;
@@ -303,19 +303,19 @@ fn texts_to_texts(rt: HostRuntime) {
     assert_eq!(rt; texts_come_back(rt.alloc(), &pairs), Some(true));
 }
 
-// Whether the map of the unit value to 10 comes back.
+// Returns whether the map of the unit value to 10 is the same after a round trip.
 fn unit_to_number(alloc: Global) -> Option<bool> {
     let map: Hashed<HashMap<(), i32>> = Hashed::new(map_of(alloc, &[((), 10)]).ok()?);
     map_comes_back::<Narrow, _, _, _>(alloc, &map)
 }
 
-// The same of the unit value to itself.
+// Returns whether the map of the unit value to itself is the same after a round trip.
 fn unit_to_unit(alloc: Global) -> Option<bool> {
     let map: Hashed<HashMap<(), ()>> = Hashed::new(map_of(alloc, &[((), ())]).ok()?);
     map_comes_back::<Narrow, _, _, _>(alloc, &map)
 }
 
-// Whether the archive of its set is as it should be, and whether that comes back.
+// Returns whether the archive of the set of the unit value is as expected, and its round trip.
 fn set_of_unit(alloc: Global) -> Option<(bool, Option<bool>)> {
     let set: Hashed<HashSet<()>> = Hashed::new(set_of_one(alloc, ()).ok()?);
     let written = is_archived_as(alloc, &set, &one_unit());
@@ -332,8 +332,8 @@ fn units_to_numbers_and_to_units(rt: HostRuntime) {
     );
 }
 
-// How many pairs of an archived map of texts are found in one of std's with their numbers, and how
-// many of that one in the archived map; and whether they are equal.
+// Returns the number of archived pairs that std's map has, and of std's pairs that the archived map
+// has. Then comes whether the two maps are equal.
 fn found_both_ways(
     bytes: &[u8],
     map: &HashMap<String, u32>,
@@ -355,7 +355,7 @@ fn found_both_ways(
     Ok((there, back, root.eq_std(map)))
 }
 
-// What is found so in the archive of the hundred texts.
+// Returns the results of `found_both_ways` for the hundred texts.
 fn found_of_hundred(alloc: Global) -> Option<(usize, usize, bool)> {
     let map: Hashed<HashMap<String, u32>> = Hashed::new(hundred(alloc).ok()?);
     let bytes = archived(alloc, &map)?;
@@ -367,7 +367,8 @@ fn a_hundred_texts(rt: HostRuntime) {
     assert_eq!(rt; found_of_hundred(rt.alloc()), Some((100, 100, true)));
 }
 
-// Whether they come back in both widths under the hasher that feeds all bits.
+// Returns whether the hundred texts are the same after round trips in both widths, under the hasher
+// that feeds all bits.
 fn hundred_come_back(alloc: Global) -> Option<[Option<bool>; 2]> {
     let map: Hashed<HashMap<String, u32>, FxHasher64Wide> = Hashed::new(hundred(alloc).ok()?);
     Some([
@@ -381,7 +382,7 @@ fn a_hundred_texts_under_the_hasher_that_feeds_all_bits(rt: HostRuntime) {
     assert_eq!(rt; hundred_come_back(rt.alloc()), Some([Some(true); 2]));
 }
 
-// The length of the map of std's that is read back, and its value of 1.
+// Reads an archive back into a map of std's. Returns its length and its value of 1.
 fn read_back(alloc: Global, bytes: &[u8]) -> Result<Option<(usize, i8)>, VerifyError> {
     let root = ArchivedHashMap::of(access::<HashMapOf<i8, i8>>(bytes)?);
     let map: HashMap<i8, i8> = match root.deserialize_std(alloc, BuildHasherDefault::new()) {
@@ -410,7 +411,7 @@ fn the_later_of_equal_keys(rt: HostRuntime) {
     );
 }
 
-// Whether the map of 1 to 2 is archived as it should be under a hasher.
+// Returns whether the archive of the map of 1 to 2 is as expected under the hasher `H`.
 fn is_one_number<H: KeyHasher>(alloc: Global) -> Option<bool> {
     let map: Hashed<HashMap<u32, u32>, H> = Hashed::new(map_of(alloc, &[(1, 2)]).ok()?);
     Some(is_archived(alloc, &map, &one_number()))
@@ -425,8 +426,8 @@ fn both_hashers_write_a_number_alike(rt: HostRuntime) {
     assert_eq!(rt; written, [Some(true); 2]);
 }
 
-// Whether a writer with this limit keeps so many bytes of the archive of 1 to 2, and tells that it
-// is full where they aren't all.
+// Writes the map of 1 to 2 with a limit. Returns `true` if the writer keeps the first `limit`
+// bytes, and fails with `Full` if and only if these are not all.
 fn keeps_a_front(alloc: Global, map: &Hashed<HashMap<u32, u32>>, limit: u64) -> bool {
     let mut writer = LimitWriter::new(VecWriter::new(alloc), limit);
     let told = match write_root(alloc, map, &mut writer) {
@@ -437,7 +438,7 @@ fn keeps_a_front(alloc: Global, map: &Hashed<HashMap<u32, u32>>, limit: u64) -> 
     told && one_number().get(..limit as usize) == Some(writer.into_inner().bytes())
 }
 
-// How many limits up to the archive's length keep a front of it.
+// Returns the number of limits, up to the archive's length, that keep a front of it.
 fn limits_that_keep(alloc: Global) -> Option<usize> {
     let map: Hashed<HashMap<u32, u32>> = Hashed::new(map_of(alloc, &[(1, 2)]).ok()?);
     let mut right = 0usize;
@@ -454,8 +455,8 @@ fn a_limit_keeps_a_front_of_the_archive(rt: HostRuntime) {
     assert_eq!(rt; limits_that_keep(rt.alloc()), Some(61));
 }
 
-// How many texts of an archived set one of std's has, and how many of that one the archived set
-// has; and whether they are equal, by the calls of both sides.
+// Returns the number of archived texts that std's set has, and the number of std's texts that the
+// archived set has. Then comes whether they are equal, by the calls of both sides.
 fn members_both_ways(
     bytes: &[u8],
     words: &HashSet<String>,
@@ -475,7 +476,7 @@ fn members_both_ways(
     Ok((there, back, (root.eq_std(words), words.eq_archived(root))))
 }
 
-// What is found so of these words, and whether their set comes back in both widths.
+// Returns these results for `words`, and the round trips of their set in both widths.
 fn of_words(
     alloc: Global,
     words: &[&str],
@@ -509,13 +510,13 @@ fn a_set_of_five_short_texts(rt: HostRuntime) {
 
 type Sets = Hashed<HashMap<i8, Hashed<HashSet<i8>>>>;
 
-// The map of 1 to the set of 2.
+// Returns the map of 1 to the set of 2.
 fn set_in_a_map(alloc: Global) -> Result<Sets, AllocError> {
     let set = set_of_one(alloc, 2)?;
     Ok(Hashed::new(one_of(alloc, 1, Hashed::new(set))?))
 }
 
-// Whether it comes back in both widths.
+// Returns whether that map is the same after round trips in both widths.
 fn sets_come_back(alloc: Global) -> Option<[Option<bool>; 2]> {
     let outer = set_in_a_map(alloc).ok()?;
     Some([
@@ -529,8 +530,7 @@ fn a_set_in_a_map(rt: HostRuntime) {
     assert_eq!(rt; sets_come_back(rt.alloc()), Some([Some(true); 2]));
 }
 
-// Whether an archived map equals one with a hash state of its own, and is read back with that
-// state.
+// Returns whether an archived map equals `map`, and is read back as `map` with this hash state.
 fn is_read_with<T: BuildHasher + Copy + Drop>(
     alloc: Global,
     bytes: &[u8],
@@ -544,7 +544,7 @@ fn is_read_with<T: BuildHasher + Copy + Drop>(
     }
 }
 
-// Whether such a map comes back through an archive.
+// Returns whether a map with this hash state is the same after a round trip.
 fn comes_back_with<T: BuildHasher + Copy + Drop>(
     alloc: Global,
     map: &Hashed<HashMap<i8, i8, T>>,
@@ -559,7 +559,7 @@ fn comes_back_with<T: BuildHasher + Copy + Drop>(
     }
 }
 
-// The same of texts.
+// Does the same as `is_read_with`, for a map of texts.
 fn texts_are_read_with<T: BuildHasher + Copy + Drop>(
     alloc: Global,
     bytes: &[u8],

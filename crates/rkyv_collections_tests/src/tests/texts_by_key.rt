@@ -1,4 +1,4 @@
-//! Texts of a map that are written in upper case by key, over bare bytes.
+//! Tests of texts of a map that are written in upper case by key, over the plain bytes.
 
 use rkyv_base::access::access;
 use rkyv_base::errors::VerifyError;
@@ -11,14 +11,15 @@ use rkyv_collections::{FxHasher64, MapPairs};
 use std::alloc::Global;
 use std::test::Fail;
 
-// The archive of two keys, of which one stands twice: two texts stand inline, one elsewhere.
+// Returns the archive of three pairs, two of them with one key. Two values are inline, and one is
+// out of line.
 fn texts(alloc: Global) -> Result<Vec<u8>, Fail> {
     let pairs = [("a", "hello"), ("b", "wonderful"), ("a", "again")];
     let list: MapPairs<'_, &str, &str> = MapPairs::new(&pairs);
     Ok(to_bytes(alloc, &list)?)
 }
 
-// Writes the text of a key in upper case: what the call answers.
+// Writes the text of a key in upper case. Returns the result of the call.
 fn raise(bytes: &mut [u8], key: &str) -> Result<Option<bool>, VerifyError> {
     let root = match access::<HashMapOf<Text, Text>>(&*bytes) {
         Ok(root) => root.pos(),
@@ -27,7 +28,7 @@ fn raise(bytes: &mut [u8], key: &str) -> Result<Option<bool>, VerifyError> {
     Ok(make_ascii_uppercase_of::<&str, Text, FxHasher64, Narrow>(bytes, root, &key))
 }
 
-// Whether the value of a key is this text.
+// Returns whether the value of a key is `text`.
 fn is_text(bytes: &[u8], key: &str, text: &str) -> Result<Option<bool>, VerifyError> {
     let map = ArchivedHashMap::of(access::<HashMapOf<Text, Text>>(bytes)?);
     match map.get(&key) {
@@ -36,7 +37,7 @@ fn is_text(bytes: &[u8], key: &str, text: &str) -> Result<Option<bool>, VerifyEr
     }
 }
 
-// What three calls answer, and whether the texts are then as they should.
+// Returns the results of three calls, and whether the texts are as expected after them.
 fn raised(alloc: Global) -> Result<([Option<bool>; 3], [Option<bool>; 2]), Fail> {
     let mut bytes = texts(alloc)?;
     let told = [

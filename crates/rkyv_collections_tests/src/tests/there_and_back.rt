@@ -1,5 +1,4 @@
-//! Maps and sets of std's there and back, what a lookup in their archives answers, and how they are
-//! printed.
+//! Round trips of std's maps and sets, lookups in their archives, and their printed forms.
 
 ghost use Rattle.std.specs.Prelude.{◌≡◌, IfOk, true};
 
@@ -20,8 +19,8 @@ use std::test::Fail;
 
 type Ports = Hashed<HashMap<String, u16>>;
 
-// Whether a table of ports is written, accepted, equal in place, read back, and equal again; and
-// whether a lookup of the name in its archive answers as the table does.
+// Writes a table of ports, compares the archive with it, and reads it back.
+// Returns whether all are equal, and whether a lookup of `name` agrees with the table.
 fn ports_come_through(alloc: Global, ports: &Ports, name: &String) -> Result<(bool, bool), Lost>
     ensures { IfOk result (λ same. (same.0 ≡ true) × (same.1 ≡ true)) }
 {
@@ -30,7 +29,7 @@ fn ports_come_through(alloc: Global, ports: &Ports, name: &String) -> Result<(bo
     Ok((back, found))
 }
 
-// The table of these ports.
+// Returns the table of these ports.
 fn table_of(alloc: Global, ports: &[(&str, u16)]) -> Result<Ports, AllocError> {
     let mut table = HashMap::new(alloc);
     for (name, port) in ports {
@@ -40,7 +39,7 @@ fn table_of(alloc: Global, ports: &[(&str, u16)]) -> Result<Ports, AllocError> {
     Ok(Hashed::new(table))
 }
 
-// How the table comes through, and what is looked up of the name.
+// Returns both results of `ports_come_through` for a table and a name.
 fn answers_of(alloc: Global, ports: &Ports, name: &str) -> Option<(bool, bool)> {
     let name = String::from_str(alloc, name).ok()?;
     ports_come_through(alloc, ports, &name).ok()
@@ -57,7 +56,7 @@ fn a_table_of_ports(rt: HostRuntime) -> Result<(), Fail> {
     Ok(())
 }
 
-// The map of these pairs, under a hasher.
+// Returns the map of these pairs, with the hasher `H`.
 fn map_of<H>(alloc: Global, pairs: &[(i8, i8)]) -> Result<Hashed<HashMap<i8, i8>, H>, AllocError> {
     let mut map = HashMap::new(alloc);
     for (key, value) in pairs {
@@ -79,12 +78,12 @@ fn lookups_in_both_widths(rt: HostRuntime) -> Result<(), Fail> {
     Ok(())
 }
 
-// Whether a value is printed as this text.
+// Returns whether a value prints as `text`.
 fn prints<M: Debug>(alloc: Global, value: &M, text: &str) -> bool {
     matches!(format!(in alloc; "{value:?}"), Ok(shown) if shown.as_str() == text)
 }
 
-// A map, a set and a map in a map.
+// Returns whether a map, a set and a map of maps print as expected.
 fn are_printed(alloc: Global) -> Result<[bool; 3], AllocError> {
     let map = map_of::<FxHasher64>(alloc, &[(1, 2)])?;
     let inner = map_of::<FxHasher64>(alloc, &[(3, 4)])?;
@@ -108,7 +107,7 @@ fn they_are_printed_as_what_they_hold(rt: HostRuntime) -> Result<(), Fail> {
     Ok(())
 }
 
-// Whether two values are equal, and whether they differ.
+// Returns whether two values are equal, and whether they differ.
 fn compared<M: Eq>(value: &M, other: &M) -> (bool, bool) {
     (*value == *other, *value != *other)
 }
@@ -123,7 +122,7 @@ fn they_are_compared_as_what_they_hold(rt: HostRuntime) -> Result<(), Fail> {
     Ok(())
 }
 
-// Whether an archived set equals one with a hash state of its own, and is read back with it.
+// Returns whether an archived set equals `set`, and is read back as `set` with this hash state.
 fn is_read_with<T: BuildHasher + Copy + Drop>(
     alloc: Global,
     bytes: &[u8],
@@ -137,7 +136,7 @@ fn is_read_with<T: BuildHasher + Copy + Drop>(
     }
 }
 
-// The set of these words, with a hash state.
+// Returns the set of these words, with this hash state.
 fn words_of<T: BuildHasher + Drop>(
     alloc: Global,
     words: &[&str],

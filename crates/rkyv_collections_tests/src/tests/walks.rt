@@ -1,4 +1,4 @@
-//! Walks over maps and sets: what is given, in which order, and what is left.
+//! Tests of walks over maps and sets: the items, their order, and the number left.
 ghost use Rattle.rkyv_base.specs.Entry.{entry_shape};
 ghost use Rattle.rkyv_table.specs.Table.RawItems.{AllStand};
 
@@ -10,7 +10,7 @@ use rkyv_collections::map::{ArchivedHashMap, HashMapOf};
 use rkyv_collections::set::{ArchivedHashSet, HashSetOf};
 use rkyv_testing::archives::{four_pairs, no_items, one_unit, three_keys};
 
-// The next pair of a walk: where its key and its value stand.
+// Returns the positions of the next key and its value.
 #[tactic(auto, using(crate::proofs::Steps::stand_after, crate::proofs::Steps::stand_at_end))]
 fn next_pair<K: Element, V: Element, H, W>(rest: &mut Iter<'_, K, V, H, W>) -> Option<(u64, u64)>
     requires { AllStand (entry_shape K.shape V.shape) rest.old }
@@ -22,7 +22,7 @@ fn next_pair<K: Element, V: Element, H, W>(rest: &mut Iter<'_, K, V, H, W>) -> O
     }
 }
 
-// The next key: where it stands.
+// Returns the position of the next key.
 #[tactic(auto, using(crate::proofs::Steps::stand_after, crate::proofs::Steps::stand_at_end))]
 fn next_key<K: Element, V: Element, H, W>(rest: &mut Keys<'_, K, V, H, W>) -> Option<u64>
     requires { AllStand (entry_shape K.shape V.shape) rest.old }
@@ -34,7 +34,7 @@ fn next_key<K: Element, V: Element, H, W>(rest: &mut Keys<'_, K, V, H, W>) -> Op
     }
 }
 
-// The next value: where it stands.
+// Returns the position of the next value.
 #[tactic(auto, using(crate::proofs::Steps::stand_after, crate::proofs::Steps::stand_at_end))]
 fn next_value<K: Element, V: Element, H, W>(rest: &mut Values<'_, K, V, H, W>) -> Option<u64>
     requires { AllStand (entry_shape K.shape V.shape) rest.old }
@@ -46,8 +46,8 @@ fn next_value<K: Element, V: Element, H, W>(rest: &mut Values<'_, K, V, H, W>) -
     }
 }
 
-// What a walk over the pairs of a map gives at its first six asks, and how many are left before,
-// after two of them and then, by both calls.
+// Walks over the pairs of a map. Returns the results of the first six steps. Then come `len` and
+// `size_hint` before the steps, after two of them and after all.
 fn pairs_of<K: Element, V: Element>(
     bytes: &[u8],
 ) -> Result<
@@ -73,7 +73,7 @@ fn pairs_of<K: Element, V: Element>(
     Ok((others, [before, between, (rest.len(), rest.size_hint())]))
 }
 
-// The same of keys, with what is left after one of them.
+// Does the same with keys. Returns the number left after one step.
 fn keys_of<K: Element, V: Element>(
     bytes: &[u8],
 ) -> Result<([Option<u64>; 6], (usize, (usize, Option<usize>))), VerifyError> {
@@ -92,7 +92,7 @@ fn keys_of<K: Element, V: Element>(
     Ok((keys, left))
 }
 
-// The same of values.
+// Does the same with values.
 fn values_of<K: Element, V: Element>(
     bytes: &[u8],
 ) -> Result<([Option<u64>; 6], (usize, (usize, Option<usize>))), VerifyError> {
@@ -111,7 +111,7 @@ fn values_of<K: Element, V: Element>(
     Ok((values, left))
 }
 
-// How many pairs are found by their own keys, where they stand.
+// Returns the number of pairs whose value a lookup of their key finds at the same position.
 fn found_by_own_keys(bytes: &[u8]) -> Result<usize, VerifyError> {
     let map = ArchivedHashMap::of(access::<HashMapOf<i8, i8>>(bytes)?);
     let mut count = 0usize;
@@ -128,7 +128,8 @@ fn found_by_own_keys(bytes: &[u8]) -> Result<usize, VerifyError> {
     Ok(count)
 }
 
-// What the walk over a set gives at its first five asks, and how many are left before and then.
+// Walks over a set. Returns the number of keys, the results of the first five steps, and
+// `size_hint` after them.
 fn members<K: Element>(
     bytes: &[u8],
 ) -> Result<(usize, [Option<u64>; 5], (usize, Option<usize>)), VerifyError> {
@@ -145,8 +146,8 @@ fn members<K: Element>(
     Ok((before, given, rest.size_hint()))
 }
 
-// The pairs 5 and 6, 7 and 8, 1 and 2, 3 and 4 stand in this order, the first in the last two bytes
-// before the controls.
+// In bucket order, the pairs are 5 to 6, 7 to 8, 1 to 2 and 3 to 4. The first has the last two
+// bytes before the controls.
 #[test]
 fn pairs_are_walked_by_ascending_bucket(rt: HostRuntime) {
     let bytes = four_pairs();

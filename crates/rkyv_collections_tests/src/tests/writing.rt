@@ -1,4 +1,4 @@
-//! What is written of maps and sets, byte for byte.
+//! Tests of the written bytes of maps and sets.
 
 use crate::tests::answers::{counts, number_of};
 use rkyv_base::archive::Serialize;
@@ -20,8 +20,8 @@ use std::alloc::Global;
 
 type Numbers = ArchivedHashMap<'static, i8, i8, FxHasher64, Narrow>;
 
-// The position that resolves the map of these pairs, written at position 0, where its bytes are
-// these and then so many empty controls.
+// Writes the map of these pairs at position 0. Returns the position that resolves the map, if the
+// written bytes are `front` and then `empty` empty controls.
 fn map_pos(
     alloc: Global,
     pairs: &[(i8, i8)],
@@ -42,7 +42,7 @@ fn map_pos(
     Ok(None)
 }
 
-// The same of the set of these keys.
+// Does the same with the set of these keys.
 fn set_pos<
     K: KeyElement + NativeKey<K> + Serialize<VecWriter, Narrow, Archived = K> + Copy + StandsFor<K>,
 >(
@@ -98,7 +98,7 @@ fn sets_are_written(rt: HostRuntime) {
     assert_eq!(rt; written, [Some(Some(0)), Some(Some(4)), Some(Some(0))]);
 }
 
-// The header of the set of 1, 2 and 3 at position 36, and whether it fits.
+// Returns the header of the set of 1, 2 and 3 at position 36, and whether it fits.
 fn set_header(alloc: Global) -> Result<([u8; 12], bool), WriteError<NoMemory>> {
     let mut writer = VecWriter::new(alloc);
     let resolver = ArchivedHashSet::<u8, FxHasher64, Narrow>::serialize_from_iter::<
@@ -126,7 +126,7 @@ fn the_header_of_a_set(rt: HostRuntime) {
     assert_eq!(rt; set_header(rt.alloc()).ok(), Some((header, true)));
 }
 
-// A list of small numbers.
+// A list of pairs of small numbers.
 type Small<'a> = MapPairs<'a, i8, i8>;
 
 #[test]
@@ -136,13 +136,13 @@ fn the_empty_map(rt: HostRuntime) {
     assert!(rt; same);
 }
 
-// The archive of a list of five pairs, of which two have one key.
+// Returns the archive of a list of five pairs, two of them with one key.
 fn archived_list(alloc: Global) -> Option<Vec<u8>> {
     let list: Small<'_> = MapPairs::new(&[(1, 2), (3, 4), (5, 6), (7, 8), (3, 9)]);
     to_bytes(alloc, &list).ok()
 }
 
-// The values of three keys in a map.
+// Returns the values of the keys 3, 7 and 2 in a map.
 fn three_values(bytes: &[u8]) -> [Option<Option<i8>>; 3] {
     [
         number_of::<i8, i8, FxHasher64, Narrow, i8>(bytes, &3).ok(),
@@ -151,7 +151,7 @@ fn three_values(bytes: &[u8]) -> [Option<Option<i8>>; 3] {
     ]
 }
 
-// The same of that list, and its counts.
+// Returns the same values in the archive of that list, and its counts.
 fn list_values(alloc: Global) -> Option<([Option<Option<i8>>; 3], Option<(bool, usize, usize)>)> {
     let bytes = archived_list(alloc)?;
     let bytes = bytes.as_slice();
@@ -172,7 +172,7 @@ fn a_list_is_looked_up(rt: HostRuntime) {
     );
 }
 
-// Whether the list of one pair, of 1 and the pair 1 and 2, is archived as these bytes.
+// Returns whether the map of 1 to the map of 1 to 2 is archived as `bytes`.
 fn one_in_one_is(alloc: Global, bytes: &[u8]) -> bool {
     let inner: Small<'_> = MapPairs::new(&[(1, 2)]);
     let pairs = [(1i8, inner)];

@@ -1,6 +1,7 @@
-//! Index maps of given bytes.
+//! Archives of index maps, as fixed bytes.
 
-// The map of 1 to 2: the place from 4 on, controls from 8 on, the entry at 39, header at 44.
+// Returns the map of 1 to 2: indexes from 0 on, controls from 8 on, the entry at 39, and the
+// header at 44.
 pub(crate) fn one_pair() -> [u8; 60] {
     let mut bytes = [0xff; 60];
     bytes[..12].copy_from_slice(&[0, 0, 0, 0, 0, 0, 0, 0, 0xff, 0x28, 0xff, 0x28]);
@@ -9,12 +10,12 @@ pub(crate) fn one_pair() -> [u8; 60] {
     bytes
 }
 
-// The empty map.
+// Returns the empty map.
 pub(crate) fn no_pairs() -> [u8; 16] {
     [1, 0, 0, 0, 0, 0, 0, 0, 0, 0, 0, 0, 0xf4, 0xff, 0xff, 0xff]
 }
 
-// What is written of the set of 1 before its header.
+// Returns the bytes before the header in the archive of the set of 1.
 pub(crate) fn one_key_parts() -> [u8; 40] {
     let mut bytes = [0xff; 40];
     bytes[..12].copy_from_slice(&[0, 0, 0, 0, 0, 0, 0, 0, 0xff, 0x28, 0xff, 0x28]);
@@ -22,7 +23,8 @@ pub(crate) fn one_key_parts() -> [u8; 40] {
     bytes
 }
 
-// The wide map of 1 to 2: the place from 8 on, controls from 16 on, the entry at 47, header at 56.
+// Returns the wide map of 1 to 2: indexes from 0 on, controls from 16 on, the entry at 47, and
+// the header at 56.
 pub(crate) fn wide_pair() -> [u8; 88] {
     let mut bytes = [0xff; 88];
     bytes[..16].copy_from_slice(&[0; 16]);
@@ -32,7 +34,7 @@ pub(crate) fn wide_pair() -> [u8; 88] {
     bytes
 }
 
-// The empty wide map.
+// Returns the empty wide map.
 pub(crate) fn no_wide_pairs() -> [u8; 32] {
     let mut bytes = [0; 32];
     bytes[0] = 1;
@@ -40,8 +42,8 @@ pub(crate) fn no_wide_pairs() -> [u8; 32] {
     bytes
 }
 
-// The map of 1 to 2 and 1 to 9: places from 0 on, controls from 12 on, entries from 43 on, header
-// at 48.
+// Returns the map of 1 to 2 and 1 to 9: indexes from 0 on, controls from 12 on, entries from 43 on,
+// the header at 48.
 pub(crate) fn one_key_twice() -> [u8; 64] {
     let mut bytes = [0xff; 64];
     bytes[..12].copy_from_slice(&[0, 0, 0, 0, 1, 0, 0, 0, 0, 0, 0, 0]);

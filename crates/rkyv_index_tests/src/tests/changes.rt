@@ -1,4 +1,4 @@
-//! One byte of an archive changed to each other one.
+//! Test of an archive with one byte changed, for each byte and each other value.
 
 use rkyv_base::access::access;
 use rkyv_base::errors::VerifyError;
@@ -6,7 +6,7 @@ use rkyv_index::{ArchivedIndexMap, IndexMapOf};
 use rkyv_testing::archives::four_entries;
 use rkyv_testing::changes::{Answers, answers_to_changes};
 
-// Whether each of the four keys is found at its own place in an accepted archive.
+// Returns whether a valid archive has each of the four keys at its own index.
 fn is_whole(bytes: &[u8]) -> Result<bool, VerifyError> {
     let map = ArchivedIndexMap::of(access::<IndexMapOf<i8, i8>>(bytes)?);
     let first = map.get_index_of(&1i8) == Some(0);

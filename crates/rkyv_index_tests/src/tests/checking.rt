@@ -1,4 +1,4 @@
-//! What is accepted as an index map, and what is refused.
+//! Tests of valid and invalid archives of index maps.
 
 use crate::tests::archives::{no_pairs, no_wide_pairs, one_pair, wide_pair};
 use rkyv_base::access::{access, access_in};
@@ -11,7 +11,7 @@ use std::test::Fail;
 
 type Small = IndexMapOf<i8, i8>;
 
-// The place and the length that are told of a place that is none.
+// Returns the index and the length in the error of an index out of range, or zeros.
 fn refused_place(bytes: &[u8]) -> (usize, usize) {
     match access::<Small>(bytes) {
         Err(VerifyError::PlaceOutOfRange { place, len }) => (place, len),

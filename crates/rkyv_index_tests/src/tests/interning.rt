@@ -1,4 +1,4 @@
-//! An interning table: texts with numbers.
+//! Tests of an interning table: texts with numbers.
 
 use rkyv_base::access::access;
 use rkyv_base::errors::VerifyError;
@@ -7,13 +7,13 @@ use rkyv_base::text::Text;
 use rkyv_index::{ArchivedIndexSet, IndexSetOf, OrderedItems};
 use std::test::Fail;
 
-// The number of a text, in the table of a stranger.
+// Returns the number of a text, from an untrusted table.
 fn number(table: &[u8], text: &str) -> Result<Option<usize>, VerifyError> {
     let set = ArchivedIndexSet::of(access::<IndexSetOf<Text>>(table)?);
     Ok(set.get_index_of(&text))
 }
 
-// Whether the text has the number.
+// Returns whether the text with this number is `text`.
 fn has_number(table: &[u8], number: usize, text: &str) -> Result<bool, VerifyError> {
     let set = ArchivedIndexSet::of(access::<IndexSetOf<Text>>(table)?);
     match set.get_index(number) {

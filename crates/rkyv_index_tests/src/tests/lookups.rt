@@ -1,4 +1,4 @@
-//! Pairs of index maps that are found.
+//! Tests of lookups, walks, equality and printing of index maps.
 
 use crate::tests::archives::{no_pairs, one_key_twice, one_pair};
 use crate::tests::writing::narrow;

@@ -1,4 +1,4 @@
-//! Index maps and index sets that are read back into lists.
+//! Tests of index maps and index sets that are read back into lists.
 
 use crate::tests::archives::{no_pairs, one_key_twice, wide_pair};
 use rkyv_base::access::{access, access_in};
@@ -13,7 +13,7 @@ use rkyv_testing::archives::{four_entries, one_index_key};
 use std::alloc::Global;
 use std::test::Fail;
 
-// The pairs in the archive of an index map, where it is accepted and memory is there.
+// Returns the pairs in the archive of an index map, if it is valid and no allocation fails.
 fn read<W: Width>(alloc: Global, bytes: &[u8]) -> Option<Vec<(i8, i8)>> {
     match access_in::<W, IndexMapOf<i8, i8, FxHasher64, W>>(bytes) {
         Ok(root) => ArchivedIndexMap::of(root).deserialize_pairs(alloc).ok(),
@@ -21,7 +21,7 @@ fn read<W: Width>(alloc: Global, bytes: &[u8]) -> Option<Vec<(i8, i8)>> {
     }
 }
 
-// Whether these are the pairs that are read.
+// Returns whether these are exactly the pairs in the archive.
 fn is_read<W: Width>(alloc: Global, bytes: &[u8], pairs: &[(i8, i8)]) -> bool {
     match read::<W>(alloc, bytes) {
         Some(list) => list.as_slice() == pairs,
@@ -42,7 +42,7 @@ fn pairs_are_read_back_in_their_order(rt: HostRuntime) {
     assert_eq!(rt; read, [true, true, true, true, false]);
 }
 
-// The items in the archive of an index set, where it is accepted and memory is there.
+// Returns the items in the archive of an index set, if it is valid and no allocation fails.
 fn items(alloc: Global, bytes: &[u8]) -> Option<Vec<i8>> {
     match access::<IndexSetOf<i8>>(bytes) {
         Ok(root) => ArchivedIndexSet::of(root).deserialize_items(alloc).ok(),
@@ -50,7 +50,7 @@ fn items(alloc: Global, bytes: &[u8]) -> Option<Vec<i8>> {
     }
 }
 
-// Whether these are the items that are read.
+// Returns whether these are exactly the items in the archive.
 fn are_items(alloc: Global, bytes: &[u8], expected: &[i8]) -> bool {
     match items(alloc, bytes) {
         Some(list) => list.as_slice() == expected,
@@ -72,7 +72,7 @@ fn items_are_read_back_in_their_order(rt: HostRuntime) -> Result<(), Fail> {
     Ok(())
 }
 
-// Whether the list of these names comes back through a wide archive.
+// Returns whether the list of these names is the same after a round trip through a wide archive.
 fn names_come_back(alloc: Global, first: &str, second: &str) -> Option<bool> {
     let first = String::from_str(alloc, first).ok()?;
     let second = String::from_str(alloc, second).ok()?;
@@ -80,7 +80,7 @@ fn names_come_back(alloc: Global, first: &str, second: &str) -> Option<bool> {
     items_come_back::<Wide, String>(alloc, &names).ok()
 }
 
-// Whether a list of pairs, of which two have one key, comes back through a narrow archive.
+// Returns whether a list of pairs, two of them with one key, is the same after a narrow round trip.
 fn numbers_come_back(alloc: Global) -> Option<bool> {
     let pairs = OrderedPairs(vec![in alloc; (3i8, 4i8), (1, 2), (3, 5)].ok()?);
     pairs_come_back::<Narrow, i8, i8>(alloc, &pairs).ok()

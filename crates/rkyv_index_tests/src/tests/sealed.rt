@@ -1,4 +1,4 @@
-//! Values of index maps that are written in place.
+//! Tests of values of index maps that are written in place.
 ghost use Rattle.std.specs.Prelude.{IfSome, ◌<◌};
 ghost use Rattle.rkyv_base.specs.Entry.{entry_shape};
 ghost use Rattle.rkyv_base.specs.Shape.{Viewed};
@@ -23,7 +23,7 @@ use rkyv_testing::archives::four_entries;
 
 type Small = IndexMapOf<i8, i8>;
 
-// The value of a key, by a plain lookup.
+// Returns the value of a key, by a plain lookup.
 fn value_of(bytes: &[u8], key: i8) -> Result<Option<i8>, VerifyError> {
     match ArchivedIndexMap::of(access::<Small>(bytes)?).get(&key) {
         Some(value) => Ok(Some(value.to_native())),
@@ -31,7 +31,7 @@ fn value_of(bytes: &[u8], key: i8) -> Result<Option<i8>, VerifyError> {
     }
 }
 
-// Writes a number over the value of a key: the place, the key, and what stood there.
+// Writes a number over the value of a key. Returns the index, the key, and the value before that.
 fn replace(bytes: &mut [u8], key: i8, value: i8) -> Result<Option<(usize, i8, i8)>, VerifyError> {
     let whole = access_mut::<Small>(bytes)?;
     match ArchivedIndexMap::get_full_seal(whole, &key) {
@@ -44,7 +44,7 @@ fn replace(bytes: &mut [u8], key: i8, value: i8) -> Result<Option<(usize, i8, i8
     }
 }
 
-// The same where a comparison is handed in that always answers this.
+// Does the same by a comparison that always returns `accepts`.
 fn replace_by(
     bytes: &mut [u8],
     key: i8,
@@ -62,7 +62,7 @@ fn replace_by(
     }
 }
 
-// The same with the key alone beside the value: the key, and what stood there.
+// Does the same by `get_key_value_seal`. Returns the key, and the value before the write.
 fn replace_beside_key(
     bytes: &mut [u8],
     key: i8,
@@ -79,7 +79,7 @@ fn replace_beside_key(
     }
 }
 
-// The key that a comparison finds which always answers this.
+// Returns the key that is found by a comparison that always returns `accepts`.
 fn key_by(bytes: &mut [u8], key: i8, accepts: bool) -> Result<Option<i8>, VerifyError> {
     let whole = access_mut::<Small>(bytes)?;
     match ArchivedIndexMap::get_key_value_seal_with(
@@ -92,7 +92,7 @@ fn key_by(bytes: &mut [u8], key: i8, accepts: bool) -> Result<Option<i8>, Verify
     }
 }
 
-// Writes a number over the value of a key: what stood there, and what stands there.
+// Writes a number over the value of a key. Returns the values before and after the write.
 fn replace_value(bytes: &mut [u8], key: i8, value: i8) -> Result<Option<(i8, i8)>, VerifyError> {
     let whole = access_mut::<Small>(bytes)?;
     match ArchivedIndexMap::get_seal(whole, &key) {
@@ -105,7 +105,7 @@ fn replace_value(bytes: &mut [u8], key: i8, value: i8) -> Result<Option<(i8, i8)
     }
 }
 
-// The value that a comparison finds which always answers this.
+// Returns the value that is found by a comparison that always returns `accepts`.
 fn value_by(bytes: &mut [u8], key: i8, accepts: bool) -> Result<Option<i8>, VerifyError> {
     let whole = access_mut::<Small>(bytes)?;
     match ArchivedIndexMap::get_seal_with(whole, &key, |_: &i8, _: View<'_, i8>| accepts) {
@@ -188,7 +188,7 @@ fn where_no_key_fits_nothing_is_lent(rt: HostRuntime) {
     );
 }
 
-// The place of a key, by a plain lookup in the map at `root`.
+// Returns the index of a key, by a plain lookup in the map at `root`.
 fn place_of<K: KeyElement, V: Element, H: KeyHasher, W: Width, Q: Query<K>>(
     bytes: &[u8],
     root: u64,
@@ -201,7 +201,7 @@ fn place_of<K: KeyElement, V: Element, H: KeyHasher, W: Width, Q: Query<K>>(
     ArchivedIndexMap::<K, V, H, W>::of(View::new(bytes, root)).get_index_of(key)
 }
 
-// Writes a value over that of a key by its place, in an archive that is checked first: the place.
+// Validates an archive, and writes a value over that of a key, by its index. Returns the index.
 fn write_at<A, K: KeyElement + StandsFor<A>, N: Scalar, H: KeyHasher, W: Width, Q: Query<K>>(
     bytes: &mut [u8],
     key: &Q,
@@ -222,7 +222,7 @@ fn write_at<A, K: KeyElement + StandsFor<A>, N: Scalar, H: KeyHasher, W: Width, 
     }
 }
 
-// As `write_at`, of small numbers.
+// Does the same as `write_at`, with small numbers.
 fn write_small(bytes: &mut [u8], key: i8, value: i8) -> Result<Option<usize>, VerifyError> {
     write_at::<i8, i8, i8, FxHasher64, Narrow, i8>(bytes, &key, value)
 }

@@ -1,4 +1,4 @@
-//! Index sets.
+//! Tests of index sets.
 
 use crate::tests::archives::one_key_parts;
 use rkyv_base::access::access;
@@ -28,7 +28,7 @@ fn one_item_is_written(rt: HostRuntime) -> Result<(), Fail> {
     Ok(())
 }
 
-// The one key, as an index set at position 0.
+// Writes one key as an index set at position 0. Returns the bytes before the header.
 fn set_of(alloc: Global, keys: Vec<i8>) -> Result<Vec<u8>, WriteError<NoMemory>> {
     let mut writer = VecWriter::new(alloc);
     let resolver = ArchivedIndexSet::<i8, FxHasher64, Narrow>::serialize_from_iter::<
@@ -41,7 +41,7 @@ fn set_of(alloc: Global, keys: Vec<i8>) -> Result<Vec<u8>, WriteError<NoMemory>>
     Ok(writer.into_vec())
 }
 
-// The same key with the unit value, as an index map at position 0.
+// Does the same with the key and the unit value, as an index map.
 fn map_of(alloc: Global, pairs: Vec<(i8, ())>) -> Result<Vec<u8>, WriteError<NoMemory>> {
     let mut writer = VecWriter::new(alloc);
     let resolver = ArchivedIndexMap::<i8, (), FxHasher64, Narrow>::serialize_from_iter::<

@@ -1,4 +1,4 @@
-//! What is written of index maps, byte for byte, and what is refused.
+//! Tests of the written bytes of index maps, and of the errors of a write.
 
 use crate::tests::archives::{no_pairs, no_wide_pairs, one_key_twice, one_pair, wide_pair};
 use rkyv_base::access::access;
@@ -21,7 +21,7 @@ fn list_of(alloc: Global, pairs: &[(i8, i8)]) -> Result<OrderedPairs<i8, i8>, Al
     Ok(OrderedPairs(list))
 }
 
-// The bytes of the pairs as an index map.
+// Returns the archive of the pairs as an index map.
 pub(crate) fn narrow(alloc: Global, pairs: &[(i8, i8)]) -> Result<Vec<u8>, WriteError<NoMemory>> {
     match list_of(alloc, pairs) {
         Ok(list) => to_bytes(alloc, &list),
@@ -29,7 +29,7 @@ pub(crate) fn narrow(alloc: Global, pairs: &[(i8, i8)]) -> Result<Vec<u8>, Write
     }
 }
 
-// The bytes of the pairs as a wide index map.
+// Returns the archive of the pairs as a wide index map.
 fn wide(alloc: Global, pairs: &[(i8, i8)]) -> Result<Vec<u8>, WriteError<NoMemory>> {
     match list_of(alloc, pairs) {
         Ok(list) => to_bytes_in::<Wide, _>(alloc, &list),
@@ -79,7 +79,8 @@ fn an_index_map_of_index_maps(rt: HostRuntime) -> Result<(), Fail> {
     Ok(())
 }
 
-// The pairs with a claimed length, as an index map at position 0.
+// Writes the pairs as an index map at position 0, with a claimed length.
+// Returns the bytes before the header.
 fn written(
     alloc: Global,
     pairs: Vec<(i8, i8)>,

@@ -10,7 +10,7 @@ use Rattle.rkyv_collections.proofs.SealedMap.{pair_place}
 use Rattle.rkyv_collections.proofs.ValueWrites.{rests_on_each}
 use Rattle.rkyv_collections_tests.proofs.tests.sealed.stored.Goals as goal
 
--- something was found
+-- if `option_map f o` is `Some x`, then `o` is not `None`
 given : {V : Type 0} (f : ℕ → ℕ) (o : Option ℕ) (x : ℕ) (y : V) → Some x ≡ option_map f o → option_map (λ _. y) o ≡ Some y
 given f None x y e = absurd (none-some x (sym e))
 given f (Some z) x y e = refl

@@ -6,7 +6,7 @@ use Rattle.rkyv_base.specs.Shape.{Viewed}
 use Rattle.rkyv_collections.specs.Map.{map_shape}
 use Rattle.rkyv_collections_tests.proofs.tests.sealed.stored_in.Goals as goal
 
--- what was found is the new value
+-- the value in `result`, if there is one, is `y`
 new_value : {V : Type 0} (o : Option ℕ) (y : V) (result : Option V) → result ≡ option_map (λ _. y) o → IfSome result (λ n. n ≡ y)
 new_value None y result e = rw e tt
 new_value (Some x) y result e = rw e refl

@@ -5,7 +5,7 @@ use Rattle.rkyv_index.specs.Index.{IsHeld, index_len}
 use Rattle.rkyv_index.proofs.SealedIndex.{as_read}
 use Rattle.rkyv_index_tests.proofs.tests.sealed.place_of.Goals as goal
 
--- the second of two things that hold of what there is
+-- the second of two properties of the value in `place`, if there is one
 second : (P Q : ℕ → Type 0) (place : Option ℕ) → IfSome place (λ i. P i × Q i) → IfSome place Q
 second P Q None both = tt
 second P Q (Some i) both = both.1
