@@ -1,8 +1,11 @@
 -- Writing a list with its header, step by step, and the written list.
-use Rattle.std.proofs.Common.{◌≡◌, ℕ, ◌+◌, ◌-◌, ◌*◌, ◌%◌, ◌^◌, ◌<◌, ◌≤◌, ◌∙◌, ◌↔◌, inl, inr, refl, sym, ap, subst, arith, append_assoc, length-append, length-take, Bool, List, [], ◌++◌, length, take}
+use Rattle.std.proofs.Common.{◌≡◌, ℕ, ◌+◌, ◌-◌, ◌*◌, ◌%◌, ◌≤◌, ◌∙◌, inl, inr, refl, sym, ap, subst, arith, append_assoc, length-append, length-take, suc, Bool, true, List, [], ◌∷◌, ◌++◌, length, slice_get, slice_index, Some, take}
 use Rattle.std.specs.Int.{Width, byte_len}
-use Rattle.std.specs.List.{AllPairs, Contains, IsDistinct}
-use Rattle.std.proofs.lemmas.List.{length-map, length-replicate, take_all}
+use Rattle.std.specs.List.{find}
+use Rattle.std.specs.Option.{option_map}
+use Rattle.std.proofs.lemmas.Bool.{cases_Bool}
+use Rattle.std.proofs.lemmas.Option.{slice_get-map, slice_get_cases}
+use Rattle.std.proofs.lemmas.List.{get_or-map, length-map, length-replicate, take_all}
 use Rattle.rkyv_base.specs.Bytes.{Sits, sits_back, sits_front}
 use Rattle.rkyv_base.specs.Checking.{Fails}
 use Rattle.rkyv_base.specs.Entry.{round_up, round_up-multiple}
@@ -14,36 +17,74 @@ use Rattle.rkyv_base.specs.Writing.{Appends, Output, end_of, padding, zeros}
 use Rattle.rkyv_base.specs.declared.element.PartRange.{PartRange}
 use Rattle.rkyv_base.specs.declared.errors.VerifyError.{VerifyError}
 use Rattle.rkyv_base.specs.declared.errors.WriteError.{WriteError}
+use Rattle.rkyv_base.specs.declared.element.Element.{Ghosts as Elements}
+use Rattle.rkyv_base.specs.declared.element.StandsFor.{Ghosts as Stands}
 use Rattle.rkyv_base.specs.declared.view.View.{View}
-use Rattle.rkyv_scan.specs.Groups.{generic_kind}
-use Rattle.rkyv_scan.specs.Lemmas.KindLaws.{word_lawful}
+use Rattle.rkyv_base.specs.declared.width.Width.{Ghosts as Widths}
+use Rattle.rkyv_base.specs.declared.width.Word.{Ghosts as Words}
 use Rattle.rkyv_base.proofs.GivingUp.{appends_after, end-appends, told_as}
 use Rattle.rkyv_table.specs.Lemmas.TableLaws.{table_element}
 use Rattle.rkyv_table.specs.Table.Layout.{table_shape}
 use Rattle.rkyv_table.specs.Table.Passing.{HoldsAround, WrittenTablesPass}
 use Rattle.rkyv_table.specs.Table.Serializing.{NoItems}
-use Rattle.rkyv_table.specs.Table.FirstItem.{AnswersFirst, IsFirstOf}
+use Rattle.rkyv_table.specs.Table.FirstItem.{AreUnder, IsFirstOf}
 use Rattle.rkyv_table.specs.Table.Header.{IsHeader, cap_at}
 use Rattle.rkyv_table.specs.Controls.Numbers.{capacity}
-use Rattle.rkyv_table.specs.Table.Reading.{table_controls}
+use Rattle.rkyv_table.specs.Controls.Laws.{IsUnderHash}
+use Rattle.rkyv_table.specs.Table.Reading.{home_positions, table_controls}
 use Rattle.rkyv_table.specs.Table.Taking.{hashes_of, items_of}
 use Rattle.rkyv_table.specs.Table.WalkLaws.{VisitsHomes, WalkVisitsHomes}
 use Rattle.rkyv_table.specs.Table.WrittenTables.{StandingWereWritten}
 use Rattle.rkyv_table.proofs.WalkedHomes.{none_visits}
+use Rattle.rkyv_table.proofs.WrittenTables.{home_count}
 use Rattle.rkyv_table.specs.Table.TableFormat.{TableResolver, TableStands, resolved_capacity, table_format}
-use Rattle.rkyv_headline.specs.Listing.{ListBytes, ListLost, ListsStand, NoList, SeesList, StandsList, VisitsItems, WroteList}
-use Rattle.rkyv_headline.specs.Seeing.{NotSeen, SeesTable}
-use Rattle.rkyv_headline.specs.declared.looking.Seen.{Seen}
-use Rattle.rkyv_headline.specs.declared.looking.Unseen.{Unseen}
-use Rattle.rkyv_headline.specs.declared.looking.Unseen.TheVariants.{Memory, Verify}
-use Rattle.rkyv_headline.specs.declared.whole.Lost.TheVariants.{Look}
+use Rattle.rkyv_headline.specs.Listing.{
+  AgreesAt,
+  ElementMembers,
+  Encoding,
+  IsWrittenList,
+  ListBytes,
+  ListInput,
+  ListsAreValid,
+  VisitsItems,
+  WidthMembers,
+  WriteAndFindFails,
+  WriteListFails,
+  ReportsList,
+  WroteList,
+  list_format,
+  table_of,
+}
+use Rattle.rkyv_headline.specs.Report.{LookOverFails, ReportsTable, TableIn}
+use Rattle.rkyv_headline.specs.declared.looking.LookError.{LookError}
+use Rattle.rkyv_headline.specs.declared.looking.LookError.TheVariants.{Memory, Verify}
+use Rattle.rkyv_headline.specs.declared.looking.TableReport.{TableReport}
+use Rattle.rkyv_headline.specs.declared.whole.ListError.TheVariants.{Look}
+
+-- the members of a width, from those of its two traits
+abbrev pub width_members : {W P : Type 0} → Words W → Widths W P → WidthMembers
+width_members w v = record {
+  word = w.word;
+  LIMIT = v.LIMIT;
+  ALIGN = v.ALIGN;
+  MAX_CAPACITY = v.MAX_CAPACITY;
+  TABLE_SIZE = v.TABLE_SIZE;
+  INDEX_SIZE = v.INDEX_SIZE;
+  TEXT_SIZE = v.TEXT_SIZE;
+  TEXT_LIMIT = v.TEXT_LIMIT;
+}
+
+-- the members of an element, from those of its two traits
+abbrev pub element_members : {T V : Type 0} → Elements T → Stands T V → ElementMembers V
+element_members e v = record { shape = e.shape; stands = v.stands }
 
 -- an error of writing the table is an error of writing the list
-pub no_list : {X F : Type 0} (gave : List (ℕ × X) → Type 0) (len : ℕ) (load_factor : ℕ × ℕ) (max limit align : ℕ) (f : Format (List (ℕ × X)) TableResolver) (o o' : Output)
-    (other : ℕ → Type 0) (e : WriteError F) → NoItems gave len load_factor max f o o' limit other e → NoList gave len load_factor max limit align f o o' other e
-no_list gave len load_factor max limit align f o o' other e (inl h) = inl h
-no_list gave len load_factor max limit align f o o' other e (inr h) =
-    inr (h.0, h.1, h.2, told_as limit (RootNext align f h.1 (end_of o)) (f.next h.1 (end_of o)) o o' e (λ front step n. inr (inl n)) h.3)
+pub no_list : {X R F : Type 0} (list : ListInput X R) (o o' : Output) (e : WriteError F)
+    → NoItems list.input.gave list.len list.load_factor list.width.MAX_CAPACITY (list_format list) o o' list.width.LIMIT (list.input.gave_other list.len) e → WriteListFails list o o' e
+no_list list o o' e (inl h) = inl h
+no_list list o o' e (inr h) =
+    let f = list_format list in
+    inr (h.0, h.1, h.2, told_as list.width.LIMIT (RootNext (byte_len list.width.word) f h.1 (end_of o)) (f.next h.1 (end_of o)) o o' e (λ front step n. inr (inl n)) h.3)
 
 -- the buffer has room for a header
 pub header_small : (w : Width) → IsArchiveWord w → (size align : ℕ) → align ≡ byte_len w → size ≡ 3 * align → size ≤ 24
@@ -95,7 +136,7 @@ appended_sits o o' x from a =
 
 module _ {X : Type 0} (w : Width) (s : Shape) (stands : List ℕ → ℕ → X → Type 0) (load_factor : ℕ × ℕ) (were : StandingWereWritten w s stands load_factor) (visits : WalkVisitsHomes) where
   -- the walk over a valid table
-  items_visited : (c : List ℕ) (p : ℕ) (pairs : List (ℕ × X)) → TableStands w s stands load_factor c p pairs → VisitsItems w s.size stands c p pairs
+  items_visited : (c : List ℕ) (p : ℕ) (pairs : List (ℕ × X)) → TableStands w s stands load_factor c p pairs → VisitsItems (record { word = w; shape = s; bytes = c; pos = p }) stands pairs
   items_visited c p pairs stand =
       let is = were c p pairs stand in
       let written = is.written in
@@ -114,54 +155,104 @@ module _ {X : Type 0} (w : Width) (s : Shape) (stands : List ℕ → ℕ → X �
         ];
       }
 
-  module _ {R : Type 0} (kind : IsArchiveWord w) (law : IsElement s) (f : Format X R)
-      (format : IsFormat (table_shape w s) (TableStands w s stands load_factor) (table_format w s f load_factor)) (passing : WrittenTablesPass w s f load_factor) where
-    -- a written list is valid in each archive that has its bytes
-    pub lists_stand : ListsStand w s stands f load_factor
-    lists_stand pairs begin end p bytes c l sits =
-        let part : List ℕ = l.part in
-        let out : List ℕ = l.header in
-        let z : List ℕ = zeros (padding (byte_len w) end) in
-        let n : length z ≡ padding (byte_len w) end = length-replicate (padding (byte_len w) end) 0 in
-        let whole : length out ≡ 3 * byte_len w = format.whole pairs l.resolver p out l.image in
-        let sb : Sits c begin (part ++ (z ++ out)) = subst (Sits c begin) l.is sits in
-        let sp : Sits c begin part = sits_front c begin part (z ++ out) sb in
-        let at : begin + length part + length z ≡ p = omega (arith, n, l.at, l.ends) in
-        let so : Sits c p out = subst (λ q. Sits c q out) at (sits_back c (begin + length part) z out (sits_back c begin part (z ++ out) sb)) in
-        let aligned : p % byte_len w ≡ 0 = subst (λ q. q % byte_len w ≡ 0) (sym l.at) (round_up-multiple end (byte_len w) (table_element w kind s law).align_is) in
-        let up : begin + length part ≤ p = omega (arith, l.at, l.ends) in
-        let sound = format.sound pairs l.resolver c begin p part out l.parts l.image sp so up aligned in
-        let stand : TableStands w s stands load_factor c p pairs = sound.2 in
-        let around = passing pairs l.resolver c begin p part out l.parts l.image sp so up aligned in
-        let len : length bytes ≡ length part + (length z + length out) = ap length l.is ∙ length-append part (z ++ out) ∙ ap (λ k. length part + k) (length-append z out) in (
-          record {
-            behind = (omega (arith, l.ends), omega (arith, l.at));
-            aligned = aligned;
-            passes = subst (HoldsAround (table_shape w s) c p begin) (sym l.ends) around;
-            stand = stand;
-            items = items_visited c p pairs stand;
-          },
-          omega (arith, len, whole, at),
-        )
+module _ {X R : Type 0} (w : Width) (items : Encoding X R) (load_factor : ℕ × ℕ) (were : StandingWereWritten w items.shape items.represents load_factor) (visits : WalkVisitsHomes)
+    (kind : IsArchiveWord w) (law : IsElement items.shape)
+    (format : IsFormat (table_shape w items.shape) (TableStands w items.shape items.represents load_factor) (table_format w items.shape items.format load_factor))
+    (passing : WrittenTablesPass w items.shape items.format load_factor) where
+  -- a written list is valid in each archive that has its bytes
+  pub lists_valid : ListsAreValid w items load_factor
+  lists_valid pairs begin end p bytes c l sits =
+      let s : Shape = items.shape in
+      let part : List ℕ = l.part in
+      let out : List ℕ = l.header in
+      let z : List ℕ = zeros (padding (byte_len w) end) in
+      let n : length z ≡ padding (byte_len w) end = length-replicate (padding (byte_len w) end) 0 in
+      let whole : length out ≡ 3 * byte_len w = format.whole pairs l.resolver p out l.image in
+      let sb : Sits c begin (part ++ (z ++ out)) = subst (Sits c begin) l.is sits in
+      let sp : Sits c begin part = sits_front c begin part (z ++ out) sb in
+      let at : begin + length part + length z ≡ p = omega (arith, n, l.at, l.ends) in
+      let so : Sits c p out = subst (λ q. Sits c q out) at (sits_back c (begin + length part) z out (sits_back c begin part (z ++ out) sb)) in
+      let aligned : p % byte_len w ≡ 0 = subst (λ q. q % byte_len w ≡ 0) (sym l.at) (round_up-multiple end (byte_len w) (table_element w kind s law).align_is) in
+      let up : begin + length part ≤ p = omega (arith, l.at, l.ends) in
+      let sound = format.sound pairs l.resolver c begin p part out l.parts l.image sp so up aligned in
+      let stand : TableStands w s items.represents load_factor c p pairs = sound.2 in
+      let around = passing pairs l.resolver c begin p part out l.parts l.image sp so up aligned in
+      let len : length bytes ≡ length part + (length z + length out) = ap length l.is ∙ length-append part (z ++ out) ∙ ap (λ k. length part + k) (length-append z out) in (
+        record {
+          behind = (omega (arith, l.ends), omega (arith, l.at));
+          aligned = aligned;
+          passes = subst (HoldsAround (table_shape w s) c p begin) (sym l.ends) around;
+          stand = stand;
+          items = items_visited w s items.represents load_factor were visits c p pairs stand;
+        },
+        omega (arith, len, whole, at),
+      )
+
+-- the first position that is told is that of the first item that is accepted
+first_along : {X : Type 0} (stands : List ℕ → ℕ → X → Type 0) (c : List ℕ) (accept : X → Bool) (told : ℕ → Bool) (items : List X) (qs : List ℕ)
+    → length items ≡ length qs → ((i : ℕ) (x : X) → slice_get items i ≡ Some x → stands c (slice_index qs i) x) → AgreesAt qs items accept told → IsFirstOf stands c accept items (find told qs)
+first_along stands c accept told [] [] n there agrees = refl
+first_along stands c accept told [] (q ∷ qs) n there agrees = absurd (omega arith)
+first_along stands c accept told (x ∷ xs) [] n there agrees = absurd (omega arith)
+first_along stands c accept told (x ∷ xs) (q ∷ qs) k there agrees =
+    let same : told q ≡ accept x = agrees 0 x refl in
+    elim (cases_Bool (told q)) [
+      | inl y ↦ rw (y, sym same ∙ y) (x, refl, there 0 x refl)
+      | inr n ↦ rw (n, sym same ∙ n) (first_along stands c accept told xs qs (omega (arith, k)) (λ i y e. there (suc i) y e) (λ i y e. agrees (suc i) y e))
+    ]
 
 -- the items and the lookup of a written list
-module _ {T X : Type 0} (post : View T → Bool → Type 0) (w : Width) (s : Shape) (stands : List ℕ → ℕ → X → Type 0) (load_factor : ℕ × ℕ) (o o' : Output) (hash : ℕ) (pairs : List (ℕ × X))
-    (bytes : List ℕ) (appends : Appends o o' bytes) (end p : ℕ) (list : StandsList w s stands load_factor o'.bytes (end_of o) end p pairs) (whole : p + 3 * byte_len w ≡ end_of o + length bytes) where
-  pub list_seen : AnswersFirst w s stands load_factor → hash < 2 ^ 64 → (b : List ℕ) → b ≡ o'.bytes → (seen : Seen) → SeesTable post w s b p hash seen
-      → SeesList post w s stands load_factor o o' hash pairs seen
-  list_seen first fits b same seen sees =
-      let there : SeesTable post w s o'.bytes p hash seen = subst (λ (c : List ℕ). SeesTable post w s c p hash seen) same sees in
+module _ {X : Type 0} (t : TableIn) (represents : List ℕ → ℕ → X → Type 0) (pairs : List (ℕ × X)) (items : VisitsItems t represents pairs) (hash : ℕ) (accept : X → Bool) (told : ℕ → Bool) where
+  abbrev positions : List ℕ
+  positions = home_positions t.word t.shape.size t.bytes t.pos items.homes
+
+  hashes_count : length (hashes_of pairs) ≡ length pairs
+  hashes_count = length-map pairs (λ (y : ℕ × X). y.0)
+
+  positions_count : length (items_of pairs) ≡ length positions
+  positions_count = length-map pairs (λ (y : ℕ × X). y.1) ∙ sym hashes_count ∙ sym (home_count t.word t.bytes t.pos (hashes_of pairs) items.homes items.written) ∙ sym (length-map items.homes _)
+
+  -- only positions of items with the hash are accepted
+  pub told_under : AreUnder hash accept pairs → AgreesAt positions (items_of pairs) accept told → IsUnderHash hash (hashes_of pairs) positions told
+  told_under under agrees i below t = elim (slice_get_cases pairs i).1 [
+    | inl e ↦
+        let pair = e.0 in
+        let item : slice_get (items_of pairs) i ≡ Some pair.1 = slice_get-map (λ (y : ℕ × X). y.1) pairs i ∙ ap (option_map (λ (y : ℕ × X). y.1)) e.2 in
+        let same = agrees i pair.1 item in
+        let own : pair.0 ≡ hash = subst (λ (y : ℕ × X). accept y.1 ≡ true → y.0 ≡ hash) e.3 (under i pair e.1) (sym same ∙ t) in
+        get_or-map (λ (y : ℕ × X). y.0) pairs i pair 0 e.1 ∙ ap (λ (y : ℕ × X). y.0) e.3 ∙ own
+    | inr past ↦ absurd (omega (arith, past.0, below, hashes_count))
+  ]
+
+  -- the first accepted position is that of the first accepted item
+  pub first_at_home : AgreesAt positions (items_of pairs) accept told → IsFirstOf represents t.bytes accept (items_of pairs) (find told positions)
+  first_at_home agrees = first_along represents t.bytes accept told (items_of pairs) positions positions_count items.at agrees
+
+-- a written list that was looked up
+module _ {T X R : Type 0} (list : ListInput X R) (post : View T → Bool → Type 0) (hash : ℕ) (o o' : Output) where
+  pub written_found : (end p : ℕ) (wrote : WroteList list o o' end p) → IsWrittenList (table_of list o' p) list.items.represents list.load_factor (end_of o) end wrote.1
+      → p + 3 * byte_len list.width.word ≡ end_of o + length wrote.2 → (b : List ℕ) → b ≡ o'.bytes → (report : TableReport)
+      → ReportsTable (record { word = list.width.word; shape = list.items.shape; bytes = b; pos = p }) post hash report → ReportsList list post hash o o' report
+  written_found end p wrote valid whole b same report reports =
+      let t : TableIn = table_of list o' p in
+      let there : ReportsTable t post hash report =
+      subst (λ (c : List ℕ). ReportsTable (record { word = list.width.word; shape = list.items.shape; bytes = c; pos = p }) post hash report) same reports in
+      let pairs : List (ℕ × X) = wrote.1 in
       record {
-        bytes = bytes;
-        appends = appends;
+        fits = wrote.0;
+        pairs = pairs;
+        bytes = wrote.2;
         end = end;
         p = p;
-        ends = whole ∙ sym (end-appends o o' bytes appends);
-        list = list;
-        first = λ accept told answers tells under.
-            subst (IsFirstOf stands o'.bytes accept (items_of pairs)) (sym (there.looks.answer told answers))
-            (first generic_kind o'.bytes p hash pairs accept told word_lawful fits list.stand under tells);
-        sees = there;
+        appends = wrote.3;
+        ends = whole ∙ sym (end-appends o o' wrote.2 wrote.3.1.0);
+        written = valid;
+        first = λ accept told answers agrees under.
+            subst (IsFirstOf list.items.represents o'.bytes accept (items_of pairs))
+            (sym (there.looks.first (hashes_of pairs) valid.items.homes told valid.items.written answers
+            (told_under t list.items.represents pairs valid.items hash accept told under agrees)))
+            (first_at_home t list.items.represents pairs valid.items hash accept told agrees);
+        reports = there;
       }
 
 -- the bytes of a written list are not refused
@@ -172,8 +263,8 @@ not_refused w kind s law c b p begin end around same range low high e fails =
     let holds = around range.lo range.hi (omega (arith, low)) (omega (arith, high)) in
     (table_element w kind s law).clear c p range.lo range.hi holds.0 e holds.1 there
 
-module _ {X : Type 0} (gave : List (ℕ × X) → Type 0) (len : ℕ) (load_factor : ℕ × ℕ) (max limit align : ℕ) (f : Format (List (ℕ × X)) TableResolver) (o o' : Output) (other : ℕ → Type 0) where
-  pub look_lost : (w : Width) (s : Shape) (b : List ℕ) (end p : ℕ) (range : PartRange) → WroteList gave len load_factor max limit align f o o' end p
-      → ((e : VerifyError) → Fails (table_shape w s) b p range e → ⊥) → (u : Unseen) → NotSeen w s b p range u → ListLost gave len load_factor max limit align f o o' other (Look u)
-  look_lost w s b end p range wrote passes (Verify e) fails = absurd (passes e fails)
-  look_lost w s b end p range wrote passes Memory accepts = (end, p, wrote)
+-- looking over a written list fails for want of memory alone
+pub look_fails : {X R : Type 0} (list : ListInput X R) (o o' : Output) (t : TableIn) (end p : ℕ) (range : PartRange) → WroteList list o o' end p
+    → ((e : VerifyError) → Fails (table_shape t.word t.shape) t.bytes t.pos range e → ⊥) → (u : LookError) → LookOverFails t range u → WriteAndFindFails list o o' (Look u)
+look_fails list o o' t end p range wrote passes (Verify e) fails = absurd (passes e fails)
+look_fails list o o' t end p range wrote passes Memory accepts = (end, p, wrote)

@@ -7,5 +7,5 @@ mod looking;
 mod whole;
 mod writing;
 
-pub use looking::{Seen, Unseen, look_over};
-pub use whole::{Lost, write_and_look_over, written_lists_stand};
+pub use looking::{LookError, TableReport, look_over};
+pub use whole::{ListError, write_and_look_over, written_lists_stand};

@@ -1,13 +1,13 @@
 //! Validation, walk and lookup of a table in untrusted bytes.
 
-ghost use Rattle.std.specs.Prelude.{IfOk, MatchResult, length, ◌%◌, ◌*◌, ◌+◌, ◌≡◌, ◌≤◌};
+ghost use Rattle.std.specs.Prelude.{IfOk, length, ◌%◌, ◌*◌, ◌+◌, ◌≡◌, ◌≤◌};
 ghost use Rattle.std.specs.Int.{byte_len};
 ghost use Rattle.rkyv_base.specs.Shape.{Viewed};
 ghost use Rattle.rkyv_scan.specs.Groups.{generic_kind};
 ghost use Rattle.rkyv_table.specs.Table.Bare.{LooksUp, MayAskOf, ReadsExactly};
 ghost use Rattle.rkyv_table.specs.Table.Layout.{table_shape};
 ghost use Rattle.rkyv_table.specs.Table.Reading.{item_positions, pos_of_found};
-ghost use Rattle.rkyv_headline.specs.Seeing.{NotSeen, ReadsFew, Sees};
+ghost use Rattle.rkyv_headline.specs.Report.{CanCompareItems, LooksOver, ReadsFew, table_in};
 
 use rkyv_base::element::{Element, PartRange};
 use rkyv_base::errors::VerifyError;
@@ -20,7 +20,7 @@ use thiserror::Error;
 
 /// The items of a table, and the result of one lookup.
 #[derive(Debug, Drop)]
-pub struct Seen {
+pub struct TableReport {
     /// The positions of its items, in bucket order.
     pub walked: Vec<u64>,
     /// The position of the item that the lookup found.
@@ -31,7 +31,7 @@ pub struct Seen {
 
 /// The error of `look_over`.
 #[derive(Debug, Drop, Error)]
-pub enum Unseen {
+pub enum LookError {
     /// The bytes are not a valid table.
     #[error("{0}")]
     Verify(VerifyError),
@@ -120,25 +120,23 @@ pub fn look_over<W: Width, T: Element, F: Fn(View<'_, T>) -> bool>(
     range: PartRange,
     hash: u64,
     cmp: F,
-) -> Result<Seen, Unseen>
+) -> Result<TableReport, LookError>
     requires inside { pos + 3 * byte_len W.word ≤ length bytes.now }
     requires aligned { pos % byte_len W.word ≡ 0 }
     requires ordered { (range.lo ≤ range.hi) × (range.hi ≤ pos) }
-    requires callable { MayAskOf (F.pre cmp) W.word T.shape bytes.now pos }
-    ensures { MatchResult result
-        (Sees (F.post cmp) W.word T.shape bytes.now pos range hash)
-        (NotSeen W.word T.shape bytes.now pos range) }
+    requires callable { CanCompareItems (table_in W.Word T.Element bytes.now pos) (F.pre cmp) }
+    ensures { LooksOver (table_in W.Word T.Element bytes.now pos) range (F.post cmp) hash result }
 {
     match ArchivedHashTable::<T, W>::verify(bytes, pos, range) {
         Ok(_) => {}
-        Err(e) => return Err(Unseen::Verify(e)),
+        Err(e) => return Err(LookError::Verify(e)),
     }
     let walked = match walk::<W, T>(alloc, bytes, pos) {
         Ok(walked) => walked,
-        Err(_) => return Err(Unseen::Memory),
+        Err(_) => return Err(LookError::Memory),
     };
     let answer = look_up::<W, T, F>(bytes, pos, hash, cmp);
-    Ok(Seen {
+    Ok(TableReport {
         walked,
         found: answer.found,
         strides: answer.strides,

@@ -1,14 +1,10 @@
 //! A list from its items to its lookup.
 
-ghost use Rattle.std.specs.Prelude.{IfErr, IfOk, ℕ};
-ghost use Rattle.rkyv_base.specs.Pairs.{written_as};
-ghost use Rattle.rkyv_base.specs.Writing.{held};
-ghost use Rattle.rkyv_table.specs.Table.Input.{from_both};
-ghost use Rattle.rkyv_table.specs.Table.Lending.{lent_stands};
-ghost use Rattle.rkyv_table.specs.Table.Serializing.{HasCapacity};
-ghost use Rattle.rkyv_headline.specs.Listing.{ListsStand, LosesItems, MayAskAny, SawItems};
+ghost use Rattle.std.specs.Prelude.{ℕ};
+ghost use Rattle.rkyv_headline.specs.Listing.{CanCompareAny, ListsAreValid, WritesAndFinds};
+ghost use Rattle.rkyv_headline.specs.Listing.{encoding, list_of, pairs_of};
 
-use crate::looking::{Seen, Unseen, look_over};
+use crate::looking::{LookError, TableReport, look_over};
 use crate::writing::write_list;
 use rkyv_base::archive::{Archive, Serialize};
 use rkyv_base::element::PartRange;
@@ -17,7 +13,7 @@ use rkyv_base::lend::Lend;
 use rkyv_base::view::View;
 use rkyv_base::width::Width;
 use rkyv_base::writer::{NoMemory, VecWriter, Writer};
-use rkyv_table::table::laws::{lookups_answer_the_first, walk_visits_homes};
+use rkyv_table::table::laws::walk_visits_homes;
 use rkyv_table::table::written::{
     standing_tables_were_written, written_tables_pass, written_tables_stand,
 };
@@ -26,15 +22,15 @@ use thiserror::Error;
 
 /// The error of `write_and_look_over`.
 #[derive(Debug, Drop, Error)]
-pub enum Lost {
+pub enum ListError {
     /// The list can't be written.
     #[error("{0}")]
     Write(WriteError<NoMemory>),
     /// The list was written, and memory for the positions could not be allocated.
     ///
-    /// It is never `Unseen::Verify`, since the written bytes are valid.
+    /// It is never `LookError::Verify`, since the written bytes are valid.
     #[error("{0}")]
-    Look(Unseen),
+    Look(LookError),
 }
 
 /// A list that was written as a table with its header is valid in each archive that has its bytes.
@@ -42,8 +38,8 @@ pub enum Lost {
 /// It is valid with each range around the table. Each item is in its home bucket,
 /// and the walk visits these buckets and no others.
 pub fn written_lists_stand<W: Width, U: Archive<W>, X: Lend<U>>()
-    ensures { (load_factor : ℕ × ℕ) → ListsStand W.word U.Archived.shape
-        (lent_stands X.lent U.Archived.stands) (written_as X.lent U.format) load_factor }
+    ensures { (load_factor : ℕ × ℕ) →
+        ListsAreValid W.word (encoding U.Archived.StandsFor U.Archive X.Lend) load_factor }
 {
     written_tables_stand::<W, U, X>();
     written_tables_pass::<W, U, X>();
@@ -71,7 +67,7 @@ pub fn written_lists_stand<W: Width, U: Archive<W>, X: Lend<U>>()
 /// # Errors
 ///
 /// - `Write`: the list can't be written. It has the error of the write.
-/// - `Look(Unseen::Memory)`: memory for the positions could not be allocated.
+/// - `Look(LookError::Memory)`: memory for the positions could not be allocated.
 pub fn write_and_look_over<
     W: Width,
     U: Serialize<VecWriter, W>,
@@ -88,31 +84,26 @@ pub fn write_and_look_over<
     serializer: &mut VecWriter,
     hash: u64,
     cmp: F,
-) -> Result<Seen, Lost>
+) -> Result<TableReport, ListError>
     requires can { I.can_next items × J.can_next hashes }
-    requires callable { MayAskAny (F.pre cmp) U.Archived.shape }
-    ensures fits { IfOk result (λ _. HasCapacity len load_factor W.MAX_CAPACITY) }
-    ensures seen { IfOk result (SawItems (F.post cmp) W.word U.Archived.shape U.Archived.stands
-        X.lent (from_both I.next_gives J.next_gives items hashes) len load_factor hash
-        (held serializer.old) (held serializer.new)) }
-    ensures lost { IfErr result (LosesItems W.word W.MAX_CAPACITY W.LIMIT U.Archived.shape X.lent
-        U.format (from_both I.next_gives J.next_gives items hashes) len load_factor
-        (held serializer.old) (held serializer.new)) }
+    requires callable { CanCompareAny (F.pre cmp) U.Archived.shape }
+    ensures { WritesAndFinds (list_of W.Width (encoding U.Archived.StandsFor U.Archive X.Lend)
+        (pairs_of I.Iterator J.Iterator items hashes) len load_factor)
+        (F.post cmp) hash serializer.old serializer.new result }
 {
     let begin = serializer.pos();
     let wrote = write_list::<W, _, U, _, _, _>(alloc, items, hashes, len, load_factor, serializer);
     let at = match wrote {
         Ok(at) => at,
-        Err(e) => return Err(Lost::Write(e)),
+        Err(e) => return Err(ListError::Write(e)),
     };
     written_lists_stand::<W, U, X>();
-    lookups_answer_the_first::<W, U, X>();
     let range = PartRange {
         lo: begin,
         hi: at.end,
     };
     match look_over::<W, U::Archived, F>(alloc, serializer.bytes(), at.pos, range, hash, cmp) {
-        Ok(seen) => Ok(seen),
-        Err(e) => Err(Lost::Look(e)),
+        Ok(report) => Ok(report),
+        Err(e) => Err(ListError::Look(e)),
     }
 }

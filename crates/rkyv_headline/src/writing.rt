@@ -1,7 +1,6 @@
 //! Writing a list as a table, followed by its header.
 
-ghost use Rattle.rkyv_table.specs.Table.Input.{from_both};
-ghost use Rattle.rkyv_headline.specs.Listing.{WritesList};
+ghost use Rattle.rkyv_headline.specs.Listing.{WritesList, encoding, list_of, pairs_of};
 
 use rkyv_base::archive::{Serialize, WriteResult};
 use rkyv_base::errors::WriteError;
@@ -44,8 +43,8 @@ pub(crate) fn write_list<
     serializer: &mut S,
 ) -> WriteResult<Written, S>
     requires { I.can_next items × J.can_next hashes }
-    ensures { WritesList W.word W.MAX_CAPACITY W.LIMIT U.Archived.shape X.lent U.format
-        (from_both I.next_gives J.next_gives items hashes) len load_factor
+    ensures { WritesList (list_of W.Width (encoding U.Archived.StandsFor U.Archive X.Lend)
+        (pairs_of I.Iterator J.Iterator items hashes) len load_factor)
         (S.output serializer.old) (S.output serializer.new) result }
 {
     let resolver = match ArchivedHashTable::<U::Archived, W>::serialize_from_iter::<S, U, X, I, J>(

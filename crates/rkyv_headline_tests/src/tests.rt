@@ -5,12 +5,12 @@ use rkyv_base::entry::Entry;
 use rkyv_base::errors::VerifyError;
 use rkyv_base::width::{Narrow, Wide, Width};
 use rkyv_base::writer::{VecWriter, Writer};
-use rkyv_headline::{Seen, Unseen, look_over, write_and_look_over, written_lists_stand};
+use rkyv_headline::{LookError, TableReport, look_over, write_and_look_over, written_lists_stand};
 use std::alloc::Global;
 
 // Returns `true` if the walk, the result and the strides of a lookup are these.
-fn is_seen(seen: &Seen, walked: &[u64], found: Option<u64>, strides: u64) -> bool {
-    seen.walked.as_slice() == walked && seen.found == found && seen.strides == strides
+fn is_report(report: &TableReport, walked: &[u64], found: Option<u64>, strides: u64) -> bool {
+    report.walked.as_slice() == walked && report.found == found && report.strides == strides
 }
 
 // Writes 10, 20 and 30 after a zero, the first two with the hash 2 and the last with 5.
@@ -33,13 +33,13 @@ fn is_looked_over<W: Width>(alloc: Global, end: u64) -> bool {
         2,
         |item| item.to_native() > 10,
     ) {
-        Ok(seen) => is_seen(&seen, &[3, 2, 1], Some(1), 1) && writer.pos() == end,
+        Ok(report) => is_report(&report, &[3, 2, 1], Some(1), 1) && writer.pos() == end,
         Err(_) => false,
     }
 }
 
 #[test]
-fn a_list_is_seen_as_it_was_written(rt: HostRuntime) {
+fn a_list_is_found_as_it_was_written(rt: HostRuntime) {
     written_lists_stand::<Narrow, u8, &u8>();
     let alloc = rt.alloc();
     let seen = [
@@ -58,27 +58,27 @@ const ONE_PAIR: [u8; 60] = [
 ];
 
 // Looks up a hash in that table, with a comparison that accepts every item.
-fn look(alloc: Global, bytes: &[u8; 60], hash: u64) -> Result<Seen, Unseen> {
+fn look(alloc: Global, bytes: &[u8; 60], hash: u64) -> Result<TableReport, LookError> {
     let range = PartRange { lo: 0, hi: 48 };
     look_over::<Narrow, Entry<u32, u32>, _>(alloc, bytes, 48, range, hash, |_| true)
 }
 
 #[test]
-fn bytes_of_a_stranger_are_seen_or_refused(rt: HostRuntime) {
+fn untrusted_bytes_are_reported_or_refused(rt: HostRuntime) {
     let alloc = rt.alloc();
     let found = match look(alloc, &ONE_PAIR, 0x5000_0000_0000_0001) {
-        Ok(seen) => is_seen(&seen, &[0], Some(0), 1),
+        Ok(report) => is_report(&report, &[0], Some(0), 1),
         Err(_) => false,
     };
     let none = match look(alloc, &ONE_PAIR, 1) {
-        Ok(seen) => is_seen(&seen, &[0], None, 1),
+        Ok(report) => is_report(&report, &[0], None, 1),
         Err(_) => false,
     };
     let mut bytes = ONE_PAIR;
     bytes[52] = 0;
     let refused = matches!(
         look(alloc, &bytes, 1),
-        Err(Unseen::Verify(VerifyError::WrongNumberOfElements {
+        Err(LookError::Verify(VerifyError::WrongNumberOfElements {
             expected: 0,
             actual: 1,
         }))

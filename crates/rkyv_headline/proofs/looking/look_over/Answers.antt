@@ -1,5 +1,5 @@
-use Rattle.rkyv_headline.proofs.Seeing.{accepted_viewed, table_seen}
-use Rattle.rkyv_headline.specs.declared.looking.Seen.{Seen}
+use Rattle.rkyv_headline.proofs.Reports.{accepted_viewed, table_reported}
+use Rattle.rkyv_headline.specs.declared.looking.TableReport.{TableReport}
 use Rattle.rkyv_headline.proofs.looking.look_over.Goals as goal
 
 pub walk-requires : goal.walk-requires
@@ -20,8 +20,8 @@ returns g c =
     let stands = accepted_viewed w g.met.W.Width.layout.kind s law c.args.bytes.now c.args.pos c.args.range c.in-Ok.field-0
     c.requires.inside c.requires.aligned c.requires.ordered.0 c.requires.ordered.1 c.in-Ok.ensures in
     let answer = c.look_up-answer in
-    let seen : Seen = record { walked = c.in-Ok-walk.walked; found = answer.result.found; strides = answer.result.strides } in (
+    let report : TableReport = record { walked = c.in-Ok-walk.walked; found = answer.result.found; strides = answer.result.strides } in (
       c.in-Ok.field-0,
       c.in-Ok.ensures,
-      table_seen (goal.F-post g c.args.cmp) w s c.args.bytes.now c.args.pos law stands c.args.hash seen c.in-Ok-walk.ensures answer.ensures.looks answer.ensures.reads answer.ensures.exact,
+      table_reported (goal.F-post g c.args.cmp) w s c.args.bytes.now c.args.pos law stands c.args.hash report c.in-Ok-walk.ensures answer.ensures.looks answer.ensures.reads answer.ensures.exact,
     )

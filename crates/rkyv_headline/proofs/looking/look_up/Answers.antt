@@ -2,8 +2,8 @@ use Rattle.std.proofs.Common.{◌∙◌, ap, subst, sym}
 use Rattle.rkyv_scan.specs.Groups.{generic_kind}
 use Rattle.rkyv_table.specs.Table.Bare.{LooksUp, ReadsExactly}
 use Rattle.rkyv_table.proofs.Bare.{reads_exactly}
-use Rattle.rkyv_headline.specs.Seeing.{ReadsFew}
-use Rattle.rkyv_headline.proofs.Seeing.{few_read, looks_found}
+use Rattle.rkyv_headline.specs.Report.{ReadsFew}
+use Rattle.rkyv_headline.proofs.Reports.{few_read, looks_found}
 use Rattle.rkyv_headline.proofs.looking.look_up.Goals as goal
 
 pub returns-clause-looks : goal.returns-clause-looks

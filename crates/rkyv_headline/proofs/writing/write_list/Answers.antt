@@ -1,22 +1,24 @@
 use Rattle.std.proofs.Common.{◌∙◌, ℕ, inr, subst, sym}
 use Rattle.std.specs.Int.{byte_len}
-use Rattle.rkyv_base.specs.Pairs.{written_as}
 use Rattle.rkyv_base.proofs.RootWriting.{root_told_align, root_told_append, root_told_far}
-use Rattle.rkyv_table.specs.Table.Counting.{GaveBoth, Uneven}
 use Rattle.rkyv_table.specs.Table.Header.{HeaderFar}
-use Rattle.rkyv_table.specs.Table.TableFormat.{table_format}
-use Rattle.rkyv_headline.proofs.Listing.{header_small, image_of, list_wrote, no_list, room_of}
+use Rattle.rkyv_headline.specs.Listing.{encoding, list_format, list_of, pairs_of}
+use Rattle.rkyv_headline.proofs.Listing.{element_members, header_small, image_of, list_wrote, no_list, room_of, width_members}
 use Rattle.rkyv_headline.proofs.writing.write_list.Goals as goal
 
 pub returns-in-Err : goal.returns-in-Err
 returns-in-Err g c =
-    let f = table_format g.W.Word.word g.U.Archived.Element.shape (written_as g.X.Lend.lent g.U.Archive.format) c.args.load_factor in
-    no_list (GaveBoth g.I.Iterator.next_gives g.J.Iterator.next_gives c.args.items c.args.hashes) c.args.len c.args.load_factor g.W.Width.MAX_CAPACITY g.W.Width.LIMIT (byte_len g.W.Word.word) f
-    (g.S.Writer.output c.args.serializer.now) (g.S.Writer.output c.serialize_from_iter.new.serializer) (Uneven g.I.Iterator.next_gives g.J.Iterator.next_gives c.args.len c.args.items c.args.hashes) c.in-Err.e c.in-Err.ensures
+    let items = encoding (element_members g.U.Archived.Element g.U.Archived.StandsFor) g.U.Archive g.X.Lend in
+    let input = pairs_of g.I.Iterator g.J.Iterator c.args.items c.args.hashes in
+    let list = list_of (width_members g.W.Word g.W.Width) items input c.args.len c.args.load_factor in
+    no_list list (g.S.Writer.output c.args.serializer.now) (g.S.Writer.output c.serialize_from_iter.new.serializer) c.in-Err.e c.in-Err.ensures
 
 pub returns-in-Err-align_for_in : goal.returns-in-Err-align_for_in
 returns-in-Err-align_for_in g c =
-    let f = table_format g.W.Word.word g.U.Archived.Element.shape (written_as g.X.Lend.lent g.U.Archive.format) c.args.load_factor in
+    let items = encoding (element_members g.U.Archived.Element g.U.Archived.StandsFor) g.U.Archive g.X.Lend in
+    let input = pairs_of g.I.Iterator g.J.Iterator c.args.items c.args.hashes in
+    let list = list_of (width_members g.W.Word g.W.Width) items input c.args.len c.args.load_factor in
+    let f = list_format list in
     let h = c.in-Ok.ensures in
     let told = root_told_align g.row.S-Fault.Denot g.W.Width.LIMIT (byte_len g.W.Word.word) f h.1 (g.S.Writer.output c.args.serializer.now) (g.S.Writer.output c.serialize_from_iter.new.serializer) (g.S.Writer.output c.align_for_in.new.serializer) (g.S.Writer.output c.align_for_in.new.serializer)
     h.3.0 c.in-Ok.resolver h.3.1 h.3.2 h.3.3 c.in-Err-align_for_in.e c.in-Err-align_for_in.ensures in
@@ -29,7 +31,10 @@ resolve_from_len-requires-clause-room g c =
 
 pub returns-in-Err-resolve_from_len : goal.returns-in-Err-resolve_from_len
 returns-in-Err-resolve_from_len g c =
-    let f = table_format g.W.Word.word g.U.Archived.Element.shape (written_as g.X.Lend.lent g.U.Archive.format) c.args.load_factor in
+    let items = encoding (element_members g.U.Archived.Element g.U.Archived.StandsFor) g.U.Archive g.X.Lend in
+    let input = pairs_of g.I.Iterator g.J.Iterator c.args.items c.args.hashes in
+    let list = list_of (width_members g.W.Word g.W.Width) items input c.args.len c.args.load_factor in
+    let f = list_format list in
     let h = c.in-Ok.ensures in
     let a = c.in-Ok-align_for_in.ensures in
     let far = subst (λ (n : ℕ). HeaderFar g.W.Word.word n c.in-Ok.resolver.pos c.in-Ok-align_for_in.pos) (sym (h.3.2.len ∙ h.2.1)) c.in-Err-resolve_from_len.ensures.0 in
@@ -39,18 +44,24 @@ returns-in-Err-resolve_from_len g c =
 
 pub returns-in-Ok-append_in : goal.returns-in-Ok-append_in
 returns-in-Ok-append_in g c =
-    let f = table_format g.W.Word.word g.U.Archived.Element.shape (written_as g.X.Lend.lent g.U.Archive.format) c.args.load_factor in
+    let items = encoding (element_members g.U.Archived.Element g.U.Archived.StandsFor) g.U.Archive g.X.Lend in
+    let input = pairs_of g.I.Iterator g.J.Iterator c.args.items c.args.hashes in
+    let list = list_of (width_members g.W.Word g.W.Width) items input c.args.len c.args.load_factor in
+    let f = list_format list in
     let h = c.in-Ok.ensures in
     let a = c.in-Ok-align_for_in.ensures in
     let d = c.in-Ok-append_in.ensures in
     let image = image_of g.W.Word.word c.in-Ok.resolver c.args.len c.args.load_factor c.in-Ok-align_for_in.pos _ c.resolve_from_len.new.out (h.3.2.len ∙ h.2.1) h.3.2.factor a.1 c.in-Ok-resolve_from_len.ensures in
     let wrote = list_wrote (byte_len g.W.Word.word) f h.1 (g.S.Writer.output c.args.serializer.now) (g.S.Writer.output c.serialize_from_iter.new.serializer) (g.S.Writer.output c.align_for_in.new.serializer) (g.S.Writer.output c.append_in.new.serializer)
     h.3.0 c.in-Ok.resolver c.resolve_from_len.new.out c.pos-end.result c.in-Ok-align_for_in.pos h.3.1 h.3.2 a.0 image d.0 c.pos-end.ensures a.1 in
-    (h.0, h.1, h.2, wrote.0, (wrote.1, d.1), wrote.2)
+    (h.0, h.1, wrote.0, (h.2, (wrote.1, d.1), wrote.2))
 
 pub returns-in-Err-append_in : goal.returns-in-Err-append_in
 returns-in-Err-append_in g c =
-    let f = table_format g.W.Word.word g.U.Archived.Element.shape (written_as g.X.Lend.lent g.U.Archive.format) c.args.load_factor in
+    let items = encoding (element_members g.U.Archived.Element g.U.Archived.StandsFor) g.U.Archive g.X.Lend in
+    let input = pairs_of g.I.Iterator g.J.Iterator c.args.items c.args.hashes in
+    let list = list_of (width_members g.W.Word g.W.Width) items input c.args.len c.args.load_factor in
+    let f = list_format list in
     let h = c.in-Ok.ensures in
     let a = c.in-Ok-align_for_in.ensures in
     let image = image_of g.W.Word.word c.in-Ok.resolver c.args.len c.args.load_factor c.in-Ok-align_for_in.pos _ c.resolve_from_len.new.out (h.3.2.len ∙ h.2.1) h.3.2.factor a.1 c.in-Ok-resolve_from_len.ensures in

@@ -23,8 +23,8 @@ use Rattle.rkyv_table.specs.declared.table.ArchivedHashTable.{ArchivedHashTable}
 use Rattle.rkyv_table.proofs.Bare.{looks_up_none, looks_up_some}
 use Rattle.rkyv_table.proofs.RawWalks.{places_count, places_viewed}
 use Rattle.rkyv_table.proofs.Walks.{full_walked}
-use Rattle.rkyv_headline.specs.Seeing.{ReadsFew, SeesTable}
-use Rattle.rkyv_headline.specs.declared.looking.Seen.{Seen}
+use Rattle.rkyv_headline.specs.Report.{ReadsFew, ReportsTable}
+use Rattle.rkyv_headline.specs.declared.looking.TableReport.{TableReport}
 
 -- accepted bytes are a valid table
 pub accepted_viewed : (w : Width) → IsArchiveWord w → (s : Shape) → IsElement s → (b : List ℕ) (p : ℕ) (range rest : PartRange)
@@ -52,14 +52,14 @@ module _ {T : Type 0} (post : View T → Bool → Type 0) (w : Width) (s : Shape
   found_walked (Some q) is = accepted_walked q is
 
   -- the items and the lookup of a valid table
-  pub table_seen : IsElement s → Viewed (table_shape w s) b p → (hash : ℕ) (seen : Seen) → seen.walked.items ≡ item_positions w s.size b p
-      → LooksUp post generic_kind w s b p hash seen.found → ReadsFew w b p seen.strides → ReadsExactly post generic_kind w s b p hash seen.strides
-      → SeesTable post w s b p hash seen
-  table_seen law stands hash seen walks looks reads exact = record {
+  pub table_reported : IsElement s → Viewed (table_shape w s) b p → (hash : ℕ) (report : TableReport) → report.walked.items ≡ item_positions w s.size b p
+      → LooksUp post generic_kind w s b p hash report.found → ReadsFew w b p report.strides → ReadsExactly post generic_kind w s b p hash report.strides
+      → ReportsTable (record { word = w; shape = s; bytes = b; pos = p }) post hash report
+  table_reported law stands hash report walks looks reads exact = record {
     walks = walks;
     count = ap length walks ∙ places_count w s law b p stands;
     checked = subst (All (Viewed s b)) (sym walks) (places_viewed w s law b p stands);
-    among = subst (λ (xs : List ℕ). IfSome seen.found (Contains xs)) (sym walks) (found_walked seen.found looks.accepted);
+    among = subst (λ (xs : List ℕ). IfSome report.found (Contains xs)) (sym walks) (found_walked report.found looks.accepted);
     looks = looks;
     reads = reads;
     exact = exact;

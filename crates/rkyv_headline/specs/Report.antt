@@ -1,0 +1,72 @@
+-- A table in bytes, its items, and the result of one lookup.
+use Rattle.std.specs.Prelude.{◌≡◌, ℕ, ◌+◌, ◌/◌, Bool, List, length, IfSome, MatchResult}
+use Rattle.std.specs.Prelude.{Result}
+use Rattle.std.specs.Int.{Width}
+use Rattle.std.specs.List.{All, Contains}
+use Rattle.rkyv_base.specs.Checking.{Fails, Passes}
+use Rattle.rkyv_base.specs.Shape.{Shape, Viewed}
+use Rattle.rkyv_base.specs.declared.element.Element.{Ghosts as Elements}
+use Rattle.rkyv_base.specs.declared.element.PartRange.{PartRange}
+use Rattle.rkyv_base.specs.declared.view.View.{View}
+use Rattle.rkyv_base.specs.declared.width.Word.{Ghosts as Words}
+use Rattle.rkyv_scan.specs.Groups.{generic_kind}
+use Rattle.rkyv_table.specs.Controls.Finding.{ReadsWithin}
+use Rattle.rkyv_table.specs.Table.Bare.{LooksUp, MayAskOf, ReadsExactly}
+use Rattle.rkyv_table.specs.Table.Header.{cap_at, len_at}
+use Rattle.rkyv_table.specs.Table.Layout.{table_shape}
+use Rattle.rkyv_table.specs.Table.Reading.{item_positions}
+use Rattle.rkyv_headline.specs.declared.looking.LookError.{LookError}
+use Rattle.rkyv_headline.specs.declared.looking.LookError.TheVariants.{Memory, Verify}
+use Rattle.rkyv_headline.specs.declared.looking.TableReport.{TableReport}
+
+-- a table in bytes. `word`: width of the archive, `shape`: shape of the items,
+-- `bytes`: the archive, `pos`: position of the header
+pub record TableIn : Type 1 where
+  pub word : Width
+  pub shape : Shape
+  pub bytes : List ℕ
+  pub pos : ℕ
+
+-- the table of elements `t` in the width `w` whose header is at `pos`
+abbrev pub table_in : {W T : Type 0} → Words W → Elements T → List ℕ → ℕ → TableIn
+table_in w t bytes pos = record { word = w.word; shape = t.shape; bytes = bytes; pos = pos }
+
+-- the comparison can be called on each item of the table
+abbrev pub CanCompareItems : {T : Type 0} → TableIn → (View T → Type 0) → Type 0
+CanCompareItems t pre = MayAskOf pre t.word t.shape t.bytes t.pos
+
+-- `cap / 16`, rounded up
+abbrev pub per_sixteen : ℕ → ℕ
+per_sixteen cap = (cap + 15) / 16
+
+-- a lookup in the table at `p` reads no stride if it has no items. Else it reads at least one,
+-- and at most ceil(buckets / 16)
+abbrev pub ReadsFew : Width → List ℕ → ℕ → ℕ → Type 0
+ReadsFew w b p strides = ReadsWithin (len_at w b p) (per_sixteen (cap_at w b p)) 0 strides
+
+-- the items of the table, and one lookup. The walk visits each item once, in bucket order,
+-- and each is valid. The lookup finds no item or an accepted one, within the bound.
+-- If the comparison is a function of the position, the number of strides is exact
+pub record ReportsTable {T : Type 0} (t : TableIn) (post : View T → Bool → Type 0) (hash : ℕ)
+    (report : TableReport) : Type 0 where
+  pub walks : report.walked.items ≡ item_positions t.word t.shape.size t.bytes t.pos
+  pub count : length report.walked.items ≡ len_at t.word t.bytes t.pos
+  pub checked : All (Viewed t.shape t.bytes) report.walked.items
+  pub among : IfSome report.found (Contains report.walked.items)
+  pub looks : LooksUp post generic_kind t.word t.shape t.bytes t.pos hash report.found
+  pub reads : ReadsFew t.word t.bytes t.pos report.strides
+  pub exact : ReadsExactly post generic_kind t.word t.shape t.bytes t.pos hash report.strides
+
+-- the bytes are not a valid table, or memory could not be allocated for a valid one
+abbrev pub LookOverFails : TableIn → PartRange → LookError → Type 0
+LookOverFails t range (Verify e) = Fails (table_shape t.word t.shape) t.bytes t.pos range e
+LookOverFails t range Memory =
+    (rest : PartRange) × Passes (table_shape t.word t.shape) t.bytes t.pos range rest
+
+-- `result`: the items of the table, which is valid, and one lookup, or the error
+abbrev pub LooksOver : {T : Type 0} → TableIn → PartRange → (View T → Bool → Type 0) → ℕ
+    → Result TableReport LookError → Type 0
+LooksOver t range post hash result = MatchResult result
+    (λ report. (rest : PartRange) × Passes (table_shape t.word t.shape) t.bytes t.pos range rest
+    × ReportsTable t post hash report)
+    (LookOverFails t range)
