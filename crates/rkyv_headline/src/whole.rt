@@ -52,7 +52,8 @@ pub fn written_lists_stand<W: Width, U: Archive<W>, X: Lend<U>>()
 /// Each item has the next of the hashes. The table follows the bytes that the writer already has,
 /// and the header follows the table.
 ///
-/// - The written bytes are valid.
+/// - The appended bytes are the table, zeros up to the header's alignment, and the header.
+/// - They are valid.
 /// - The walk visits each item once, and nothing else.
 /// - The lookup finds the first inserted item that the comparison accepts.
 ///   This is under two conditions: the comparison depends on the item alone,
