@@ -1,9 +1,12 @@
 //! The tests, by the module that they test.
 
+mod error_traits;
 mod errors;
 mod lending;
+mod memory;
 mod own;
 mod parts;
+mod pieces;
 mod refusals;
 mod roots;
 mod scalars;

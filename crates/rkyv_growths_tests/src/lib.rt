@@ -2,8 +2,12 @@
 //!
 //! `tools/fail-allocations` runs them, and makes each allocation fail in turn.
 //!
-//! A test whose name ends in `succeeds` passes only if no allocation fails. Each other test has one
-//! beside it that makes the same calls. If all tests of a run pass, no allocation failed.
+//! A test whose name ends in `succeeds` passes only if no allocation fails. Each other test that
+//! allocates has one beside it that makes the same calls. If all tests of a run pass, no allocation
+//! failed.
+//!
+//! Each test of `counts` makes eight allocations: it fails if the eighth one fails, and passes if the
+//! ninth one would.
 #![tactic(auto)]
 
 #[cfg(test)]

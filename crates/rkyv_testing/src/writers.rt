@@ -1,5 +1,6 @@
-//! Writers near the greatest position of a narrow archive, and writers that fail.
-ghost use Rattle.std.specs.Prelude.{[]};
+//! Writers near the greatest position of a narrow archive, writers that fail, and writers that keep
+//! the lengths of their pieces.
+ghost use Rattle.std.specs.Prelude.{[], min, ◌+◌, ◌-◌, ◌^◌, ◌≡◌, ◌≤◌};
 
 use rkyv_base::writer::Writer;
 use std::alloc::Global;
@@ -103,5 +104,76 @@ impl Writer for BrokenWriter {
             self.failures += 1;
         }
         Err(Broken)
+    }
+}
+
+/// A writer into memory that keeps the length of each piece.
+#[derive(Drop)]
+pub struct PieceWriter {
+    bytes: Vec<u8>,
+    lengths: Vec<usize>,
+    failures: u64,
+}
+
+impl PieceWriter {
+    /// Returns a writer without bytes and pieces.
+    pub fn new(alloc: Global) -> PieceWriter {
+        PieceWriter {
+            bytes: Vec::new(alloc),
+            lengths: Vec::new(alloc),
+            failures: 0,
+        }
+    }
+
+    /// Returns the written bytes.
+    pub fn bytes(&self) -> &[u8] {
+        self.bytes.as_slice()
+    }
+
+    /// Returns the length of each piece, in the order of the writes.
+    pub fn lengths(&self) -> &[usize] {
+        self.lengths.as_slice()
+    }
+
+    // Counts a failure.
+    fn count_failure(&mut self)
+        ensures counted { self.new.failures ≡ min (self.old.failures + 1) (2 ^ 64 - 1) }
+        ensures kept { self.old.failures ≤ self.new.failures }
+        ensures bytes { self.new.bytes ≡ self.old.bytes }
+    {
+        if self.failures < u64::MAX {
+            self.failures += 1;
+        }
+    }
+}
+
+impl Writer for PieceWriter {
+    type Fault = NoRoom;
+
+    ghost output = { λ w. record { start = 0; bytes = w.bytes.items; failures = w.failures } };
+
+    fn pos(&self) -> u64 {
+        self.bytes.len() as u64
+    }
+
+    fn failures(&self) -> u64 {
+        self.failures
+    }
+
+    fn write(&mut self, bytes: &[u8]) -> Result<(), NoRoom> {
+        match self.lengths.push(bytes.len()) {
+            Ok(()) => {}
+            Err(_) => {
+                self.count_failure();
+                return Err(NoRoom);
+            }
+        }
+        match self.bytes.extend_from_slice(bytes) {
+            Ok(()) => Ok(()),
+            Err(_) => {
+                self.count_failure();
+                Err(NoRoom)
+            }
+        }
     }
 }

@@ -1,0 +1,27 @@
+//! Tests of the memory of writers.
+
+use rkyv_base::root::to_bytes;
+use rkyv_base::writer::{VecWriter, Writer};
+use std::alloc::Global;
+
+// Returns the capacity of the archive of `()`.
+fn capacity_of_unit(alloc: Global) -> Option<usize> {
+    let bytes = to_bytes(alloc, &()).ok()?;
+    Some(bytes.capacity())
+}
+
+#[test]
+fn a_new_writer_has_no_memory(rt: HostRuntime) {
+    let new = VecWriter::new(rt.alloc()).into_vec().capacity();
+    let mut empty = VecWriter::new(rt.alloc());
+    let written = empty.write(&[]).is_ok();
+    assert_eq!(rt;
+        (
+            new,
+            written,
+            empty.into_vec().capacity(),
+            capacity_of_unit(rt.alloc())
+        ),
+        (0, true, 0, Some(0))
+    );
+}
