@@ -1,7 +1,7 @@
 //! Helpers for the tests of several crates.
 //!
 //! - `archives` returns archives of known bytes, and `written` compares archives with known bytes.
-//! - `writers` has writers that fail, are near the greatest position, or keep the lengths of pieces.
+//! - `writers` has writers that fail, are near the greatest position, or keep lengths of pieces.
 //! - `asks` counts the calls of iterators whose items are written.
 //! - `changes` counts the results for archives with changed bytes.
 #![tactic(auto)]

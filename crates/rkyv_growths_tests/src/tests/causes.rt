@@ -33,8 +33,8 @@ fn ending_of<R: Drop>(answer: Result<R, WriteError<NoMemory>>) -> Ending {
 
 // Returns `true` if the writer, which was new before the write, is as the ending says.
 //
-// After an allocation of the call has failed it is unchanged. After one of its own has failed it has
-// one failure, and the pieces before the failed one.
+// After an allocation of the call has failed it is unchanged. After one of its own has failed it
+// has one failure, and the pieces before the failed one.
 fn fits(ending: Ending, writer: &VecWriter, bytes: &[u8]) -> bool {
     let written = writer.bytes();
     match ending {
