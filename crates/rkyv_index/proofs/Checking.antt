@@ -1,4 +1,4 @@
--- Steps of the check of an index map.
+-- Steps of the validation of an index map.
 use Rattle.std.proofs.Common.{◌≡◌, ℕ, suc, ◌+◌, ◌-◌, ◌*◌, ◌%◌, ◌<◌, ◌≤◌, refl, sym, ap, subst, ◌∙◌, arith, List, [], ◌∷◌, Bool, true, false, filter, length, ℤ, FitsSigned, to_z, of_z}
 use Rattle.std.specs.Borrow.{Bor}
 use Rattle.std.specs.Int.{Width, byte_len, w128}
@@ -18,35 +18,35 @@ use Rattle.rkyv_index.specs.IndexLayout.{entry_at, place_shape}
 use Rattle.rkyv_index.specs.Lemmas.IndexLaws.{place_element}
 use Rattle.rkyv_index.specs.Lemmas.PlaceShapes.{words_hold}
 
--- entries are aligned
+-- each entry is aligned if the first one is
 pub entry_aligned : (s : Shape) → IsElement s → (begin i : ℕ) → begin % s.align ≡ 0 → entry_at s.size begin i % s.align ≡ 0
 entry_aligned s law begin i h =
     let z : (i % s.align * 0) % s.align ≡ 0 = rw mul-zero (by_align (λ a. 0 % a ≡ 0) refl refl refl refl s.align law.align_is) in
     let m : (i * s.size) % s.align ≡ 0 = mul-mod i s.size s.align ∙ ap (λ x. (i % s.align * x) % s.align) law.size_whole ∙ z in
     sum_multiple begin (i * s.size) s.align law.align_is h m
 
--- the next entry stands behind this one
+-- the end of entry `i` is the position of entry `i + 1`
 pub entry_next : (size begin i : ℕ) → entry_at size begin i + size ≡ entry_at size begin (i + 1)
 entry_next size begin i = let m = add-mul i 1 size in omega (arith, m)
 
--- the places from i on are i and those behind it
+-- the indices from `i` on are `i` and those from `i + 1` on
 pub places_step : (i n : ℕ) → i < n → range_with_len i (n - i) ≡ i ∷ range_with_len (i + 1) (n - (i + 1))
 places_step i n h = let e : n - i ≡ suc (n - (i + 1)) = omega arith in ap (range_with_len i) e
 
--- a number that fits is told as itself
+-- a number that fits is unchanged by its encoding
 pub told_is : (r x : ℤ) → FitsSigned w128 r → r ≡ x → to_z w128 (of_z w128 r) ≡ x
 told_is r x fits e = to_z-of_z w128 r fits ∙ e
 
--- what is viewed at a place is viewed by a view of the place
+-- a valid value at `p` is valid at a view of `p`
 pub view_there : {T : Type 0} (s : Shape) (v : View T) (archive : Bor (List ℕ)) (p : ℕ) → IsAt v archive p → Viewed s archive.now p → IsView s v
 view_there s v archive p at viewed =
     subst (λ (x : Bor (List ℕ)). Viewed s x.now v.pos) (sym at.0) (subst (λ q. Viewed s archive.now q) (sym at.1) viewed)
 
--- what is read by a view is read at the place where it is
+-- a function of the bytes and the position of a view is one of `archive` and `p`
 pub view_at : {T X : Type 0} (v : View T) (archive : Bor (List ℕ)) (p : ℕ) → IsAt v archive p → (read : List ℕ → ℕ → X) → read v.archive.now v.pos ≡ read archive.now p
 view_at v archive p at read = ap (λ (x : Bor (List ℕ)). read x.now v.pos) at.0 ∙ ap (read archive.now) at.1
 
--- the table of places of an index map is viewed where it holds
+-- the table of a valid index map is valid for a view
 pub table_viewed : {V : Type 0} (w : Width) → IsArchiveWord w → (e : Encoding V) → IsPlace w e → (b : List ℕ) (p lo hi m : ℕ)
     → p + 4 * byte_len w ≤ length b → p % byte_len w ≡ 0 → lo ≤ hi → hi ≤ p → TableHolds w (scalar_shape e) b p lo hi m → Viewed (table_shape w (place_shape w)) b p
 table_viewed w kind e is b p lo hi m inside aligned o o' h = record {
@@ -55,7 +55,7 @@ table_viewed w kind e is b p lo hi m inside aligned o o' h = record {
   stands = standing (table_shape w (place_shape w)) (table_element w kind (place_shape w) (place_element w kind)) b p lo hi m o o' (words_hold w e is b p lo hi m h);
 }
 
--- one place more, of which it is known whether it passes
+-- one more index of a range, which passes the test `P` or fails it
 module _ (P : ℕ → Bool) (i n : ℕ) (below : i < n) where
   pub filter_step : (passes : P i ≡ true) → length (filter P (range_with_len i (n - i))) ≡ 1 + length (filter P (range_with_len (i + 1) (n - (i + 1))))
   filter_step passes = ap (λ (xs : List ℕ). length (filter P xs)) (places_step i n below) ∙ rw passes (omega arith)
@@ -69,7 +69,7 @@ module _ (P : ℕ → Bool) (i n : ℕ) (below : i < n) where
   pub all_fails : (fails : P i ≡ false) → list_all P (range_with_len i (n - i)) ≡ false
   all_fails fails = ap (list_all P) (places_step i n below) ∙ rw fails refl
 
--- none is left
+-- no index remains
 pub none_left : (i n : ℕ) → n ≤ i → range_with_len i (n - i) ≡ []
 none_left i n above = let z : n - i ≡ 0 = omega arith in ap (range_with_len i) z
 

@@ -1,4 +1,4 @@
--- Where no place is misplaced, a lookup finds the one key that fits.
+-- If no key is misplaced, a lookup finds the one key that fits.
 use Rattle.std.proofs.Common.{◌≡◌, ℕ, zero, suc, ◌+◌, ◌^◌, ◌<◌, ◌≤◌, ◌∙◌, inl, inr, refl, sym, ap, arith, subst, List, Bool, true, false, not, Option, Some, None, length, filter}
 use Rattle.std.specs.Option.{option_map}
 use Rattle.std.specs.Int.{Width, byte_len}
@@ -30,7 +30,7 @@ use Rattle.rkyv_index.specs.IndexLayout.{index_shape, place_shape}
 use Rattle.rkyv_index.specs.Lemmas.IndexLaws.{place_element}
 use Rattle.rkyv_index.proofs.Held.{entry_viewed, place_below, table_there}
 
--- what is never kept fails everywhere
+-- if no number of a range passes `P`, each number fails it
 none_kept : (P : ℕ → Bool) (a n : ℕ) → length (filter P (range_with_len a n)) ≡ 0 → (i : ℕ) → a ≤ i → i < a + n → P i ≡ false
 none_kept P a zero e i from to = absurd (omega arith)
 none_kept P a (suc n) e i from to = elim (cases_Bool (P a)) [
@@ -47,7 +47,7 @@ answer_is : (b : ℕ) (o : Option ℕ) → is_answer b o ≡ true → o ≡ Some
 answer_is b None e = absurd (true≢false (sym e))
 answer_is b (Some x) e = ap Some (sym (eqb-true b x e))
 
--- what is found is found somewhere
+-- a found image is that of a found item
 found_somewhere : {A B : Type 0} (f : A → B) (o : Option A) (y : B) → option_map f o ≡ Some y → (x : A) × (o ≡ Some x) × (f x ≡ y)
 found_somewhere f None y e = absurd (none-some y e)
 found_somewhere f (Some x) y e = (x, refl, same_Some (f x) y e)
@@ -98,7 +98,7 @@ module _ {K Q : Type 0} (m : Index K) (kind : IsArchiveWord m.word) (kl : IsElem
   key_standing : (i : ℕ) → i < len → Standing k b (at i)
   key_standing i below = standing_key kl vl b (at i) (entry_viewed w kind s law b p view i below).stands
 
-  -- what is found is a place whose key fits
+  -- a found index is that of a key that fits
   found_fits : (i : ℕ) → index_found w b p (hash_of_calls hasher (calls q)) accept ≡ Some i → (i < len) × (accept i ≡ true)
   found_fits i e = elim (cases_eq cap 0) [
     | inl z ↦
@@ -116,7 +116,7 @@ module _ {K Q : Type 0} (m : Index K) (kind : IsArchiveWord m.word) (kl : IsElem
         (subst (λ n. n < len) is below, subst (λ n. accept n ≡ true) is there.0)
   ]
 
-  -- a place whose key fits is found
+  -- a lookup finds the index of a key that fits
   found_itself : (i : ℕ) → i < len → accept i ≡ true → index_found w b p (hash_of_calls hasher (calls q)) accept ≡ Some i
   found_itself i below ok =
       let own = own_found m (hash_at hasher key_calls) same in

@@ -1,4 +1,4 @@
--- What an accepted index map gives to its readers.
+-- Consequences of a valid index map for its readers.
 use Rattle.std.proofs.Common.{◌≡◌, ℕ, zero, suc, ◌+◌, ◌*◌, ◌<◌, ◌≤◌, sym, ap, subst, ◌∙◌, arith, List, length, pos}
 use Rattle.std.specs.Prelude.{unsigned_abs}
 use Rattle.std.specs.Int.{Width, byte_len}
@@ -23,7 +23,7 @@ use Rattle.rkyv_index.specs.Lemmas.IndexLaws.{All-unmap, each_holds, entry_insid
 use Rattle.rkyv_index.specs.Lemmas.PlaceShapes.{places_viewed}
 use Rattle.rkyv_index.proofs.Checking.{entry_aligned}
 
--- what holds of each value of a row holds of the row
+-- a property of each value of a row is one of all values of the row
 pub All-row : (P : ℕ → Type 0) (size q n : ℕ) → ((i : ℕ) → i < n → P (entry_at size q i)) → All P (row size q n)
 All-row P size q zero h = All-nil P
 All-row P size q (suc n) h =
@@ -34,7 +34,7 @@ module _ (w : Width) (kind : IsArchiveWord w) (s : Shape) (law : IsElement s) (b
   abbrev held : IndexHolds w s b p 0 p v.stands.0
   held = v.stands.1
 
-  -- its table of places
+  -- the table of the map is valid
   pub table_there : Viewed (table_shape w (place_shape w)) b p
   table_there =
       let inside = v.inside in
@@ -44,7 +44,7 @@ module _ (w : Width) (kind : IsArchiveWord w) (s : Shape) (law : IsElement s) (b
         stands = standing (table_shape w (place_shape w)) (table_element w kind (place_shape w) (place_element w kind)) b p 0 p held.middle (omega arith) (omega arith) held.table;
       }
 
-  -- where its entries begin
+  -- the position at which the entries begin
   pub begin_is : entries_pos w b p ≡ held.entries.begin
   begin_is = sym (ap unsigned_abs held.entries.part.begins)
 
@@ -54,7 +54,7 @@ module _ (w : Width) (kind : IsArchiveWord w) (s : Shape) (law : IsElement s) (b
   pub entries_inside : entries_pos w b p + len_at w b p * s.size ≤ p
   entries_inside = let below = held.entries.part.below in omega (arith, below, begin_is)
 
-  -- an entry stands behind each place below the length
+  -- the archive has a valid entry at each index below the length
   pub entry_viewed : (i : ℕ) → i < len_at w b p → Viewed s b (pair_pos w s.size b p i)
   entry_viewed i below =
       let begin = held.entries.begin in
@@ -71,7 +71,7 @@ module _ (w : Width) (kind : IsArchiveWord w) (s : Shape) (law : IsElement s) (b
   pub entries_viewed : All (Viewed s b) (pair_positions w s.size b p)
   entries_viewed = All-row (Viewed s b) s.size (entries_pos w b p) (len_at w b p) entry_viewed
 
-  -- the place in a bucket lies in the archive, and is below the length
+  -- the index in a full bucket is inside the archive, and below the length
   pub place_inside : (i : ℕ) → IsWalked w b p i → item_at w (byte_len w) b p i + byte_len w ≤ length b
   place_inside i walked = (item_viewed w (place_shape w) (place_element w kind) b p table_there i walked).inside
 

@@ -1,4 +1,4 @@
--- The parts of an index map, one after the other.
+-- Steps of writing an index map, part by part.
 use Rattle.std.proofs.Common.{◌≡◌, ℕ, suc, ◌+◌, refl, sym, ap, ◌∙◌, subst, arith, ◌≤◌, List, [], ◌∷◌, ◌++◌, length, append-nil, length-append, inl, inr, Result, Ok, Err, MatchResult}
 use Rattle.std.specs.Int.{Width}
 use Rattle.std.specs.Iterator.{Drains, Yields, YieldsFirst}
@@ -17,7 +17,7 @@ use Rattle.rkyv_index.specs.IndexFormat.{BeforeRow, BeforeZeros, IndexNext, plac
 use Rattle.rkyv_index.specs.Row.{RowNext, RowParts, RowPartsNext, WroteRow}
 use Rattle.rkyv_table.proofs.Through.{own_counted}
 
--- an iterator whose state shows the list of what is left
+-- an iterator whose state has the list of the items that remain
 module _ {S A : Type 0} (rest : S → List A) where
   left_after : (xs : List A) (s t : S) → Yields (YieldsFirst rest) s xs t → rest s ≡ xs ++ rest t
   left_after [] s t e = ap rest e
@@ -62,7 +62,7 @@ module _ (F : Type 0) {P X : Type 0} (w : Width) (e : Encoding P) (hash : X → 
         inl (own_counted (length xs) factor max (GaveOther (YieldsFirst rest) (length xs) state) NoOther (λ k g. no_other_drained rest (length xs) state n k g) err h.0, h.1)
     no_places err (inr h) = inr (subst (λ ps. GaveUp limit TableOf ps o o1 err) (drained rest h.1 state h.2.0 ∙ there) h.3)
 
-    -- what the table's call answers is what writing the places does
+    -- the result of writing the table is that of writing the indices
     pub answers_places : (result : Result TableResolver (WriteError F))
         → MatchResult result (WroteItems Gave (length xs) factor max TableOf o o1 limit) (NoItems Gave (length xs) factor max TableOf o o1 limit (GaveOther (YieldsFirst rest) (length xs) state))
         → WritesPlaces w e hash factor max limit xs o o1 result
@@ -80,7 +80,7 @@ module _ (F : Type 0) {P X : Type 0} (w : Width) (e : Encoding P) (hash : X → 
     stopped_table o1 err t =
         told_as limit Next (PairsNext w (scalar_shape e) (scalar_format e) factor Places (end_of o)) o o1 err (λ g step h. inl h) t
 
-    -- where the places weren't written, the values weren't
+    -- if writing the indices fails, writing the values fails with the same error
     pub stopped_places : (max : ℕ) (o1 : Output) (err : WriteError F) → OwnOrGaveUp (length xs) factor max NoOther limit TableOf Places o o1 err
         → OwnOrGaveUp (length xs) factor max NoOther limit (row_format w e s f hash factor) xs o o1 err
     stopped_places max o1 err (inl h) = inl h

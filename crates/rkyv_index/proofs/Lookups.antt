@@ -1,4 +1,4 @@
--- From what a table of places finds to what an index map does.
+-- From a lookup in a table of indices to a lookup in an index map.
 use Rattle.std.proofs.Common.{◌≡◌, ℕ, ◌+◌, ◌<◌, ◌≤◌, ◌∙◌, refl, ap, sym, subst, arith, cond, Bool, true, false, length, map, List, [], ◌∷◌, Option, Some, slice_index}
 use Rattle.std.specs.Borrow.{Bor}
 use Rattle.std.specs.Int.{Width, byte_len}
@@ -24,7 +24,7 @@ use Rattle.rkyv_index.specs.IndexLayout.{places_of}
 use Rattle.rkyv_index.specs.declared.map.ArchivedIndexMap.{ArchivedIndexMap}
 use Rattle.rkyv_index.proofs.Held.{place_below, place_inside}
 
--- the first element whose image is accepted, by its image
+-- the image of the first accepted element is the first accepted image
 find-step : (f : ℕ → ℕ) (accept : ℕ → Bool) (x : ℕ) (r : Option ℕ) (r' : Option ℕ) (t : Bool) → option_map f r ≡ r'
     → option_map f (cond t (Some x) r) ≡ cond t (Some (f x)) r'
 find-step f accept x r r' true e = refl
@@ -34,7 +34,7 @@ pub find-map : (f : ℕ → ℕ) (accept : ℕ → Bool) (xs : List ℕ) → opt
 find-map f accept [] = refl
 find-map f accept (x ∷ xs) = find-step f accept x (find (λ y. accept (f y)) xs) (find accept (map f xs)) (accept (f x)) (find-map f accept xs)
 
--- what is read at the i-th place is i
+-- the number at index `i` of the indices is `i`
 place_read : (n i : ℕ) → i < n → slice_index (places_of n) i ≡ i
 place_read n i below = get_or-range_with_len 0 n i 0 below ∙ omega arith
 
@@ -56,7 +56,7 @@ module _ {K V H W P N : Type 0} (w : Width) (kind : IsArchiveWord w) (k v : Shap
       ∙ ap (λ (x : List ℕ). home_positions w (byte_len w) x (table_pos t) homes) bytes_same
       ∙ ap (λ q. home_positions w (byte_len w) (index_bytes m) q homes) at.1
 
-  -- an item of the table is a bucket's
+  -- an item of the table is in a full bucket of the map
   item_there : (h : View P) → IsItem w (scalar_shape e) t h → (i : ℕ) × IsWalked w (index_bytes m) (index_pos m) i × (h.pos ≡ item_at w (byte_len w) (index_bytes m) (index_pos m) i)
   item_there h item =
       let walked = subst (λ q. IsWalked w (index_bytes m) q item.0) at.1 (subst (λ (x : List ℕ). IsWalked w x (table_pos t) item.0) bytes_same item.1.walked) in
@@ -65,11 +65,11 @@ module _ {K V H W P N : Type 0} (w : Width) (kind : IsArchiveWord w) (k v : Shap
       ∙ ap (λ q. item_at w (byte_len w) (index_bytes m) q item.0) at.1 in
       (item.0, walked, pos)
 
-  -- and is read in the archive of the map
+  -- an item of the table is read in the archive of the map
   pub read_there : (h : View P) → IsItem w (scalar_shape e) t h → bytes_of h ≡ index_bytes m
   read_there h item = ap (λ (x : Bor (List ℕ)). x.now) (item.1.archive ∙ at.0)
 
-  -- the number there is a place of the map
+  -- the number of an item is an index of the map
   pub item_place : (h : View P) → IsItem w (scalar_shape e) t h → IsPlaceOf w m h
   item_place h item =
       let there = item_there h item in
@@ -81,13 +81,13 @@ module _ {K V H W P N : Type 0} (w : Width) (kind : IsArchiveWord w) (k v : Shap
         subst (λ (x : List ℕ). number_at w x h.pos < index_len w m) (sym (read_there h item)) (subst (λ q. number_at w (index_bytes m) q < index_len w m) (sym there.2) below),
       )
 
-  -- and a bucket holds it
+  -- a full bucket of the map has that index
   pub item_held : (h : View P) → IsItem w (scalar_shape e) t h → IsHeld w m (number_at w (bytes_of h) h.pos)
   item_held h item =
       let there = item_there h item in
       (there.0, there.1, ap (number_at w (index_bytes m)) (sym there.2) ∙ ap (λ (x : List ℕ). number_at w x h.pos) (sym (read_there h item)))
 
-  -- from the position that is found to the place that is read there
+  -- the index at the found position is the one that the map finds
   pub place_is : (result : Option (View P)) (hash : ℕ) (accept : ℕ → Bool)
       → pos_of_found result ≡ pos_found generic_kind w (scalar_shape e).size (table_bytes t) (table_pos t) hash (λ q. accept (number_at w (index_bytes m) q))
       → option_map (number_at w (index_bytes m)) (pos_of_found result)
@@ -124,8 +124,8 @@ module _ {K V H W P N : Type 0} (w : Width) (kind : IsArchiveWord w) (k v : Shap
         ∙ find-map (number_at w (index_bytes m)) accept (home_positions w (byte_len w) (index_bytes m) (index_pos m) homes)
         ∙ ap (find accept) written.places
 
-  -- What is told of the answer of the table's lookup is told of the place that is read there, where
-  -- the table's comparison answers what a comparison of the key of that place does.
+  -- If the table compares each item by the key at its index, its lookup finds the same as one
+  -- in the map that compares keys.
   module _ (Post : View P → Bool → Type 0) (post : View K → Bool → Type 0) (asks : (h : View P) (r : Bool) → Post h r → (key : View K) × IsKeyOf w k v m (number_at w (bytes_of h) h.pos) key × post key r)
       (result : Option (View P)) (accept : ℕ → Bool) (answers : AnswersKeys (index_of w k v m) post accept) (hash : ℕ) where
     abbrev accept_at : ℕ → Bool

@@ -1,4 +1,4 @@
--- The item of a table of places that was found, and the place of an index map that it holds.
+-- A found item of a table of indices, and the index in it.
 use Rattle.std.proofs.Common.{◌≡◌, ℕ, ◌+◌, ◌/◌, ◌≤◌, ◌∙◌, ap, refl, subst, sym, Bool, List, None, Option, Some, length}
 use Rattle.std.specs.Borrow.{Bor}
 use Rattle.std.specs.Int.{Width, byte_len}
@@ -28,29 +28,29 @@ module _ {K V H W P N : Type 0} (w : Width) (kind : IsArchiveWord w) (k v : Shap
   abbrev pub place_of : View P → ℕ
   place_of item = number_at w (bytes_of item) (pos_of item)
 
-  -- the place that was found is the number at the position that was
+  -- the index in a found item is the number at its position
   pub place_found : (held : Option (View P)) → IfSome held (IsItem w (scalar_shape e) t)
       → option_map place_of held ≡ option_map (number_at w (index_bytes m)) (pos_of_found held)
   place_found None item = refl
   place_found (Some h) item = ap Some (ap (λ (x : List ℕ). number_at w x h.pos) (read_there w kind k v kl vl m is e place t at h item))
 
-  -- its item stands in the archive
+  -- a found item is inside the archive
   pub place_inside : (held : Option (View P)) → IfSome held (IsItem w (scalar_shape e) t) → IfSome held (λ item. pos_of item + byte_len w ≤ length (bytes_of item))
   place_inside None item = item
   place_inside (Some h) item = (item_place w kind k v kl vl m is e place t at h item).0
 
-  -- a bucket holds it, and it is below the length
+  -- a full bucket has the index, and it is below the length
   pub place_kept : (held : Option (View P)) → IfSome held (IsItem w (scalar_shape e) t) → IfSome (option_map place_of held) (IsHeldPlace w m)
   place_kept None item = item
   place_kept (Some h) item = (item_held w kind k v kl vl m is e place t at h item, (item_place w kind k v kl vl m is e place t at h item).1)
 
-  -- the strides that are read of the table are those of the map
+  -- the strides of a lookup in the table are those of a lookup in the map
   pub reads_few : (before after : ℕ) → CountsWithin w t before after → ReadsFew w m before after
   reads_few before after counts =
       subst (λ q. ReadsWithin (len_at w (index_bytes m) q) (probe_capacity (cap_at w (index_bytes m) q) / 16) before after) at.1
       (subst (λ (x : List ℕ). ReadsWithin (len_at w x (table_pos t)) (probe_capacity (cap_at w x (table_pos t)) / 16) before after) (ap (λ (x : Bor (List ℕ)). x.now) at.0) counts)
 
-  -- what a lookup in the table of places says is said of the place that is read of its answer
+  -- the clauses of a lookup in the table are clauses on the index in its result
   module _ {State : Type 0} (hasher : Hasher State) (calls : List HasherCall) (key_calls : List ℕ → ℕ → List HasherCall) (Post : View P → Bool → Type 0) (post : View K → Bool → Type 0)
       (asks : (h : View P) (r : Bool) → Post h r → (key : View K) × IsKeyOf w k v m (number_at w (bytes_of h) h.pos) key × post key r) (hash : ℕ) (under : hash ≡ hash_of_calls hasher calls)
       (held : Option (View P)) (got : FindsItem Post generic_kind w (scalar_shape e) t hash held) (result : Option ℕ) (read : result ≡ option_map (number_at w (index_bytes m)) (pos_of_found held)) where

@@ -1,4 +1,4 @@
--- A lookup by a comparison that tells which keys fit is one of a query.
+-- A lookup by a comparison with the keys that fit is a lookup of a query.
 use Rattle.std.proofs.Common.{◌≡◌, ℕ, ◌<◌, ◌^◌, ◌∙◌, Bool, List, Option, subst, sym}
 use Rattle.std.specs.Option.{option_map}
 use Rattle.std.specs.Int.{Width}
@@ -40,7 +40,7 @@ module _ {K V H W Q X State : Type 0} (w : Width) (kind : IsArchiveWord w) (k v 
             (finds_the_one (index_of w k v m) kind kl vl hasher same key_calls can_read calls fits query is q can small none);
       }
 
--- what a lookup in the table of places by the keys that fit says is said of the map
+-- the clauses of a lookup in the table by the keys that fit are clauses on the map
 module _ {K V H W P N Q State : Type 0} (w : Width) (kind : IsArchiveWord w) (k v : Shape) (kl : IsElement k) (vl : IsElement v) (m : ArchivedIndexMap K V H W) (is : IsIndexMap w k v m)
     (e : Encoding N) (place : IsPlace w e) (t : ArchivedHashTable P W) (at : IsAt t.view (index_archive m) (index_pos m))
     (hasher : Hasher State) (same : Comparison) (key_calls : List ℕ → ℕ → List HasherCall) (can_read : Q → Type 0) (calls : Q → List HasherCall) (fits : Q → List ℕ → ℕ → Bool)

@@ -1,4 +1,4 @@
--- What is told of each element of a list, when one more is pushed; and when two lists are equal.
+-- Properties of each element of a list after a push, and of two equal lists.
 use Rattle.std.proofs.Common.{◌≡◌, ℕ, zero, suc, List, [], ◌∷◌, ◌++◌, Bool, true, Some, arith, length, refl, subst}
 use Rattle.std.proofs.lemmas.Bool.{and_from}
 use Rattle.std.proofs.lemmas.Option.{none-some, same_Some}
@@ -12,7 +12,7 @@ pushed_too P [] x all here (suc i) y e = absurd (none-some y e)
 pushed_too P (z ∷ xs) x all here zero y e = all 0 y e
 pushed_too P (z ∷ xs) x all here (suc i) y e = pushed_too (λ j. P (suc j)) xs x (λ j. all (suc j)) here i y e
 
--- lists of one length are equal, where the elements at each place are
+-- lists of one length are equal if their elements at each index are
 pub equal_lists : {X : Type 0} (equal : X → X → Bool) (xs ys : List X) → length xs ≡ length ys
     → ((i : ℕ) (x y : X) → slice_get xs i ≡ Some x → slice_get ys i ≡ Some y → equal x y ≡ true)
     → pointwise equal xs ys ≡ true

@@ -1,4 +1,4 @@
--- The first place that is accepted, of places of which one is known to be.
+-- The first accepted index below `n`, where one index is known to be accepted.
 use Rattle.std.proofs.Common.{◌≡◌, ℕ, zero, suc, ◌+◌, ◌-◌, ◌<◌, ◌∙◌, refl, sym, ap, arith, subst, cond, Bool, true, false, not, List, [], ◌∷◌, ◌++◌, Option, Some, None}
 use Rattle.std.specs.List.{find, range_with_len}
 use Rattle.std.specs.Option.{is_some}
@@ -19,7 +19,7 @@ below_step : (t : Bool) (y x m : ℕ) (r : Option ℕ) → y < m → (r ≡ Some
 below_step true y x m r lt h e = subst (λ k. k < m) (same_Some y x e) lt
 below_step false y x m r lt h e = h e
 
--- the places of a row are those of its front and those behind it
+-- the numbers of a range are those of its front and those behind it
 range_split : (a i m : ℕ) → range_with_len a (i + m) ≡ range_with_len a i ++ range_with_len (a + i) m
 range_split a zero m =
     let z : 0 + m ≡ m = omega arith in
@@ -64,6 +64,6 @@ module _ (P : ℕ → Bool) where
         let lt = found_below 0 i x e in
         ap (λ o. not (is_answer i o)) f ∙ ap not (ne_eqb i x (λ same. omega (arith, lt, same)))
 
-    -- a place that is accepted isn't the first exactly where one before it is
+    -- an accepted index isn't the first if and only if an earlier index is accepted
     pub elsewhere_repeated : not (is_answer i (find P (places_of n))) ≡ is_some (find P (places_of i))
     elsewhere_repeated = by_front (find P (places_of i)) refl

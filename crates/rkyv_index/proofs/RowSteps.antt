@@ -1,4 +1,4 @@
--- One value more of a row.
+-- One more value of a row.
 use Rattle.std.proofs.Common.{◌≡◌, ℕ, suc, ◌+◌, ◌-◌, ◌≤◌, refl, sym, ap, ◌∙◌, subst, arith, inl, inr, List, [], ◌∷◌, ◌++◌, length, get_or, take, drop, Some, append-nil, append_assoc, length-append}
 use Rattle.std.specs.Prelude.{slice_get}
 use Rattle.std.proofs.lemmas.List.{drop-drop, get_or-drop, length-drop, take_more, take_all}
@@ -14,11 +14,11 @@ use Rattle.rkyv_index.specs.Row.{Before, RowImages, RowNext, RowParts, RowPartsN
 plus_zero : (p : ℕ) → p + 0 ≡ p
 plus_zero p = omega arith
 
--- one value more at the end of a front
+-- one more value at the end of a front
 pub take_one : {A : Type 0} (xs : List A) (i : ℕ) (x : A) → slice_get xs i ≡ Some x → take (i + 1) xs ≡ take i xs ++ x ∷ []
 take_one xs i x e = take_more xs i x (slice_get_within xs i x e) ∙ ap (λ y. take i xs ++ y ∷ []) (get_or_from_slice_get xs i x x e)
 
--- the first of what is left is the i-th
+-- the first value that remains is the one at index `i`
 front_resolver : {A : Type 0} (xs : List A) (i : ℕ) (x : A) (rest : List A) → drop i xs ≡ x ∷ rest → slice_get xs i ≡ Some x
 front_resolver {A = A} xs i x rest e =
     let n : length xs - i ≡ suc (length rest) = sym (length-drop i xs) ∙ ap length e in
@@ -35,7 +35,7 @@ module _ {X R : Type 0} (f : Format X R) where
   parts_more (y ∷ ys) p part rs x a r h g =
       part_longer f (RowParts f ys) (RowParts f (ys ++ x ∷ [])) y p part rs x a r h (λ q b qs k. parts_more ys q b qs x a r k) g
 
-  -- as many resolvers as values
+  -- there are as many resolvers as values
   pub parts_count : (xs : List X) (p : ℕ) (part : List ℕ) (rs : List R) → RowParts f xs p part rs → length rs ≡ length xs
   parts_count [] p part rs h = ap length h.1
   parts_count (x ∷ xs) p part rs h = ap length h.7 ∙ ap (λ n. suc n) (parts_count xs (p + length h.0) h.2 h.3 h.5)
@@ -72,7 +72,7 @@ module _ {X R : Type 0} (f : Format X R) where
       )
 
 module _ {X R : Type 0} (f : Format X R) (limit : ℕ) (xs : List X) (rs : List R) (o : Output) where
-  -- the values before the i-th were written, and left resolves the others
+  -- the values before index `i` were written, and `others` are the resolvers of the other values
   pub record Written (i : ℕ) (others : List R) (o1 : Output) : Type 0 where
     pub out : List ℕ
     pub appended : Appends o o1 out

@@ -1,10 +1,10 @@
--- Values that stand one behind the other.
+-- The positions of a row of values.
 use Rattle.std.proofs.Common.{◌≡◌, ℕ, zero, suc, ◌+◌, ◌-◌, ◌<◌, refl, sym, ◌∙◌, ap, arith, List, ◌∷◌, length}
 use Rattle.std.specs.Borrow.{Bor}
 use Rattle.rkyv_table.specs.Table.RawItems.{ItemsLeft}
 use Rattle.rkyv_index.specs.Index.{row}
 
--- the first of them, and those behind it
+-- a row is its first position and the row of the others
 pub row_step : (size q n : ℕ) → 0 < n → row size q n ≡ q ∷ row size (q + size) (n - 1)
 row_step size q zero h = absurd (omega arith)
 row_step size q (suc n) h = let e : n ≡ suc n - 1 = omega arith in ap (λ k. q ∷ row size (q + size) k) e
@@ -13,6 +13,6 @@ pub row_length : (size q n : ℕ) → length (row size q n) ≡ n
 row_length size q zero = refl
 row_length size q (suc n) = ap suc (row_length size (q + size) n)
 
--- as many as are left
+-- the number of positions that remain
 pub row_left : (archive : Bor (List ℕ)) (size q n : ℕ) (left : ItemsLeft) → record { archive = archive; places = row size q n } ≡ left → n ≡ length left.places
 row_left archive size q n left e = sym (row_length size q n) ∙ ap (λ (l : ItemsLeft). length l.places) e

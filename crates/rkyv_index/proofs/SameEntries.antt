@@ -1,4 +1,4 @@
--- Two entries of one place, as the equality of maps compares them.
+-- The entries at one index of two index maps, compared.
 use Rattle.std.proofs.Common.{◌≡◌, ◌∙◌, ap, subst, Bool, ℕ, List}
 use Rattle.std.specs.Borrow.{Bor}
 use Rattle.std.specs.Int.{Width}
@@ -13,7 +13,7 @@ use Rattle.rkyv_index.specs.Equality.{same_at}
 use Rattle.rkyv_index.specs.Index.{IsEntryOf, index_bytes, index_pos, key_pos}
 use Rattle.rkyv_index.specs.declared.map.ArchivedIndexMap.{ArchivedIndexMap}
 
--- whether the entries of a place of two maps are the same
+-- the entries at an index of two maps are the same
 abbrev pub same_in : {K V H W : Type 0} → Width → Shape → Shape → Comparison → Comparison → ArchivedIndexMap K V H W → ArchivedIndexMap K V H W → ℕ → Bool
 same_in w k v key value a o = same_at w (entry_shape k v) (entry_same k v key value) (index_bytes a) (index_pos a) (index_bytes o) (index_pos o)
 

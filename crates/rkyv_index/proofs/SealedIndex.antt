@@ -1,4 +1,4 @@
--- What a lookup tells of the index map that is read tells of the seal.
+-- From a lookup in the index map that is read to a lookup in the map at the seal.
 use Rattle.std.proofs.Common.{◌≡◌, ℕ, ◌<◌, ◌∙◌, sym, ap, subst, Bool, List, Option}
 use Rattle.std.specs.Borrow.{Bor}
 use Rattle.std.specs.Int.{Width}
@@ -13,13 +13,13 @@ use Rattle.rkyv_index.specs.SealedIndex.{IsKeyAt, index_at}
 use Rattle.rkyv_index.specs.ValueWrites.{pair_at}
 use Rattle.rkyv_index.specs.declared.map.ArchivedIndexMap.{ArchivedIndexMap}
 
--- the index map that is read has these bytes and this place
+-- the index map that is read has the bytes `b` and the position `p`
 module _ {K V H W : Type 0} (m : ArchivedIndexMap K V H W) (b : List ℕ) (p : ℕ) (bytes : index_bytes m ≡ b) (place : index_pos m ≡ p) where
   pub as_read : (F : List ℕ → ℕ → Type 0) → F (index_bytes m) (index_pos m) → F b p
   as_read F x = moved F (index_bytes m) b (index_pos m) p bytes place x
 
   module _ (w : Width) (k v : Shape) where
-    -- a key that is read is one of the index map where the seal is
+    -- a key of the map that is read is a key of the map at the seal
     pub key_read : (i : ℕ) (key : View K) → IsKeyOf w k v m i key → IsKeyAt w k v b p i key
     key_read i key is = record {
       below = as_read (λ d r. i < len_at w d r) is.below;
@@ -34,7 +34,7 @@ module _ {K V H W : Type 0} (m : ArchivedIndexMap K V H W) (b : List ℕ) (p : �
     pub under_read : (hash : ℕ) (key_hash : List ℕ → ℕ → ℕ) (accept : ℕ → Bool) → AreUnderHash (index_at {K = K} w k v b p) hash key_hash accept → AreUnderHash (index_of w k v m) hash key_hash accept
     under_read hash key_hash accept under = moved (λ c q. AreUnderHash (index_at {K = K} w k v c q) hash key_hash accept) b (index_bytes m) p (index_pos m) (sym bytes) (sym place) under
 
-    -- what is told of what is found in it is told where the seal is
+    -- a property of the index that is found in one is one for the other
     pub finds_read : (hash : ℕ) (accept : ℕ → Bool) (Told : Option ℕ → Type 0) → FindsPlace (index_of w k v m) hash accept Told → FindsPlace (index_at {K = K} w k v b p) hash accept Told
     finds_read hash accept Told = as_read (λ d r. FindsPlace (index_at {K = K} w k v d r) hash accept Told)
 

@@ -1,4 +1,4 @@
--- An index map that is written of items is the index map of what is seen in them.
+-- Writing an index map of owned or borrowed items is writing that of the values.
 use Rattle.std.proofs.Common.{◌≡◌, ℕ, ◌+◌, refl, ap, sym, subst, ◌∙◌, inl, inr, List, [], ◌∷◌, map, take, length, Some, Result, Ok, Err, MatchResult}
 use Rattle.std.specs.Int.{Width}
 use Rattle.std.specs.List.{take-map}
@@ -110,7 +110,7 @@ module _ {X Y R : Type 0} (seen : X → Y) (f : Format Y R) where
           told_as limit (IndexNext w e s f hash factor (map seen xs) (end_of o)) (IndexNext w e s F own factor xs (end_of o)) o o' err
           (λ front step n. seen_next xs (end_of o) front step n) h
 
--- entries of lent parts are the pairs that are lent
+-- the entries of borrowed pairs have the values of these pairs
 made_lent : {BK BV A B : Type 0} (key : BK → A) (value : BV → B) (xs : List (EntryAdapter BK BV A B)) → map (pair_of key value) xs ≡ lent_pairs key value (made_of xs)
 made_lent key value [] = refl
 made_lent {A = A} {B = B} key value (x ∷ xs) = ap (λ (l : List (A × B)). (key x.key, value x.value) ∷ l) (made_lent key value xs)

@@ -1,4 +1,4 @@
--- One pair more that is taken as an entry.
+-- One more pair that is taken as an entry.
 use Rattle.std.proofs.Common.{subst, sym, List, [], ◌∷◌, ◌++◌, Some, Option}
 use Rattle.std.specs.Iterator.{Yields}
 use Rattle.std.proofs.lemmas.List.{map-append}

@@ -1,4 +1,4 @@
--- A write of one value in place keeps the index map, and the list that it stands for but for that value.
+-- A write of one value in place keeps the index map, and its list but for that value.
 use Rattle.std.proofs.Common.{◌≡◌, ◌≢◌, ℕ, suc, ◌+◌, ◌*◌, ◌<◌, ◌≤◌, ◌^◌, ◌∙◌, inl, inr, refl, sym, ap, subst, arith, Bool, List, [], ◌∷◌, length, Option, Some, None}
 use Rattle.std.specs.Prelude.{slice_get, slice_set, unsigned_abs}
 use Rattle.std.specs.Int.{Width, byte_len}
@@ -45,11 +45,11 @@ use Rattle.rkyv_index.specs.SealedIndex.{IsPairPos}
 use Rattle.rkyv_index.specs.ValueWrites.{KeepsEntries, KeepsIndexMap, pair_at}
 use Rattle.rkyv_index.proofs.Held.{begin_is, entries_inside, entry_viewed, place_below, table_there}
 
--- the hash of a key rests on the bytes on which it rests that the key holds
+-- the hash of a valid key depends only on the bytes of the key and its parts
 pub hash_near : {State : Type 0} (hasher : Hasher State) {k : Shape} {same : Comparison} {calls : List ℕ → ℕ → List HasherCall} → IsKey k same calls → HashNear k (hash_at hasher calls)
 hash_near hasher key b c q lo hi l o holds fixed part = ap (hash_of_calls hasher) (key.near b c q lo hi l o holds fixed part)
 
--- a value that was written at the place of a pair's value
+-- a write at the position of the value of a pair writes the value of that pair
 pub value_written : (w : Width) (k v : Shape) (b c : List ℕ) (at q : ℕ) → at ≡ value_pos k v q → Sealed b at v.size c → Keeps v b c at → WritesValue k v b c q
 value_written w k v b c at q is sealed keeps = record { sealed = subst (λ n. Sealed b n v.size c) is sealed; keeps = subst (Keeps v b c) is keeps }
 
@@ -63,8 +63,8 @@ entries_apart size begin i j ne = elim (cases_lt i j) [
       inl (omega (arith, m))
 ]
 
--- of values that hold, one after the other, one is written in place and kept, which shares no byte with the others, and
--- whose own bytes lie behind all parts: then they hold again
+-- Several valid values in order are valid after a write of one of them that keeps it valid.
+-- That one shares no byte with the others, and its own bytes are behind all parts.
 all_kept : (s : Shape) → IsElement s → (at : ℕ → ℕ) (b c : List ℕ) (n hi i : ℕ) → Sealed b (at i) s.size c → Keeps s b c (at i) → hi ≤ at i
     → ((j : ℕ) → j < n → j ≢ i → Outside (at i) s.size (at j) (at j + s.size)) → (is : List ℕ) (lo l : ℕ) → lo ≤ hi → AllBelow n is → AllHold s at b hi is lo l → AllHold s at c hi is lo l
 all_kept s law at b c n hi i sealed keeps above apart [] lo l o below h = h
@@ -76,7 +76,7 @@ all_kept s law at b c n hi i sealed keeps above apart (j ∷ is) lo l o below h 
     ] in
     (h.0, here, all_kept s law at b c n hi i sealed keeps above apart is h.0 l k.1 below.1 h.2)
 
--- what holds with its parts before hi leaves no greater lower end in any range
+-- a valid value whose parts are below `hi` leaves a lower end of at most `hi` in any range
 parts_below : (s : Shape) → IsElement s → (b : List ℕ) (q lo hi rest l : ℕ) → lo ≤ hi → hi ≤ q → s.holds b q lo hi rest → s.holds b q 0 q l → l ≤ hi
 parts_below s law b q lo hi rest l o above held h =
     let d : (l' : ℕ) × s.holds b q 0 hi l' × (l' ≤ rest) = law.lower b q lo 0 hi rest (omega arith) o held in
@@ -84,7 +84,7 @@ parts_below s law b q lo hi rest l o above held h =
     let same : l ≡ d.0 = law.one b q 0 q l d.0 h (law.higher b q 0 hi q d.0 above d.1) in
     omega (arith, same, d.2, k.1)
 
--- what is found is read alike where it is walked
+-- a found item is read alike if each item is
 read_alike : (f g f' g' : ℕ → ℕ) (o : Option ℕ) → ((i : ℕ) → o ≡ Some i → f (g i) ≡ f' (g' i)) → option_map f (option_map g o) ≡ option_map f' (option_map g' o)
 read_alike f g f' g' None same = refl
 read_alike f g f' g' (Some i) same = ap Some (same i refl)
@@ -108,21 +108,21 @@ module _ (w : Width) (kind : IsArchiveWord w) (k v : Shape) (kl : IsElement k) (
   entry_there : (i : ℕ) → i < len_at w b p → Viewed S b (at i)
   entry_there i below = entry_viewed w kind S law b p view i below
 
-  -- it stands before the header
+  -- an entry is before the header
   entry_before : (i : ℕ) → i < len_at w b p → at i + S.size ≤ p
   entry_before i below =
       let u = entry_inside S.size (entries_pos w b p) (len_at w b p) i below in
       let e = entries_inside w kind S law b p view in
       omega (arith, u.1, e)
 
-  -- and holds with its parts before the entries
+  -- an entry is valid with its parts before the entries
   entry_parts : (i : ℕ) → i < len_at w b p → HoldsWithin S b (at i) held.middle (entries_pos w b p) held.entries.last
   entry_parts i below =
       let begin = held.entries.begin in
       let r = each_holds S law (entry_at S.size begin) b begin 0 (len_at w b p) held.middle held.entries.last i held.entries.part.above held.entries.hold (omega arith) (omega (arith, below)) in
       subst (λ n. HoldsWithin S b (entry_at S.size n i) held.middle n held.entries.last) (sym begins) r
 
-  -- the value of place i is written
+  -- the value at index `i` is written
   module _ (c : List ℕ) (i : ℕ) (below : i < len_at w b p) (writes : WritesValue k v b c (at i)) where
     wider : Sealed b (at i) S.size c
     wider =
@@ -201,7 +201,7 @@ module _ (w : Width) (kind : IsArchiveWord w) (k v : Shape) (kl : IsElement k) (
       others = other_same;
     }
 
-    -- ---- the table of places, and what a lookup finds
+    -- ---- the table of indices, and lookups
 
     places_same : (j : ℕ) → pair_pos w S.size c p j ≡ at j
     places_same j = ap (λ z. entry_at S.size (unsigned_abs z) j) (sym (told_same w b c p header_same))
@@ -251,7 +251,7 @@ module _ (w : Width) (kind : IsArchiveWord w) (k v : Shape) (kl : IsElement k) (
           (controls_accepted w (place_shape w) (place_element w kind) b p (table_there w kind S law b p view) some_buckets) small (tells b) j is in
           sym (read_same j (walked_full (cap_at w b p) (table_controls w b p) j walked.1)))
 
-    -- ---- an index map that was written, and one that stands for a list
+    -- ---- written index maps, and index maps that represent a list
 
     module _ (key_hash : List ℕ → ℕ → ℕ) (near : HashNear k key_hash) where
       hash_same : (j : ℕ) → j < len_at w b p → key_hash c (at j) ≡ key_hash b (at j)
@@ -277,7 +277,7 @@ module _ (w : Width) (kind : IsArchiveWord w) (k v : Shape) (kl : IsElement k) (
 
       module _ {A B : Type 0} (key : List ℕ → ℕ → A → Type 0) (value : List ℕ → ℕ → B → Type 0) (kn : StandsNear k key) (vn : StandsNear v value) (factor : ℕ × ℕ) (pairs : List (A × B))
           (pair : A × B) (new : B) (st : IndexStands w k v key value key_hash factor b p pairs) (at_i : slice_get pairs i ≡ Some pair) (stands : value c (value_pos k v (at i)) new) where
-        -- the written pair stands with the new value, and every other one as before
+        -- the written pair has the new value, and each other pair is unchanged
         written_stands : PairStands k v key value c (at i) (pair.0, new)
         written_stands =
             let there = viewed_key k v kl vl b (at i) (entry_there i below) in
@@ -308,7 +308,7 @@ module _ (w : Width) (kind : IsArchiveWord w) (k v : Shape) (kl : IsElement k) (
                   subst (λ z. PairStands k v key value c z x) (sym (places_same j)) (other_stands j x there at_j ne));
             }
 
-  -- the pair of a place, whose value may be written
+  -- the pair at index `i`, whose value can be written
   pub pair_place : (i : ℕ) → i < len_at w b p → IsPairPos w k v b p i (at i)
   pair_place i below =
       let entry = entry_there i below in
@@ -320,6 +320,6 @@ module _ (w : Width) (kind : IsArchiveWord w) (k v : Shape) (kl : IsElement k) (
         kept = λ c writes. entries_kept c i below writes;
       }
 
--- a test that rests on the keys rests on each
+-- a test that depends only on keys depends only on each key
 pub rests_on_each : {Q : Type 0} (k : Shape) (can_read : Q → Type 0) (fits : Q → List ℕ → ℕ → Bool) → RestsOnKeys k can_read fits → (q : Q) → can_read q → RestsOnKey k (fits q)
 rests_on_each k can_read fits rests q can b c p stands same = rests q b c p stands.0 can stands.1 same.fixed (same.parts stands.0 stands.1)

@@ -1,4 +1,4 @@
--- When two index maps are equal, and how many places a lookup of their own key doesn't answer.
+-- Equality of index maps, and the keys that a lookup of their own doesn't find.
 use Rattle.std.specs.Prelude.{◌≡◌, ℕ, List, Bool, Option, ◌&&◌, ◌==◌, not, length, filter}
 use Rattle.std.specs.Int.{Width}
 use Rattle.std.specs.List.{find, list_all}
@@ -14,50 +14,50 @@ use Rattle.rkyv_index.specs.IndexLayout.{pair_pos}
 use Rattle.rkyv_index.specs.IndexLayout.{places_of}
 
 module _ (w : Width) (s : Shape) (same : Comparison) where
-  -- the entries of place i are the same
+  -- the entries at index `i` of both maps are the same
   abbrev pub same_at : List ℕ → ℕ → List ℕ → ℕ → ℕ → Bool
   same_at b p c r i = same b (pair_pos w s.size b p i) c (pair_pos w s.size c r i)
 
-  -- the maps have equal lengths, and the same entries in order
+  -- both maps have the same length, and the same entries in order
   abbrev pub index_equal : Comparison
   index_equal b p c r = (len_at w b p == len_at w c r) && list_all (same_at b p c r)
       (places_of (len_at w b p))
 
--- the maps have equally many pairs, and the same ones in order
+-- both maps have the same length, and the same pairs in order
 abbrev pub index_map_equal : Width → Shape → Shape → Comparison → Comparison → Comparison
 index_map_equal w k v same_key same_value =
     index_equal w (entry_shape k v) (entry_same k v same_key same_value)
 
 module _ {K : Type 0} (m : Index K) (key_hash : List ℕ → ℕ → ℕ) (same_key : Comparison) where
-  -- whether the key of place i is the same as that of place j
+  -- the keys at the indices `i` and `j` are the same
   abbrev pub same_keys : ℕ → ℕ → Bool
   same_keys i j = same_key m.bytes (key_at m i) m.bytes (key_at m j)
 
-  -- the place that a lookup of the key of place i answers
+  -- the index that a lookup of the key at index `i` finds
   abbrev pub own_found : ℕ → Option ℕ
   own_found i = index_found m.word m.bytes m.pos (key_hash m.bytes (key_at m i)) (same_keys i)
 
-  -- whether a lookup of the key of place i answers another place, or none
+  -- a lookup of the key at index `i` finds another index, or none
   abbrev pub is_misplaced : ℕ → Bool
   is_misplaced i = not (is_answer i (own_found i))
 
-  -- of how many places it does
+  -- the number of misplaced keys
   abbrev pub index_misplaced : ℕ
   index_misplaced = length (filter is_misplaced (index_places m))
 
-  -- whether the key of an earlier place is the same as that of place i
+  -- the key at index `i` is the same as an earlier key
   abbrev pub is_repeated : ℕ → Bool
   is_repeated i = is_some (find (same_keys i) (places_of i))
 
-  -- of how many places an earlier one has the same key
+  -- the number of keys that are the same as an earlier key
   abbrev pub index_repeated : ℕ
   index_repeated = length (filter is_repeated (index_places m))
 
-  -- in a map that was written, the answer tells whether the key of place i is a repeated one
+  -- `result`: in a written map, `true` if and only if the key at index `i` is a repeated one
   abbrev pub TellsRepeated : ℕ → Bool → Type 0
   TellsRepeated i result = (homes : List ℕ) → IsWritten m key_hash homes → result ≡ is_repeated i
 
-  -- in a map that was written, the answer counts the places whose keys are repeated
+  -- `result`: in a written map, the number of repeated keys
   abbrev pub CountsRepeated : ℕ → Type 0
   CountsRepeated result =
       (homes : List ℕ) → IsWritten m key_hash homes → result ≡ index_repeated

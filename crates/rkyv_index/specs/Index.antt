@@ -1,4 +1,4 @@
--- What an index map is in an archive, and what a lookup in it answers.
+-- Index maps in an archive, and lookups in them.
 use Rattle.std.specs.Prelude.{◌≡◌, ℕ, suc, zero, ◌+◌, ◌/◌, ◌<◌, ◌≤◌, ◌↔◌, List, [], ◌∷◌, Bool, true}
 use Rattle.std.specs.Prelude.{Option, Some, None, IsSome, IsTrue, MatchOption, length}
 use Rattle.std.specs.Borrow.{Bor}
@@ -22,121 +22,121 @@ use Rattle.rkyv_index.specs.IndexLayout.{entries_pos, index_shape, pair_pos, pla
 use Rattle.rkyv_index.specs.declared.map.ArchivedIndexMap.{ArchivedIndexMap}
 use Rattle.rkyv_index.specs.declared.map.entries.Entries.{Entries}
 
--- the hash of the key that stands at q
+-- the hash of the key at `q`
 abbrev pub hash_at : {State : Type 0} → Hasher State
     → (List ℕ → ℕ → List HasherCall) → List ℕ → ℕ → ℕ
 hash_at hasher calls b q = hash_of_calls hasher (calls b q)
 
--- n values of this size, one behind the other, from q on
+-- the positions of `n` values of `size` bytes in a row, from `q` on
 abbrev pub row : ℕ → ℕ → ℕ → List ℕ
 row size q zero = []
 row size q (suc n) = q ∷ row size (q + size) n
 
--- where the entries stand, in order
+-- the positions of the entries, in order
 abbrev pub pair_positions : Width → ℕ → List ℕ → ℕ → List ℕ
 pair_positions w size b p = row size (entries_pos w b p) (len_at w b p)
 
--- a bucket in which an item stands holds the place i
+-- a full bucket has the index `i`
 abbrev pub IsHeldAt : Width → List ℕ → ℕ → ℕ → Type 0
 IsHeldAt w b p i = (bucket : ℕ) × IsWalked w b p bucket
     × (number_at w b (item_at w (byte_len w) b p bucket) ≡ i)
 
--- the place that a lookup answers, where accept tells of the key of a place
+-- the index that a lookup under `hash` finds. `accept i`: the key at index `i` is accepted
 abbrev pub index_found : Width → List ℕ → ℕ → ℕ → (ℕ → Bool) → Option ℕ
 index_found w b p hash accept = option_map (number_at w b) (pos_found generic_kind w (byte_len w) b
     p hash (λ q. accept (number_at w b q)))
 
 module _ {K V H W : Type 0} where
-  -- the header of an index map stands where the map is
+  -- `m` is a valid index map
   abbrev pub IsIndexMap : Width → Shape → Shape → ArchivedIndexMap K V H W → Type 0
   IsIndexMap w k v m = IsView (index_shape w (entry_shape k v)) m.view
 
-  -- the archive of the map, its bytes, and the position of its header
+  -- the archive of the map
   abbrev pub index_archive : ArchivedIndexMap K V H W → Bor (List ℕ)
   index_archive m = archive_of m.view
 
-  -- the bytes of the index map's archive
+  -- the bytes of the archive
   abbrev pub index_bytes : ArchivedIndexMap K V H W → List ℕ
   index_bytes m = bytes_of m.view
 
-  -- the position of the index map's header
+  -- the position of the header
   abbrev pub index_pos : ArchivedIndexMap K V H W → ℕ
   index_pos m = pos_of m.view
 
-  -- how many pairs it has
+  -- the number of pairs
   abbrev pub index_len : Width → ArchivedIndexMap K V H W → ℕ
   index_len w m = len_at w (index_bytes m) (index_pos m)
 
-  -- where the key of place i stands, and where all keys do, in order
+  -- the position of the key at index `i`
   abbrev pub key_pos : Width → Shape → Shape → ArchivedIndexMap K V H W → ℕ → ℕ
   key_pos w k v m i = pair_pos w (entry_shape k v).size (index_bytes m) (index_pos m) i
 
-  -- where the keys of the index map stand, in order
+  -- the positions of the keys, in order
   abbrev pub key_positions : Width → Shape → Shape → ArchivedIndexMap K V H W → List ℕ
   key_positions w k v m = pair_positions w (entry_shape k v).size (index_bytes m) (index_pos m)
 
-  -- the view is that of the key of place i
+  -- `key`: view of the key at index `i`
   pub record IsKeyOf (w : Width) (k v : Shape) (m : ArchivedIndexMap K V H W) (i : ℕ) (key : View K)
       : Type 0 where
     pub below : i < index_len w m
     pub at : IsAt key (index_archive m) (key_pos w k v m i)
     pub viewed : IsView k key
 
-  -- the view is that of the value of place i
+  -- `value`: view of the value at index `i`
   pub record IsValueOf (w : Width) (k v : Shape) (m : ArchivedIndexMap K V H W) (i : ℕ)
       (value : View V) : Type 0 where
     pub below : i < index_len w m
     pub at : IsAt value (index_archive m) (key_pos w k v m i + value_offset k v)
     pub viewed : IsView v value
 
-  -- the view is that of the entry of place i
+  -- `entry`: view of the entry at index `i`
   pub record IsEntryOf (w : Width) (k v : Shape) (m : ArchivedIndexMap K V H W) (i : ℕ)
       (entry : View (Entry K V)) : Type 0 where
     pub below : i < index_len w m
     pub at : IsAt entry (index_archive m) (key_pos w k v m i)
     pub viewed : IsView (entry_shape k v) entry
 
-  -- the views are those of the key and the value of place i
+  -- `pair`: views of the key and the value at index `i`
   abbrev pub IsPairOf : Width → Shape → Shape → ArchivedIndexMap K V H W → ℕ → View K × View V
       → Type 0
   IsPairOf w k v m i pair = IsKeyOf w k v m i pair.0 × IsValueOf w k v m i pair.1
 
-  -- the view is inside its archive, and the number that stands there is a place of the map
+  -- `held`: view inside its archive, with an index below the length of the map
   abbrev pub IsPlaceOf : {P : Type 0} → Width → ArchivedIndexMap K V H W → View P → Type 0
   IsPlaceOf w m held = (pos_of held + byte_len w ≤ length (bytes_of held))
       × (number_at w (bytes_of held) (pos_of held) < index_len w m)
 
-  -- a bucket holds the place
+  -- a full bucket of the map has the index `i`
   abbrev pub IsHeld : Width → ArchivedIndexMap K V H W → ℕ → Type 0
   IsHeld w m i = IsHeldAt w (index_bytes m) (index_pos m) i
 
-  -- and the place is one of the map's
+  -- a full bucket of the map has the index `i`, and it is below the length
   abbrev pub IsHeldPlace : Width → ArchivedIndexMap K V H W → ℕ → Type 0
   IsHeldPlace w m i = IsHeld w m i × (i < index_len w m)
 
-  -- the pair of a place that a bucket holds
+  -- `full`: an index in a full bucket, and views of its key and its value
   abbrev pub IsFullIn : Width → Shape → Shape → ArchivedIndexMap K V H W → ℕ × View K × View V
       → Type 0
   IsFullIn w k v m full = IsHeld w m full.0 × IsPairOf w k v m full.0 (full.1, full.2)
 
-  -- a lookup reads no stride of an empty table, else one at least and at most one for each sixteen
-  -- buckets, rounded up
+  -- the number of strides that a lookup reads: none in an empty map, else at least one
+  -- and at most ceil(n / 16) for n buckets. `before`, `after`: counts of strides
   abbrev pub ReadsFew : Width → ArchivedIndexMap K V H W → ℕ → ℕ → Type 0
   ReadsFew w m before after = ReadsWithin (index_len w m) (probe_capacity (cap_at w (index_bytes m)
       (index_pos m)) / 16) before after
 
--- what was found is what stands at the place, or none was found
+-- `result` is at the index `place`, or both are `None`
 abbrev pub IsThere : {X : Type 0} → (ℕ → X → Type 0) → Option X → Option ℕ → Type 0
 IsThere {X} Stands result place =
     MatchOption place (result ≡ None) (λ i. (x : X) × (result ≡ Some x) × Stands i x)
 
--- whether the key of a place of the map at p fits
+-- the key at index `i` of the map at `p` fits
 abbrev pub fits_in : Width → Shape → Shape → List ℕ → ℕ → (List ℕ → ℕ → Bool) → ℕ → Bool
 fits_in w k v b p fits i = fits b (pair_pos w (entry_shape k v).size b p i)
 
--- An index map in an archive, as lookups see it, whether it is read, lent to be written, or that of
--- a set: its width, the shapes of its keys and values, the bytes, where its header stands, and
--- which views are those of the key of a place.
+-- An index map for lookups: one that is read, one at a seal, or that of an index set.
+-- `bytes`: bytes of the archive, `pos`: position of the header.
+-- `is_key i v`: `v` is a view of the key at index `i`.
 pub record Index (K : Type 0) : Type 1 where
   pub word : Width
   pub key : Shape
@@ -145,7 +145,7 @@ pub record Index (K : Type 0) : Type 1 where
   pub pos : ℕ
   pub is_key : ℕ → View K → Type 0
 
--- the index map that is read
+-- the index map `m` for lookups
 abbrev pub index_of : {K V H W : Type 0} → Width → Shape → Shape → ArchivedIndexMap K V H W
     → Index K
 index_of w k v m = record {
@@ -158,98 +158,97 @@ index_of w k v m = record {
 }
 
 module _ {K : Type 0} (m : Index K) where
-  -- the places of its pairs, in order
+  -- the indices of the pairs, in order
   abbrev pub index_places : List ℕ
   index_places = places_of (len_at m.word m.bytes m.pos)
 
-  -- where the key of a place stands
+  -- the position of the key at index `i`
   abbrev pub key_at : ℕ → ℕ
   key_at i = pair_pos m.word (entry_shape m.key m.value).size m.bytes m.pos i
 
-  -- whether the key of a place fits
+  -- the key at index `i` fits
   abbrev pub fits_at : (List ℕ → ℕ → Bool) → ℕ → Bool
   fits_at fits i = fits m.bytes (key_at i)
 
-  -- its table was written of the places in order, each under the hash of its key, and they have
-  -- these homes
+  -- the table of the map was written: it has the indices in order, each under the hash of its key
+  -- and with the home buckets `homes`
   abbrev pub IsWritten : (List ℕ → ℕ → ℕ) → List ℕ → Type 0
   IsWritten key_hash homes =
       IndexWrittenAt m.word (entry_shape m.key m.value).size key_hash m.bytes m.pos homes
 
-  -- the comparison may be asked of each key
+  -- the condition `pre` is met for each key of the map
   abbrev pub MayAskKeys : (View K → Type 0) → Type 0
   MayAskKeys pre = (i : ℕ) (key : View K) → m.is_key i key → pre key
 
-  -- of each key the comparison answers what accept tells of its place
+  -- a comparison with `post` returns `accept i` for each key at index `i`
   abbrev pub AnswersKeys : (View K → Bool → Type 0) → (ℕ → Bool) → Type 0
   AnswersKeys post accept = (i : ℕ) (key : View K) (r : Bool) → m.is_key i key → post key r
       → r ≡ accept i
 
-  -- only keys under the hash are accepted
+  -- each accepted key is under the hash
   abbrev pub AreUnderHash : ℕ → (List ℕ → ℕ → ℕ) → (ℕ → Bool) → Type 0
   AreUnderHash hash key_hash accept = (i : ℕ) → i < len_at m.word m.bytes m.pos → accept i ≡ true
       → key_hash m.bytes (key_at i) ≡ hash
 
-  -- what is told is told of the place that a lookup under the hash answers, on any accepted map
+  -- `Told` is a property of the index that a lookup under `hash` finds, in any valid map
   abbrev pub FindsPlace : ℕ → (ℕ → Bool) → (Option ℕ → Type 0) → Type 0
   FindsPlace hash accept Told = Told (index_found m.word m.bytes m.pos hash accept)
 
-  -- what is told is told of the first place whose key is accepted, where the map was written
+  -- `Told` is a property of the first accepted index, in a written map
   abbrev pub FindsFirstPlace : (List ℕ → ℕ → ℕ) → (ℕ → Bool) → (Option ℕ → Type 0) → Type 0
   FindsFirstPlace key_hash accept Told = (homes : List ℕ) → IsWritten key_hash homes
       → Told (find accept index_places)
 
   module _ {State : Type 0} where
-    -- What is told of the place that a lookup by a comparison answers, under the hash of the calls
-    -- that its key makes: for each function of places as which the comparison answers.
+    -- `Told` is a property of the index that a lookup by a comparison finds. `calls`: hasher calls
+    -- of the key to look up. `accept i`: result of the comparison for the key at index `i`
     abbrev pub FindsBy : (View K → Bool → Type 0) → Hasher State → List HasherCall
         → (Option ℕ → Type 0) → Type 0
     FindsBy post hasher calls Told = (accept : ℕ → Bool) → AnswersKeys post accept
         → FindsPlace (hash_of_calls hasher calls) accept Told
 
-    -- What is told of the first place whose key the comparison accepts, where the map was written
-    -- and the comparison accepts keys under that hash alone. `key_calls b q` are the calls that the
-    -- key makes that stands at q.
+    -- `Told` is a property of the first accepted index, in a written map whose accepted keys are
+    -- under the hash. `key_calls b q`: hasher calls of the key at `q`
     abbrev pub FindsFirstBy : (View K → Bool → Type 0) → Hasher State → List HasherCall
         → (List ℕ → ℕ → List HasherCall) → (Option ℕ → Type 0) → Type 0
     FindsFirstBy post hasher calls key_calls Told = (accept : ℕ → Bool) → AnswersKeys post accept
         → AreUnderHash (hash_of_calls hasher calls) (hash_at hasher key_calls) accept
         → FindsFirstPlace (hash_at hasher key_calls) accept Told
 
-    -- what is told of the place that a lookup of a query answers, which makes these calls and tells
-    -- which keys fit
+    -- `Told` is a property of the index that a lookup of a query finds. `calls`: hasher calls
+    -- of the query, `fits`: test of the keys
     abbrev pub FindsKey : Hasher State → List HasherCall → (List ℕ → ℕ → Bool)
         → (Option ℕ → Type 0) → Type 0
     FindsKey hasher calls fits Told = FindsPlace (hash_of_calls hasher calls) (fits_at fits) Told
 
-    -- what is told of the first place whose key fits, where the map was written
+    -- `Told` is a property of the first index whose key fits, in a written map
     abbrev pub FindsFirstKey : Hasher State → (List ℕ → ℕ → List HasherCall)
         → (List ℕ → ℕ → Bool) → (Option ℕ → Type 0) → Type 0
     FindsFirstKey hasher key_calls fits Told =
         FindsFirstPlace (hash_at hasher key_calls) (fits_at fits) Told
 
 module _ {K V H W : Type 0} (w : Width) (k v : Shape) (m : ArchivedIndexMap K V H W) where
-  -- the pair that was found is that of the place, or none was found
+  -- `result`: the pair at the index `place`, or `None` if `place` is `None`
   abbrev pub IsPairAt : Option (View K × View V) → Option ℕ → Type 0
   IsPairAt result place = IsThere (IsPairOf w k v m) result place
 
-  -- the value that was found is that of the place, or none was found
+  -- `result`: the value at the index `place`, or `None` if `place` is `None`
   abbrev pub IsValueAt : Option (View V) → Option ℕ → Type 0
   IsValueAt result place = IsThere (IsValueOf w k v m) result place
 
--- the place that was found is the place
+-- `result` is the index `place`, or both are `None`
 abbrev pub IsPlace : Option ℕ → Option ℕ → Type 0
 IsPlace result place = result ≡ place
 
--- the place of a pair that was found
+-- the index in `result`
 abbrev pub full_place : {K V : Type 0} → Option (ℕ × View K × View V) → Option ℕ
 full_place {K} {V} result = option_map (λ (full : ℕ × View K × View V). full.0) result
 
--- the answer is true exactly where a key was found
+-- `result` is `true` if and only if `place` is `Some`
 abbrev pub IsFoundAt : Bool → Option ℕ → Type 0
 IsFoundAt result place = IsTrue result ↔ IsSome place
 
--- what was read of the header of a map that stands
+-- `entries`: a valid map, and the position of its first entry
 pub record AreEntries {K V H W : Type 0} (w : Width) (k v : Shape) (entries : Entries K V H W) :
     Type 0 where
   pub map : IsIndexMap w k v entries.map

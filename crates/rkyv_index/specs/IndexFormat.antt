@@ -1,4 +1,4 @@
--- How a list is written as an index map, and that it stands as one.
+-- The format of a list as an index map, and the bytes that represent the list.
 use Rattle.std.specs.Prelude.{◌≡◌, ℕ, ◌+◌, ◌⊎◌, List, [], ◌∷◌, ◌++◌, length, map, slice_get, Some}
 use Rattle.std.specs.Int.{Width, byte_len}
 use Rattle.rkyv_base.specs.Bytes.{number_at}
@@ -18,26 +18,26 @@ use Rattle.rkyv_index.specs.IndexHeader.{IndexFar, IndexResolver, IsIndexHeader}
 use Rattle.rkyv_index.specs.IndexLayout.{index_shape, pair_pos, places_of}
 use Rattle.rkyv_index.specs.Row.{RowImages, RowNext, RowParts, RowPartsNext}
 
--- the number of the value of a number is that number
+-- the code of each number that is encoded by `e` is the number
 abbrev pub CodesReadBack : {P : Type 0} → Encoding P → Type 0
 CodesReadBack e = (n : ℕ) → e.code (e.value n) ≡ n
 
--- the places of the values from the i-th on, each under the hash of its value
+-- the indices of the values from `i` on, each under the hash of its value
 abbrev pub places_from : {X P : Type 0} → (X → ℕ) → (ℕ → P) → ℕ → List X → List (ℕ × P)
 places_from hash place i [] = []
 places_from hash place i (x ∷ xs) = (hash x, place i) ∷ places_from hash place (i + 1) xs
 
 module _ {P X R : Type 0} (w : Width) (e : Encoding P) (s : Shape) (f : Format X R) (hash : X → ℕ)
     (load_factor : ℕ × ℕ) (xs : List X) (p : ℕ) where
-  -- the places, each under the hash of its value
+  -- the indices of `xs`, each under the hash of its value
   abbrev pub places : List (ℕ × P)
   places = places_from hash e.value 0 xs
 
-  -- the table of places, as it is written first
+  -- `part`: bytes of the table of indices, which are written first. `r`: its resolver
   abbrev pub PlaceTable : List ℕ → TableResolver → Type 0
   PlaceTable part r = TableParts w (scalar_shape e) (scalar_format e) load_factor places p part r
 
-  -- the table and the values' parts behind it, which are front
+  -- `front`: bytes of the table of indices, and then the parts of the values
   pub record BeforeZeros (front : List ℕ) (t : TableResolver) (rs : List R) : Type 0 where
     pub table : List ℕ
     pub row : List ℕ
@@ -45,13 +45,13 @@ module _ {P X R : Type 0} (w : Width) (e : Encoding P) (s : Shape) (f : Format X
     pub parts : RowParts f xs (p + length table) row rs
     pub is : front ≡ table ++ row
 
-  -- and zeros behind them, up to where the values stand
+  -- `front`: those bytes, and then zeros up to the alignment of the values
   pub record BeforeRow (front : List ℕ) (t : TableResolver) (rs : List R) : Type 0 where
     pub head : List ℕ
     pub made : BeforeZeros head t rs
     pub is : front ≡ head ++ zeros (padding s.align (p + length head))
 
-  -- the index map was written, and r resolves it
+  -- `part`: bytes of the written index map. `r`: its resolver
   pub record IndexParts (part : List ℕ) (r : IndexResolver) : Type 0 where
     pub front : List ℕ
     pub resolvers : List R
@@ -61,8 +61,8 @@ module _ {P X R : Type 0} (w : Width) (e : Encoding P) (s : Shape) (f : Format X
     pub shown : RowImages f xs resolvers r.entries row
     pub is : part ≡ front ++ row
 
-  -- what writing the index map comes to after front: that of the table, that of a value's parts,
-  -- the zeros, or that of a value
+  -- `step`: next step after `front`. It is a step of the table, of the parts of a value,
+  -- of the zeros, or of the own bytes of a value
   abbrev pub IndexNext : List ℕ → Step → Type 0
   IndexNext front step = PairsNext w (scalar_shape e) (scalar_format e) load_factor places p front
       step
@@ -73,8 +73,8 @@ module _ {P X R : Type 0} (w : Width) (e : Encoding P) (s : Shape) (f : Format X
       ⊎ ((a : List ℕ) × (t : TableResolver) × (rs : List R) × (rest : List ℕ) × BeforeRow a t rs
       × RowNext f xs rs (p + length a) rest step × (front ≡ a ++ rest))
 
--- how a list of values of a shape is written as an index map, each value under its hash, under a
--- load factor
+-- the format of a list of values of shape `s` as an index map under a load factor.
+-- Each value is under its hash
 abbrev pub row_format : {P X R : Type 0} → Width → Encoding P → Shape → Format X R → (X → ℕ) → ℕ × ℕ
     → Format (List X) IndexResolver
 row_format w e s f hash load_factor = record {
@@ -84,21 +84,21 @@ row_format w e s f hash load_factor = record {
   far = λ xs r p. IndexFar w r.table.len r p;
 }
 
--- the hash of a value that makes these calls
+-- the hash of a value by its hasher calls
 abbrev pub hash_of : {State A : Type 0} → Hasher State
     → (A → List HasherCall) → A → ℕ
 hash_of hasher calls value = hash_of_calls hasher (calls value)
 
--- How a list of pairs, in the order handed in, is written as an index map under a load factor: its
--- table of places, each
--- under the hash of its key; the entries' parts; zeros; the entries.
+-- The format of a list of pairs, in insertion order, as an index map under a load factor.
+-- Its table has the index of each pair under the hash of its key. The parts of the entries follow,
+-- then zeros, and then the entries.
 abbrev pub index_format : {P A B R Q : Type 0} → Width → Encoding P → Shape → Shape → Format A R
     → Format B Q → (A → ℕ) → ℕ × ℕ → Format (List (A × B)) IndexResolver
 index_format w e k v key value hash load_factor = row_format w e (entry_shape k v)
     (pair_format k v key value) (λ pair. hash pair.0) load_factor
 
--- the map at p was written: its table of the places in order, each under the hash of its key, with
--- these homes
+-- the map at `p` was written: its table has the indices in order, each under the hash of its key
+-- and with the home buckets `homes`
 pub record IndexWrittenAt (w : Width) (size : ℕ) (key_hash : List ℕ → ℕ → ℕ) (b : List ℕ) (p : ℕ)
     (homes : List ℕ) : Type 0 where
   pub table : WrittenAt w b p (map (λ i. key_hash b (pair_pos w size b p i))
@@ -106,9 +106,8 @@ pub record IndexWrittenAt (w : Width) (size : ℕ) (key_hash : List ℕ → ℕ 
   pub places : map (number_at w b) (home_positions w (byte_len w) b p homes) ≡ places_of
       (len_at w b p)
 
--- A header of an index map of the values stands at p: it was written of them, and they stand in a
--- row, in the order handed
--- in. `hash b q` is the hash of the value that stands at q.
+-- The index map at `p` represents the list `xs`: it was written, and the values are in a row,
+-- in insertion order. `hash b q`: hash of the value at `q`.
 pub record RowStands {X : Type 0} (w : Width) (size : ℕ) (stands : List ℕ → ℕ → X → Type 0)
     (hash : List ℕ → ℕ → ℕ) (load_factor : ℕ × ℕ) (b : List ℕ) (p : ℕ) (xs : List X) : Type 0 where
   pub homes : List ℕ
@@ -117,14 +116,14 @@ pub record RowStands {X : Type 0} (w : Width) (size : ℕ) (stands : List ℕ �
   pub cap : cap_at w b p ≡ capacity (length xs) load_factor
   pub at : (i : ℕ) (x : X) → slice_get xs i ≡ Some x → stands b (pair_pos w size b p i) x
 
--- the pairs stand as an index map, in order, under the hashes of their keys
+-- the index map at `p` represents the list `pairs`, under the hashes of their keys
 abbrev pub IndexStands : {A B : Type 0} → Width → Shape → Shape → (List ℕ → ℕ → A → Type 0)
     → (List ℕ → ℕ → B → Type 0) → (List ℕ → ℕ → ℕ) → ℕ × ℕ → List ℕ → ℕ → List (A × B) → Type 0
 IndexStands w k v key value hash load_factor b p pairs = RowStands w (entry_shape k v).size
     (PairStands k v key value) hash load_factor b p pairs
 
--- Under each load factor, in every archive in which what was written of pairs as an index map sits,
--- and, aligned behind it, its header, the index layout holds and the pairs stand.
+-- Under each load factor, written bytes of pairs and an aligned header behind them are a valid
+-- index map. It represents the pairs, in any archive that has these bytes.
 abbrev pub WrittenIndexMapsStand : {P A B R Q : Type 0} → Width → Encoding P → Shape → Shape
     → (List ℕ → ℕ → A → Type 0) → (List ℕ → ℕ → B → Type 0) → Format A R → Format B Q
     → (List ℕ → ℕ → ℕ) → (A → ℕ) → Type 0

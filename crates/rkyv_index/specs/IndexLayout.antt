@@ -1,4 +1,4 @@
--- When bytes are an index map of entries of a shape, and the first point at which they are none.
+-- The bytes of a valid index map of entries of a shape, and the first fault of other bytes.
 use Rattle.std.specs.Prelude.{◌≡◌, ℕ, ◌+◌, ◌*◌, ◌<◌, ◌≤◌, ◌⊎◌, ℤ, pos, ◌+ℤ◌, List, [], ◌∷◌}
 use Rattle.std.specs.Prelude.{unsigned_abs}
 use Rattle.std.specs.Int.{Width, byte_len}
@@ -13,7 +13,7 @@ use Rattle.rkyv_table.specs.Table.Places.{AllHold, FirstFails}
 use Rattle.rkyv_table.specs.Table.Reading.{item_positions}
 use Rattle.rkyv_table.specs.Table.Layout.{TableFails, TableHolds}
 
--- a place in a bucket: a number of one word, and any is one
+-- the shape of an index in a bucket: one word, which is always valid
 abbrev pub place_shape : Width → Shape
 place_shape w = record {
   size = byte_len w;
@@ -23,45 +23,47 @@ place_shape w = record {
   fails = λ b p lo hi e. ⊥;
 }
 
--- where the distance to the entries stands, and where it tells that they begin
+-- the position of the distance to the entries
 abbrev pub distance_pos : Width → ℕ → ℕ
 distance_pos w p = p + 3 * byte_len w
 
+-- the position at which the entries of the map at `p` begin, by the distance in the header
 abbrev pub entries_told : Width → List ℕ → ℕ → ℤ
 entries_told w b p = pos (distance_pos w p) +ℤ signed_at w b (distance_pos w p)
 
--- where entry i stands
+-- the position of entry `i` of a row of entries from `begin` on
 abbrev pub entry_at : ℕ → ℕ → ℕ → ℕ
 entry_at size begin i = begin + i * size
 
--- where the entries of the map at p begin, and where that of place i stands
+-- the position at which the entries of a valid map at `p` begin
 abbrev pub entries_pos : Width → List ℕ → ℕ → ℕ
 entries_pos w b p = unsigned_abs (entries_told w b p)
 
+-- the position of the pair at index `i` of the map at `p`
 abbrev pub pair_pos : Width → ℕ → List ℕ → ℕ → ℕ → ℕ
 pair_pos w size b p i = entry_at size (entries_pos w b p) i
 
--- the entries' places, in order
+-- the indices of `len` entries, in order
 abbrev pub places_of : ℕ → List ℕ
 places_of len = range_with_len 0 len
 
--- the place at each of these positions is below n
+-- the index at each of the positions `qs` is below `n`
 abbrev pub PlacesBelow : Width → List ℕ → ℕ → List ℕ → Type 0
 PlacesBelow w b n qs = All (λ q. number_at w b q < n) qs
 
--- the first of them that isn't
+-- `e`: error for the first position of `qs` whose index isn't below `n`
 abbrev pub FirstNotBelow : Width → List ℕ → ℕ → List ℕ → VerifyError → Type 0
 FirstNotBelow w b n [] e = ⊥
 FirstNotBelow w b n (q ∷ qs) e =
     ((n ≤ number_at w b q) × (e ≡ PlaceOutOfRange (number_at w b q) n))
     ⊎ ((number_at w b q < n) × FirstNotBelow w b n qs e)
 
--- the entries hold, in order, with their parts from lo to begin
+-- the entries are valid in order, with their parts from `lo` to `begin`
 abbrev pub EntriesHold : Shape → List ℕ → ℕ → ℕ → ℕ → ℕ → Type 0
 EntriesHold s b begin len lo l = AllHold s (entry_at s.size begin) b begin (places_of len) lo l
 
--- len entries that are told to begin somewhere stand in a part from lo to hi, and the next part may
--- begin at l
+-- `len` valid entries in a part from `lo` to `hi`, which begins at `told`. `l`: end of the part,
+-- and lower end of the next one
 pub record EntriesIn (s : Shape) (b : List ℕ) (told : ℤ) (len lo hi l : ℕ) : Type 0 where
   pub begin : ℕ
   pub part : PartIn told (len * s.size) s.align lo hi begin
@@ -69,22 +71,21 @@ pub record EntriesIn (s : Shape) (b : List ℕ) (told : ℤ) (len lo hi l : ℕ)
   pub hold : EntriesHold s b begin len lo last
   pub ends : l ≡ begin + len * s.size
 
--- the part fails, or else the first of them fails
+-- `e`: fault of the part, or else the first fault of an entry
 abbrev pub EntriesFail : Shape → List ℕ → ℤ → ℕ → ℕ → ℕ → VerifyError → Type 0
 EntriesFail s b told len lo hi e =
     PartFails told (len * s.size) s.align lo hi e
     ⊎ ((begin : ℕ) × PartIn told (len * s.size) s.align lo hi begin × FirstFails s
     (entry_at s.size begin) b begin (places_of len) lo e)
 
--- a header of an index map stands at p: a table of places, each of which is below its length, and
--- that many entries
+-- a valid index map at `p`: a table of indices below its length, and as many valid entries
 pub record IndexHolds (w : Width) (s : Shape) (b : List ℕ) (p lo hi l : ℕ) : Type 0 where
   pub middle : ℕ
   pub table : TableHolds w (place_shape w) b p lo hi middle
   pub below : PlacesBelow w b (len_at w b p) (item_positions w (byte_len w) b p)
   pub entries : EntriesIn s b (entries_told w b p) (len_at w b p) middle hi l
 
--- the table fails, or else a place isn't below its length, or else the entries fail
+-- `e`: fault of the table, or else of an index, or else of the entries
 abbrev pub IndexFails : Width → Shape → List ℕ → ℕ → ℕ → ℕ → VerifyError → Type 0
 IndexFails w s b p lo hi e =
     TableFails w (place_shape w) b p lo hi e
@@ -93,7 +94,7 @@ IndexFails w s b p lo hi e =
     ⊎ (PlacesBelow w b (len_at w b p) (item_positions w (byte_len w) b p) × EntriesFail s b
     (entries_told w b p) (len_at w b p) middle hi e)))
 
--- the header of an index map of such entries: four words
+-- the shape of an index map of entries of shape `s`: a header of four words
 abbrev pub index_shape : Width → Shape → Shape
 index_shape w s = record {
   size = 4 * byte_len w;

@@ -1,4 +1,4 @@
--- An index map for many lookups.
+-- Index maps for many lookups.
 use Rattle.std.specs.Int.{Width}
 use Rattle.rkyv_base.specs.Scalar.{Encoding, scalar_shape}
 use Rattle.rkyv_base.specs.Shape.{Shape}
@@ -9,15 +9,15 @@ use Rattle.rkyv_index.specs.declared.map.ArchivedIndexMap.{ArchivedIndexMap}
 use Rattle.rkyv_index.specs.declared.map.finder.IndexMapFinder.{IndexMapFinder}
 
 module _ {K V H W P : Type 0} where
-  -- the map in which it looks up
+  -- the index map of the finder
   abbrev pub map_of : IndexMapFinder K V H W P → ArchivedIndexMap K V H W
   map_of finder = finder.entries.map
 
-  -- that map, as lookups see it
+  -- the index map of the finder, for lookups
   abbrev pub index_in : Width → Shape → Shape → IndexMapFinder K V H W P → Index K
   index_in w k v finder = index_of w k v (map_of finder)
 
-  -- the entries are those of a map that stands, and its table of places is the one for many lookups
+  -- the entries are those of a valid map, and the table of the finder is its table of indices
   pub record IsIndexMapFinder {N : Type 0} (w : Width) (e : Encoding N) (k v : Shape)
       (finder : IndexMapFinder K V H W P) : Type 0 where
     pub entries : AreEntries w k v finder.entries

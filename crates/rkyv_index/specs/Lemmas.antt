@@ -1,4 +1,4 @@
--- Lemmas that laws of traits and their impls need: a law may import from specs/ alone.
+-- Lemmas for the laws of traits and impls. A law imports only from specs/.
 pub mod IndexLaws
 pub mod PlaceShapes
 pub mod EqualLaws

@@ -1,4 +1,4 @@
--- What is read back of an index map and of an index set.
+-- Lists that are deserialized from index maps and index sets.
 use Rattle.std.specs.Prelude.{◌≡◌, ℕ, ◌<◌, ◌⊎◌, ◌&&◌, List, Bool, true, MatchResult, Result, Some}
 use Rattle.std.specs.Prelude.{length, slice_get}
 use Rattle.std.specs.Cmp.Lexicographic.{pointwise}
@@ -17,7 +17,7 @@ use Rattle.rkyv_index.specs.SetFormat.{IndexSetStands}
 use Rattle.rkyv_index.specs.declared.map.ArchivedIndexMap.{ArchivedIndexMap}
 use Rattle.rkyv_index.specs.declared.set.ArchivedIndexSet.{ArchivedIndexSet}
 
--- The pair whose entry stands at a position is read back, or reading its key or its value may fail.
+-- `result`: the pair that the entry at `at` represents, or an error of its key or its value
 abbrev pub ReadsPair : {A B : Type 0} → Shape → Shape → (List ℕ → ℕ → A → Type 0)
     → (List ℕ → ℕ → B → Type 0) → Refusals → Refusals → List ℕ → ℕ → Result (A × B) ReadError
     → Type 0
@@ -27,16 +27,16 @@ ReadsPair k v key value key_refuses value_refuses b at result =
 
 module _ {K V H W A B : Type 0} (w : Width) (k v : Shape) (key : List ℕ → ℕ → A → Type 0)
     (value : List ℕ → ℕ → B → Type 0) (m : ArchivedIndexMap K V H W) where
-  -- each of the first pairs, in order, stands where the entry of its place is
+  -- each of the pairs is represented by the entry at its index
   abbrev pub ArePairsRead : List (A × B) → Type 0
   ArePairsRead pairs = (i : ℕ) (pair : A × B) → slice_get pairs i ≡ Some pair
       → PairStands k v key value (index_bytes m) (key_pos w k v m i) pair
 
-  -- the list has a pair for each place, in order: the one that stands there
+  -- the list has as many pairs as the map, and each is represented by the entry at its index
   abbrev pub ReadsPairs : List (A × B) → Type 0
   ReadsPairs pairs = (length pairs ≡ index_len w m) × ArePairsRead pairs
 
--- reading the pairs back may fail for want of memory, and where reading a key or a value may
+-- `e`: error of deserializing the pairs. It is `Memory`, or an error of a key or a value
 abbrev pub pairs_refuse : {K V H W : Type 0} → Width → Shape → Shape → Refusals → Refusals
     → ArchivedIndexMap K V H W → ReadError → Type 0
 pairs_refuse w k v key value m e = (e ≡ Memory)
@@ -45,16 +45,16 @@ pairs_refuse w k v key value m e = (e ≡ Memory)
 
 module _ {K H W A : Type 0} (w : Width) (k : Shape) (key : List ℕ → ℕ → A → Type 0)
     (s : ArchivedIndexSet K H W) where
-  -- each of the first items, in order, stands where the key of its place does
+  -- each of the items is represented by the key at its index
   abbrev pub AreItemsRead : List A → Type 0
   AreItemsRead items = (i : ℕ) (item : A) → slice_get items i ≡ Some item
       → key (set_bytes s) (key_pos w k unit_shape (keys_of s) i) item
 
-  -- the list has an item for each place, in order: the one that stands there
+  -- the list has as many items as the set, and each is represented by the key at its index
   abbrev pub ReadsItems : List A → Type 0
   ReadsItems items = (length items ≡ index_len w (keys_of s)) × AreItemsRead items
 
--- reading the items back may fail for want of memory, and where reading a key may
+-- `e`: error of deserializing the items. It is `Memory`, or an error of a key
 abbrev pub items_refuse : {K H W : Type 0} → Width → Shape → Refusals → ArchivedIndexSet K H W
     → ReadError → Type 0
 items_refuse w k key s e = (e ≡ Memory) ⊎ ((i : ℕ) × (i < index_len w (keys_of s))
@@ -64,8 +64,8 @@ items_refuse w k key s e = (e ≡ Memory) ⊎ ((i : ℕ) × (i < index_len w (ke
 abbrev pub pairs_equal : {A B : Type 0} → (A → A → Bool) → (B → B → Bool) → A × B → A × B → Bool
 pairs_equal first second x y = first x.0 y.0 && second x.1 y.1
 
--- Where an index map stands for a list of pairs, a list that is read back of it is equal to that
--- one: it has as many pairs, and each equals the one at its place.
+-- If an index map represents the list `listed`, a list `read` that is deserialized from it
+-- is equal to `listed`.
 abbrev pub PairsReadBackAreListed : (K V H W : Type 0) → {A B : Type 0} → Width → Shape → Shape
     → (List ℕ → ℕ → A → Type 0) → (List ℕ → ℕ → B → Type 0) → (List ℕ → ℕ → ℕ)
     → (A → A → Bool) → (B → B → Bool) → Type 0
@@ -76,8 +76,8 @@ PairsReadBackAreListed K V H W {A} {B} w k v key value hash key_equal value_equa
     → ReadsPairs w k v key value m read
     → pointwise (pairs_equal key_equal value_equal) listed read ≡ true
 
--- Where an index set stands for a list of keys, a list that is read back of it is equal to that
--- one: it has as many keys, and each equals the one at its place.
+-- If an index set represents the list `listed`, a list `read` that is deserialized from it
+-- is equal to `listed`.
 abbrev pub ItemsReadBackAreListed : (K H W : Type 0) → {A : Type 0} → Width → Shape
     → (List ℕ → ℕ → A → Type 0) → (List ℕ → ℕ → ℕ) → (A → A → Bool) → Type 0
 ItemsReadBackAreListed K H W {A} w k key hash equal =

@@ -1,4 +1,4 @@
--- What a lookup in an index map answers that lends the value to be written.
+-- Lookups in an index map that return a seal of the value.
 use Rattle.std.specs.Prelude.{◌≡◌, ℕ, ◌<◌, List, Option}
 use Rattle.std.specs.Int.{Width}
 use Rattle.std.specs.Option.{option_map}
@@ -17,12 +17,12 @@ use Rattle.rkyv_index.specs.IndexLayout.{index_shape}
 use Rattle.rkyv_index.specs.ValueWrites.{KeptByWrites, pair_at}
 use Rattle.rkyv_index.specs.declared.map.IndexMapOf.{IndexMapOf}
 
--- the header of an index map stands where the seal is
+-- the archive has a valid index map at the position of the seal `a`
 abbrev pub IsIndexSeal : {K V H W : Type 0} → Width → Shape → Shape
     → ArchiveSeal (IndexMapOf K V H W) → Type 0
 IsIndexSeal w k v a = Viewed (index_shape w (entry_shape k v)) (archive_in a) (pos_in a)
 
--- the view is that of the key of place i of the index map at p, in the same bytes
+-- `key`: view of the key at index `i` of the map at `p`, in the bytes `b`
 pub record IsKeyAt {K : Type 0} (w : Width) (k v : Shape) (b : List ℕ) (p i : ℕ) (key : View K) :
     Type 0 where
   pub below : i < len_at w b p
@@ -30,7 +30,7 @@ pub record IsKeyAt {K : Type 0} (w : Width) (k v : Shape) (b : List ℕ) (p i : 
   pub place : pos_of key ≡ pair_at w k v b p i
   pub viewed : IsView k key
 
--- the index map at p in these bytes, whose keys are viewed in any archive of the same bytes
+-- the index map at `p` of the bytes `b`. Its keys are viewed in any archive with the same bytes
 abbrev pub index_at : {K : Type 0} → Width → Shape → Shape → List ℕ → ℕ → Index K
 index_at w k v b p = record {
   word = w;
@@ -41,13 +41,13 @@ index_at w k v b p = record {
   is_key = IsKeyAt w k v b p;
 }
 
--- the index map where the seal is
+-- the index map at the seal `a`
 abbrev pub index_of_seal : {K V H W : Type 0} → Width → Shape → Shape
     → ArchiveSeal (IndexMapOf K V H W) → Index K
 index_of_seal w k v a = index_at w k v (archive_in a) (pos_in a)
 
--- The key of place i of the index map at p stands at q, and the value behind it. Every write of the
--- value alone that keeps the value keeps the index map.
+-- `q`: position of the pair at index `i` of the map at `p`, with a valid key and value.
+-- A write of the value alone that keeps it valid keeps the index map
 pub record IsPairPos (w : Width) (k v : Shape) (b : List ℕ) (p i q : ℕ) : Type 0 where
   pub below : i < len_at w b p
   pub place : q ≡ pair_at w k v b p i
@@ -56,39 +56,39 @@ pub record IsPairPos (w : Width) (k v : Shape) (b : List ℕ) (p i q : ℕ) : Ty
   pub kept : KeptByWrites w k v b p i
 
 module _ {K V H W : Type 0} (w : Width) (k v : Shape) (a : ArchiveSeal (IndexMapOf K V H W)) where
-  -- the key of place i stands at the position, in the index map where the seal is
+  -- `q`: position of the pair at index `i` of the index map at the seal
   abbrev pub IsPairPlace : ℕ → ℕ → Type 0
   IsPairPlace i q = IsPairPos w k v (archive_in a) (pos_in a) i q
 
-  -- what is lent is the pair of a place that a full bucket holds, and the place comes with it
+  -- `full`: an index in a full bucket, the view of its key and the seal of its value
   abbrev pub IsFullSeal : ℕ × View K × Seal V → Type 0
   IsFullSeal full = IsHeldAt w (archive_in a) (pos_in a) full.0
       × LendsPair k v (archive_in a) (IsPairPlace full.0) (full.1, full.2)
 
-  -- what is lent is the pair of a place that a full bucket holds
+  -- `pair`: view of the key and seal of the value at an index in a full bucket
   abbrev pub IsPairSeal : View K × Seal V → Type 0
   IsPairSeal pair = (i : ℕ) × IsHeldAt w (archive_in a) (pos_in a) i
       × LendsPair k v (archive_in a) (IsPairPlace i) pair
 
-  -- what is lent is the value of a place that a full bucket holds
+  -- `value`: seal of the value at an index in a full bucket
   abbrev pub IsValueSeal : Seal V → Type 0
   IsValueSeal value = (i : ℕ) × IsHeldAt w (archive_in a) (pos_in a) i
       × LendsValue k v (archive_in a) (IsPairPlace i) value
 
-  -- what was lent is the pair of the place, or none was found
+  -- `result`: the pair at the index `place`, or `None` if `place` is `None`
   abbrev pub IsPairSealAt : Option (View K × Seal V) → Option ℕ → Type 0
   IsPairSealAt result place =
       IsThere (λ i. LendsPair k v (archive_in a) (IsPairPlace i)) result place
 
-  -- what was lent is the value of the place, or none was found
+  -- `result`: the value at the index `place`, or `None` if `place` is `None`
   abbrev pub IsValueSealAt : Option (Seal V) → Option ℕ → Type 0
   IsValueSealAt result place =
       IsThere (λ i. LendsValue k v (archive_in a) (IsPairPlace i)) result place
 
--- the place of a pair that was lent
+-- the index in `result`
 abbrev pub full_seal_place : {K V : Type 0} → Option (ℕ × View K × Seal V) → Option ℕ
 full_seal_place {K} {V} result = option_map (λ (full : ℕ × View K × Seal V). full.0) result
 
--- what was lent is at the place, or none was found
+-- `result` has the index `place`, or both are `None`
 abbrev pub IsFullSealAt : {K V : Type 0} → Option (ℕ × View K × Seal V) → Option ℕ → Type 0
 IsFullSealAt result place = full_seal_place result ≡ place

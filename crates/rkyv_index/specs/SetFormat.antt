@@ -1,4 +1,4 @@
--- How the items of an index set are written: as the keys of an index map, each with the unit value.
+-- The format of a list as an index set: that of an index map of the items to the unit value.
 use Rattle.std.specs.Prelude.{ℕ, List}
 use Rattle.std.specs.Int.{Width}
 use Rattle.rkyv_base.specs.Empty.{unit_format, unit_shape, unit_stands}
@@ -10,13 +10,13 @@ use Rattle.rkyv_table.specs.Table.Lent.{with_units}
 use Rattle.rkyv_index.specs.IndexFormat.{IndexStands, index_format}
 use Rattle.rkyv_index.specs.IndexHeader.{IndexResolver}
 
--- how a list of keys, in the order handed in, is written as an index set under a load factor
+-- the format of a list of keys, in insertion order, as an index set under a load factor
 abbrev pub index_set_format : {P A R : Type 0} → Width → Encoding P → Shape → Format A R → (A → ℕ)
     → ℕ × ℕ → Format (List A) IndexResolver
 index_set_format w e k key hash load_factor = written_as with_units (index_format w e k unit_shape
     key unit_format hash load_factor)
 
--- a header of an index set of the keys stands at p
+-- the index set at `p` represents the list `keys`
 abbrev pub IndexSetStands : {A : Type 0} → Width → Shape → (List ℕ → ℕ → A → Type 0)
     → (List ℕ → ℕ → ℕ) → ℕ × ℕ → List ℕ → ℕ → List A → Type 0
 IndexSetStands w k key hash load_factor b p keys = IndexStands w k unit_shape key unit_stands hash

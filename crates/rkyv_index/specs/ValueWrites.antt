@@ -1,4 +1,4 @@
--- What becomes of an index map of which one value is written in place.
+-- An index map after a write of one value in place.
 use Rattle.std.specs.Prelude.{◌≡◌, ◌≢◌, ℕ, ◌+◌, ◌*◌, ◌<◌, ◌^◌, List, Bool, Some, slice_get}
 use Rattle.std.specs.Prelude.{slice_set}
 use Rattle.std.specs.Int.{Width, byte_len}
@@ -14,12 +14,12 @@ use Rattle.rkyv_index.specs.IndexFormat.{IndexStands, IndexWrittenAt}
 use Rattle.rkyv_index.specs.IndexLayout.{entries_pos, index_shape, pair_pos}
 
 module _ (w : Width) (k v : Shape) where
-  -- where the pair of place i stands
+  -- the position of the pair at index `i` of the map at `p`
   abbrev pub pair_at : List ℕ → ℕ → ℕ → ℕ
   pair_at b p i = pair_pos w (entry_shape k v).size b p i
 
-  -- The index map at p in b is one in c, of which the value of place i was written: its header, all
-  -- before its entries, among it the table of places, all keys, and all other entries are the same.
+  -- The index map at `p` of `b` is kept in `c`, but for the value at index `i`.
+  -- Its header, the bytes before its entries, all keys and all other entries are unchanged.
   pub record KeepsEntries (b c : List ℕ) (p i : ℕ) : Type 0 where
     pub holds : Keeps (index_shape w (entry_shape k v)) b c p
     pub header : Same b c p (p + 4 * byte_len w)
@@ -28,12 +28,13 @@ module _ (w : Width) (k v : Shape) where
     pub others : (j : ℕ) → j < len_at w b p → j ≢ i
         → SameValue (entry_shape k v) b c (pair_at b p j)
 
-  -- every write of the value of place i alone that keeps the value keeps the index map
+  -- each write of the value at index `i` alone that keeps it valid keeps the index map
   abbrev pub KeptByWrites : List ℕ → ℕ → ℕ → Type 0
   KeptByWrites b p i = (c : List ℕ) → WritesValue k v b c (pair_at b p i) → KeepsEntries b c p i
 
-  -- And it stands in c: with the same length, the pairs at the same positions, under the same
-  -- hashes; each lookup finds the same place, and an index map that was written stays one.
+  -- The map of `c` is valid, with the same length, the pairs at the same positions and under
+  -- the same hashes. Each lookup whose test depends only on the key finds the same index.
+  -- A written index map is still one.
   pub record KeepsIndexMap (key_hash : List ℕ → ℕ → ℕ) (b c : List ℕ) (p i : ℕ) : Type 0 where
     pub entries : KeepsEntries b c p i
     pub stands : Viewed (index_shape w (entry_shape k v)) c p
@@ -53,8 +54,7 @@ module _ (w : Width) (k v : Shape) where
       → Viewed (index_shape w (entry_shape k v)) b p → i < len_at w b p
       → WritesValue k v b c (pair_at b p i) → KeepsIndexMap key_hash b c p i
 
-  -- a write of one value in place keeps the answer of each query, whose hash is a function of the
-  -- query
+  -- after a write of one value in place, each query `q` finds the same index. `hash q`: its hash
   abbrev pub ValueWritesKeepAnswers : {Q : Type 0} → (Q → Type 0) → (Q → ℕ)
       → (Q → List ℕ → ℕ → Bool) → Type 0
   ValueWritesKeepAnswers {Q} can_read hash fits = (b c : List ℕ) (p i : ℕ)
@@ -63,7 +63,7 @@ module _ (w : Width) (k v : Shape) where
       → index_found w c p (hash q) (fits_in w k v c p (fits q))
       ≡ index_found w b p (hash q) (fits_in w k v b p (fits q))
 
-  -- an index map that stands for a list of pairs stands for the list with the new value
+  -- after a write of the value at index `n`, the index map represents the list with the new value
   abbrev pub ValuesWrittenStand : {A B : Type 0} → (List ℕ → ℕ → A → Type 0)
       → (List ℕ → ℕ → B → Type 0) → (List ℕ → ℕ → ℕ) → Type 0
   ValuesWrittenStand {A} {B} key value key_hash = (b c : List ℕ) (p n : ℕ) (factor : ℕ × ℕ)
@@ -74,7 +74,7 @@ module _ (w : Width) (k v : Shape) where
       → IndexStands w k v key value key_hash factor c p (slice_set pairs n (pair.0, new))
 
 module _ {A N : Type 0} (w : Width) (k : Shape) (e : Encoding N) where
-  -- an index map that stands for a list of pairs stands for the list with the new value at a place
+  -- after a write of the value at index `i`, the index map represents the list with the new value
   abbrev pub SetsPlace : (List ℕ → ℕ → A → Type 0) → (List ℕ → ℕ → ℕ) → List ℕ → ℕ → ℕ → N
       → List ℕ → Type 0
   SetsPlace key key_hash b p i value c =

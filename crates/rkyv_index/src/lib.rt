@@ -1,4 +1,26 @@
-//! Archived index maps and index sets: hash maps and hash sets that keep their order.
+//! Archived index maps and index sets: hash maps and hash sets in insertion order.
+//!
+//! An index map is a row of entries in insertion order, and a table of their indices under
+//! the hashes of their keys. An index set is the index map of its keys to the unit value.
+//! `IndexMapOf` and `IndexSetOf` are the element types of the headers. `ArchivedIndexMap`
+//! and `ArchivedIndexSet` are a map and a set that are read.
+//!
+//! - To archive a list, wrap it in `OrderedPairs` or `OrderedItems`.
+//! - To archive from an iterator, `serialize_from_iter` writes a map or set and returns
+//!   its resolver.
+//! - To read, `ArchivedIndexMap::of` and `ArchivedIndexSet::of` take a view of the header.
+//! - To look up, `get`, `get_full` and `get_index_of` take a query. In a map, `get_with`,
+//!   `get_full_with` and `get_index_of_with` also take a comparison.
+//! - To look up many keys, `finder` decodes the header once for all lookups.
+//! - To read by an index, `get_index` returns the pair or the key.
+//! - To walk over a map, `iter`, `keys` and `values` return iterators.
+//! - To write values in place, the module `map::in_place` has a table of the calls.
+//! - To compare, `eq_index` takes an archived map or set.
+//! - To deserialize, `deserialize_pairs` and `deserialize_items` return lists.
+//! - To validate hashes, `misplaced` counts the keys that a lookup of their own doesn't find.
+//!
+//! `FxHasher64` takes no secret key, so it doesn't protect from chosen input.
+//! In an untrusted archive, a lookup may read every group of control bytes once.
 #![tactic(auto)]
 
 pub mod lists;

@@ -1,4 +1,6 @@
-//! Lists that are archived as index maps.
+//! Lists that are archived as index maps and as index sets.
+//!
+//! `OrderedPairs` is a list of pairs, and `OrderedItems` a list of keys.
 
 ghost use Rattle.rkyv_base.specs.Entry.{entry_shape};
 ghost use Rattle.rkyv_base.specs.Pairs.{written_as, written_as-format};
@@ -28,7 +30,10 @@ use rkyv_scan::hash::FxHasher64;
 use rkyv_table::table::lent::{Halves, Refs};
 use std::alloc::Global;
 
-/// A list of pairs that is archived as an index map, in its order, under the load factor 7 / 8.
+/// A list of pairs that is archived as an index map under the load factor 7 / 8.
+///
+/// The pairs are inserted in order, and pairs with equal keys are kept. A lookup finds
+/// the first of them.
 #[derive(Drop)]
 pub struct OrderedPairs<K, V>(pub Vec<(K, V)>);
 
@@ -95,7 +100,9 @@ where
     }
 }
 
-/// A list of keys that is archived as an index set, in its order, under the load factor 7 / 8.
+/// A list of keys that is archived as an index set under the load factor 7 / 8.
+///
+/// The keys are inserted in order, and equal keys are kept. A lookup finds the first of them.
 #[derive(Drop)]
 pub struct OrderedItems<K>(pub Vec<K>);
 

@@ -1,4 +1,11 @@
 //! Index maps.
+//!
+//! - `serialize` writes maps from iterators, `resolve` has their resolver, and `written`
+//!   has the law of their bytes.
+//! - `iter` has the iterators over a map, and `deserialize` returns a list of its pairs.
+//! - `finder` looks up many keys, with the header decoded once.
+//! - `in_place` writes the value at an index over the bytes of an archive.
+//! - `laws` has laws that a proof cites.
 
 mod check;
 mod debug;
@@ -27,12 +34,12 @@ use rkyv_base::width::Narrow;
 use rkyv_scan::hash::FxHasher64;
 use std::marker::PhantomData;
 
-/// The header of an index map of K to V under the hasher H, in an archive of the width W.
+/// The header of an index map of `K` to `V` under the hasher `H`, in an archive of the width `W`.
 pub struct IndexMapOf<K, V, H = FxHasher64, W = Narrow> {
     kinds: PhantomData<(K, V, H, W)>,
 }
 
-/// An index map of K to V under the hasher H that is read in place, in an archive of the width W.
+/// An index map of `K` to `V` under the hasher `H` that is read in an archive of the width `W`.
 #[derive_where(Clone, Copy)]
 pub struct ArchivedIndexMap<'a, K, V, H = FxHasher64, W = Narrow> {
     pub(crate) view: View<'a, IndexMapOf<K, V, H, W>>,

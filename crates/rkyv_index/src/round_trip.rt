@@ -1,4 +1,4 @@
-//! Lists that are archived as index maps and index sets, and read back.
+//! Round trips: lists that are written as index maps and index sets, opened and deserialized.
 
 ghost use Rattle.std.specs.Prelude.{◌≡◌, IfOk, true};
 
@@ -19,20 +19,24 @@ use rkyv_keys::reading::Deserialize;
 use rkyv_scan::hash::FxHasher64;
 use std::alloc::Global;
 
-/// Why a list didn't come back.
+/// The error of a round trip.
 #[derive(Debug, Drop)]
 pub enum Lost {
-    /// It wasn't written.
+    /// The list could not be written.
     Write(WriteError<NoMemory>),
-    /// It wasn't read back.
+    /// The list could not be deserialized.
     Read(ReadError),
 }
 
-/// Whether the archive of a list of pairs is accepted and is read back as an equal list: wherever
-/// it can be written and read back.
+/// Writes a list of pairs, opens the archive, deserializes the index map and compares the lists.
+///
+/// Returns `Ok(true)` if the archive is valid and the lists are `==`.
+/// The result is never `Ok(false)`.
 ///
 /// # Errors
-/// Those of `to_bytes_in` and of `deserialize_pairs`.
+///
+/// - `Lost::Write`: the error of `to_bytes_in`.
+/// - `Lost::Read`: the error of `deserialize_pairs`.
 pub fn pairs_come_back<
     W: PlaceWidth,
     A: Serialize<VecWriter, W> + Drop,
@@ -61,11 +65,15 @@ where
     }
 }
 
-/// Whether the archive of a list of keys is accepted and is read back as an equal list: wherever it
-/// can be written and read back.
+/// Writes a list of keys, opens the archive, deserializes the index set and compares the lists.
+///
+/// Returns `Ok(true)` if the archive is valid and the lists are `==`.
+/// The result is never `Ok(false)`.
 ///
 /// # Errors
-/// Those of `to_bytes_in` and of `deserialize_items`.
+///
+/// - `Lost::Write`: the error of `to_bytes_in`.
+/// - `Lost::Read`: the error of `deserialize_items`.
 pub fn items_come_back<W: PlaceWidth, A: Serialize<VecWriter, W> + Drop>(
     alloc: Global,
     items: &OrderedItems<A>,

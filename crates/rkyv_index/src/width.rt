@@ -1,4 +1,7 @@
-//! Places of an index map's entries as numbers of a width.
+//! Indices of entries as numbers of a width.
+//!
+//! The items of an index map's table are such numbers. The names call the index of an entry
+//! its place.
 
 ghost use Rattle.std.specs.Prelude.{◌≡◌, ◌<◌, ◌^◌};
 ghost use Rattle.std.proofs.Common.{refl};
@@ -7,9 +10,15 @@ ghost use Rattle.rkyv_index.specs.IndexFormat.{CodesReadBack};
 
 use rkyv_base::width::{Narrow, Wide, Width};
 
-/// A width whose places are made of numbers, and are other ones for other numbers.
+/// A width whose numbers can be indices of entries.
+///
+/// The code of an encoded number is that number.
 pub trait PlaceWidth: Width {
-    /// The place of a number.
+    /// Returns the number of the width that encodes `number`.
+    ///
+    /// # Requires
+    ///
+    /// - `number` fits in a word of the width.
     fn to_place(number: u64) -> Self::Place
         requires { number < 2 ^ bits Self.word }
         ensures { result ≡ Self.Place.encoding.value number };

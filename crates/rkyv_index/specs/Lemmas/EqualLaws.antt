@@ -13,7 +13,7 @@ use Rattle.rkyv_index.specs.IndexLayout.{entries_pos, pair_pos}
 use Rattle.rkyv_index.specs.IndexLayout.{IndexHolds, entry_at, index_shape, places_of}
 use Rattle.rkyv_index.specs.Lemmas.IndexLaws.{each_holds, entry_inside}
 
--- what holds at each of n places holds at all, and the other way round
+-- `list_all f` of a range is `true` if and only if `f` is `true` for each number in it
 all_from : (f : ℕ → Bool) (a n : ℕ) → ((i : ℕ) → a ≤ i → i < a + n → f i ≡ true) → list_all f
     (range_with_len a n) ≡ true
 all_from f a zero h = refl
@@ -32,7 +32,7 @@ all_at f a (suc n) h i from to =
     ]
 
 module _ (w : Width) (s : Shape) (law : IsElement s) where
-  -- an entry stands behind each place of a map that stands
+  -- a valid map has a valid entry at each index below its length
   entry_standing : (b : List ℕ) (p : ℕ) → Standing (index_shape w s) b p → (i : ℕ) → i < len_at w b
       p → Standing s b (pair_pos w s.size b p i)
   entry_standing b p h i below =
@@ -50,7 +50,7 @@ module _ (w : Width) (s : Shape) (law : IsElement s) where
     abbrev S : List ℕ → ℕ → Type 0
     S b p = Standing (index_shape w s) b p
 
-    -- equal lengths, and the same entries
+    -- equal maps have the same length and the same entries
     parts : (b c : List ℕ) (p q : ℕ) → index_equal w s same b p c q ≡ true
         → (len_at w b p ≡ len_at w c q) × ((i : ℕ) → i < len_at w b p → same_at w s same b p c q i
         ≡ true)

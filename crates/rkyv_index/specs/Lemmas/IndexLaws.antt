@@ -32,7 +32,7 @@ use Rattle.rkyv_index.specs.IndexLayout.{EntriesFail, EntriesIn, FirstNotBelow, 
 use Rattle.rkyv_index.specs.IndexLayout.{IndexHolds, PlacesBelow, distance_pos, entries_told}
 use Rattle.rkyv_index.specs.IndexLayout.{entry_at, index_shape, place_shape, places_of}
 
--- a place is an element
+-- an index in a bucket is an element
 pub place_element : (w : Width) → IsArchiveWord w → IsElement (place_shape w)
 place_element w kind = record {
   align_is = by_archive_word (λ v. IsAlign (byte_len v)) (inr (inr (inl refl)))
@@ -48,7 +48,7 @@ place_element w kind = record {
   near = λ b c p lo hi l o fixed part h. h;
 }
 
--- the places of n entries are below n
+-- the indices of the `n` numbers from `a` on are below `m`
 all_below : (a n m : ℕ) → a + n ≤ m → AllBelow m (range_with_len a n)
 all_below a zero m h = tt
 all_below a (suc n) m h = (omega arith, all_below (a + 1) n m (omega arith))
@@ -56,14 +56,14 @@ all_below a (suc n) m h = (omega arith, all_below (a + 1) n m (omega arith))
 pub places_below : (n : ℕ) → AllBelow n (places_of n)
 places_below n = all_below 0 n n (omega arith)
 
--- an entry stands between the begin of the entries and their end
+-- an entry is between the begin and the end of the entries
 pub entry_inside : (size begin n i : ℕ) → i < n → (begin ≤ entry_at size begin i)
     × (entry_at size begin i + size ≤ begin + n * size)
 entry_inside size begin n i h =
     let m : (suc i) * size ≤ n * size = mul-le-mul_right size (omega arith) in
     (omega arith, omega (arith, m))
 
--- each of the values that hold, one after the other, holds in a range of its own
+-- each of several valid values in order is valid in a range of its own
 pub each_holds : (s : Shape) → IsElement s → (at : ℕ → ℕ) (b : List ℕ) (hi a n lo l i : ℕ) → lo ≤ hi
     → AllHold s at b hi (range_with_len a n) lo l → a ≤ i → i < a + n
     → HoldsWithin s b (at i) lo hi l
@@ -87,7 +87,7 @@ each_holds s law at b hi a (suc n) lo l i o h from to =
           (each_holds s law at b hi (a + 1) n h.0 l i k.1 h.2 (omega arith) (omega arith))
     ]
 
--- where all places are below n, none is the first that isn't
+-- if all indices are below `n`, no position is the first whose index isn't
 not_below_clear : (w : Width) (b : List ℕ) (n : ℕ) (qs : List ℕ) (e : VerifyError) → PlacesBelow w b
     n qs → FirstNotBelow w b n qs e → ⊥
 not_below_clear w b n [] e h f = f
@@ -96,7 +96,7 @@ not_below_clear w b n (q ∷ qs) e h (inl f) = let k = All-head (λ x. number_at
 not_below_clear w b n (q ∷ qs) e h (inr f) = not_below_clear w b n qs e
     (All-tail (λ x. number_at w b x < n) q qs h) f.1
 
--- one place alone is the first that isn't below n
+-- the first index that isn't below `n` has one error alone
 not_below_one : (w : Width) (b : List ℕ) (n : ℕ) (qs : List ℕ) (e e' : VerifyError) → FirstNotBelow
     w b n qs e
     → FirstNotBelow w b n qs e' → e ≡ e'
@@ -106,7 +106,7 @@ not_below_one w b n (q ∷ qs) e e' (inl f) (inr g) = absurd (omega (arith, f.0,
 not_below_one w b n (q ∷ qs) e e' (inr f) (inl g) = absurd (omega (arith, f.0, g.0))
 not_below_one w b n (q ∷ qs) e e' (inr f) (inr g) = not_below_one w b n qs e e' f.1 g.1
 
--- entries that stand in a part
+-- entries that are in a part
 module _ (s : Shape) (law : IsElement s) where
   entries_between : (b : List ℕ) (told : ℤ) (len lo hi l : ℕ) → EntriesIn s b told len lo hi l
       → (lo ≤ l) × (l ≤ hi)
@@ -191,7 +191,7 @@ module _ (s : Shape) (law : IsElement s) where
         ends = h.ends;
       }
 
--- what holds of all images holds of what they are images of
+-- from `Q` of all images under `f` to `Q (f x)` of all numbers `x`
 pub All-unmap : (Q : ℕ → Type 0) (f : ℕ → ℕ) (xs : List ℕ) → All Q (map f xs) → All (λ x. Q (f x))
     xs
 All-unmap Q f [] h = All-nil (λ x. Q (f x))
@@ -205,7 +205,7 @@ module _ (w : Width) (kind : IsArchiveWord w) where
   abbrev P_law : IsElement P
   P_law = place_element w kind
 
-  -- where the header's bytes and those of the table are the same, so are the places
+  -- the indices are the same if the bytes of the header and of the table are
   module _ (b c : List ℕ) (p lo hi m : ℕ) (o : lo ≤ hi) (fixed : Same b c p (p + 3 * byte_len w))
       (part : Same b c lo m) (h : TableHolds w P b p lo hi m) where
     item_within : (i : ℕ) → IsWalked w b p i → (lo ≤ item_at w (byte_len w) b p i)
@@ -248,7 +248,7 @@ module _ (w : Width) (kind : IsArchiveWord w) where
         subst (λ x. x < n) (place_same_at (get_or ws k d) (walked_all w P P_law b p k d lt))
         (All-unmap (λ q. number_at w b q < n) (at b p) ws below k d lt)))
 
--- where a header's bytes are the same, its entries are told to begin at the same position
+-- the entries begin at the same position if the bytes of the header are the same
 pub told_same : (w : Width) (b c : List ℕ) (p : ℕ) → Same b c p (p + 4 * byte_len w)
     → entries_told w b p ≡ entries_told w c p
 told_same w b c p fixed =
@@ -257,7 +257,7 @@ told_same w b c p fixed =
     (omega arith) (omega arith) (omega arith) fixed in
     ap (λ (x : List ℕ). pos (distance_pos w p) +ℤ cast_signed w (from_le_bytes w x)) field
 
--- and its table of places has the same header
+-- the header of the table is the same if the bytes of the index map's header are
 pub head_same : (w : Width) (b c : List ℕ) (p : ℕ) → Same b c p (p + 4 * byte_len w)
     → Same b c p (p + 3 * byte_len w)
 head_same w b c p fixed = same_part b c p (p + 4 * byte_len w) p (p + 3 * byte_len w) (omega arith)
@@ -322,8 +322,8 @@ module _ (w : Width) (kind : IsArchiveWord w) (s : Shape) (law : IsElement s) wh
         omega arith,
       )
 
-  -- where the header and the table of places are the same, and entries hold there again, the index
-  -- map does
+  -- an index map is valid again if the header and the table are the same and the entries
+  -- are valid again
   pub index_again : (b c : List ℕ) (p lo hi l : ℕ) → lo ≤ hi → Same b c p (p + 4 * byte_len w)
       → (h : IndexHolds w s b p lo hi l) → Same b c lo h.middle
       → EntriesIn s c (entries_told w b p) (len_at w b p) h.middle hi l

@@ -1,4 +1,4 @@
--- An index map stands where the same bytes do.
+-- Index maps in two archives that have the same bytes.
 use Rattle.std.proofs.Common.{◌≡◌, ℕ, ◌+◌, ◌*◌, ◌<◌, ◌≤◌, sym, ap, subst, ◌∙◌, arith}
 use Rattle.std.proofs.Common.{List, length, map, get_or, slice_index}
 use Rattle.std.specs.Prelude.{unsigned_abs}
@@ -33,14 +33,14 @@ use Rattle.rkyv_index.specs.Lemmas.IndexLaws.{head_same, place_same_at, told_sam
 use Rattle.rkyv_index.specs.IndexLayout.{IndexHolds, entry_at}
 use Rattle.rkyv_index.specs.IndexLayout.{index_shape, place_shape, places_of}
 
--- the hash of a key rests on the bytes on which it rests that the key holds
+-- the hash of a valid key depends only on the bytes of the key and its parts
 abbrev pub HashNear : Shape → (List ℕ → ℕ → ℕ) → Type 0
 HashNear k hash = (b c : List ℕ) (q lo hi l : ℕ) → lo ≤ hi → k.holds b q lo hi l → Same b c q
     (q + k.size) → Same b c lo l → hash b q ≡ hash c q
 
--- Two archives have the same header of the table of places at p, its controls where it has buckets,
--- the same numbers in full buckets, and keys under the same hashes: an index map that was written
--- in one was so in the other.
+-- An index map that was written in `b` was also written in `c`. Both have the same header
+-- of the table at `p`, and the same control bytes if it has buckets. The numbers in full buckets
+-- and the hashes of the keys are the same.
 module _ (w : Width) (size : ℕ) (key_hash : List ℕ → ℕ → ℕ) (b c : List ℕ) (p : ℕ)
     (head : Same b c p (p + 3 * byte_len w))
     (controls : 0 < cap_at w b p → table_controls w b p ≡ table_controls w c p)
@@ -132,7 +132,7 @@ module _ (w : Width) (kind : IsArchiveWord w) (k v : Shape) (kl : IsElement k) (
     last_ends = all_between S law (entry_at S.size h.entries.begin) b h.entries.begin
         (places_of (len_at w b p)) h.middle h.entries.last h.entries.part.above h.entries.hold
 
-    -- each entry holds, and stands in the part
+    -- each entry is valid, and inside the part
     entry_there : (i : ℕ) → i < len_at w b p → HoldsWithin S b (pair_pos w S.size b p i) h.middle
         h.entries.begin h.entries.last
         × (h.entries.begin ≤ pair_pos w S.size b p i) × (pair_pos w S.size b p i + S.size ≤ l)
@@ -209,7 +209,7 @@ module _ {State : Type 0} (hasher : Hasher State)
     (w : Width) (kind : IsArchiveWord w) {k v : Shape} (kl : IsElement k) (vl : IsElement v)
     {A B : Type 0} {key : List ℕ → ℕ → A → Type 0} {value : List ℕ → ℕ → B → Type 0}
     {same : Comparison} {key_calls : List ℕ → ℕ → List HasherCall} (factor : ℕ × ℕ) where
-  -- what stands as an index map rests on the bytes on which it rests that the index map holds
+  -- the list that an index map represents depends only on the bytes of its header and its parts
   pub index_stands_near : IsKey k same key_calls → StandsNear k key → StandsNear v value
       → StandsNear (index_shape w (entry_shape k v)) (IndexStands w k v key value
       (hash_at hasher key_calls) factor)

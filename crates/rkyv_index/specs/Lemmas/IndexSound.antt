@@ -1,4 +1,4 @@
--- An index map that was written holds and stands, wherever its bytes sit.
+-- A written index map is valid and represents its list, in any archive that has its bytes.
 use Rattle.std.proofs.Common.{arith, get_or, refl, sym, ◌∙◌, ap, subst, inl, inr, zero}
 use Rattle.std.proofs.Common.{length-append}
 use Rattle.std.proofs.lemmas.Int.{ints, to_z-of_z}
@@ -59,7 +59,7 @@ module _ {X P : Type 0} (own : X → ℕ) (v : ℕ → P) where
   places_count i [] = refl
   places_count i (x ∷ xs) = ap suc (places_count (i + 1) xs)
 
-  -- the j-th place
+  -- the item with number `j` is the index `i + j`
   place_there : (i : ℕ) (xs : List X) (j : ℕ) → j < length xs → slice_get
       (items_of (places_from own v i xs)) j ≡ Some (v (i + j))
   place_there i [] j h = absurd (omega (arith, h))
@@ -67,7 +67,7 @@ module _ {X P : Type 0} (own : X → ℕ) (v : ℕ → P) where
   place_there i (x ∷ xs) (suc j) h = let k : (i + 1) + j ≡ i + suc j = omega arith in place_there
       (i + 1) xs j (omega (arith, h)) ∙ ap (λ n. Some (v n)) k
 
-  -- the hashes are those of what stands at the places
+  -- the hashes of the items are those of the values at the indices
   hashes_there : (at hash : ℕ → ℕ) (i : ℕ) (xs : List X) → ((j : ℕ) (x : X) → slice_get xs j
       ≡ Some x → own x ≡ hash (at (i + j)))
       → hashes_of (places_from own v i xs) ≡ map (λ k. hash (at k)) (range_with_len i (length xs))
@@ -79,7 +79,7 @@ module _ {X P : Type 0} (own : X → ℕ) (v : ℕ → P) where
       ap (λ (n : ℕ). n ∷ hashes_of (places_from own v (i + 1) xs)) (h 0 x refl
       ∙ ap (λ m. hash (at m)) k) ∙ ap (λ (l : List ℕ). hash (at i) ∷ l) rest
 
--- a distance reads back as it was written
+-- a written distance is read back
 distance_back : (w : Width) → IsArchiveWord w → (d : ℤ) (c : List ℕ) (p : ℕ) → FitsSigned w d
     → Sits c p (to_le_bytes w (cast_unsigned w d)) → signed_at w c p ≡ d
 distance_back w kind d c p fits s =
@@ -115,7 +115,7 @@ module _ {P X R : Type 0} (w : Width) (kind : IsArchiveWord w) (e : Encoding P)
       homes_count : length tw.homes ≡ length xs
       homes_count = home_count w c p (hashes_of Places) tw.homes tw.written ∙ hashes_count
 
-      -- the place in the home of the j-th value is j
+      -- the home bucket of the value with number `j` has the index `j`
       places_tell : (j : ℕ) → j < length xs → number_at w c
           (slice_index (home_positions w (byte_len w) c p tw.homes) j) ≡ j
       places_tell j h =
@@ -128,7 +128,7 @@ module _ {P X R : Type 0} (w : Width) (kind : IsArchiveWord w) (e : Encoding P)
           subst (λ v. number_at v c
           (slice_index (home_positions w (byte_len v) c p tw.homes) j) ≡ j) place.word told
 
-      -- each place that is walked is that of a value
+      -- each full bucket has the index of a value
       walked_below : (i : ℕ) → IsWalked w c p i → number_at w c (item_at w (byte_len w) c p i) <
           length xs
       walked_below i walked = elim tw.written.placed [
@@ -370,9 +370,8 @@ module _ {P X R : Type 0} (w : Width) (kind : IsArchiveWord w) (e : Encoding P)
   ]
   header_clear r p out i (inr far) = far (subst (FitsSigned w) i.told i.fits)
 
-  -- In every archive in which what was written of an index map sits, and, aligned behind it, its
-  -- header, the index map
-  -- holds, with its parts in their place, and stands.
+  -- Written bytes of values and an aligned header behind them are a valid index map in any archive
+  -- that has them. It represents the values.
   pub row_is_format : IsFormat (index_shape w s) (RowStands w s.size stands hash factor)
       (row_format w e s f own factor)
   row_is_format = record {
@@ -386,13 +385,13 @@ module _ {P X R : Type 0} (w : Width) (kind : IsArchiveWord w) (e : Encoding P)
         );
   }
 
--- a key that was written of a value has the value's hash
+-- each valid key has the hash of the value `a` that it represents
 abbrev pub HashesAlike : {A : Type 0} → Shape → (List ℕ → ℕ → A → Type 0) → (List ℕ → ℕ → ℕ)
     → (A → ℕ) → Type 0
 HashesAlike {A = A} k key hash own = (a : A) (b : List ℕ) (q : ℕ) → Standing k b q → key b q a
     → own a ≡ hash b q
 
--- the same of the pairs of an index map
+-- the same for the pairs of an index map
 pub index_is_format : {P A B R Q : Type 0} (w : Width) (kind : IsArchiveWord w) (e : Encoding P)
     (place : IsPlace w e) (back : CodesReadBack e) (word : IsWord e.word) (k v : Shape)
     (kl : IsElement k) (vl : IsElement v)
@@ -413,7 +412,7 @@ module _ {State : Type 0} (hasher : Hasher State)
     {k v : Shape} (kl : IsElement k) (vl : IsElement v) {A B : Type 0} {key : List ℕ → ℕ → A
     → Type 0} {value : List ℕ → ℕ → B → Type 0} {same : Comparison} {key_calls : List ℕ → ℕ
     → List HasherCall} (factor : ℕ × ℕ) where
-  -- the same under the hashes of native keys
+  -- the same for the hashes of native keys
   pub index_sound : {can_read : A → Type 0} {calls : A → List HasherCall} {fits : A → List ℕ → ℕ
       → Bool} {equal : A → A → Bool} {R Q : Type 0} {kf : Format A R} {vf : Format B Q}
       → IsQuery k same key_calls can_read calls fits → FitsItsEqual k key equal fits

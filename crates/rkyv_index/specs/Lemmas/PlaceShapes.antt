@@ -1,4 +1,4 @@
--- A table of the places of a width is a table of words.
+-- A table of the indices of a width is a table of words.
 use Rattle.std.specs.Prelude.{◌≡◌, ℕ, ℤ, List, [], ◌∷◌}
 use Rattle.std.specs.Int.{Width, byte_len}
 use Rattle.std.proofs.Common.{subst, sym, inl, inr}
@@ -102,7 +102,7 @@ module _ {V : Type 0} (w : Width) (e : Encoding V) (is : IsPlace w e) where
   abbrev n : ℕ
   n = byte_len e.word
 
-  -- what holds of the width's places holds of words, and the other way round
+  -- a table of the width's numbers is valid if and only if it is as a table of words
   pub words_hold : (b : List ℕ) (p lo hi l : ℕ) → TableHolds w S b p lo hi l → TableHolds w
       (place_shape w) b p lo hi l
   words_hold b p lo hi l h =
@@ -127,7 +127,7 @@ module _ {V : Type 0} (w : Width) (e : Encoding V) (is : IsPlace w e) where
       (λ b p lo hi x f. absurd f) w b p lo hi l
       (subst (λ v. TableHolds w (place_shape v) b p lo hi l) (sym is.word) h)
 
-  -- a table of the places is viewed where one of words is
+  -- a table of words at `p` is also a table of the width's numbers
   pub places_viewed : (b : List ℕ) (p : ℕ) → Viewed (table_shape w (place_shape w)) b p
       → Viewed (table_shape w S) b p
   places_viewed b p v = record {

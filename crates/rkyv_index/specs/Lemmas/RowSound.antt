@@ -1,4 +1,4 @@
--- Values that were written in a row hold and stand.
+-- Written values in a row are valid and represent the values.
 use Rattle.std.proofs.Common.{arith, refl, sym, ◌∙◌, ap, subst, zero, length-append}
 use Rattle.std.proofs.lemmas.Option.{none-some, same_Some}
 use Rattle.std.specs.Prelude.{◌≡◌, ℕ, suc, ◌+◌, ◌*◌, ◌%◌, ◌≤◌, List, [], ◌∷◌, ◌++◌, length}
@@ -32,7 +32,7 @@ module _ {X R : Type 0} (s : Shape) (laws : IsElement s) (stands : List ℕ → 
     abbrev pub at : ℕ → ℕ
     at i = begin + i * s.size
 
-    -- each value stands in its place, counted from n on
+    -- each value of `xs` is valid and represented at its position, counted from `n` on
     abbrev pub RowStand : ℕ → List X → Type 0
     RowStand n xs = (i : ℕ) (x : X) → slice_get xs i ≡ Some x → Standing s c (at (n + i)) × stands c
         (at (n + i)) x
@@ -50,7 +50,7 @@ module _ {X R : Type 0} (s : Shape) (laws : IsElement s) (stands : List ℕ → 
         let k : (n + 1) + i ≡ n + suc i = omega arith in
         subst (λ j. Standing s c (at j) × stands c (at j) x) k (h i x e)
 
-    -- the values from the n-th place on hold and stand
+    -- the values from the index `n` on are valid and represented
     pub row_sound : (xs : List X) (n p : ℕ) (part out : List ℕ) (rs : List R) → RowParts f xs p part
         rs → RowImages f xs rs (at n) out → Sits c p part → Sits c (at n) out
         → p + length part ≤ begin → at n % s.align ≡ 0 → (l : ℕ) × AllHold s at c begin

@@ -1,4 +1,4 @@
--- The laws that an archived list of keys keeps as an index set.
+-- The laws of an archived list of keys as an index set.
 use Rattle.std.specs.Prelude.{◌≡◌, ℕ, Bool, true, List}
 use Rattle.std.specs.Int.{Width}
 use Rattle.rkyv_base.specs.Empty.{unit_element, unit_format, unit_is_format, unit_near, unit_shape}
@@ -25,14 +25,14 @@ module _ {State : Type 0} (hasher : Hasher State)
     (w : Width) (kind : IsArchiveWord w) {k : Shape} (kl : IsElement k)
     {A : Type 0} {key : List ℕ → ℕ → A → Type 0} {same : Comparison} {key_calls : List ℕ → ℕ
     → List HasherCall} (factor : ℕ × ℕ) where
-  -- what stands as an index set rests on the bytes on which it rests that the index set holds
+  -- the list that an index set represents depends only on the bytes of its header and its parts
   pub index_set_near : IsKey k same key_calls → StandsNear k key → StandsNear (index_set_shape w k)
       (IndexSetStands w k key (hash_at hasher key_calls) factor)
   index_set_near law kn keys = index_stands_near hasher w kind kl unit_element factor
       law kn unit_near (with_units keys)
 
-  -- in every archive in which what was written of an index set sits, and its header, the index set
-  -- holds and stands
+  -- written bytes of an index set and its header are a valid index set that represents the keys,
+  -- in any archive that has them
   pub index_set_sound : {P : Type 0} (e : Encoding P) → IsPlace w e → CodesReadBack e
       → IsWord e.word → {can_read : A → Type 0} {calls : A → List HasherCall} {fits : A → List ℕ → ℕ
       → Bool} {equal : A → A → Bool} {R : Type 0} {kf : Format A R}

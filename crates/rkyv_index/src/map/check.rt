@@ -1,4 +1,4 @@
-//! Checking an index map of a stranger.
+//! Validating an index map in untrusted bytes.
 ghost use Rattle.std.specs.Prelude.{IfErr, IfOk, MatchResult, length, pos as int, ◌%◌, ◌*◌, ◌+ℤ◌};
 ghost use Rattle.std.specs.Prelude.{◌+◌, ◌<◌, ◌≡◌, ◌≤◌};
 ghost use Rattle.std.specs.Int.{byte_len};
@@ -25,8 +25,17 @@ use rkyv_base::view::View;
 use rkyv_base::width::Width;
 use rkyv_table::table::{ArchivedHashTable, TableOf};
 
-/// Checks that each place in the table at `pos` is below its length, by ascending bucket, and
-/// answers the length.
+/// Checks that each index in the table at `pos` is below the length, and returns the length.
+///
+/// The indices are checked in bucket order.
+///
+/// # Requires
+///
+/// - The bytes have a valid table of indices at `pos`.
+///
+/// # Errors
+///
+/// - `PlaceOutOfRange`: the first index that isn't below the length.
 pub(crate) fn check_places<W: Width>(bytes: &[u8], pos: u64) -> Result<usize, VerifyError>
     requires { Viewed (table_shape W.word (place_shape W.word)) bytes.now pos }
     ensures below { IfOk result (λ _. PlacesBelow W.word bytes.now (len_at W.word bytes.now pos)
@@ -46,7 +55,16 @@ pub(crate) fn check_places<W: Width>(bytes: &[u8], pos: u64) -> Result<usize, Ve
     Ok(len)
 }
 
-/// Checks entries that stand in the archive, in order.
+/// Validates `len` entries from `begin` on, in order, with their parts from `lo` to `begin`.
+///
+/// # Requires
+///
+/// - The entries end inside the bytes, and `begin` is aligned for them.
+/// - `lo` is at most `begin`.
+///
+/// # Errors
+///
+/// - The first fault of the first entry that isn't valid.
 fn check_entries<T: Element>(
     bytes: &[u8],
     begin: u64,
@@ -73,7 +91,7 @@ fn check_entries<T: Element>(
     Ok(())
 }
 
-/// Where a distance leads.
+/// Returns the target of a distance from a position.
 #[inline]
 fn led_to(from: u64, distance: i64) -> i128
     ensures { result ≡ int from +ℤ distance }
@@ -81,7 +99,7 @@ fn led_to(from: u64, distance: i64) -> i128
     i128::from(from) + i128::from(distance)
 }
 
-/// Where a header at `pos` tells that its entries begin.
+/// Returns the position at which the entries begin, by the distance in the header at `pos`.
 #[inline]
 pub(crate) fn begin_told<W: Width>(bytes: &[u8], pos: u64) -> i128
     requires inside { pos + 4 * byte_len W.word ≤ length bytes.now }
@@ -91,7 +109,7 @@ pub(crate) fn begin_told<W: Width>(bytes: &[u8], pos: u64) -> i128
     led_to(at, W::read_distance(bytes, at as usize))
 }
 
-/// The bytes of `len` entries.
+/// Returns the size of `len` entries in bytes.
 #[inline]
 fn entries_size(len: usize, size: usize) -> u128
     requires { size ≤ 1073741824 }
@@ -100,8 +118,21 @@ fn entries_size(len: usize, size: usize) -> u128
     len as u128 * size as u128
 }
 
-/// Checks the part of `len` entries of the index map whose header stands at `pos`, and answers
-/// where it ends: it stands in the range, where the header tells, and the entries hold in order.
+/// Validates the part of `len` entries of the index map at `pos`, and returns its end.
+///
+/// The part is inside the range, and begins at the position that the header has.
+/// Its entries are validated in order.
+///
+/// # Requires
+///
+/// - The header at `pos` ends inside the bytes.
+/// - The range ends at or before `pos`.
+///
+/// # Errors
+///
+/// - `OutOfRange`: the part isn't inside the range.
+/// - `Unaligned`: the part isn't aligned for its entries.
+/// - The first fault of the first entry that isn't valid.
 pub(crate) fn check_part<W: Width, T: Element>(
     bytes: &[u8],
     pos: u64,

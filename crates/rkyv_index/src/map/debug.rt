@@ -1,4 +1,4 @@
-//! Printing index maps.
+//! Formatting of index maps by `Debug`.
 ghost use Rattle.rkyv_base.specs.Entry.{entry_shape};
 ghost use Rattle.rkyv_base.specs.View.{IsView};
 ghost use Rattle.rkyv_index.specs.IndexLayout.{index_shape};

@@ -1,4 +1,4 @@
-//! Reading an index map back.
+//! Deserializing an index map into a list of pairs.
 ghost use Rattle.std.specs.Prelude.{MatchResult, ◌<◌};
 ghost use Rattle.rkyv_index.specs.Index.{IsIndexMap, index_bytes, index_len, key_pos};
 ghost use Rattle.rkyv_index.specs.Reading.{ReadsPair, ReadsPairs, pairs_refuse};
@@ -12,7 +12,7 @@ use rkyv_keys::reading::Deserialize;
 use std::alloc::Global;
 
 impl<'a, K: Element, V: Element, H, W: Width> ArchivedIndexMap<'a, K, V, H, W> {
-    // The pair of a place.
+    // Deserializes the pair at the index `place`.
     #[inline]
     fn read_pair<A: Drop, B>(self, alloc: Global, place: usize) -> Result<(A, B), ReadError>
     where
@@ -26,10 +26,16 @@ impl<'a, K: Element, V: Element, H, W: Width> ArchivedIndexMap<'a, K, V, H, W> {
         Entry::<K, V>::deserialize(alloc, self.entries().entry(place))
     }
 
-    /// Its pairs, read back into a list in their order.
+    /// Deserializes the pairs into a list, in order.
+    ///
+    /// # Requires
+    ///
+    /// - The map is valid.
     ///
     /// # Errors
-    /// `Memory` where a growth is refused, and those of reading a key or a value.
+    ///
+    /// - `Memory`: the list could not be allocated.
+    /// - The error of deserializing a key or a value.
     pub fn deserialize_pairs<A: Drop, B: Drop>(
         self,
         alloc: Global,

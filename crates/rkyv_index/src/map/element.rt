@@ -1,4 +1,4 @@
-//! The header of an index map as an element.
+//! The header of an index map as an element, and its validator.
 ghost use Rattle.rkyv_base.specs.Entry.{entry_element, entry_shape};
 ghost use Rattle.rkyv_index.specs.IndexLayout.{index_shape};
 ghost use Rattle.rkyv_index.specs.Lemmas.IndexLaws.{index_element};

@@ -1,4 +1,4 @@
-//! The entries of an index map whose header was read, and the places in its table.
+//! The entries of an index map, and the indices in its table.
 ghost use Rattle.std.specs.Prelude.{IfSome, pos as int, unsigned_abs, ℕ, ◌*◌, ◌+◌, ◌<◌, ◌^◌};
 ghost use Rattle.std.specs.Prelude.{◌≡◌};
 ghost use Rattle.std.specs.Option.{option_map};
@@ -19,14 +19,14 @@ use rkyv_base::view::{PairView, View};
 use rkyv_base::width::Width;
 use rkyv_table::table::{ArchivedHashTable, TableOf};
 
-/// A map, and where its entries begin.
+/// An index map and the position of its first entry.
 #[derive_where(Clone, Copy)]
 pub(crate) struct Entries<'a, K, V, H, W> {
     pub(crate) map: ArchivedIndexMap<'a, K, V, H, W>,
     pub(crate) begin: u64,
 }
 
-/// The position that is told.
+/// Converts a position that is at least 0 and below 2^64.
 #[inline]
 fn pos_told(told: i128) -> u64
     requires { (at : ℕ) × (int at ≡ told) × (at < 2 ^ 64) }
@@ -35,7 +35,7 @@ fn pos_told(told: i128) -> u64
     told as u64
 }
 
-/// Where entry `i` stands, of entries that begin at `begin`.
+/// Returns the position of entry `i` of a row of entries from `begin` on.
 #[inline]
 fn entry_pos(begin: u64, i: usize, size: usize) -> u64
     requires { begin + i * size < 2 ^ 64 }
@@ -45,7 +45,7 @@ fn entry_pos(begin: u64, i: usize, size: usize) -> u64
 }
 
 impl<'a, K: Element, V: Element, H, W: Width> ArchivedIndexMap<'a, K, V, H, W> {
-    /// The table of its places.
+    /// Returns the table of the indices.
     #[inline]
     pub(crate) fn table(self) -> ArchivedHashTable<'a, W::Place, W>
         requires { IsIndexMap W.word K.shape V.shape self }
@@ -55,7 +55,7 @@ impl<'a, K: Element, V: Element, H, W: Width> ArchivedIndexMap<'a, K, V, H, W> {
         ArchivedHashTable::of(self.view.at::<TableOf<W::Place, W>>(self.view.pos()))
     }
 
-    /// Its entries.
+    /// Returns the map and the position of its first entry.
     #[inline]
     pub(crate) fn entries(self) -> Entries<'a, K, V, H, W>
         requires { IsIndexMap W.word K.shape V.shape self }
@@ -71,7 +71,7 @@ impl<'a, K: Element, V: Element, H, W: Width> ArchivedIndexMap<'a, K, V, H, W> {
 }
 
 impl<'a, K: Element, V: Element, H, W: Width> Entries<'a, K, V, H, W> {
-    /// The entry of a place.
+    /// Returns a view of the entry at the index `place`.
     #[inline]
     pub(crate) fn entry(self, place: usize) -> View<'a, Entry<K, V>>
         requires entries { AreEntries W.word K.shape V.shape self }
@@ -82,7 +82,7 @@ impl<'a, K: Element, V: Element, H, W: Width> Entries<'a, K, V, H, W> {
         self.map.view.at::<Entry<K, V>>(at)
     }
 
-    /// The key and the value of a place.
+    /// Returns views of the key and the value at the index `place`.
     #[inline]
     pub(crate) fn pair(self, place: usize) -> PairView<'a, K, V>
         requires entries { AreEntries W.word K.shape V.shape self }
@@ -93,7 +93,7 @@ impl<'a, K: Element, V: Element, H, W: Width> Entries<'a, K, V, H, W> {
         (entry.key(), entry.value())
     }
 
-    /// The place that a bucket of its table holds.
+    /// Returns the index at an item of the table.
     #[inline]
     pub(crate) fn place_held(
         self,
@@ -110,7 +110,7 @@ impl<'a, K: Element, V: Element, H, W: Width> Entries<'a, K, V, H, W> {
         W::read_count(held.bytes(), held.pos() as usize) as usize
     }
 
-    /// The place that a lookup in its table found.
+    /// Returns the index at a found item of the table.
     #[inline]
     pub(crate) fn place_found(
         self,
@@ -131,7 +131,7 @@ impl<'a, K: Element, V: Element, H, W: Width> Entries<'a, K, V, H, W> {
         }
     }
 
-    /// The key of the place that a bucket of its table holds.
+    /// Returns a view of the key whose index is at an item of the table.
     #[inline]
     pub(crate) fn key_held(
         self,

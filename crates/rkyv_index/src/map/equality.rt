@@ -16,7 +16,11 @@ use rkyv_base::width::Width;
 use rkyv_keys::equality::{ElementEq, ElementEquiv};
 
 impl<'a, K: ElementEq, V: ElementEq, H, W: Width> ArchivedIndexMap<'a, K, V, H, W> {
-    /// Whether both maps have equally many pairs, and the same ones in order.
+    /// Returns `true` if and only if both maps have the same length and the same pairs in order.
+    ///
+    /// # Requires
+    ///
+    /// - Both maps are valid.
     pub fn eq_index(self, other: ArchivedIndexMap<'_, K, V, H, W>) -> bool
         requires own { IsIndexMap W.word K.shape V.shape self }
         requires other { IsIndexMap W.word K.shape V.shape other }

@@ -1,4 +1,6 @@
-//! Many lookups in one index map.
+//! Lookups in an index map whose header is decoded once.
+//!
+//! A lookup in an untrusted map may read every group of its control bytes once.
 ghost use Rattle.std.specs.Prelude.{IfSome, length, ◌+◌, ◌≡◌, ◌≤◌};
 ghost use Rattle.std.specs.Int.{byte_len};
 ghost use Rattle.std.specs.Option.{option_map};
@@ -20,16 +22,16 @@ use rkyv_keys::keys::{KeyElement, Query};
 use rkyv_scan::hash::{FxHasher64, KeyHasher};
 use rkyv_table::table::finder::TableFinder;
 
-/// An index map for many lookups: its header was read, and none of them divides.
+/// An index map for many lookups, with its decoded header. A lookup takes no division.
 ///
-/// They answer what those of the map do.
+/// Each lookup has the result of the map's lookup of the same name.
 #[derive_where(Clone, Copy)]
 pub struct IndexMapFinder<'a, K, V, H = FxHasher64, W: Width = Narrow> {
     entries: Entries<'a, K, V, H, W>,
     table: TableFinder<'a, W::Place, W>,
 }
 
-/// The place that was found: the number where the item of a table of places stands.
+/// Returns the index in a found item of a table.
 #[inline]
 fn place_in<W: Width>(held: Option<View<'_, W::Place>>) -> Option<usize>
     requires { IfSome held (λ item. pos_of item + byte_len W.word ≤ length (bytes_of item)) }
@@ -43,8 +45,11 @@ fn place_in<W: Width>(held: Option<View<'_, W::Place>>) -> Option<usize>
 }
 
 impl<'a, K: Element, V: Element, H, W: Width> ArchivedIndexMap<'a, K, V, H, W> {
-    /// The index map for many lookups: the header is read and the capacity of its table divided by
-    /// here, once.
+    /// Returns the index map for many lookups. The header is decoded here, once.
+    ///
+    /// # Requires
+    ///
+    /// - The map is valid.
     #[inline]
     pub fn finder(self) -> IndexMapFinder<'a, K, V, H, W>
         requires { IsIndexMap W.word K.shape V.shape self }
@@ -59,7 +64,7 @@ impl<'a, K: Element, V: Element, H, W: Width> ArchivedIndexMap<'a, K, V, H, W> {
 }
 
 impl<'a, K: Element, V: Element, H, W: Width> Entries<'a, K, V, H, W> {
-    /// The key of the place that stands where the item is.
+    /// Returns a view of the key whose index is at an item of the table.
     #[inline]
     fn key_at(self, item: View<'_, W::Place>) -> View<'a, K>
         requires entries { AreEntries W.word K.shape V.shape self }
@@ -74,7 +79,7 @@ impl<'a, K: Element, V: Element, H, W: Width> Entries<'a, K, V, H, W> {
 
 // Every lookup is one call of `find_key`.
 impl<'a, K: KeyElement, V: Element, H: KeyHasher, W: Width> IndexMapFinder<'a, K, V, H, W> {
-    // Finds the place of the key that is asked for.
+    // Returns the index of the key that the query finds, or `None`.
     #[inline]
     pub(crate) fn find_key<Q: Query<K>>(self, key: &Q) -> Option<usize>
         requires finder { IsIndexMapFinder W.word W.Place.encoding K.shape V.shape self }
@@ -99,7 +104,12 @@ impl<'a, K: KeyElement, V: Element, H: KeyHasher, W: Width> IndexMapFinder<'a, K
         place_in::<W>(held)
     }
 
-    /// As the map's `get_full`.
+    /// Looks up as `get_full` of the map does.
+    ///
+    /// # Requires
+    ///
+    /// - The finder is valid.
+    /// - The query can be read.
     #[inline]
     pub fn get_full<Q: Query<K>>(self, key: &Q) -> Option<(usize, View<'a, K>, View<'a, V>)>
         requires finder { IsIndexMapFinder W.word W.Place.encoding K.shape V.shape self }
@@ -117,7 +127,12 @@ impl<'a, K: KeyElement, V: Element, H: KeyHasher, W: Width> IndexMapFinder<'a, K
         }
     }
 
-    /// As the map's `get_key_value`.
+    /// Looks up as `get_key_value` of the map does.
+    ///
+    /// # Requires
+    ///
+    /// - The finder is valid.
+    /// - The query can be read.
     #[inline]
     pub fn get_key_value<Q: Query<K>>(self, key: &Q) -> Option<PairView<'a, K, V>>
         requires finder { IsIndexMapFinder W.word W.Place.encoding K.shape V.shape self }
@@ -132,7 +147,12 @@ impl<'a, K: KeyElement, V: Element, H: KeyHasher, W: Width> IndexMapFinder<'a, K
         }
     }
 
-    /// As the map's `get`.
+    /// Looks up as `get` of the map does.
+    ///
+    /// # Requires
+    ///
+    /// - The finder is valid.
+    /// - The query can be read.
     #[inline]
     pub fn get<Q: Query<K>>(self, key: &Q) -> Option<View<'a, V>>
         requires finder { IsIndexMapFinder W.word W.Place.encoding K.shape V.shape self }
@@ -145,7 +165,12 @@ impl<'a, K: KeyElement, V: Element, H: KeyHasher, W: Width> IndexMapFinder<'a, K
         Some(self.entries.entry(place).value())
     }
 
-    /// As the map's `get_index_of`.
+    /// Looks up as `get_index_of` of the map does.
+    ///
+    /// # Requires
+    ///
+    /// - The finder is valid.
+    /// - The query can be read.
     #[inline]
     pub fn get_index_of<Q: Query<K>>(self, key: &Q) -> Option<usize>
         requires finder { IsIndexMapFinder W.word W.Place.encoding K.shape V.shape self }
@@ -157,7 +182,12 @@ impl<'a, K: KeyElement, V: Element, H: KeyHasher, W: Width> IndexMapFinder<'a, K
         self.find_key(key)
     }
 
-    /// As the map's `contains_key`.
+    /// Looks up as `contains_key` of the map does.
+    ///
+    /// # Requires
+    ///
+    /// - The finder is valid.
+    /// - The query can be read.
     #[inline]
     pub fn contains_key<Q: Query<K>>(self, key: &Q) -> bool
         requires finder { IsIndexMapFinder W.word W.Place.encoding K.shape V.shape self }

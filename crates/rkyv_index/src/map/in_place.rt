@@ -1,4 +1,16 @@
-//! Writing the value of a place over the bare bytes of an archive.
+//! Writing values of an index map in place.
+//!
+//! A write in place changes the value at an index. It adds and removes no key.
+//!
+//! | To write | Call | Takes |
+//! |---|---|---|
+//! | a scalar | `set_value_at` | bytes, an index and the scalar |
+//! | a value by its seal | `ArchivedIndexMap::get_seal` | a seal of the map and a query |
+//! | a value while its key is read | `ArchivedIndexMap::get_key_value_seal` | the same |
+//! | the same, with the index | `ArchivedIndexMap::get_full_seal` | the same |
+//!
+//! `get_index_of` returns the index of a key. The sealed lookups that end in `_with` take
+//! a comparison. `map::laws` has the laws of the map afterwards.
 ghost use Rattle.std.specs.Prelude.{length, ◌+◌, ◌<◌, ◌≡◌, ◌≤◌};
 ghost use Rattle.rkyv_base.specs.Entry.{entry_shape};
 ghost use Rattle.rkyv_base.specs.Scalar.{scalar_shape};
@@ -18,7 +30,7 @@ use rkyv_base::width::Width;
 use rkyv_keys::keys::KeyElement;
 use rkyv_scan::hash::KeyHasher;
 
-/// Where the value of a place stands, in the index map whose header stands at `root`.
+/// Returns the position of the value at the index `place`, in the map at `root` of an archive.
 #[inline]
 fn value_pos_at<K: Element, V: Element, H, W: Width>(archive: &[u8], root: u64, place: usize) -> u64
     requires map { Viewed (index_shape W.word (entry_shape K.shape V.shape)) archive.now root }
@@ -31,11 +43,17 @@ fn value_pos_at<K: Element, V: Element, H, W: Width>(archive: &[u8], root: u64, 
     map.entries().entry(place).value().pos()
 }
 
-/// Writes the value of a place below the length, in the index map whose header stands at `root`;
-/// all other bytes stay.
+/// Writes the value at the index `place` of the map at `root` of an archive.
 ///
-/// The place of a key is told by `get_index_of`. Where the map stands for a list of pairs, whose
-/// keys are of type A, it then stands for the list with the new value at the place.
+/// All other bytes are unchanged. `get_index_of` returns the index of a key.
+///
+/// If the map represents a list of pairs with keys of type `A`, it then represents the list
+/// with the new value at the index.
+///
+/// # Requires
+///
+/// - The archive has a valid index map at `root`.
+/// - `place` is below the length of the map.
 pub fn set_value_at<A, K: KeyElement + StandsFor<A>, N: Scalar, H: KeyHasher, W: Width>(
     archive: &mut [u8],
     root: u64,

@@ -1,4 +1,6 @@
-//! Walking over the pairs of an index map, in order.
+//! Iterators over the pairs, the keys and the values of an index map.
+//!
+//! Each returns views, in order.
 ghost use Rattle.std.specs.Prelude.{length, ◌≡◌};
 ghost use Rattle.std.specs.Iterator.{at_most};
 ghost use Rattle.rkyv_base.specs.Entry.{entry_shape};
@@ -14,13 +16,13 @@ use rkyv_base::view::{PairView, View};
 use rkyv_base::width::Width;
 use std::marker::{Model, PhantomData};
 
-/// The pairs of an index map that are still to come, in order.
+/// The pairs of an index map that remain, in order.
 #[derive(Drop)]
 pub struct Iter<'a, K, V> {
     archive: &'a [u8],
-    // Where the next entry stands, where one is left.
+    // The position of the next entry, if one remains.
     at: usize,
-    // The bytes of an entry.
+    // The size of an entry in bytes.
     size: usize,
     left: usize,
     key: PhantomData<K>,
@@ -74,7 +76,7 @@ impl<'a, K: Element, V: Element> ExactSizeIterator for Iter<'a, K, V> {
     }
 }
 
-/// The keys of an index map that are still to come, in order.
+/// The keys of an index map that remain, in order.
 #[derive(Drop)]
 pub struct Keys<'a, K, V> {
     pairs: Iter<'a, K, V>,
@@ -120,7 +122,7 @@ impl<'a, K: Element, V: Element> ExactSizeIterator for Keys<'a, K, V> {
     }
 }
 
-/// The values of an index map that are still to come, in order.
+/// The values of an index map that remain, in order.
 #[derive(Drop)]
 pub struct Values<'a, K, V> {
     rest: Iter<'a, K, V>,
@@ -167,7 +169,11 @@ impl<'a, K: Element, V: Element> ExactSizeIterator for Values<'a, K, V> {
 }
 
 impl<'a, K: Element, V: Element, H, W: Width> ArchivedIndexMap<'a, K, V, H, W> {
-    /// Its pairs, in order.
+    /// Returns an iterator over the pairs, in order.
+    ///
+    /// # Requires
+    ///
+    /// - The map is valid.
     #[inline]
     pub fn iter(self) -> Iter<'a, K, V>
         requires { IsIndexMap W.word K.shape V.shape self }
@@ -186,7 +192,11 @@ impl<'a, K: Element, V: Element, H, W: Width> ArchivedIndexMap<'a, K, V, H, W> {
         }
     }
 
-    /// Its keys, in order.
+    /// Returns an iterator over the keys, in order.
+    ///
+    /// # Requires
+    ///
+    /// - The map is valid.
     #[inline]
     pub fn keys(self) -> Keys<'a, K, V>
         requires { IsIndexMap W.word K.shape V.shape self }
@@ -198,7 +208,11 @@ impl<'a, K: Element, V: Element, H, W: Width> ArchivedIndexMap<'a, K, V, H, W> {
         Keys { pairs: self.iter() }
     }
 
-    /// Its values, in order.
+    /// Returns an iterator over the values, in order.
+    ///
+    /// # Requires
+    ///
+    /// - The map is valid.
     #[inline]
     pub fn values(self) -> Values<'a, K, V>
         requires { IsIndexMap W.word K.shape V.shape self }

@@ -1,5 +1,6 @@
-//! Laws of index maps, over their definitions alone: of one of which one value is written in place,
-//! and of one that is read back.
+//! Laws of index maps, over their definitions alone.
+//!
+//! They are about writes of one value in place, and about lists that are deserialized.
 ghost use Rattle.rkyv_index.specs.Index.{hash_at};
 ghost use Rattle.rkyv_index.specs.IndexFormat.{hash_of};
 ghost use Rattle.rkyv_index.specs.Reading.{PairsReadBackAreListed};
@@ -12,22 +13,23 @@ use rkyv_keys::equality::StandsAlone;
 use rkyv_keys::keys::{KeyElement, Query};
 use rkyv_scan::hash::KeyHasher;
 
-/// A write of one value in place that keeps the value keeps the index map: its length, the places,
-/// all keys and all other values are as before, each lookup finds the same place, and an index map
-/// that was written stays one.
+/// A write of one value in place that keeps it valid keeps the index map.
+///
+/// - The length, the positions of the pairs, all keys and all other values are unchanged.
+/// - Each lookup whose comparison depends only on the key finds the same index.
+/// - A written index map is still one.
 pub fn value_writes_keep_index_maps<K: KeyElement, V: Element, H: KeyHasher, W: Width>()
     ensures { ValueWritesKeepIndexMaps W.word K.shape V.shape
         (hash_at H.hasher K.key_calls) }
 {}
 
-/// After such a write each query finds the same place.
+/// After a write of one value in place that keeps it valid, each query finds the same index.
 pub fn value_writes_keep_answers<K: KeyElement, V: Element, Q: Query<K>, H: KeyHasher, W: Width>()
     ensures { let hash = hash_of H.hasher Q.calls in
         ValueWritesKeepAnswers W.word K.shape V.shape Q.can_read hash Q.fits }
 {}
 
-/// An index map that stands for a list of pairs stands, once the value of a place was written, for
-/// the list with the new value at that place.
+/// A write of one value in place replaces it in the list of pairs that the index map represents.
 pub fn values_written_stand<A, B, K: KeyElement, V: StandsFor<B>, H: KeyHasher, W: Width>()
 where
     K: StandsFor<A>,
@@ -35,8 +37,9 @@ where
         (hash_at H.hasher K.key_calls) }
 {}
 
-/// Where an index map stands for a list of pairs, as what was written of that list does, the list
-/// that `deserialize_pairs` answers is that list: they are equal by `==`.
+/// If an index map represents a list of pairs, a list that is deserialized from it is `==` to it.
+///
+/// The bytes that are written of a list represent that list. `deserialize_pairs` deserializes.
 pub fn pairs_read_back_are_listed<
     A: PartialEq,
     B: PartialEq,

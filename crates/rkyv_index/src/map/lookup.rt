@@ -1,4 +1,14 @@
-//! Finding a pair by its key.
+//! Lookups: finding a pair of an index map by its key.
+//!
+//! - `get` returns a view of the value, `get_key_value` also of the key, and `get_full` also
+//!   the index.
+//! - `get_index_of` returns the index, and `contains_key` returns `true` if a key is found.
+//! - `get_with`, `get_key_value_with`, `get_full_with` and `get_index_of_with` take a comparison
+//!   in place of the query's own.
+//! - `get_index_of_counted` counts the strides of control bytes that are read.
+//!
+//! A lookup in an untrusted map may read every group of its control bytes once.
+//! `FxHasher64` takes no secret key, so it doesn't protect from chosen input.
 ghost use Rattle.std.specs.Prelude.{IfSome, ◌<◌, ◌^◌, ◌≡◌, ◌≤◌};
 ghost use Rattle.rkyv_base.specs.Bytes.{number_at};
 ghost use Rattle.rkyv_base.specs.Scalar.{scalar_shape};
@@ -23,8 +33,9 @@ use rkyv_table::Strides;
 
 // Every lookup is one call of `find`.
 impl<'a, K: KeyElement, V: Element, H: KeyHasher, W: Width> ArchivedIndexMap<'a, K, V, H, W> {
-    /// Finds the place of a key under the hash of `key` that the comparison accepts, and counts the
-    /// strides of controls that are read.
+    /// Returns the index of a key under the hash of `key` that the comparison accepts, or `None`.
+    ///
+    /// The count is increased by the strides of sixteen control bytes that are read.
     #[inline]
     pub(crate) fn find<Q: KeyHash, F>(self, key: &Q, cmp: F, strides: &mut Strides) -> Option<usize>
     where
@@ -59,12 +70,22 @@ impl<'a, K: KeyElement, V: Element, H: KeyHasher, W: Width> ArchivedIndexMap<'a,
         entries.place_found(table, held)
     }
 
-    /// The pair of the first place under the hash of `key` whose key the comparison accepts, with
-    /// its place, where the map was written and no key under another hash is accepted.
+    /// Returns a pair whose key the comparison accepts, with its index, under the hash of `key`.
     ///
-    /// On any accepted map the answer is `None` or one of its pairs, whatever the comparison
-    /// answers; which one, the table decides. The comparison is asked for keys of the map alone,
-    /// and may be asked twice of one.
+    /// The result is `None` or a pair of the map, whatever the comparison returns.
+    /// The comparison is called with keys of the map alone, and may be called twice with one.
+    ///
+    /// If the comparison depends only on the index of a key, the control bytes decide which pair
+    /// it is. In a written map, it is the first accepted pair in insertion order
+    /// if each accepted key is under the hash of `key`.
+    ///
+    /// A lookup in an untrusted map may read every group of its control bytes once.
+    ///
+    /// # Requires
+    ///
+    /// - The map is valid.
+    /// - `key` can be read.
+    /// - The comparison can be called with `key` and each key of the map.
     #[inline]
     pub fn get_full_with<Q: KeyHash, F>(
         self,
@@ -89,7 +110,7 @@ impl<'a, K: KeyElement, V: Element, H: KeyHasher, W: Width> ArchivedIndexMap<'a,
         }
     }
 
-    /// Finds the place of the key that is asked for.
+    /// Returns the index of the key that the query finds, or `None`.
     #[inline]
     pub(crate) fn find_key<Q: Query<K>>(self, key: &Q) -> Option<usize>
         requires map { IsIndexMap W.word K.shape V.shape self }
@@ -109,12 +130,21 @@ impl<'a, K: KeyElement, V: Element, H: KeyHasher, W: Width> ArchivedIndexMap<'a,
         )
     }
 
-    /// The pair whose key is the one that is asked for, with its place: in a map that was written
-    /// the first such one.
+    /// Returns the pair of the key that the query finds, with its index, or `None`.
     ///
-    /// In a map of strangers a place may stand where its key's hash doesn't lead; then it isn't
-    /// found. Where `misplaced` is 0 none does: the one key that fits is found, and none exactly
-    /// where none fits.
+    /// In a written map, it is the first pair in insertion order whose key the query fits.
+    ///
+    /// In an untrusted map, a lookup may miss a key that the query fits.
+    /// No key is missed if `misplaced` is 0. The lookup then finds the one key that the query fits,
+    /// and `None` if and only if it fits none.
+    ///
+    /// A lookup in an untrusted map may read every group of its control bytes once.
+    /// `FxHasher64` takes no secret key, so it doesn't protect from chosen input.
+    ///
+    /// # Requires
+    ///
+    /// - The map is valid.
+    /// - The query can be read.
     #[inline]
     pub fn get_full<Q: Query<K>>(self, key: &Q) -> Option<(usize, View<'a, K>, View<'a, V>)>
         requires map { IsIndexMap W.word K.shape V.shape self }
@@ -132,7 +162,7 @@ impl<'a, K: KeyElement, V: Element, H: KeyHasher, W: Width> ArchivedIndexMap<'a,
         }
     }
 
-    /// The pair of a place that was found.
+    /// Returns the pair at a found index.
     #[inline]
     fn pair_of(self, place: Option<usize>) -> Option<PairView<'a, K, V>>
         requires map { IsIndexMap W.word K.shape V.shape self }
@@ -145,7 +175,7 @@ impl<'a, K: KeyElement, V: Element, H: KeyHasher, W: Width> ArchivedIndexMap<'a,
         }
     }
 
-    /// The value of a place that was found.
+    /// Returns the value at a found index.
     #[inline]
     fn value_of(self, place: Option<usize>) -> Option<View<'a, V>>
         requires map { IsIndexMap W.word K.shape V.shape self }
@@ -158,7 +188,15 @@ impl<'a, K: KeyElement, V: Element, H: KeyHasher, W: Width> ArchivedIndexMap<'a,
         }
     }
 
-    /// The key and the value of the pair that `get_full_with` answers.
+    /// Returns the key and the value of the pair that `get_full_with` returns, or `None`.
+    ///
+    /// A lookup in an untrusted map may read every group of its control bytes once.
+    ///
+    /// # Requires
+    ///
+    /// - The map is valid.
+    /// - `key` can be read.
+    /// - The comparison can be called with `key` and each key of the map.
     #[inline]
     pub fn get_key_value_with<Q: KeyHash, F>(self, key: &Q, cmp: F) -> Option<PairView<'a, K, V>>
     where
@@ -172,7 +210,14 @@ impl<'a, K: KeyElement, V: Element, H: KeyHasher, W: Width> ArchivedIndexMap<'a,
         self.pair_of(self.find(key, cmp, &mut Strides::new()))
     }
 
-    /// The key and the value of the pair that `get_full` answers.
+    /// Returns the key and the value of the pair that `get_full` returns, or `None`.
+    ///
+    /// A lookup in an untrusted map may read every group of its control bytes once.
+    ///
+    /// # Requires
+    ///
+    /// - The map is valid.
+    /// - The query can be read.
     #[inline]
     pub fn get_key_value<Q: Query<K>>(self, key: &Q) -> Option<PairView<'a, K, V>>
         requires map { IsIndexMap W.word K.shape V.shape self }
@@ -183,7 +228,15 @@ impl<'a, K: KeyElement, V: Element, H: KeyHasher, W: Width> ArchivedIndexMap<'a,
         self.pair_of(self.find_key(key))
     }
 
-    /// The value of the pair that `get_full_with` answers.
+    /// Returns the value of the pair that `get_full_with` returns, or `None`.
+    ///
+    /// A lookup in an untrusted map may read every group of its control bytes once.
+    ///
+    /// # Requires
+    ///
+    /// - The map is valid.
+    /// - `key` can be read.
+    /// - The comparison can be called with `key` and each key of the map.
     #[inline]
     pub fn get_with<Q: KeyHash, F>(self, key: &Q, cmp: F) -> Option<View<'a, V>>
     where
@@ -198,7 +251,14 @@ impl<'a, K: KeyElement, V: Element, H: KeyHasher, W: Width> ArchivedIndexMap<'a,
         self.value_of(self.find(key, cmp, &mut Strides::new()))
     }
 
-    /// The value of the pair that `get_full` answers.
+    /// Returns the value of the pair that `get_full` returns, or `None`.
+    ///
+    /// A lookup in an untrusted map may read every group of its control bytes once.
+    ///
+    /// # Requires
+    ///
+    /// - The map is valid.
+    /// - The query can be read.
     #[inline]
     pub fn get<Q: Query<K>>(self, key: &Q) -> Option<View<'a, V>>
         requires map { IsIndexMap W.word K.shape V.shape self }
@@ -209,7 +269,15 @@ impl<'a, K: KeyElement, V: Element, H: KeyHasher, W: Width> ArchivedIndexMap<'a,
         self.value_of(self.find_key(key))
     }
 
-    /// The place of the pair that `get_full_with` answers.
+    /// Returns the index of the pair that `get_full_with` returns, or `None`.
+    ///
+    /// A lookup in an untrusted map may read every group of its control bytes once.
+    ///
+    /// # Requires
+    ///
+    /// - The map is valid.
+    /// - `key` can be read.
+    /// - The comparison can be called with `key` and each key of the map.
     #[inline]
     pub fn get_index_of_with<Q: KeyHash, F>(self, key: &Q, cmp: F) -> Option<usize>
     where
@@ -224,11 +292,17 @@ impl<'a, K: KeyElement, V: Element, H: KeyHasher, W: Width> ArchivedIndexMap<'a,
         self.find(key, cmp, &mut Strides::new())
     }
 
-    /// As `get_index_of_with`, and counts the strides of sixteen controls that are read: none in an
-    /// empty map, else one at least, and at most one for each sixteen buckets, rounded up, whatever
-    /// the comparison answers. Every other lookup reads as many.
+    /// Looks up as `get_index_of_with` does, and counts the strides of sixteen control bytes.
     ///
-    /// The count may be at most 9,223,372,036,854,775,808.
+    /// It reads no stride in an empty map, else at least one and at most ceil(n / 16),
+    /// where n is the number of buckets.
+    ///
+    /// # Requires
+    ///
+    /// - The map is valid.
+    /// - `key` can be read.
+    /// - `strides` has at most 9,223,372,036,854,775,808 strides.
+    /// - The comparison can be called with `key` and each key of the map.
     #[inline]
     pub fn get_index_of_counted<Q: KeyHash, F>(
         self,
@@ -250,7 +324,14 @@ impl<'a, K: KeyElement, V: Element, H: KeyHasher, W: Width> ArchivedIndexMap<'a,
         self.find(key, cmp, strides)
     }
 
-    /// The place of the pair that `get_full` answers.
+    /// Returns the index of the pair that `get_full` returns, or `None`.
+    ///
+    /// A lookup in an untrusted map may read every group of its control bytes once.
+    ///
+    /// # Requires
+    ///
+    /// - The map is valid.
+    /// - The query can be read.
     #[inline]
     pub fn get_index_of<Q: Query<K>>(self, key: &Q) -> Option<usize>
         requires map { IsIndexMap W.word K.shape V.shape self }
@@ -262,7 +343,14 @@ impl<'a, K: KeyElement, V: Element, H: KeyHasher, W: Width> ArchivedIndexMap<'a,
         self.find_key(key)
     }
 
-    /// Whether the key that is asked for is found.
+    /// Returns `true` if and only if the query finds a key.
+    ///
+    /// A lookup in an untrusted map may read every group of its control bytes once.
+    ///
+    /// # Requires
+    ///
+    /// - The map is valid.
+    /// - The query can be read.
     #[inline]
     pub fn contains_key<Q: Query<K>>(self, key: &Q) -> bool
         requires map { IsIndexMap W.word K.shape V.shape self }

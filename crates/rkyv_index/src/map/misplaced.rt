@@ -1,4 +1,4 @@
-//! Counting the places that a lookup of their own key doesn't answer.
+//! Counting the keys of an index map that a lookup of their own doesn't find.
 ghost use Rattle.std.specs.Prelude.{not, ◌<◌, ◌≡◌};
 ghost use Rattle.rkyv_table.specs.Table.Misplaced.{is_answer};
 ghost use Rattle.rkyv_index.specs.Equality.{CountsRepeated, TellsRepeated, index_misplaced};
@@ -12,7 +12,7 @@ use rkyv_base::width::Width;
 use rkyv_keys::keys::KeyElement;
 use rkyv_scan::hash::KeyHasher;
 
-// Whether a lookup didn't answer the place.
+// Returns `true` if and only if a lookup didn't find the index `place`.
 #[inline]
 fn is_elsewhere(place: usize, found: Option<usize>) -> bool
     ensures { result ≡ not (is_answer place found) }
@@ -24,7 +24,7 @@ fn is_elsewhere(place: usize, found: Option<usize>) -> bool
 }
 
 impl<'a, K: KeyElement, V: Element, H: KeyHasher, W: Width> Entries<'a, K, V, H, W> {
-    // Whether a lookup of the place's own key doesn't answer the place.
+    // Returns `true` if and only if a lookup of the key at `place` doesn't find `place`.
     #[inline]
     fn is_misplaced(self, place: usize) -> bool
         requires entries { AreEntries W.word K.shape V.shape self }
@@ -40,10 +40,21 @@ impl<'a, K: KeyElement, V: Element, H: KeyHasher, W: Width> Entries<'a, K, V, H,
 }
 
 impl<'a, K: KeyElement, V: Element, H: KeyHasher, W: Width> ArchivedIndexMap<'a, K, V, H, W> {
-    /// How many of its places a lookup of their own key doesn't answer: another such key is found
-    /// first, or a stranger put the place where its key's hash doesn't lead.
+    /// Returns the number of keys that a lookup of their own doesn't find.
     ///
-    /// In a map that was written these are the keys that are the same as one handed in earlier.
+    /// A key is found if the lookup returns its own index. Otherwise the lookup finds another key
+    /// that is the same, or none.
+    ///
+    /// In a written map, it is the number of keys that are the same as an earlier key
+    /// in insertion order. An untrusted map may have other misplaced keys.
+    ///
+    /// Each key is looked up once, and each lookup may read every group of the control bytes.
+    /// Keys that share a hash cost a number of comparisons that is quadratic in their number.
+    /// `FxHasher64` takes no secret key, so chosen keys can share one.
+    ///
+    /// # Requires
+    ///
+    /// - The map is valid.
     pub fn misplaced(self) -> usize
         requires { IsIndexMap W.word K.shape V.shape self }
         ensures told { result ≡ index_misplaced (index_of W.word K.shape V.shape self.entry)

@@ -1,4 +1,4 @@
-//! The places of an index map's entries, each under the hash of its key.
+//! The indices of entries, each under the hash of its entry, as the input of a table.
 
 ghost use Rattle.std.specs.Prelude.{ℕ, ◌≡◌, ◌+◌, ◌≤◌, length};
 ghost use Rattle.std.specs.Iterator.{YieldsFirst, at_most};
@@ -13,21 +13,25 @@ use rkyv_keys::hash::{KeyHash, hash_value};
 use rkyv_scan::hash::KeyHasher;
 use std::marker::PhantomData;
 
-/// A value that an index map has under a hash of the hasher H.
+/// A value that has a hash under the hasher `H`.
 pub(crate) trait Hashed<H> {
-    // What must hold of the value so that its hash can be made.
+    // The condition under which the value can be hashed.
     ghost can_hash: { Self → Type 0 };
 
-    // The hash.
+    // The hash of the value.
     ghost hash: { Self → ℕ };
 
-    /// The hash of the value.
+    /// Returns the hash of the value.
+    ///
+    /// # Requires
+    ///
+    /// - The value can be hashed.
     fn hash(&self) -> u64
         requires { can_hash self.now }
         ensures { result ≡ hash self.now };
 }
 
-// An entry stands under the hash of its key.
+// The hash of an entry is that of its key.
 impl<BK: Lend<A>, BV, A: KeyHash, B, H: KeyHasher> Hashed<H> for EntryAdapter<BK, BV, A, B> {
     ghost can_hash = { λ entry. A.can_read (BK.lent entry.key) };
 
@@ -39,7 +43,7 @@ impl<BK: Lend<A>, BV, A: KeyHash, B, H: KeyHasher> Hashed<H> for EntryAdapter<BK
     }
 }
 
-/// The places of values from one on, each under the hash of its value.
+/// An iterator over the indices of values from 0 on, each with the hash of its value.
 #[derive(Drop)]
 pub(crate) struct HashedPlaces<'a, U, H, W> {
     values: std::slice::Iter<'a, U>,

@@ -1,4 +1,4 @@
-//! An index map, how many pairs it has, and the pair of a place.
+//! Opening an index map, the number of its pairs, and the pair at an index.
 ghost use Rattle.std.specs.Prelude.{IsTrue, MatchOption, ◌↔◌, ◌≡◌, ◌≤◌};
 ghost use Rattle.rkyv_base.specs.Entry.{entry_shape};
 ghost use Rattle.rkyv_base.specs.View.{IsView};
@@ -11,7 +11,11 @@ use rkyv_base::view::{PairView, View};
 use rkyv_base::width::Width;
 
 impl<'a, K: Element, V: Element, H, W: Width> ArchivedIndexMap<'a, K, V, H, W> {
-    /// The map whose header is viewed.
+    /// Returns the map at a view of its header.
+    ///
+    /// # Requires
+    ///
+    /// - The view is of a valid index map.
     #[inline]
     pub fn of(view: View<'a, IndexMapOf<K, V, H, W>>) -> ArchivedIndexMap<'a, K, V, H, W>
         requires { IsView (index_shape W.word (entry_shape K.shape V.shape)) view }
@@ -21,7 +25,7 @@ impl<'a, K: Element, V: Element, H, W: Width> ArchivedIndexMap<'a, K, V, H, W> {
         ArchivedIndexMap { view }
     }
 
-    /// Whether it has no pairs.
+    /// Returns `true` if and only if the map has no pairs.
     #[inline]
     pub fn is_empty(self) -> bool
         requires { IsIndexMap W.word K.shape V.shape self }
@@ -30,7 +34,7 @@ impl<'a, K: Element, V: Element, H, W: Width> ArchivedIndexMap<'a, K, V, H, W> {
         self.table().is_empty()
     }
 
-    /// How many pairs it has.
+    /// Returns the number of pairs.
     #[inline]
     pub fn len(self) -> usize
         requires { IsIndexMap W.word K.shape V.shape self }
@@ -39,7 +43,11 @@ impl<'a, K: Element, V: Element, H, W: Width> ArchivedIndexMap<'a, K, V, H, W> {
         self.table().len()
     }
 
-    /// The key and the value of a place: `None` exactly where the place isn't below the length.
+    /// Returns the key and the value at an index, or `None` if the index isn't below the length.
+    ///
+    /// # Requires
+    ///
+    /// - The map is valid.
     #[inline]
     pub fn get_index(self, place: usize) -> Option<PairView<'a, K, V>>
         requires { IsIndexMap W.word K.shape V.shape self }

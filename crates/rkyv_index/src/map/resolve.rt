@@ -1,4 +1,4 @@
-//! What resolves a written index map, and its header.
+//! The resolver of a written index map, and writing its header.
 
 ghost use Rattle.std.specs.Prelude.{◌≡◌, ◌+◌, ◌<◌, ◌^◌, length};
 ghost use Rattle.rkyv_index.specs.IndexHeader.{IndexResolver, WritesIndexHeader};
@@ -11,8 +11,7 @@ use rkyv_table::table::ArchivedHashTable;
 use rkyv_table::table::resolve::HashTableResolver;
 use std::marker::Model;
 
-/// What resolves a written index map: what resolves its table of places, and where its entries
-/// stand.
+/// The resolver of a written index map: that of its table, and the position of its entries.
 #[derive(Drop)]
 pub struct IndexMapResolver<W: Width = Narrow> {
     pub(crate) table: HashTableResolver<W>,
@@ -26,7 +25,7 @@ impl<W: Width> Model for IndexMapResolver<W> {
 }
 
 impl<W: Width> IndexMapResolver<W> {
-    /// How many pairs were written.
+    /// Returns the number of pairs of the map.
     #[inline]
     pub fn len(&self) -> usize
         ensures { result ≡ self.now.table.len }
@@ -34,7 +33,7 @@ impl<W: Width> IndexMapResolver<W> {
         self.table.len()
     }
 
-    /// The load factor under which they were written.
+    /// Returns the load factor of the map.
     #[inline]
     pub fn load_factor(&self) -> (usize, usize)
         ensures { result ≡ self.now.table.load_factor }
@@ -42,11 +41,19 @@ impl<W: Width> IndexMapResolver<W> {
         self.table.load_factor()
     }
 
-    /// Writes the header of what was written, which is to stand at `pos`, over the whole of `out`,
-    /// as `resolve_from_len` does of its length and its load factor.
+    /// Writes the header of the written map over the whole of `out`, for a header at `pos`.
+    ///
+    /// It is the header that `resolve_from_len` writes.
+    ///
+    /// # Requires
+    ///
+    /// - `out` has the size of a header.
+    /// - The header ends below 2^64.
     ///
     /// # Errors
-    /// Those of an index map's `resolve_from_len`; `out` is unchanged.
+    ///
+    /// - `DistanceTooLarge`: the map isn't empty, and the distance to the table doesn't fit
+    ///   in the width. Or the distance to the entries doesn't fit. `out` is unchanged.
     pub fn resolve(self, pos: u64, out: &mut [u8]) -> ResolveResult
         requires room { length out.old ≡ W.INDEX_SIZE }
         requires fits { pos + W.INDEX_SIZE < 2 ^ 64 }
@@ -59,14 +66,21 @@ impl<W: Width> IndexMapResolver<W> {
 }
 
 impl<'a, K, V, H, W: Width> ArchivedIndexMap<'a, K, V, H, W> {
-    /// Writes the header of a written index map, which is to stand at `pos`, over the whole of
-    /// `out`: that of its table of places, and the distance to its entries.
+    /// Writes the header of a written map over the whole of `out`, for a header at `pos`.
     ///
-    /// The length and the load factor are those of the resolver.
+    /// It is the header of the table of indices, and then the distance to the entries.
+    ///
+    /// # Requires
+    ///
+    /// - `len` and `load_factor` are those of the resolver.
+    /// - `out` has the size of a header.
+    /// - The header ends below 2^64.
     ///
     /// # Errors
-    /// Where the map isn't empty and the distance to the table doesn't fit the width, or that to
-    /// the entries doesn't, of an empty map too; `out` is unchanged.
+    ///
+    /// - `DistanceTooLarge`: the map isn't empty, and the distance to the table doesn't fit
+    ///   in the width. Or the distance to the entries doesn't fit, also of an empty map.
+    ///   `out` is unchanged.
     pub fn resolve_from_len(
         len: usize,
         load_factor: (usize, usize),

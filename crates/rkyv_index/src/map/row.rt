@@ -10,7 +10,7 @@ use rkyv_base::width::Width;
 use rkyv_base::writer::{Writer, append_in};
 use std::alloc::Global;
 
-// Serializes the values in order, and keeps what resolves each.
+// Serializes the values in order, and pushes the resolver of each.
 pub(crate) fn serialize_row<W: Width, S: Writer, U: Serialize<S, W>>(
     alloc: Global,
     values: &[U],
@@ -31,7 +31,7 @@ pub(crate) fn serialize_row<W: Width, S: Writer, U: Serialize<S, W>>(
     Ok(())
 }
 
-// Writes the values' own bytes in order, each in one piece.
+// Writes the own bytes of the values in order, each as one piece.
 pub(crate) fn write_row<W: Width, S: Writer, U: Archive<W>>(
     values: &[U],
     resolvers: Vec<U::Resolver>,

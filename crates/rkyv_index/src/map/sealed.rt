@@ -1,4 +1,13 @@
-//! Lending the values of an index map to be written.
+//! Lookups that return a seal of the value.
+//!
+//! - `get_seal` returns a seal of the value, and `get_key_value_seal` also a view of the key.
+//!   `get_full_seal` returns the index, too.
+//! - `get_seal_with`, `get_key_value_seal_with` and `get_full_seal_with` take a comparison.
+//!
+//! Take `set_value_at` of `map::in_place` to write a scalar by an index. `map::laws` has the laws
+//! of writes in place.
+//!
+//! A lookup in an untrusted map may read every group of its control bytes once.
 ghost use Rattle.std.specs.Prelude.{IfSome, length, ◌+◌, ◌<◌, ◌≡◌, ◌≤◌};
 ghost use Rattle.rkyv_base.specs.Entry.{entry_shape};
 ghost use Rattle.rkyv_base.specs.Seal.{LiesIn, SealAt, archive_in, bytes_in, pos_in, seal_pos};
@@ -34,7 +43,7 @@ use rkyv_keys::keys::{KeyElement, Query};
 use rkyv_scan::hash::KeyHasher;
 use rkyv_table::Strides;
 
-/// The value behind the key at a position, to be written.
+/// Returns a seal of the value behind the key at `pos`.
 #[inline]
 fn value_seal<'a, K: Element, V: Element, H, W>(
     this: ArchiveSeal<'a, IndexMapOf<K, V, H, W>>,
@@ -48,9 +57,9 @@ fn value_seal<'a, K: Element, V: Element, H, W>(
     Seal::over(archive, pos as usize + value_offset::<K, V>())
 }
 
-// The places of pairs, in the map that is read where a seal is, and what is lent there.
+// Every sealed lookup finds an index, and then returns a seal of the pair or value at it.
 impl<'a, K: KeyElement, V: Element, H: KeyHasher, W: Width> ArchivedIndexMap<'a, K, V, H, W> {
-    /// The map that is read where a seal is.
+    /// Returns the index map at the seal, to be read.
     #[inline]
     fn read<'s>(
         this: &'s ArchiveSeal<'_, IndexMapOf<K, V, H, W>>,
@@ -63,7 +72,7 @@ impl<'a, K: KeyElement, V: Element, H: KeyHasher, W: Width> ArchivedIndexMap<'a,
         ArchivedIndexMap::of(this.as_view())
     }
 
-    /// The place that `find` answers.
+    /// Returns the index that `find` finds, or `None`.
     #[inline]
     fn find_in<Q: KeyHash, F: Fn(&Q, View<'_, K>) -> bool>(
         this: &ArchiveSeal<'_, IndexMapOf<K, V, H, W>>,
@@ -85,7 +94,7 @@ impl<'a, K: KeyElement, V: Element, H: KeyHasher, W: Width> ArchivedIndexMap<'a,
         Self::read(this).find(key, cmp, &mut Strides::new())
     }
 
-    /// The place of the key that is asked for.
+    /// Returns the index of the key that the query finds, or `None`.
     #[inline]
     fn find_key_in<Q: Query<K>>(
         this: &ArchiveSeal<'_, IndexMapOf<K, V, H, W>>,
@@ -104,7 +113,7 @@ impl<'a, K: KeyElement, V: Element, H: KeyHasher, W: Width> ArchivedIndexMap<'a,
         Self::read(this).find_key(key)
     }
 
-    /// Where the pair of a place stands.
+    /// Returns the position of the pair at the index `place`.
     #[inline]
     fn pair_pos_in(this: &ArchiveSeal<'_, IndexMapOf<K, V, H, W>>, place: usize) -> u64
         requires map { IsIndexSeal W.word K.shape V.shape this.now }
@@ -116,7 +125,7 @@ impl<'a, K: KeyElement, V: Element, H: KeyHasher, W: Width> ArchivedIndexMap<'a,
         Self::read(this).entries().entry(place).pos()
     }
 
-    /// Lends the pair of a place.
+    /// Returns a view of the key at the index `place` and a seal of its value.
     #[inline]
     fn lend_pair(
         this: ArchiveSeal<'a, IndexMapOf<K, V, H, W>>,
@@ -132,7 +141,7 @@ impl<'a, K: KeyElement, V: Element, H: KeyHasher, W: Width> ArchivedIndexMap<'a,
         this.split_value(pos)
     }
 
-    /// Lends the value of a place.
+    /// Returns a seal of the value at the index `place`.
     #[inline]
     fn lend_value(this: ArchiveSeal<'a, IndexMapOf<K, V, H, W>>, place: usize) -> Seal<'a, V>
         requires map { IsIndexSeal W.word K.shape V.shape this }
@@ -146,7 +155,7 @@ impl<'a, K: KeyElement, V: Element, H: KeyHasher, W: Width> ArchivedIndexMap<'a,
         value_seal::<K, V, H, W>(this, pos)
     }
 
-    /// Lends the pair of a place that was found, with the place.
+    /// Returns a found index, a view of its key and a seal of its value.
     #[inline]
     fn full_seal_of(
         this: ArchiveSeal<'a, IndexMapOf<K, V, H, W>>,
@@ -170,7 +179,7 @@ impl<'a, K: KeyElement, V: Element, H: KeyHasher, W: Width> ArchivedIndexMap<'a,
         }
     }
 
-    /// Lends the pair of a place that was found.
+    /// Returns a view of the key at a found index and a seal of its value.
     #[inline]
     fn pair_seal_of(
         this: ArchiveSeal<'a, IndexMapOf<K, V, H, W>>,
@@ -191,7 +200,7 @@ impl<'a, K: KeyElement, V: Element, H: KeyHasher, W: Width> ArchivedIndexMap<'a,
         }
     }
 
-    /// Lends the value of a place that was found.
+    /// Returns a seal of the value at a found index.
     #[inline]
     fn value_seal_of(
         this: ArchiveSeal<'a, IndexMapOf<K, V, H, W>>,
@@ -214,10 +223,18 @@ impl<'a, K: KeyElement, V: Element, H: KeyHasher, W: Width> ArchivedIndexMap<'a,
 }
 
 impl<'a, K: KeyElement, V: Element, H: KeyHasher, W: Width> ArchivedIndexMap<'a, K, V, H, W> {
-    /// As `get_full_with`, and lends the value to be written.
+    /// Looks up as `get_full_with` does, and returns the index, the key and a seal of the value.
     ///
-    /// The archive is cut in two at the value's begin: the key is viewed in the front, and the seal
-    /// is at the begin of the back.
+    /// The archive is cut in two at the start of the value. The view is of the front,
+    /// and the seal is at the start of the back.
+    ///
+    /// A lookup in an untrusted map may read every group of its control bytes once.
+    ///
+    /// # Requires
+    ///
+    /// - The archive has a valid index map at the position of the seal.
+    /// - `key` can be read.
+    /// - The comparison can be called with `key` and each key of the map.
     #[inline]
     pub fn get_full_seal_with<Q: KeyHash, F: Fn(&Q, View<'_, K>) -> bool>(
         this: ArchiveSeal<'a, IndexMapOf<K, V, H, W>>,
@@ -239,7 +256,17 @@ impl<'a, K: KeyElement, V: Element, H: KeyHasher, W: Width> ArchivedIndexMap<'a,
         Self::full_seal_of(this, place)
     }
 
-    /// As `get_full`, and lends the value to be written, as `get_full_seal_with` does.
+    /// Looks up as `get_full` does, and returns the index, the key and a seal of the value.
+    ///
+    /// The archive is cut in two at the start of the value. The view is of the front,
+    /// and the seal is at the start of the back.
+    ///
+    /// A lookup in an untrusted map may read every group of its control bytes once.
+    ///
+    /// # Requires
+    ///
+    /// - The archive has a valid index map at the position of the seal.
+    /// - The query can be read.
     #[inline]
     pub fn get_full_seal<Q: Query<K>>(
         this: ArchiveSeal<'a, IndexMapOf<K, V, H, W>>,
@@ -259,7 +286,18 @@ impl<'a, K: KeyElement, V: Element, H: KeyHasher, W: Width> ArchivedIndexMap<'a,
         Self::full_seal_of(this, place)
     }
 
-    /// As `get_key_value_with`, and lends the value to be written, as `get_full_seal_with` does.
+    /// Looks up as `get_key_value_with` does, and returns the key and a seal of the value.
+    ///
+    /// The archive is cut in two at the start of the value. The view is of the front,
+    /// and the seal is at the start of the back.
+    ///
+    /// A lookup in an untrusted map may read every group of its control bytes once.
+    ///
+    /// # Requires
+    ///
+    /// - The archive has a valid index map at the position of the seal.
+    /// - `key` can be read.
+    /// - The comparison can be called with `key` and each key of the map.
     #[inline]
     pub fn get_key_value_seal_with<Q: KeyHash, F: Fn(&Q, View<'_, K>) -> bool>(
         this: ArchiveSeal<'a, IndexMapOf<K, V, H, W>>,
@@ -283,7 +321,17 @@ impl<'a, K: KeyElement, V: Element, H: KeyHasher, W: Width> ArchivedIndexMap<'a,
         Self::pair_seal_of(this, place)
     }
 
-    /// As `get_key_value`, and lends the value to be written, as `get_full_seal_with` does.
+    /// Looks up as `get_key_value` does, and returns the key and a seal of the value.
+    ///
+    /// The archive is cut in two at the start of the value. The view is of the front,
+    /// and the seal is at the start of the back.
+    ///
+    /// A lookup in an untrusted map may read every group of its control bytes once.
+    ///
+    /// # Requires
+    ///
+    /// - The archive has a valid index map at the position of the seal.
+    /// - The query can be read.
     #[inline]
     pub fn get_key_value_seal<Q: Query<K>>(
         this: ArchiveSeal<'a, IndexMapOf<K, V, H, W>>,
@@ -304,7 +352,15 @@ impl<'a, K: KeyElement, V: Element, H: KeyHasher, W: Width> ArchivedIndexMap<'a,
         Self::pair_seal_of(this, place)
     }
 
-    /// As `get_with`, and lends the value to be written, in the whole archive.
+    /// Looks up as `get_with` does, and returns a seal of the value in the whole archive.
+    ///
+    /// A lookup in an untrusted map may read every group of its control bytes once.
+    ///
+    /// # Requires
+    ///
+    /// - The archive has a valid index map at the position of the seal.
+    /// - `key` can be read.
+    /// - The comparison can be called with `key` and each key of the map.
     #[inline]
     pub fn get_seal_with<Q: KeyHash, F: Fn(&Q, View<'_, K>) -> bool>(
         this: ArchiveSeal<'a, IndexMapOf<K, V, H, W>>,
@@ -328,7 +384,14 @@ impl<'a, K: KeyElement, V: Element, H: KeyHasher, W: Width> ArchivedIndexMap<'a,
         Self::value_seal_of(this, place)
     }
 
-    /// As `get`, and lends the value to be written, in the whole archive.
+    /// Looks up as `get` does, and returns a seal of the value in the whole archive.
+    ///
+    /// A lookup in an untrusted map may read every group of its control bytes once.
+    ///
+    /// # Requires
+    ///
+    /// - The archive has a valid index map at the position of the seal.
+    /// - The query can be read.
     #[inline]
     pub fn get_seal<Q: Query<K>>(
         this: ArchiveSeal<'a, IndexMapOf<K, V, H, W>>,

@@ -1,4 +1,7 @@
 //! Writing index maps from iterators of pairs.
+//!
+//! `serialize_from_iter` writes a table of indices and the entries, and returns a resolver.
+//! Its `resolve` then writes the header.
 
 ghost use Rattle.std.specs.Prelude.{List, ℕ};
 ghost use Rattle.rkyv_base.specs.Format.{Format};
@@ -27,7 +30,9 @@ use rkyv_scan::hash::KeyHasher;
 use rkyv_table::controls::numbers::{CapacityError, capacity};
 use std::alloc::Global;
 
-/// How lists of items I, each of which lends an X, are written under a load factor.
+/// The format of lists under each load factor.
+///
+/// A list has items of `I`, and each owns or borrows an `X`.
 pub trait ListFormat<I, X> {
     ghost format: { ℕ × ℕ → Format (List I) IndexResolver };
 }
@@ -48,24 +53,40 @@ impl<
 }
 
 impl<'a, K: KeyElement, V, H: KeyHasher, W: PlaceWidth> ArchivedIndexMap<'a, K, V, H, W> {
-    /// Writes an index map of `len` pairs, each a key and a value as themselves or by reference,
-    /// and
-    /// answers what resolves it.
+    /// Writes an index map of `len` pairs and returns its resolver.
     ///
-    /// Each pair is taken once, and kept until it is written. First comes a table of the pairs'
-    /// places, each under the hash of its key, of which the table's own `serialize_by` tells where
-    /// its bytes stand; of no pairs it has none. Then the entries' own parts, in order; then zeros
-    /// up to an entry's alignment; then the entries, in order. Equal keys are kept; a lookup then
-    /// finds the first. The iterator is asked at most `len + 1` times, and never after it gave
-    /// `None`.
+    /// The pairs have their keys and values as themselves or by reference.
+    /// Pairs with equal keys are kept, and a lookup finds the first.
+    ///
+    /// The layout is:
+    ///
+    /// 1. the table of the indices, each under the hash of its key, as `serialize_by` of the table
+    ///    writes it,
+    /// 2. the parts of the entries, in insertion order,
+    /// 3. zeros up to the alignment of an entry,
+    /// 4. the entries, in insertion order.
+    ///
+    /// The table of no pairs has no bytes.
+    ///
+    /// Not in the contract: the iterator is called at most `len + 1` times,
+    /// and not after it returned `None`. Memory for the pairs is allocated before one is taken,
+    /// and memory for the table afterwards.
+    ///
+    /// # Requires
+    ///
+    /// - The iterator can be called.
     ///
     /// # Errors
-    /// The first that stands of: `InvalidLoadFactor`; `CapacityTooLarge`, where more buckets are
-    /// needed than the width can count; `Memory`, before any pair is taken;
-    /// `IteratorLengthMismatch`, with the number of pairs, counted up to `len + 1`; and `Memory` of
-    /// the table's own growths. Nothing is written then. Else the cause is that of the first key,
-    /// value or piece that fails. What the writer held before is kept. Of no pairs no memory is
-    /// taken.
+    ///
+    /// - `InvalidLoadFactor`: the load factor isn't above 0 and at most 1.
+    /// - `CapacityTooLarge`: the capacity is above `W::MAX_CAPACITY`.
+    /// - `Memory`: `len` isn't 0, and memory for the pairs or for the table could not be allocated.
+    /// - `IteratorLengthMismatch`: the number of pairs isn't `len`. The number is counted up
+    ///   to `len + 1`.
+    /// - The error of the first key, value or piece that fails.
+    ///
+    /// Nothing is written with the first four errors. The bytes written before the call
+    /// are unchanged.
     pub fn serialize_from_iter<
         S: Writer,
         A: NativeKey<K> + Serialize<S, W, Archived = K>,

@@ -1,4 +1,4 @@
-//! Taking the pairs of an index map, and the memory that writing it takes.
+//! Taking the pairs of an index map, and allocating the memory for them.
 
 ghost use Rattle.std.specs.Prelude.{◌≡◌, ◌<◌, ◌≤◌, [], IfOk, IfSome, MatchResult, OnErr, length};
 ghost use Rattle.std.specs.Prelude.{vec_capacity};
@@ -10,8 +10,8 @@ use rkyv_base::adapter::EntryAdapter;
 use rkyv_base::lend::Lend;
 use std::alloc::{AllocError, Global};
 
-// The memory that writing entries takes: a place for each, one for what resolves it, and the bytes
-// of one entry. For none it takes no memory.
+// The memory for writing entries: vectors with room for each entry and each resolver,
+// and the bytes of one entry. For no entries, nothing is allocated.
 #[derive(Drop)]
 pub(crate) struct Room<X, R> {
     pub(crate) entries: Vec<X>,
@@ -46,7 +46,7 @@ impl<X: Drop, R: Drop> Room<X, R> {
     }
 }
 
-// Asks the iterator, which need not end.
+// Calls an iterator, which need not end.
 #[inline]
 fn next_pair<I: Iterator>(rest: &mut I) -> Option<I::Item>
     requires { I.can_next rest.old }
@@ -56,7 +56,7 @@ fn next_pair<I: Iterator>(rest: &mut I) -> Option<I::Item>
     rest.next()
 }
 
-// Takes `len` pairs as entries. An `Err` has how many pairs came, counted up to `len + 1`.
+// Takes `len` pairs as entries. An `Err` has the number of pairs, counted up to `len + 1`.
 pub(crate) fn take_entries<
     A,
     B,

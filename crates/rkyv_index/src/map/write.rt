@@ -1,4 +1,4 @@
-//! Writing the bytes of an index map whose entries were taken.
+//! Writing the bytes of an index map, from a slice of its entries.
 
 ghost use Rattle.std.specs.Prelude.{◌≡◌, ◌<◌, ◌≤◌, [], length, vec_capacity};
 ghost use Rattle.rkyv_table.specs.Table.Serializing.{HasCapacity};
@@ -15,7 +15,7 @@ use rkyv_table::table::ArchivedHashTable;
 use rkyv_table::table::resolve::HashTableResolver;
 use std::alloc::Global;
 
-// Writes the table of the places of entries, each under the hash of its entry.
+// Writes the table of the indices of `entries`, each under the hash of its entry.
 #[inline]
 fn write_places<W: PlaceWidth, H, S: Writer, U: Hashed<H>>(
     alloc: Global,
@@ -38,8 +38,9 @@ fn write_places<W: PlaceWidth, H, S: Writer, U: Hashed<H>>(
     >(alloc, places, entries.len(), load_factor, serializer)
 }
 
-// Writes the table of places, the entries' parts, zeros, and the entries, and answers what resolves
-// the index map.
+// Writes the table of indices, the parts of the entries, zeros and the entries.
+//
+// Returns the resolver of the index map.
 pub(crate) fn write_index<W: PlaceWidth, H, S: Writer, U: Hashed<H> + Serialize<S, W>>(
     alloc: Global,
     entries: &[U],

@@ -1,4 +1,4 @@
-//! What was written of an index map, wherever it stands.
+//! The law of written index maps, in any archive that contains their bytes.
 
 ghost use Rattle.rkyv_index.specs.Index.{hash_at};
 ghost use Rattle.rkyv_index.specs.IndexFormat.{WrittenIndexMapsStand, hash_of};
@@ -9,10 +9,11 @@ use rkyv_base::element::StandsFor;
 use rkyv_keys::keys::{KeyElement, NativeKey};
 use rkyv_scan::hash::KeyHasher;
 
-/// In every archive in which what was written of an index map sits, and, aligned behind it, its
-/// header, the index layout holds; the header tells the length and the capacity; the table was
-/// written of the places in order, under the hashes of the keys; and the pairs stand in a row, in
-/// the order handed in.
+/// Written bytes of an index map and its header are a valid index map in any archive that has them.
+///
+/// The header is aligned and after the written bytes. It has the length and the capacity
+/// of the map. The table has the indices in order, each under the hash of its key.
+/// The pairs are in a row, in insertion order.
 pub fn written_index_maps_stand<
     W: PlaceWidth,
     H: KeyHasher,

@@ -1,4 +1,4 @@
-//! Printing index sets.
+//! Formatting of index sets by `Debug`.
 ghost use Rattle.rkyv_base.specs.View.{IsView};
 ghost use Rattle.rkyv_index.specs.IndexSet.{index_set_shape};
 

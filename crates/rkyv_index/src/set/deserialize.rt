@@ -1,4 +1,4 @@
-//! Reading an index set back.
+//! Deserializing an index set into a list of keys.
 ghost use Rattle.std.specs.Prelude.{MatchResult, ◌<◌};
 ghost use Rattle.rkyv_base.specs.Empty.{unit_shape};
 ghost use Rattle.rkyv_index.specs.Index.{index_len, key_pos};
@@ -13,7 +13,7 @@ use rkyv_keys::reading::Deserialize;
 use std::alloc::Global;
 
 impl<'a, K: Element, H, W: Width> ArchivedIndexSet<'a, K, H, W> {
-    // The key of a place.
+    // Deserializes the key at the index `place`.
     #[inline]
     fn read_item<A>(self, alloc: Global, place: usize) -> Result<A, ReadError>
     where
@@ -27,10 +27,16 @@ impl<'a, K: Element, H, W: Width> ArchivedIndexSet<'a, K, H, W> {
         K::deserialize(alloc, self.map.entries().entry(place).key())
     }
 
-    /// Its keys, read back into a list in their order.
+    /// Deserializes the keys into a list, in order.
+    ///
+    /// # Requires
+    ///
+    /// - The set is valid.
     ///
     /// # Errors
-    /// `Memory` where a growth is refused, and those of reading a key.
+    ///
+    /// - `Memory`: the list could not be allocated.
+    /// - The error of deserializing a key.
     pub fn deserialize_items<A: Drop>(self, alloc: Global) -> Result<Vec<A>, ReadError>
     where
         K: Deserialize<A>,

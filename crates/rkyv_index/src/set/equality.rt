@@ -1,4 +1,4 @@
-//! Equality of index sets, and the places that a lookup doesn't answer.
+//! Equality of index sets, and counting the keys that a lookup of their own doesn't find.
 ghost use Rattle.std.specs.Prelude.{◌≡◌};
 ghost use Rattle.rkyv_base.specs.Empty.{unit_element, unit_shape};
 ghost use Rattle.rkyv_base.specs.Entry.{entry_element, entry_shape};
@@ -20,7 +20,11 @@ use rkyv_keys::keys::KeyElement;
 use rkyv_scan::hash::KeyHasher;
 
 impl<'a, K: ElementEq, H, W: Width> ArchivedIndexSet<'a, K, H, W> {
-    /// Whether both sets have equally many keys, and the same ones in order.
+    /// Returns `true` if and only if both sets have the same length and the same keys in order.
+    ///
+    /// # Requires
+    ///
+    /// - Both sets are valid.
     pub fn eq_index(self, other: ArchivedIndexSet<'_, K, H, W>) -> bool
         requires own { IsIndexSet W.word K.shape self }
         requires other { IsIndexSet W.word K.shape other }
@@ -32,8 +36,18 @@ impl<'a, K: ElementEq, H, W: Width> ArchivedIndexSet<'a, K, H, W> {
 }
 
 impl<'a, K: KeyElement, H: KeyHasher, W: Width> ArchivedIndexSet<'a, K, H, W> {
-    /// How many of its places a lookup of their own key doesn't answer: in a set that was written,
-    /// of how many an earlier place has the same key.
+    /// Returns the number of keys that a lookup of their own doesn't find.
+    ///
+    /// In a written set, it is the number of keys that are the same as an earlier key
+    /// in insertion order. An untrusted set may have other misplaced keys.
+    ///
+    /// Each key is looked up once, and each lookup may read every group of the control bytes.
+    /// Keys that share a hash cost a number of comparisons that is quadratic in their number.
+    /// `FxHasher64` takes no secret key, so chosen keys can share one.
+    ///
+    /// # Requires
+    ///
+    /// - The set is valid.
     pub fn misplaced(self) -> usize
         requires { IsIndexSet W.word K.shape self }
         ensures told { result ≡ index_misplaced (index_of_set W.word K.shape self.entry)

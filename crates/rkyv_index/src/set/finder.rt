@@ -1,4 +1,6 @@
-//! Many lookups in one index set.
+//! Lookups in an index set whose header is decoded once.
+//!
+//! A lookup in an untrusted set may read every group of its control bytes once.
 ghost use Rattle.std.specs.Prelude.{◌≡◌};
 ghost use Rattle.rkyv_index.specs.Index.{IsFoundAt, IsHeldPlace};
 ghost use Rattle.rkyv_index.specs.IndexSet.{IsFullMemberIn, IsIndexSet, IsMemberOf};
@@ -14,17 +16,20 @@ use rkyv_base::width::{Narrow, Width};
 use rkyv_keys::keys::{KeyElement, Query};
 use rkyv_scan::hash::{FxHasher64, KeyHasher};
 
-/// An index set for many lookups: its header was read, and none of them divides.
+/// An index set for many lookups, with its decoded header. A lookup takes no division.
 ///
-/// They answer what those of the set do.
+/// Each lookup has the result of the set's lookup of the same name.
 #[derive_where(Clone, Copy)]
 pub struct IndexSetFinder<'a, K, H = FxHasher64, W: Width = Narrow> {
     map: IndexMapFinder<'a, K, (), H, W>,
 }
 
 impl<'a, K: Element, H, W: Width> ArchivedIndexSet<'a, K, H, W> {
-    /// The index set for many lookups: the header is read and the capacity of its table divided by
-    /// here, once.
+    /// Returns the index set for many lookups. The header is decoded here, once.
+    ///
+    /// # Requires
+    ///
+    /// - The set is valid.
     #[inline]
     pub fn finder(self) -> IndexSetFinder<'a, K, H, W>
         requires { IsIndexSet W.word K.shape self }
@@ -38,7 +43,12 @@ impl<'a, K: Element, H, W: Width> ArchivedIndexSet<'a, K, H, W> {
 }
 
 impl<'a, K: KeyElement, H: KeyHasher, W: Width> IndexSetFinder<'a, K, H, W> {
-    /// As the set's `get_full`.
+    /// Looks up as `get_full` of the set does.
+    ///
+    /// # Requires
+    ///
+    /// - The finder is valid.
+    /// - The query can be read.
     #[inline]
     pub fn get_full<Q: Query<K>>(self, key: &Q) -> Option<(usize, View<'a, K>)>
         requires finder { IsIndexSetFinder W.word W.Place.encoding K.shape self }
@@ -53,7 +63,12 @@ impl<'a, K: KeyElement, H: KeyHasher, W: Width> IndexSetFinder<'a, K, H, W> {
         }
     }
 
-    /// As the set's `get`.
+    /// Looks up as `get` of the set does.
+    ///
+    /// # Requires
+    ///
+    /// - The finder is valid.
+    /// - The query can be read.
     #[inline]
     pub fn get<Q: Query<K>>(self, key: &Q) -> Option<View<'a, K>>
         requires finder { IsIndexSetFinder W.word W.Place.encoding K.shape self }
@@ -68,7 +83,12 @@ impl<'a, K: KeyElement, H: KeyHasher, W: Width> IndexSetFinder<'a, K, H, W> {
         }
     }
 
-    /// As the set's `get_index_of`.
+    /// Looks up as `get_index_of` of the set does.
+    ///
+    /// # Requires
+    ///
+    /// - The finder is valid.
+    /// - The query can be read.
     #[inline]
     pub fn get_index_of<Q: Query<K>>(self, key: &Q) -> Option<usize>
         requires finder { IsIndexSetFinder W.word W.Place.encoding K.shape self }
@@ -80,7 +100,12 @@ impl<'a, K: KeyElement, H: KeyHasher, W: Width> IndexSetFinder<'a, K, H, W> {
         self.map.get_index_of(key)
     }
 
-    /// As the set's `contains`.
+    /// Looks up as `contains` of the set does.
+    ///
+    /// # Requires
+    ///
+    /// - The finder is valid.
+    /// - The query can be read.
     #[inline]
     pub fn contains<Q: Query<K>>(self, key: &Q) -> bool
         requires finder { IsIndexSetFinder W.word W.Place.encoding K.shape self }

@@ -1,4 +1,4 @@
-//! A law of index sets that are read back, over their definitions alone.
+//! A law of index sets that are deserialized, over their definitions alone.
 ghost use Rattle.rkyv_index.specs.Index.{hash_at};
 ghost use Rattle.rkyv_index.specs.Reading.{ItemsReadBackAreListed};
 
@@ -7,8 +7,9 @@ use rkyv_keys::equality::StandsAlone;
 use rkyv_keys::keys::KeyElement;
 use rkyv_scan::hash::KeyHasher;
 
-/// Where an index set stands for a list of keys, as what was written of that list does, the list
-/// that `deserialize_items` answers is that list: they are equal by `==`.
+/// If an index set represents a list of keys, a list that is deserialized from it is `==` to it.
+///
+/// The bytes that are written of a list represent that list. `deserialize_items` deserializes.
 pub fn items_read_back_are_listed<
     A: PartialEq,
     K: KeyElement + StandsAlone<A>,

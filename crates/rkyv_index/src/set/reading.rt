@@ -1,4 +1,11 @@
-//! An index set, how many keys it has, and finding one of them.
+//! Opening, walking over and looking up in an index set.
+//!
+//! - `get` returns a view of the key that a query finds, and `get_full` also its index.
+//! - `get_index_of` returns the index, and `contains` returns `true` if a key is found.
+//! - `get_index` returns the key at an index.
+//!
+//! A lookup in an untrusted set may read every group of its control bytes once.
+//! `FxHasher64` takes no secret key, so it doesn't protect from chosen input.
 ghost use Rattle.std.specs.Prelude.{IfSome, IsTrue, MatchOption, length, ◌↔◌, ◌≡◌, ◌≤◌};
 ghost use Rattle.rkyv_base.specs.Empty.{unit_shape};
 ghost use Rattle.rkyv_base.specs.Entry.{entry_shape};
@@ -21,7 +28,11 @@ use rkyv_keys::keys::{KeyElement, Query};
 use rkyv_scan::hash::KeyHasher;
 
 impl<'a, K: Element, H, W: Width> ArchivedIndexSet<'a, K, H, W> {
-    /// The set whose header is viewed.
+    /// Returns the set at a view of its header.
+    ///
+    /// # Requires
+    ///
+    /// - The view is of a valid index set.
     #[inline]
     pub fn of(view: View<'a, IndexSetOf<K, H, W>>) -> ArchivedIndexSet<'a, K, H, W>
         requires { IsView (index_set_shape W.word K.shape) view }
@@ -33,7 +44,7 @@ impl<'a, K: Element, H, W: Width> ArchivedIndexSet<'a, K, H, W> {
         }
     }
 
-    /// Whether it has no keys.
+    /// Returns `true` if and only if the set has no keys.
     #[inline]
     pub fn is_empty(self) -> bool
         requires { IsIndexSet W.word K.shape self }
@@ -42,7 +53,7 @@ impl<'a, K: Element, H, W: Width> ArchivedIndexSet<'a, K, H, W> {
         self.map.is_empty()
     }
 
-    /// How many keys it has.
+    /// Returns the number of keys.
     #[inline]
     pub fn len(self) -> usize
         requires { IsIndexSet W.word K.shape self }
@@ -51,7 +62,11 @@ impl<'a, K: Element, H, W: Width> ArchivedIndexSet<'a, K, H, W> {
         self.map.len()
     }
 
-    /// Its keys, in order.
+    /// Returns an iterator over the keys, in order.
+    ///
+    /// # Requires
+    ///
+    /// - The set is valid.
     #[inline]
     pub fn iter(self) -> Keys<'a, K, ()>
         requires { IsIndexSet W.word K.shape self }
@@ -64,7 +79,11 @@ impl<'a, K: Element, H, W: Width> ArchivedIndexSet<'a, K, H, W> {
         self.map.keys()
     }
 
-    /// The key of a place: `None` exactly where the place isn't below the length.
+    /// Returns the key at an index, or `None` if the index isn't below the length.
+    ///
+    /// # Requires
+    ///
+    /// - The set is valid.
     #[inline]
     pub fn get_index(self, place: usize) -> Option<View<'a, K>>
         requires { IsIndexSet W.word K.shape self }
@@ -80,7 +99,21 @@ impl<'a, K: Element, H, W: Width> ArchivedIndexSet<'a, K, H, W> {
 }
 
 impl<'a, K: KeyElement, H: KeyHasher, W: Width> ArchivedIndexSet<'a, K, H, W> {
-    /// The key that is asked for, with its place: in a set that was written the first such one.
+    /// Returns the key that the query finds, with its index, or `None`.
+    ///
+    /// In a written set, it is the first key in insertion order that the query fits.
+    ///
+    /// In an untrusted set, a lookup may miss a key that the query fits.
+    /// No key is missed if `misplaced` is 0. The lookup then finds the one key that the query fits,
+    /// and `None` if and only if it fits none.
+    ///
+    /// A lookup in an untrusted set may read every group of its control bytes once.
+    /// `FxHasher64` takes no secret key, so it doesn't protect from chosen input.
+    ///
+    /// # Requires
+    ///
+    /// - The set is valid.
+    /// - The query can be read.
     #[inline]
     pub fn get_full<Q: Query<K>>(self, key: &Q) -> Option<(usize, View<'a, K>)>
         requires set { IsIndexSet W.word K.shape self }
@@ -95,7 +128,14 @@ impl<'a, K: KeyElement, H: KeyHasher, W: Width> ArchivedIndexSet<'a, K, H, W> {
         }
     }
 
-    /// The key that is asked for.
+    /// Returns the key that `get_full` returns, or `None`.
+    ///
+    /// A lookup in an untrusted set may read every group of its control bytes once.
+    ///
+    /// # Requires
+    ///
+    /// - The set is valid.
+    /// - The query can be read.
     #[inline]
     pub fn get<Q: Query<K>>(self, key: &Q) -> Option<View<'a, K>>
         requires set { IsIndexSet W.word K.shape self }
@@ -106,7 +146,7 @@ impl<'a, K: KeyElement, H: KeyHasher, W: Width> ArchivedIndexSet<'a, K, H, W> {
         self.key_of(self.map.find_key(key))
     }
 
-    /// The key of a place that was found.
+    /// Returns the key at a found index.
     #[inline]
     fn key_of(self, place: Option<usize>) -> Option<View<'a, K>>
         requires set { IsIndexSet W.word K.shape self }
@@ -119,7 +159,14 @@ impl<'a, K: KeyElement, H: KeyHasher, W: Width> ArchivedIndexSet<'a, K, H, W> {
         }
     }
 
-    /// The place of the key that is asked for.
+    /// Returns the index of the key that `get_full` returns, or `None`.
+    ///
+    /// A lookup in an untrusted set may read every group of its control bytes once.
+    ///
+    /// # Requires
+    ///
+    /// - The set is valid.
+    /// - The query can be read.
     #[inline]
     pub fn get_index_of<Q: Query<K>>(self, key: &Q) -> Option<usize>
         requires set { IsIndexSet W.word K.shape self }
@@ -131,7 +178,14 @@ impl<'a, K: KeyElement, H: KeyHasher, W: Width> ArchivedIndexSet<'a, K, H, W> {
         self.map.get_index_of(key)
     }
 
-    /// Whether the key that is asked for is found.
+    /// Returns `true` if and only if the query finds a key.
+    ///
+    /// A lookup in an untrusted set may read every group of its control bytes once.
+    ///
+    /// # Requires
+    ///
+    /// - The set is valid.
+    /// - The query can be read.
     #[inline]
     pub fn contains<Q: Query<K>>(self, key: &Q) -> bool
         requires set { IsIndexSet W.word K.shape self }

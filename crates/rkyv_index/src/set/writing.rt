@@ -1,4 +1,7 @@
-//! Writing index sets.
+//! Writing index sets from iterators of keys.
+//!
+//! `serialize_from_iter` writes the keys and returns a resolver. Its `resolve` then writes
+//! the header.
 
 ghost use Rattle.std.specs.Prelude.{◌≡◌, ◌+◌, ◌<◌, ◌^◌, length};
 ghost use Rattle.rkyv_base.specs.Pairs.{written_as};
@@ -24,7 +27,7 @@ use rkyv_scan::hash::KeyHasher;
 use rkyv_table::table::lent::WithUnits;
 use std::alloc::Global;
 
-/// What resolves a written index set: what resolves the map of its keys.
+/// The resolver of a written index set: that of the index map of its keys.
 pub type IndexSetResolver<W = Narrow> = IndexMapResolver<W>;
 
 impl<K: Element, H: KeyHasher, W: PlaceWidth, A: KeyHash + Archive<W>, BK: Lend<A>> ListFormat<
@@ -37,15 +40,29 @@ impl<K: Element, H: KeyHasher, W: PlaceWidth, A: KeyHash + Archive<W>, BK: Lend<
 }
 
 impl<'a, K: KeyElement, H: KeyHasher, W: PlaceWidth> ArchivedIndexSet<'a, K, H, W> {
-    /// Writes an index set of `len` keys, as themselves or by reference, and answers what resolves
-    /// it.
+    /// Writes an index set of `len` keys and returns its resolver.
     ///
-    /// It is the index map of the keys to the unit value: equal keys are kept, and a lookup then
-    /// finds
-    /// the first. The iterator is asked at most `len + 1` times, and never after it gave `None`.
+    /// The keys are themselves or references. The bytes are those of the index map of the keys
+    /// to the unit value. Equal keys are kept, and a lookup finds the first.
+    ///
+    /// Not in the contract: the iterator is called at most `len + 1` times,
+    /// and not after it returned `None`.
+    ///
+    /// # Requires
+    ///
+    /// - The iterator can be called.
     ///
     /// # Errors
-    /// Those of an index map's `serialize_from_iter`; the actual number is that of keys.
+    ///
+    /// - `InvalidLoadFactor`: the load factor isn't above 0 and at most 1.
+    /// - `CapacityTooLarge`: the capacity is above `W::MAX_CAPACITY`.
+    /// - `Memory`: `len` isn't 0, and memory for the keys or for the table could not be allocated.
+    /// - `IteratorLengthMismatch`: the number of keys isn't `len`. The number is counted up
+    ///   to `len + 1`.
+    /// - The error of the first key or piece that fails.
+    ///
+    /// Nothing is written with the first four errors. The bytes written before the call
+    /// are unchanged.
     pub fn serialize_from_iter<
         S: Writer,
         A: NativeKey<K> + Serialize<S, W, Archived = K>,
@@ -74,13 +91,19 @@ impl<'a, K: KeyElement, H: KeyHasher, W: PlaceWidth> ArchivedIndexSet<'a, K, H, 
         )
     }
 
-    /// Writes the header of a written index set, which is to stand at `pos`, over the whole of
-    /// `out`.
+    /// Writes the header of a written set over the whole of `out`, for a header at `pos`.
     ///
-    /// The length and the load factor are those of the resolver.
+    /// # Requires
+    ///
+    /// - `len` and `load_factor` are those of the resolver.
+    /// - `out` has the size of a header.
+    /// - The header ends below 2^64.
     ///
     /// # Errors
-    /// Those of an index map's `resolve_from_len`; `out` is unchanged.
+    ///
+    /// - `DistanceTooLarge`: the set isn't empty, and the distance to the table doesn't fit
+    ///   in the width. Or the distance to the entries doesn't fit, also of an empty set.
+    ///   `out` is unchanged.
     pub fn resolve_from_len(
         len: usize,
         load_factor: (usize, usize),

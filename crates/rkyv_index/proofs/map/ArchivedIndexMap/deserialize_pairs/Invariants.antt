@@ -2,7 +2,7 @@ use Rattle.std.proofs.Common.{◌≡◌, length}
 use Rattle.rkyv_index.specs.Reading.{ArePairsRead}
 use Rattle.rkyv_index.proofs.map.ArchivedIndexMap.deserialize_pairs.Given as goal
 
--- the pairs of the places so far were read
+-- the list has the pairs at the indices below `place`, deserialized
 abbrev pub invariant-loop-place : goal.invariant-loop-place
 invariant-loop-place g l =
     (length l.list.items ≡ l.place)

@@ -14,7 +14,7 @@ begin_told-told-requires g c = record {
       (subst (λ q. q + 4 * byte_len g.W.Word.word ≤ length (index_bytes c.args.self)) (sym c.pos.ensures) c.requires.inside);
 }
 
--- the header tells where the entries begin
+-- the position at which the entries begin is that of the header
 pub pos_told-requires : goal.pos_told-requires
 pos_told-requires g c =
     let w = g.W.Word.word in

@@ -7,11 +7,11 @@ use Rattle.rkyv_index.proofs.Checking.{all_left, filter_skip, filter_step, none_
 use Rattle.rkyv_index.proofs.map.ArchivedIndexMap.misplaced.Goals.{then-is_misplaced, else-is_misplaced}
 use Rattle.rkyv_index.proofs.map.ArchivedIndexMap.misplaced.Goals as goal
 
--- as many are left at first as there are
+-- at first, all indices remain
 left_first : (P : ℕ → Bool) (n : ℕ) → length (filter P (range_with_len 0 (n - 0))) ≡ length (filter P (range_with_len 0 n))
 left_first P n = ap (λ (xs : List ℕ). length (filter P xs)) (all_left n)
 
--- a place more is counted, or passed, and at last none is left
+-- the next index is counted or skipped, and at the end none remains
 module _ (P : ℕ → Bool) (count i n all : ℕ) (told : count + length (filter P (range_with_len i (n - i))) ≡ all) where
   one_more : (next : ℕ) → i < n → P i ≡ true → next ≡ count + 1 → next + length (filter P (range_with_len (i + 1) (n - (i + 1)))) ≡ all
   one_more next below passes e = let s = filter_step P i n below passes in omega (arith, s, e, told)

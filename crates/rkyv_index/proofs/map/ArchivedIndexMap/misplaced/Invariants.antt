@@ -4,7 +4,7 @@ use Rattle.rkyv_index.specs.Equality.{index_misplaced, index_repeated, is_mispla
 use Rattle.rkyv_index.specs.Index.{IsWritten, hash_at, index_len, index_of}
 use Rattle.rkyv_index.proofs.map.ArchivedIndexMap.misplaced.Given as goal
 
--- the misplaced places are those that were counted and those that are left
+-- the number of misplaced keys is the count and the number of those that remain
 abbrev pub invariant-loop-place : goal.invariant-loop-place
 invariant-loop-place g l =
     let m = index_of g.W.Word.word g.K.Element.shape g.V.Element.shape l.fn.self in

@@ -5,7 +5,7 @@ use Rattle.rkyv_table.specs.Table.Places.{AllHold, FirstFails}
 use Rattle.rkyv_index.specs.IndexLayout.{entry_at, places_of}
 use Rattle.rkyv_index.proofs.map.check.check_entries.Given as goal
 
--- the next entry stands at `at`; and if the entries from i on hold, or one of them fails first, so it is with all
+-- `at` is the position of the next entry. The result for the remaining entries is that for all
 abbrev pub invariant-loop-i : goal.invariant-loop-i
 invariant-loop-i g l =
     let s = g.T.Element.shape in

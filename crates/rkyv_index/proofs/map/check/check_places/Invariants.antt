@@ -8,7 +8,7 @@ use Rattle.rkyv_table.specs.Table.Reading.{item_positions}
 use Rattle.rkyv_index.specs.IndexLayout.{FirstNotBelow, PlacesBelow}
 use Rattle.rkyv_index.proofs.map.check.check_places.Given as goal
 
--- the places that are left stand in the archive; and if they are below the length, or one of them isn't, so it is with all
+-- the remaining indices are inside the archive. The result for them is that for all
 abbrev pub invariant-loop-at : goal.invariant-loop-at
 invariant-loop-at g l =
     let w = g.W.Word.word in

@@ -2,7 +2,7 @@ use Rattle.std.proofs.Common.{◌≡◌, length}
 use Rattle.rkyv_index.specs.Reading.{AreItemsRead}
 use Rattle.rkyv_index.proofs.set.ArchivedIndexSet.deserialize_items.Given as goal
 
--- the keys of the places so far were read
+-- the list has the keys at the indices below `place`, deserialized
 abbrev pub invariant-loop-place : goal.invariant-loop-place
 invariant-loop-place g l =
     (length l.list.items ≡ l.place)

@@ -5,7 +5,7 @@ use Rattle.rkyv_index.specs.Lemmas.PlaceShapes.{words_fail, words_hold}
 use Rattle.rkyv_index.proofs.Checking.{table_viewed}
 use Rattle.rkyv_index.proofs.map.element.IndexMapOfElement.check.Goals as goal
 
--- what holds of two numbers holds of equal ones
+-- a property of two numbers is one of equal numbers
 both : (F : ℕ → ℕ → Type 0) (n n' hi hi' : ℕ) → n ≡ n' → hi ≡ hi' → F n hi → F n' hi'
 both F n n' hi hi' e f x = subst (F n') f (subst (λ k. F k hi) e x)
 
@@ -27,7 +27,7 @@ returns-in-Err-check_places g c =
     let table = words_hold w g.W.Place.Scalar.encoding g.met.W.Width.place b c.args.pos c.args.range.lo c.args.range.hi c.in-Ok.rest.lo c.in-Ok.ensures.1 in
     inr (c.in-Ok.rest.lo, table, inl c.in-Err-check_places.ensures.fails)
 
--- the entries fail where the length is that of the header, and the range that of the call
+-- the entries fail for the length in the header and the range of the call
 pub returns-in-Err-check_part : goal.returns-in-Err-check_part
 returns-in-Err-check_part g c =
     let w = g.W.Word.word in
