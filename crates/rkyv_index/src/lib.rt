@@ -8,10 +8,8 @@ pub mod set;
 pub mod width;
 
 pub use lists::{OrderedItems, OrderedPairs};
-pub use map::finder::IndexMapFinder;
 pub use map::iter::{Iter, Keys, Values};
 pub use map::resolve::IndexMapResolver;
 pub use map::{ArchivedIndexMap, IndexMapOf};
-pub use set::finder::IndexSetFinder;
 pub use set::writing::IndexSetResolver;
 pub use set::{ArchivedIndexSet, IndexSetOf};

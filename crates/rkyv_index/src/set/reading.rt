@@ -1,4 +1,4 @@
-//! An index set, how many keys it has, and finding one of them.
+//! An index set, its number of keys, and the lookup of a key.
 ghost use Rattle.std.specs.Prelude.{IfSome, IsTrue, MatchOption, length, ◌↔◌, ◌≡◌, ◌≤◌};
 ghost use Rattle.rkyv_base.specs.Empty.{unit_shape};
 ghost use Rattle.rkyv_base.specs.Entry.{entry_shape};
@@ -21,7 +21,7 @@ use rkyv_keys::keys::{KeyElement, Query};
 use rkyv_scan::hash::KeyHasher;
 
 impl<'a, K: Element, H, W: Width> ArchivedIndexSet<'a, K, H, W> {
-    /// The set whose header is viewed.
+    /// Returns the set at a view of its header, which is decoded here, once.
     #[inline]
     pub fn of(view: View<'a, IndexSetOf<K, H, W>>) -> ArchivedIndexSet<'a, K, H, W>
         requires { IsView (index_set_shape W.word K.shape) view }
@@ -33,19 +33,17 @@ impl<'a, K: Element, H, W: Width> ArchivedIndexSet<'a, K, H, W> {
         }
     }
 
-    /// Whether it has no keys.
+    /// Returns true if it has no keys.
     #[inline]
     pub fn is_empty(self) -> bool
-        requires { IsIndexSet W.word K.shape self }
         ensures { IsTrue result ↔ (index_len W.word (keys_of self.entry) ≡ 0) }
     {
         self.map.is_empty()
     }
 
-    /// How many keys it has.
+    /// Returns the number of its keys.
     #[inline]
     pub fn len(self) -> usize
-        requires { IsIndexSet W.word K.shape self }
         ensures { result ≡ index_len W.word (keys_of self.entry) }
     {
         self.map.len()
