@@ -1,4 +1,5 @@
 -- From a lookup in a table of indices to a lookup in an index map.
+use Rattle.rkyv_base.specs.declared.width.Word.{Ghosts as Words}
 use Rattle.std.proofs.Common.{◌≡◌, ℕ, ◌+◌, ◌<◌, ◌≤◌, ◌∙◌, refl, ap, sym, subst, arith, cond, Bool, true, false, length, map, List, [], ◌∷◌, Option, Some, slice_index}
 use Rattle.std.specs.Borrow.{Bor}
 use Rattle.std.specs.Int.{Width, byte_len}
@@ -38,8 +39,8 @@ find-map f accept (x ∷ xs) = find-step f accept x (find (λ y. accept (f y)) x
 place_read : (n i : ℕ) → i < n → slice_index (places_of n) i ≡ i
 place_read n i below = get_or-range_with_len 0 n i 0 below ∙ omega arith
 
-module _ {K V H W P N : Type 0} (w : Width) (kind : IsArchiveWord w) (k v : Shape) (kl : IsElement k) (vl : IsElement v) (m : ArchivedIndexMap K V H W) (is : IsIndexMap w k v m)
-    (e : Encoding N) (place : IsPlace w e) (t : ArchivedHashTable P W) (at : IsAt t.view (index_archive m) (index_pos m)) where
+module _ {K V H W P N : Type 0} {wt : Words W} (w : Width) (kind : IsArchiveWord w) (k v : Shape) (kl : IsElement k) (vl : IsElement v) (m : ArchivedIndexMap K V H W wt) (is : IsIndexMap w k v m)
+    (e : Encoding N) (place : IsPlace w e) (t : ArchivedHashTable P W wt) (at : IsAt t.view (index_archive m) (index_pos m)) where
   bytes_same : table_bytes t ≡ index_bytes m
   bytes_same = ap (λ (x : Bor (List ℕ)). x.now) at.0
 
@@ -69,17 +70,21 @@ module _ {K V H W P N : Type 0} (w : Width) (kind : IsArchiveWord w) (k v : Shap
   pub read_there : (h : View P) → IsItem w (scalar_shape e) t h → bytes_of h ≡ index_bytes m
   read_there h item = ap (λ (x : Bor (List ℕ)). x.now) (item.1.archive ∙ at.0)
 
-  -- the number of an item is an index of the map
-  pub item_place : (h : View P) → IsItem w (scalar_shape e) t h → IsPlaceOf w m h
-  item_place h item =
-      let there = item_there h item in
+  -- the number in a full bucket is an index of the map
+  place_at_bucket : (h : View P) (i : ℕ) → IsWalked w (index_bytes m) (index_pos m) i → h.pos ≡ item_at w (byte_len w) (index_bytes m) (index_pos m) i → bytes_of h ≡ index_bytes m → IsPlaceOf w m.view h
+  place_at_bucket h i walked pos read =
       let s = entry_shape k v in
       let law = entry_element k v kl vl in
-      let inside = place_inside w kind s law (index_bytes m) (index_pos m) is there.0 there.1 in
-      let below = place_below w kind s law (index_bytes m) (index_pos m) is there.0 there.1 in (
-        subst (λ (x : List ℕ). h.pos + byte_len w ≤ length x) (sym (read_there h item)) (subst (λ q. q + byte_len w ≤ length (index_bytes m)) (sym there.2) inside),
-        subst (λ (x : List ℕ). number_at w x h.pos < index_len w m) (sym (read_there h item)) (subst (λ q. number_at w (index_bytes m) q < index_len w m) (sym there.2) below),
+      let inside = place_inside w kind s law (index_bytes m) (index_pos m) is i walked in
+      let below = place_below w kind s law (index_bytes m) (index_pos m) is i walked in (
+        subst (λ (x : List ℕ). h.pos + byte_len w ≤ length x) (sym read) (subst (λ q. q + byte_len w ≤ length (index_bytes m)) (sym pos) inside),
+        subst (λ (x : List ℕ). number_at w x h.pos < index_len w m) (sym read) (subst (λ q. number_at w (index_bytes m) q < index_len w m) (sym pos) below),
       )
+
+  pub item_place : (h : View P) → IsItem w (scalar_shape e) t h → IsPlaceOf w m.view h
+  item_place h item =
+      let there = item_there h item in
+      place_at_bucket h there.0 there.1 there.2 (read_there h item)
 
   -- a full bucket of the map has that index
   pub item_held : (h : View P) → IsItem w (scalar_shape e) t h → IsHeld w m (number_at w (bytes_of h) h.pos)

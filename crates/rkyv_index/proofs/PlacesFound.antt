@@ -1,9 +1,11 @@
 -- A found item of a table of indices, and the index in it.
-use Rattle.std.proofs.Common.{◌≡◌, ℕ, ◌+◌, ◌/◌, ◌≤◌, ◌∙◌, ap, refl, subst, sym, Bool, List, None, Option, Some, length}
+use Rattle.rkyv_base.specs.declared.width.Word.{Ghosts as Words}
+use Rattle.std.proofs.Common.{◌≡◌, ℕ, ◌+◌, ◌/◌, ◌≤◌, ◌∙◌, ap, refl, subst, sym, true, Bool, List, None, Option, Some, length}
 use Rattle.std.specs.Borrow.{Bor}
 use Rattle.std.specs.Int.{Width, byte_len}
 use Rattle.std.specs.Option.{option_map}
 use Rattle.std.specs.Prelude.{IfSome}
+use Rattle.std.proofs.lemmas.Option.{IfSome_then}
 use Rattle.rkyv_scan.specs.Groups.{generic_kind}
 use Rattle.rkyv_scan.specs.Hash.{Hasher, HasherCall, hash_of_calls}
 use Rattle.rkyv_base.specs.Bytes.{number_at}
@@ -23,8 +25,18 @@ use Rattle.rkyv_index.specs.Lookups.{GetsPlaceBy}
 use Rattle.rkyv_index.specs.declared.map.ArchivedIndexMap.{ArchivedIndexMap}
 use Rattle.rkyv_index.proofs.Lookups.{finds_first_place, finds_place, item_held, item_place, read_there}
 
-module _ {K V H W P N : Type 0} (w : Width) (kind : IsArchiveWord w) (k v : Shape) (kl : IsElement k) (vl : IsElement v) (m : ArchivedIndexMap K V H W) (is : IsIndexMap w k v m)
-    (e : Encoding N) (place : IsPlace w e) (t : ArchivedHashTable P W) (at : IsAt t.view (index_archive m) (index_pos m)) where
+-- a lookup by a comparison is one by each weaker condition on its results
+pub finds_as : {P W : Type 0} {wt : Words W} (A B : View P → Bool → Type 0) → ((h : View P) (r : Bool) → A h r → B h r) → (w : Width) (s : Shape) (t : ArchivedHashTable P W wt) (hash : ℕ) (held : Option (View P))
+    → FindsItem A generic_kind w s t hash held → FindsItem B generic_kind w s t hash held
+finds_as A B weaker w s t hash held got = record {
+  walked = got.walked;
+  accepted = IfSome_then held got.accepted (λ h a. weaker h true a);
+  answer = λ accept answers. got.answer accept (λ h r item a. answers h r item (weaker h r a));
+  first = λ hashes homes accept written answers under. got.first hashes homes accept written (λ h r item a. answers h r item (weaker h r a)) under;
+}
+
+module _ {K V H W P N : Type 0} {wt : Words W} (w : Width) (kind : IsArchiveWord w) (k v : Shape) (kl : IsElement k) (vl : IsElement v) (m : ArchivedIndexMap K V H W wt) (is : IsIndexMap w k v m)
+    (e : Encoding N) (place : IsPlace w e) (t : ArchivedHashTable P W wt) (at : IsAt t.view (index_archive m) (index_pos m)) where
   abbrev pub place_of : View P → ℕ
   place_of item = number_at w (bytes_of item) (pos_of item)
 

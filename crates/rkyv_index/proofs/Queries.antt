@@ -1,4 +1,5 @@
 -- Queries of the keys of an index map.
+use Rattle.rkyv_base.specs.declared.width.Word.{Ghosts as Words}
 use Rattle.std.proofs.Common.{◌≡◌, ◌∙◌, ℕ, ap, sym, Bool, List}
 use Rattle.std.specs.Int.{Width}
 use Rattle.rkyv_scan.specs.Hash.{Hasher, HasherCall, hash_of_calls}
@@ -15,7 +16,7 @@ use Rattle.rkyv_index.specs.declared.map.ArchivedIndexMap.{ArchivedIndexMap}
 use Rattle.rkyv_index.proofs.Checking.{view_at}
 use Rattle.rkyv_index.proofs.Held.{entry_viewed}
 
-module _ {K V H W : Type 0} (w : Width) (kind : IsArchiveWord w) (k v : Shape) (kl : IsElement k) (vl : IsElement v) (m : ArchivedIndexMap K V H W) where
+module _ {K V H W : Type 0} {wt : Words W} (w : Width) (kind : IsArchiveWord w) (k v : Shape) (kl : IsElement k) (vl : IsElement v) (m : ArchivedIndexMap K V H W wt) where
   -- a query accepts only keys under its own hash
   pub query_under_hash : {Q : Type 0} {State : Type 0} (hasher : Hasher State) (same : Comparison) (key_calls : List ℕ → ℕ → List HasherCall) (can_read : Q → Type 0) (calls : Q → List HasherCall) (fits : Q → List ℕ → ℕ → Bool)
       → IsQuery k same key_calls can_read calls fits → IsIndexMap w k v m → (q : Q) → can_read q

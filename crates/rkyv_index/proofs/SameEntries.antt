@@ -1,4 +1,5 @@
 -- The entries at one index of two index maps, compared.
+use Rattle.rkyv_base.specs.declared.width.Word.{Ghosts as Words}
 use Rattle.std.proofs.Common.{◌≡◌, ◌∙◌, ap, subst, Bool, ℕ, List}
 use Rattle.std.specs.Borrow.{Bor}
 use Rattle.std.specs.Int.{Width}
@@ -14,11 +15,11 @@ use Rattle.rkyv_index.specs.Index.{IsEntryOf, index_bytes, index_pos, key_pos}
 use Rattle.rkyv_index.specs.declared.map.ArchivedIndexMap.{ArchivedIndexMap}
 
 -- the entries at an index of two maps are the same
-abbrev pub same_in : {K V H W : Type 0} → Width → Shape → Shape → Comparison → Comparison → ArchivedIndexMap K V H W → ArchivedIndexMap K V H W → ℕ → Bool
+abbrev pub same_in : {K V H W : Type 0} {wt : Words W} → Width → Shape → Shape → Comparison → Comparison → ArchivedIndexMap K V H W wt → ArchivedIndexMap K V H W wt → ℕ → Bool
 same_in w k v key value a o = same_at w (entry_shape k v) (entry_same k v key value) (index_bytes a) (index_pos a) (index_bytes o) (index_pos o)
 
-module _ {K V H W : Type 0} (w : Width) (k v : Shape) (same : Comparison) where
-  pub same_there : (own other : View (Entry K V)) (x y a o : ArchivedIndexMap K V H W) (i : ℕ) → IsEntryOf w k v x i own → IsEntryOf w k v y i other → x ≡ a → y ≡ o
+module _ {K V H W : Type 0} {wt : Words W} (w : Width) (k v : Shape) (same : Comparison) where
+  pub same_there : (own other : View (Entry K V)) (x y a o : ArchivedIndexMap K V H W wt) (i : ℕ) → IsEntryOf w k v x i own → IsEntryOf w k v y i other → x ≡ a → y ≡ o
       → same (bytes_of own) (pos_of own) (bytes_of other) (pos_of other) ≡ same_at w (entry_shape k v) same (index_bytes a) (index_pos a) (index_bytes o) (index_pos o) i
   same_there own other x y a o i p q e f =
       let p' : IsEntryOf w k v a i own = subst (λ z. IsEntryOf w k v z i own) e p in

@@ -1,5 +1,6 @@
 -- From a lookup in the index map that is read to a lookup in the map at the seal.
-use Rattle.std.proofs.Common.{◌≡◌, ℕ, ◌<◌, ◌∙◌, sym, ap, subst, Bool, List, Option}
+use Rattle.rkyv_base.specs.declared.width.Word.{Ghosts as Words}
+use Rattle.std.proofs.Common.{◌≡◌, ℕ, ◌<◌, ◌∙◌, sym, ap, Bool, List, Option}
 use Rattle.std.specs.Borrow.{Bor}
 use Rattle.std.specs.Int.{Width}
 use Rattle.rkyv_scan.specs.Hash.{Hasher, HasherCall}
@@ -14,7 +15,7 @@ use Rattle.rkyv_index.specs.ValueWrites.{pair_at}
 use Rattle.rkyv_index.specs.declared.map.ArchivedIndexMap.{ArchivedIndexMap}
 
 -- the index map that is read has the bytes `b` and the position `p`
-module _ {K V H W : Type 0} (m : ArchivedIndexMap K V H W) (b : List ℕ) (p : ℕ) (bytes : index_bytes m ≡ b) (place : index_pos m ≡ p) where
+module _ {K V H W : Type 0} {wt : Words W} (m : ArchivedIndexMap K V H W wt) (b : List ℕ) (p : ℕ) (bytes : index_bytes m ≡ b) (place : index_pos m ≡ p) where
   pub as_read : (F : List ℕ → ℕ → Type 0) → F (index_bytes m) (index_pos m) → F b p
   as_read F x = moved F (index_bytes m) b (index_pos m) p bytes place x
 

@@ -1,4 +1,5 @@
 -- Index maps in an archive, and lookups in them.
+use Rattle.rkyv_base.specs.declared.width.Word.{Ghosts as Words}
 use Rattle.std.specs.Prelude.{◌≡◌, ℕ, suc, zero, ◌+◌, ◌/◌, ◌<◌, ◌≤◌, ◌↔◌, List, [], ◌∷◌, Bool, true}
 use Rattle.std.specs.Prelude.{Option, Some, None, IsSome, IsTrue, MatchOption, length}
 use Rattle.std.specs.Borrow.{Bor}
@@ -16,7 +17,8 @@ use Rattle.rkyv_base.specs.declared.view.View.{View}
 use Rattle.rkyv_table.specs.Controls.Finding.{ReadsWithin}
 use Rattle.rkyv_table.specs.Table.Header.{cap_at, len_at}
 use Rattle.rkyv_table.specs.Controls.Numbers.{probe_capacity}
-use Rattle.rkyv_table.specs.Table.Reading.{IsWalked, item_at, pos_found}
+use Rattle.rkyv_table.specs.Table.Reading.{FindsItem, IsItem, IsWalked, item_at, pos_found}
+use Rattle.rkyv_table.specs.declared.table.ArchivedHashTable.{ArchivedHashTable}
 use Rattle.rkyv_index.specs.IndexFormat.{IndexWrittenAt}
 use Rattle.rkyv_index.specs.IndexLayout.{entries_pos, index_shape, pair_pos, places_of}
 use Rattle.rkyv_index.specs.declared.map.ArchivedIndexMap.{ArchivedIndexMap}
@@ -46,84 +48,121 @@ abbrev pub index_found : Width → List ℕ → ℕ → ℕ → (ℕ → Bool) �
 index_found w b p hash accept = option_map (number_at w b) (pos_found generic_kind w (byte_len w) b
     p hash (λ q. accept (number_at w b q)))
 
-module _ {K V H W : Type 0} where
+module _ {K V H W : Type 0} {wt : Words W} where
   -- `m` is a valid index map
-  abbrev pub IsIndexMap : Width → Shape → Shape → ArchivedIndexMap K V H W → Type 0
+  abbrev pub IsIndexMap : Width → Shape → Shape → ArchivedIndexMap K V H W wt → Type 0
   IsIndexMap w k v m = IsView (index_shape w (entry_shape k v)) m.view
 
   -- the archive of the map
-  abbrev pub index_archive : ArchivedIndexMap K V H W → Bor (List ℕ)
+  abbrev pub index_archive : ArchivedIndexMap K V H W wt → Bor (List ℕ)
   index_archive m = archive_of m.view
 
   -- the bytes of the archive
-  abbrev pub index_bytes : ArchivedIndexMap K V H W → List ℕ
+  abbrev pub index_bytes : ArchivedIndexMap K V H W wt → List ℕ
   index_bytes m = bytes_of m.view
 
   -- the position of the header
-  abbrev pub index_pos : ArchivedIndexMap K V H W → ℕ
+  abbrev pub index_pos : ArchivedIndexMap K V H W wt → ℕ
   index_pos m = pos_of m.view
 
   -- the number of pairs
-  abbrev pub index_len : Width → ArchivedIndexMap K V H W → ℕ
+  abbrev pub index_len : Width → ArchivedIndexMap K V H W wt → ℕ
   index_len w m = len_at w (index_bytes m) (index_pos m)
 
   -- the position of the key at index `i`
-  abbrev pub key_pos : Width → Shape → Shape → ArchivedIndexMap K V H W → ℕ → ℕ
+  abbrev pub key_pos : Width → Shape → Shape → ArchivedIndexMap K V H W wt → ℕ → ℕ
   key_pos w k v m i = pair_pos w (entry_shape k v).size (index_bytes m) (index_pos m) i
 
   -- the positions of the keys, in order
-  abbrev pub key_positions : Width → Shape → Shape → ArchivedIndexMap K V H W → List ℕ
+  abbrev pub key_positions : Width → Shape → Shape → ArchivedIndexMap K V H W wt → List ℕ
   key_positions w k v m = pair_positions w (entry_shape k v).size (index_bytes m) (index_pos m)
 
   -- `key`: view of the key at index `i`
-  pub record IsKeyOf (w : Width) (k v : Shape) (m : ArchivedIndexMap K V H W) (i : ℕ) (key : View K)
-      : Type 0 where
+  pub record IsKeyOf (w : Width) (k v : Shape) (m : ArchivedIndexMap K V H W wt) (i : ℕ)
+      (key : View K) : Type 0 where
     pub below : i < index_len w m
     pub at : IsAt key (index_archive m) (key_pos w k v m i)
     pub viewed : IsView k key
 
   -- `value`: view of the value at index `i`
-  pub record IsValueOf (w : Width) (k v : Shape) (m : ArchivedIndexMap K V H W) (i : ℕ)
+  pub record IsValueOf (w : Width) (k v : Shape) (m : ArchivedIndexMap K V H W wt) (i : ℕ)
       (value : View V) : Type 0 where
     pub below : i < index_len w m
     pub at : IsAt value (index_archive m) (key_pos w k v m i + value_offset k v)
     pub viewed : IsView v value
 
   -- `entry`: view of the entry at index `i`
-  pub record IsEntryOf (w : Width) (k v : Shape) (m : ArchivedIndexMap K V H W) (i : ℕ)
+  pub record IsEntryOf (w : Width) (k v : Shape) (m : ArchivedIndexMap K V H W wt) (i : ℕ)
       (entry : View (Entry K V)) : Type 0 where
     pub below : i < index_len w m
     pub at : IsAt entry (index_archive m) (key_pos w k v m i)
     pub viewed : IsView (entry_shape k v) entry
 
   -- `pair`: views of the key and the value at index `i`
-  abbrev pub IsPairOf : Width → Shape → Shape → ArchivedIndexMap K V H W → ℕ → View K × View V
+  abbrev pub IsPairOf : Width → Shape → Shape → ArchivedIndexMap K V H W wt → ℕ → View K × View V
       → Type 0
   IsPairOf w k v m i pair = IsKeyOf w k v m i pair.0 × IsValueOf w k v m i pair.1
 
-  -- `held`: view inside its archive, with an index below the length of the map
-  abbrev pub IsPlaceOf : {P : Type 0} → Width → ArchivedIndexMap K V H W → View P → Type 0
-  IsPlaceOf w m held = (pos_of held + byte_len w ≤ length (bytes_of held))
-      × (number_at w (bytes_of held) (pos_of held) < index_len w m)
-
   -- a full bucket of the map has the index `i`
-  abbrev pub IsHeld : Width → ArchivedIndexMap K V H W → ℕ → Type 0
+  abbrev pub IsHeld : Width → ArchivedIndexMap K V H W wt → ℕ → Type 0
   IsHeld w m i = IsHeldAt w (index_bytes m) (index_pos m) i
 
   -- a full bucket of the map has the index `i`, and it is below the length
-  abbrev pub IsHeldPlace : Width → ArchivedIndexMap K V H W → ℕ → Type 0
+  abbrev pub IsHeldPlace : Width → ArchivedIndexMap K V H W wt → ℕ → Type 0
   IsHeldPlace w m i = IsHeld w m i × (i < index_len w m)
 
   -- `full`: an index in a full bucket, and views of its key and its value
-  abbrev pub IsFullIn : Width → Shape → Shape → ArchivedIndexMap K V H W → ℕ × View K × View V
+  abbrev pub IsFullIn : Width → Shape → Shape → ArchivedIndexMap K V H W wt → ℕ × View K × View V
       → Type 0
   IsFullIn w k v m full = IsHeld w m full.0 × IsPairOf w k v m full.0 (full.1, full.2)
 
   -- the number of strides that a lookup reads: none in an empty map, else at least one
   -- and at most ceil(n / 16) for n buckets. `before`, `after`: counts of strides
-  abbrev pub ReadsFew : Width → ArchivedIndexMap K V H W → ℕ → ℕ → Type 0
+  abbrev pub ReadsFew : Width → ArchivedIndexMap K V H W wt → ℕ → ℕ → Type 0
   ReadsFew w m before after = ReadsWithin (index_len w m) (probe_capacity (cap_at w (index_bytes m)
       (index_pos m)) / 16) before after
+
+-- `item`: a position inside its archive, with an index below the length of the map at `m`
+abbrev pub IsPlaceOf : {M P : Type 0} → Width → View M → View P → Type 0
+IsPlaceOf w m item = (pos_of item + byte_len w ≤ length (bytes_of item))
+    × (number_at w (bytes_of item) (pos_of item) < len_at w (bytes_of m) (pos_of m))
+
+-- the index at the view `item`
+abbrev pub place_at : {P : Type 0} → Width → View P → ℕ
+place_at w item = number_at w (bytes_of item) (pos_of item)
+
+-- `item` is inside its archive, and the condition `pre` is met for the index there
+abbrev pub MayAskPlace : {P : Type 0} → Width → (ℕ → Type 0) → View P → Type 0
+MayAskPlace w pre item = (pos_of item + byte_len w ≤ length (bytes_of item))
+    × ((i : ℕ) → i ≡ place_at w item → pre i)
+
+-- the condition `pre` is met for the index at each item of a table of indices
+abbrev pub MayAskPlaces : {P W : Type 0} {wt : Words W} → Width → (ℕ → Type 0) → Shape
+    → ArchivedHashTable P W wt → Type 0
+MayAskPlaces {P} w pre s t = (item : View P) → IsItem w s t item → MayAskPlace w pre item
+
+-- `post` is true of the index at `item` and of `r`
+abbrev pub AnswersPlace : {P : Type 0} → Width → (ℕ → Bool → Type 0) → View P → Bool → Type 0
+AnswersPlace w post item r = (i : ℕ) × (i ≡ place_at w item) × post i r
+
+-- `result`: the index at the item that a lookup by `post` finds in a table of indices
+pub record FindsHeld {P W : Type 0} {wt : Words W} (post : ℕ → Bool → Type 0) (w : Width)
+    (s : Shape) (t : ArchivedHashTable P W wt) (hash : ℕ) (result : Option ℕ) : Type 0 where
+  pub held : Option (View P)
+  pub found : FindsItem (AnswersPlace w post) generic_kind w s t hash held
+  pub is : result ≡ option_map (place_at w) held
+
+-- `key`: view of the key at index `i` of the map at `m`
+pub record IsKeyIn {M K : Type 0} (w : Width) (k v : Shape) (m : View M) (i : ℕ) (key : View K)
+    : Type 0 where
+  pub below : i < len_at w (bytes_of m) (pos_of m)
+  pub at : IsAt key (archive_of m) (pair_pos w (entry_shape k v).size (bytes_of m) (pos_of m) i)
+  pub viewed : IsView k key
+
+-- the condition `pre` is met for each key of the map at `m`
+abbrev pub MayAskKeysIn : {M K : Type 0} → Width → Shape → Shape → View M → (View K → Type 0)
+    → Type 0
+MayAskKeysIn {M} {K} w k v m pre = (i : ℕ) (key : View K) → IsKeyIn w k v m i key → pre key
 
 -- `result` is at the index `place`, or both are `None`
 abbrev pub IsThere : {X : Type 0} → (ℕ → X → Type 0) → Option X → Option ℕ → Type 0
@@ -146,8 +185,8 @@ pub record Index (K : Type 0) : Type 1 where
   pub is_key : ℕ → View K → Type 0
 
 -- the index map `m` for lookups
-abbrev pub index_of : {K V H W : Type 0} → Width → Shape → Shape → ArchivedIndexMap K V H W
-    → Index K
+abbrev pub index_of : {K V H W : Type 0} {wt : Words W} → Width → Shape → Shape
+    → ArchivedIndexMap K V H W wt → Index K
 index_of w k v m = record {
   word = w;
   key = k;
@@ -227,7 +266,8 @@ module _ {K : Type 0} (m : Index K) where
     FindsFirstKey hasher key_calls fits Told =
         FindsFirstPlace (hash_at hasher key_calls) (fits_at fits) Told
 
-module _ {K V H W : Type 0} (w : Width) (k v : Shape) (m : ArchivedIndexMap K V H W) where
+module _ {K V H W : Type 0} {wt : Words W} (w : Width) (k v : Shape)
+    (m : ArchivedIndexMap K V H W wt) where
   -- `result`: the pair at the index `place`, or `None` if `place` is `None`
   abbrev pub IsPairAt : Option (View K × View V) → Option ℕ → Type 0
   IsPairAt result place = IsThere (IsPairOf w k v m) result place
@@ -249,7 +289,7 @@ abbrev pub IsFoundAt : Bool → Option ℕ → Type 0
 IsFoundAt result place = IsTrue result ↔ IsSome place
 
 -- `entries`: a valid map, and the position of its first entry
-pub record AreEntries {K V H W : Type 0} (w : Width) (k v : Shape) (entries : Entries K V H W) :
-    Type 0 where
+pub record AreEntries {K V H W : Type 0} {wt : Words W} (w : Width) (k v : Shape)
+    (entries : Entries K V H W wt) : Type 0 where
   pub map : IsIndexMap w k v entries.map
   pub begin : entries.begin ≡ entries_pos w (index_bytes entries.map) (index_pos entries.map)

@@ -11,8 +11,6 @@ pub mod IndexSet
 pub mod SetFormat
 pub mod Complete
 pub mod Lookups
-pub mod IndexMapFinder
-pub mod IndexSetFinder
 pub mod Reading
 pub mod Handing
 pub mod Lemmas

@@ -1,19 +1,24 @@
 -- Lists that are deserialized from index maps and index sets.
+use Rattle.rkyv_base.specs.declared.width.Word.{Ghosts as Words}
 use Rattle.std.specs.Prelude.{◌≡◌, ℕ, ◌<◌, ◌⊎◌, ◌&&◌, List, Bool, true, MatchResult, Result, Some}
 use Rattle.std.specs.Prelude.{length, slice_get}
 use Rattle.std.specs.Cmp.Lexicographic.{pointwise}
 use Rattle.std.specs.Int.{Width}
 use Rattle.rkyv_base.specs.Empty.{unit_shape}
 use Rattle.rkyv_base.specs.Pairs.{PairStands}
-use Rattle.rkyv_base.specs.Shape.{Shape}
+use Rattle.rkyv_base.specs.Entry.{entry_shape}
+use Rattle.rkyv_base.specs.Shape.{Shape, Viewed}
 use Rattle.rkyv_base.specs.declared.errors.ReadError.{ReadError}
 use Rattle.rkyv_base.specs.declared.errors.ReadError.TheVariants.{Memory}
 use Rattle.rkyv_keys.specs.OfEntries.{entry_refuses}
 use Rattle.rkyv_keys.specs.Reading.{Refusals}
-use Rattle.rkyv_index.specs.Index.{IsIndexMap, index_bytes, index_len, index_pos, key_pos}
+use Rattle.rkyv_table.specs.Table.Header.{len_at}
+use Rattle.rkyv_index.specs.Index.{index_bytes, index_len, index_pos, key_pos}
 use Rattle.rkyv_index.specs.IndexFormat.{IndexStands}
-use Rattle.rkyv_index.specs.IndexSet.{IsIndexSet, keys_of, set_bytes, set_pos}
+use Rattle.rkyv_index.specs.IndexLayout.{index_shape}
+use Rattle.rkyv_index.specs.IndexSet.{index_set_shape, keys_of, set_bytes, set_pos}
 use Rattle.rkyv_index.specs.SetFormat.{IndexSetStands}
+use Rattle.rkyv_index.specs.ValueWrites.{pair_at}
 use Rattle.rkyv_index.specs.declared.map.ArchivedIndexMap.{ArchivedIndexMap}
 use Rattle.rkyv_index.specs.declared.set.ArchivedIndexSet.{ArchivedIndexSet}
 
@@ -25,38 +30,59 @@ ReadsPair k v key value key_refuses value_refuses b at result =
     MatchResult result (PairStands k v key value b at)
     (entry_refuses k v key_refuses value_refuses b at)
 
-module _ {K V H W A B : Type 0} (w : Width) (k v : Shape) (key : List ℕ → ℕ → A → Type 0)
-    (value : List ℕ → ℕ → B → Type 0) (m : ArchivedIndexMap K V H W) where
+module _ {A B : Type 0} (w : Width) (k v : Shape) (key : List ℕ → ℕ → A → Type 0)
+    (value : List ℕ → ℕ → B → Type 0) (b : List ℕ) (p : ℕ) where
+  -- each of the first pairs, in order, is that of its place, in the index map at `p` of `b`
+  abbrev pub ArePairsAt : List (A × B) → Type 0
+  ArePairsAt pairs = (i : ℕ) (pair : A × B) → slice_get pairs i ≡ Some pair
+      → PairStands k v key value b (pair_at w k v b p i) pair
+
+  -- the list has the pair of each place, in order
+  abbrev pub HasPairsAt : List (A × B) → Type 0
+  HasPairsAt pairs = (length pairs ≡ len_at w b p) × ArePairsAt pairs
+
+module _ {K V H W A B : Type 0} {wt : Words W} (w : Width) (k v : Shape)
+    (key : List ℕ → ℕ → A → Type 0) (value : List ℕ → ℕ → B → Type 0)
+    (m : ArchivedIndexMap K V H W wt) where
   -- each of the pairs is represented by the entry at its index
   abbrev pub ArePairsRead : List (A × B) → Type 0
-  ArePairsRead pairs = (i : ℕ) (pair : A × B) → slice_get pairs i ≡ Some pair
-      → PairStands k v key value (index_bytes m) (key_pos w k v m i) pair
+  ArePairsRead pairs = ArePairsAt w k v key value (index_bytes m) (index_pos m) pairs
 
   -- the list has as many pairs as the map, and each is represented by the entry at its index
   abbrev pub ReadsPairs : List (A × B) → Type 0
-  ReadsPairs pairs = (length pairs ≡ index_len w m) × ArePairsRead pairs
+  ReadsPairs pairs = HasPairsAt w k v key value (index_bytes m) (index_pos m) pairs
 
 -- `e`: error of deserializing the pairs. It is `Memory`, or an error of a key or a value
-abbrev pub pairs_refuse : {K V H W : Type 0} → Width → Shape → Shape → Refusals → Refusals
-    → ArchivedIndexMap K V H W → ReadError → Type 0
+abbrev pub pairs_refuse : {K V H W : Type 0} {wt : Words W} → Width → Shape → Shape → Refusals
+    → Refusals → ArchivedIndexMap K V H W wt → ReadError → Type 0
 pairs_refuse w k v key value m e = (e ≡ Memory)
     ⊎ ((i : ℕ) × (i < index_len w m)
     × entry_refuses k v key value (index_bytes m) (key_pos w k v m i) e)
 
-module _ {K H W A : Type 0} (w : Width) (k : Shape) (key : List ℕ → ℕ → A → Type 0)
-    (s : ArchivedIndexSet K H W) where
+module _ {A : Type 0} (w : Width) (k : Shape) (key : List ℕ → ℕ → A → Type 0) (b : List ℕ)
+    (p : ℕ) where
+  -- each of the first items, in order, is the key of its place, in the index set at `p` of `b`
+  abbrev pub AreItemsAt : List A → Type 0
+  AreItemsAt items = (i : ℕ) (item : A) → slice_get items i ≡ Some item
+      → key b (pair_at w k unit_shape b p i) item
+
+  -- the list has the key of each place, in order
+  abbrev pub HasItemsAt : List A → Type 0
+  HasItemsAt items = (length items ≡ len_at w b p) × AreItemsAt items
+
+module _ {K H W A : Type 0} {wt : Words W} (w : Width) (k : Shape) (key : List ℕ → ℕ → A → Type 0)
+    (s : ArchivedIndexSet K H W wt) where
   -- each of the items is represented by the key at its index
   abbrev pub AreItemsRead : List A → Type 0
-  AreItemsRead items = (i : ℕ) (item : A) → slice_get items i ≡ Some item
-      → key (set_bytes s) (key_pos w k unit_shape (keys_of s) i) item
+  AreItemsRead items = AreItemsAt w k key (set_bytes s) (set_pos s) items
 
   -- the list has as many items as the set, and each is represented by the key at its index
   abbrev pub ReadsItems : List A → Type 0
-  ReadsItems items = (length items ≡ index_len w (keys_of s)) × AreItemsRead items
+  ReadsItems items = HasItemsAt w k key (set_bytes s) (set_pos s) items
 
 -- `e`: error of deserializing the items. It is `Memory`, or an error of a key
-abbrev pub items_refuse : {K H W : Type 0} → Width → Shape → Refusals → ArchivedIndexSet K H W
-    → ReadError → Type 0
+abbrev pub items_refuse : {K H W : Type 0} {wt : Words W} → Width → Shape → Refusals
+    → ArchivedIndexSet K H W wt → ReadError → Type 0
 items_refuse w k key s e = (e ≡ Memory) ⊎ ((i : ℕ) × (i < index_len w (keys_of s))
     × key (set_bytes s) (key_pos w k unit_shape (keys_of s) i) e)
 
@@ -66,23 +92,23 @@ pairs_equal first second x y = first x.0 y.0 && second x.1 y.1
 
 -- If an index map represents the list `listed`, a list `read` that is deserialized from it
 -- is equal to `listed`.
-abbrev pub PairsReadBackAreListed : (K V H W : Type 0) → {A B : Type 0} → Width → Shape → Shape
+abbrev pub PairsReadBackAreListed : {A B : Type 0} → Width → Shape → Shape
     → (List ℕ → ℕ → A → Type 0) → (List ℕ → ℕ → B → Type 0) → (List ℕ → ℕ → ℕ)
     → (A → A → Bool) → (B → B → Bool) → Type 0
-PairsReadBackAreListed K V H W {A} {B} w k v key value hash key_equal value_equal =
-    (m : ArchivedIndexMap K V H W) (factor : ℕ × ℕ) (listed read : List (A × B))
-    → IsIndexMap w k v m
-    → IndexStands w k v key value hash factor (index_bytes m) (index_pos m) listed
-    → ReadsPairs w k v key value m read
+PairsReadBackAreListed {A} {B} w k v key value hash key_equal value_equal =
+    (b : List ℕ) (p : ℕ) (factor : ℕ × ℕ) (listed read : List (A × B))
+    → Viewed (index_shape w (entry_shape k v)) b p
+    → IndexStands w k v key value hash factor b p listed
+    → HasPairsAt w k v key value b p read
     → pointwise (pairs_equal key_equal value_equal) listed read ≡ true
 
 -- If an index set represents the list `listed`, a list `read` that is deserialized from it
 -- is equal to `listed`.
-abbrev pub ItemsReadBackAreListed : (K H W : Type 0) → {A : Type 0} → Width → Shape
-    → (List ℕ → ℕ → A → Type 0) → (List ℕ → ℕ → ℕ) → (A → A → Bool) → Type 0
-ItemsReadBackAreListed K H W {A} w k key hash equal =
-    (s : ArchivedIndexSet K H W) (factor : ℕ × ℕ) (listed read : List A)
-    → IsIndexSet w k s
-    → IndexSetStands w k key hash factor (set_bytes s) (set_pos s) listed
-    → ReadsItems w k key s read
+abbrev pub ItemsReadBackAreListed : {A : Type 0} → Width → Shape → (List ℕ → ℕ → A → Type 0)
+    → (List ℕ → ℕ → ℕ) → (A → A → Bool) → Type 0
+ItemsReadBackAreListed {A} w k key hash equal =
+    (b : List ℕ) (p : ℕ) (factor : ℕ × ℕ) (listed read : List A)
+    → Viewed (index_set_shape w k) b p
+    → IndexSetStands w k key hash factor b p listed
+    → HasItemsAt w k key b p read
     → pointwise equal listed read ≡ true

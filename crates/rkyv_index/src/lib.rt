@@ -8,10 +8,10 @@
 //! - To archive a list, wrap it in `OrderedPairs` or `OrderedItems`.
 //! - To archive from an iterator, `serialize_from_iter` writes a map or set and returns
 //!   its resolver.
-//! - To read, `ArchivedIndexMap::of` and `ArchivedIndexSet::of` take a view of the header.
+//! - To read, `ArchivedIndexMap::of` and `ArchivedIndexSet::of` decode the header at a view,
+//!   once for all lookups.
 //! - To look up, `get`, `get_full` and `get_index_of` take a query. In a map, `get_with`,
 //!   `get_full_with` and `get_index_of_with` also take a comparison.
-//! - To look up many keys, `finder` decodes the header once for all lookups.
 //! - To read by an index, `get_index` returns the pair or the key.
 //! - To walk over a map, `iter`, `keys` and `values` return iterators.
 //! - To write values in place, the module `map::in_place` has a table of the calls.
@@ -30,10 +30,8 @@ pub mod set;
 pub mod width;
 
 pub use lists::{OrderedItems, OrderedPairs};
-pub use map::finder::IndexMapFinder;
 pub use map::iter::{Iter, Keys, Values};
 pub use map::resolve::IndexMapResolver;
 pub use map::{ArchivedIndexMap, IndexMapOf};
-pub use set::finder::IndexSetFinder;
 pub use set::writing::IndexSetResolver;
 pub use set::{ArchivedIndexSet, IndexSetOf};

@@ -3,9 +3,11 @@
 //! - `serialize` writes maps from iterators, `resolve` has their resolver, and `written`
 //!   has the law of their bytes.
 //! - `iter` has the iterators over a map, and `deserialize` returns a list of its pairs.
-//! - `finder` looks up many keys, with the header decoded once.
 //! - `in_place` writes the value at an index over the bytes of an archive.
 //! - `laws` has laws that a proof cites.
+ghost use Rattle.std.specs.Prelude.{◌≡◌};
+ghost use Rattle.rkyv_table.specs.Table.Decoded.{IsDecoded};
+ghost use Rattle.rkyv_index.specs.IndexLayout.{entries_pos};
 
 mod check;
 mod debug;
@@ -13,7 +15,6 @@ pub mod deserialize;
 mod element;
 pub(crate) mod entries;
 mod equality;
-pub mod finder;
 pub mod in_place;
 pub mod iter;
 pub mod laws;
@@ -30,8 +31,10 @@ mod write;
 pub mod written;
 
 use rkyv_base::view::View;
-use rkyv_base::width::Narrow;
+use rkyv_base::width::{Narrow, Word};
 use rkyv_scan::hash::FxHasher64;
+use rkyv_table::table::decoded::Decoded;
+use std::alloc::AllocError;
 use std::marker::PhantomData;
 
 /// The header of an index map of `K` to `V` under the hasher `H`, in an archive of the width `W`.
@@ -40,7 +43,23 @@ pub struct IndexMapOf<K, V, H = FxHasher64, W = Narrow> {
 }
 
 /// An index map of `K` to `V` under the hasher `H` that is read in an archive of the width `W`.
-#[derive_where(Clone, Copy)]
-pub struct ArchivedIndexMap<'a, K, V, H = FxHasher64, W = Narrow> {
+///
+/// It holds its decoded header, and the position of its first entry.
+pub struct ArchivedIndexMap<'a, K, V, H = FxHasher64, W: Word = Narrow> {
     pub(crate) view: View<'a, IndexMapOf<K, V, H, W>>,
+    // The decoded header of the table of indices.
+    pub(crate) header: Decoded,
+    // The position of the first entry.
+    pub(crate) begin: u64,
+    ghost decoded: { IsDecoded W.word view.archive.now view.pos header },
+    ghost begins: { begin ≡ entries_pos W.word view.archive.now view.pos },
 }
+
+impl<'a, K, V, H, W: Word> Clone for ArchivedIndexMap<'a, K, V, H, W> {
+    #[inline]
+    fn clone(&self) -> Result<ArchivedIndexMap<'a, K, V, H, W>, AllocError> {
+        Ok(*self)
+    }
+}
+
+impl<'a, K, V, H, W: Word> Copy for ArchivedIndexMap<'a, K, V, H, W> {}

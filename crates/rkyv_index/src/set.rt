@@ -2,20 +2,19 @@
 //!
 //! A set is the index map of its keys to the unit value. `writing` writes sets from iterators,
 //! `deserialize` returns a list of the keys, and `laws` has the law of that list.
-//! `finder` looks up many keys, with the header decoded once.
 
 mod debug;
 pub mod deserialize;
 mod element;
 mod equality;
-pub mod finder;
 pub mod laws;
 mod reading;
 pub mod writing;
 
 use crate::map::ArchivedIndexMap;
-use rkyv_base::width::Narrow;
+use rkyv_base::width::{Narrow, Word};
 use rkyv_scan::hash::FxHasher64;
+use std::alloc::AllocError;
 use std::marker::PhantomData;
 
 /// The header of an index set of `K` under the hasher `H`, in an archive of the width `W`.
@@ -25,8 +24,16 @@ pub struct IndexSetOf<K, H = FxHasher64, W = Narrow> {
 
 /// An index set of `K` under the hasher `H` that is read in an archive of the width `W`.
 ///
-/// It is the index map of its keys to the unit value.
-#[derive_where(Clone, Copy)]
-pub struct ArchivedIndexSet<'a, K, H = FxHasher64, W = Narrow> {
+/// It is the index map of its keys to the unit value, and holds its decoded header.
+pub struct ArchivedIndexSet<'a, K, H = FxHasher64, W: Word = Narrow> {
     pub(crate) map: ArchivedIndexMap<'a, K, (), H, W>,
 }
+
+impl<'a, K, H, W: Word> Clone for ArchivedIndexSet<'a, K, H, W> {
+    #[inline]
+    fn clone(&self) -> Result<ArchivedIndexSet<'a, K, H, W>, AllocError> {
+        Ok(*self)
+    }
+}
+
+impl<'a, K, H, W: Word> Copy for ArchivedIndexSet<'a, K, H, W> {}

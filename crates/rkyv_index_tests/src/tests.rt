@@ -3,7 +3,7 @@
 mod archives;
 mod changes;
 mod checking;
-mod finders;
+mod forms;
 mod interning;
 mod lookups;
 mod reading_back;

@@ -1,6 +1,6 @@
 -- An index map is an element.
 use Rattle.std.specs.Prelude.{◌≡◌, ℕ, zero, suc, ◌+◌, ◌*◌, ◌%◌, ◌<◌, ◌≤◌, ℤ, pos, ◌+ℤ◌, List, []}
-use Rattle.std.specs.Prelude.{◌∷◌, map, slice_range}
+use Rattle.std.specs.Prelude.{◌∷◌, map}
 use Rattle.std.specs.Int.{Width, byte_len, cast_signed, from_le_bytes}
 use Rattle.std.specs.List.{All, range_with_len}
 use Rattle.std.proofs.lemmas.Bool.{cases_eq}
@@ -12,8 +12,7 @@ use Rattle.rkyv_base.specs.Bytes.{Same, number_at, same_part}
 use Rattle.rkyv_base.specs.Parts.{part_clear, part_one, part_one_failure, part_wider}
 use Rattle.rkyv_base.specs.Shape.{Shape, IsElement, IsAlign}
 use Rattle.rkyv_base.specs.Text.{IsArchiveWord, by_archive_word}
-use Rattle.rkyv_table.specs.Table.Header.{cap_at, controls_pos, len_at}
-use Rattle.rkyv_table.specs.Controls.Numbers.{control_count}
+use Rattle.rkyv_table.specs.Table.Header.{cap_at, len_at}
 use Rattle.rkyv_table.specs.Lemmas.ItemPositions.{HoldsWithin, holds_at, item_holds}
 use Rattle.rkyv_table.specs.Lemmas.ItemPositions.{within_lower}
 use Rattle.rkyv_table.specs.Lemmas.SameControls.{same_controls}
@@ -23,7 +22,7 @@ use Rattle.rkyv_table.specs.Table.Places.{AllHold, FirstFails}
 use Rattle.rkyv_table.specs.Controls.Placing.{walk}
 use Rattle.rkyv_table.specs.Table.Reading.{IsWalked, item_at, item_positions}
 use Rattle.rkyv_table.specs.Table.Reading.{table_controls}
-use Rattle.rkyv_table.specs.Lemmas.SameHeader.{cap_same, item_same, len_same, pos_same}
+use Rattle.rkyv_table.specs.Lemmas.SameHeader.{cap_same, item_same, len_same}
 use Rattle.rkyv_table.specs.Table.Layout.{TableHolds, table_shape}
 use Rattle.rkyv_table.specs.Lemmas.TableLaws.{table_element}
 use Rattle.rkyv_table.proofs.RawWalks.{walked_all}

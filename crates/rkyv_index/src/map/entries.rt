@@ -1,39 +1,39 @@
 //! The entries of an index map, and the indices in its table.
-ghost use Rattle.std.specs.Prelude.{IfSome, pos as int, unsigned_abs, ℕ, ◌*◌, ◌+◌, ◌<◌, ◌^◌};
-ghost use Rattle.std.specs.Prelude.{◌≡◌};
-ghost use Rattle.std.specs.Option.{option_map};
-ghost use Rattle.rkyv_base.specs.Bytes.{number_at};
+ghost use Rattle.std.specs.Prelude.{length, ◌*◌, ◌+◌, ◌<◌, ◌^◌, ◌≡◌, ◌≤◌};
+ghost use Rattle.std.specs.Int.{byte_len};
 ghost use Rattle.rkyv_base.specs.Scalar.{scalar_shape};
-ghost use Rattle.rkyv_base.specs.View.{IsAt, bytes_of, pos_of};
-ghost use Rattle.rkyv_table.specs.Table.Reading.{IsItem, IsTable, pos_of_found};
-ghost use Rattle.rkyv_index.specs.Index.{AreEntries, IsEntryOf, IsHeld, IsIndexMap, IsKeyOf};
-ghost use Rattle.rkyv_index.specs.Index.{IsPairOf, index_archive, index_bytes, index_len};
-ghost use Rattle.rkyv_index.specs.Index.{index_pos};
-ghost use Rattle.rkyv_index.specs.IndexLayout.{entry_at};
+ghost use Rattle.rkyv_base.specs.Entry.{entry_shape};
+ghost use Rattle.rkyv_base.specs.View.{IsAt, IsView, bytes_of, pos_of};
+ghost use Rattle.rkyv_table.specs.Table.Header.{len_at};
+ghost use Rattle.rkyv_table.specs.Table.Reading.{CountsWithin, IsTable};
+ghost use Rattle.rkyv_index.specs.Index.{AnswersPlace, AreEntries, FindsHeld, IsEntryOf};
+ghost use Rattle.rkyv_index.specs.Index.{IsIndexMap, IsKeyIn, IsPairOf, MayAskPlace, MayAskPlaces};
+ghost use Rattle.rkyv_index.specs.Index.{index_archive, index_len, index_pos, place_at};
+ghost use Rattle.rkyv_index.specs.IndexLayout.{entries_pos, entry_at, index_shape};
 
-use crate::map::ArchivedIndexMap;
-use crate::map::check::begin_told;
+use crate::map::{ArchivedIndexMap, IndexMapOf};
 use rkyv_base::element::Element;
 use rkyv_base::entry::Entry;
 use rkyv_base::view::{PairView, View};
-use rkyv_base::width::Width;
+use rkyv_base::width::{Width, Word};
+use rkyv_table::Strides;
 use rkyv_table::table::{ArchivedHashTable, TableOf};
+use std::alloc::AllocError;
 
 /// An index map and the position of its first entry.
-#[derive_where(Clone, Copy)]
-pub(crate) struct Entries<'a, K, V, H, W> {
+pub(crate) struct Entries<'a, K, V, H, W: Word> {
     pub(crate) map: ArchivedIndexMap<'a, K, V, H, W>,
     pub(crate) begin: u64,
 }
 
-/// Converts a position that is at least 0 and below 2^64.
-#[inline]
-fn pos_told(told: i128) -> u64
-    requires { (at : ℕ) × (int at ≡ told) × (at < 2 ^ 64) }
-    ensures { result ≡ unsigned_abs told }
-{
-    told as u64
+impl<'a, K, V, H, W: Word> Clone for Entries<'a, K, V, H, W> {
+    #[inline]
+    fn clone(&self) -> Result<Entries<'a, K, V, H, W>, AllocError> {
+        Ok(*self)
+    }
 }
+
+impl<'a, K, V, H, W: Word> Copy for Entries<'a, K, V, H, W> {}
 
 /// Returns the position of entry `i` of a row of entries from `begin` on.
 #[inline]
@@ -52,7 +52,8 @@ impl<'a, K: Element, V: Element, H, W: Width> ArchivedIndexMap<'a, K, V, H, W> {
         ensures at { IsAt result.view (index_archive self.entry) (index_pos self.entry) }
         ensures table { IsTable W.word (scalar_shape W.Place.encoding) result }
     {
-        ArchivedHashTable::of(self.view.at::<TableOf<W::Place, W>>(self.view.pos()))
+        let view = self.view.at::<TableOf<W::Place, W>>(self.view.pos());
+        ArchivedHashTable::with_header(view, self.header)
     }
 
     /// Returns the map and the position of its first entry.
@@ -62,10 +63,9 @@ impl<'a, K: Element, V: Element, H, W: Width> ArchivedIndexMap<'a, K, V, H, W> {
         ensures entries { AreEntries W.word K.shape V.shape result }
         ensures map { result.map ≡ self.entry }
     {
-        let told = begin_told::<W>(self.view.bytes(), self.view.pos());
         Entries {
             map: self,
-            begin: pos_told(told),
+            begin: self.begin,
         }
     }
 }
@@ -92,58 +92,60 @@ impl<'a, K: Element, V: Element, H, W: Width> Entries<'a, K, V, H, W> {
         let entry = self.entry(place);
         (entry.key(), entry.value())
     }
+}
 
-    /// Returns the index at an item of the table.
-    #[inline]
-    pub(crate) fn place_held(
-        self,
-        table: ArchivedHashTable<'_, W::Place, W>,
-        held: View<'_, W::Place>,
-    ) -> usize
-        requires entries { AreEntries W.word K.shape V.shape self }
-        requires at { IsAt table.view (index_archive self.map) (index_pos self.map) }
-        requires held { IsItem W.word (scalar_shape W.Place.encoding) table held }
-        ensures value { result ≡ number_at W.word (bytes_of held.entry) (pos_of held.entry) }
-        ensures held { IsHeld W.word self.entry.map result }
-        ensures below { result < index_len W.word self.entry.map }
-    {
-        W::read_count(held.bytes(), held.pos() as usize) as usize
-    }
+/// Returns a view of the key at the index `place` of the map at `view`.
+#[inline]
+pub(crate) fn key_in<'a, K: Element, V: Element, H, W: Width>(
+    view: View<'a, IndexMapOf<K, V, H, W>>,
+    begin: u64,
+    place: usize,
+) -> View<'a, K>
+    requires map { IsView (index_shape W.word (entry_shape K.shape V.shape)) view }
+    requires begin { begin ≡ entries_pos W.word (bytes_of view) (pos_of view) }
+    requires below { place < len_at W.word (bytes_of view) (pos_of view) }
+    ensures { IsKeyIn W.word K.shape V.shape view.entry place result }
+{
+    let at = entry_pos(begin, place, Entry::<K, V>::size());
+    view.at::<Entry<K, V>>(at).key()
+}
 
-    /// Returns the index at a found item of the table.
-    #[inline]
-    pub(crate) fn place_found(
-        self,
-        table: ArchivedHashTable<'_, W::Place, W>,
-        held: Option<View<'_, W::Place>>,
-    ) -> Option<usize>
-        requires entries { AreEntries W.word K.shape V.shape self }
-        requires at { IsAt table.view (index_archive self.map) (index_pos self.map) }
-        requires held { IfSome held (IsItem W.word (scalar_shape W.Place.encoding) table) }
-        ensures place { result ≡ option_map (number_at W.word (index_bytes self.entry.map))
-            (pos_of_found held.entry) }
-        ensures held { IfSome result (IsHeld W.word self.entry.map) }
-        ensures below { IfSome result (λ i. i < index_len W.word self.entry.map) }
-    {
-        match held {
-            Some(held) => Some(self.place_held(table, held)),
-            None => None,
-        }
-    }
+/// Returns the index at an item of a table of indices.
+#[inline]
+fn read_place<W: Width>(item: View<'_, W::Place>) -> usize
+    requires { pos_of item + byte_len W.word ≤ length (bytes_of item) }
+    ensures { result ≡ place_at W.word item.entry }
+{
+    W::read_count(item.bytes(), item.pos() as usize) as usize
+}
 
-    /// Returns a view of the key whose index is at an item of the table.
-    #[inline]
-    pub(crate) fn key_held(
-        self,
-        table: ArchivedHashTable<'_, W::Place, W>,
-        held: View<'_, W::Place>,
-    ) -> View<'a, K>
-        requires entries { AreEntries W.word K.shape V.shape self }
-        requires at { IsAt table.view (index_archive self.map) (index_pos self.map) }
-        requires held { IsItem W.word (scalar_shape W.Place.encoding) table held }
-        ensures { IsKeyOf W.word K.shape V.shape self.entry.map
-            (number_at W.word (bytes_of held.entry) (pos_of held.entry)) result }
-    {
-        self.entry(self.place_held(table, held)).key()
+/// Returns an index in a table under `hash` that the comparison accepts, or `None`.
+///
+/// The count is increased by the strides of sixteen control bytes that are read.
+#[inline]
+pub(crate) fn find_place<W: Width, F: Fn(usize) -> bool>(
+    table: ArchivedHashTable<'_, W::Place, W>,
+    hash: u64,
+    accepts: F,
+    strides: &mut Strides,
+) -> Option<usize>
+    requires table { IsTable W.word (scalar_shape W.Place.encoding) table }
+    requires room { strides.old ≤ 2 ^ 63 }
+    requires callable { MayAskPlaces W.word (F.pre accepts) (scalar_shape W.Place.encoding) table }
+    ensures found { FindsHeld (F.post accepts) W.word (scalar_shape W.Place.encoding) table.entry
+        hash result }
+    ensures bounded { CountsWithin W.word table.entry strides.old strides.new }
+{
+    let held = table.get_counted(
+        hash,
+        |item|
+            requires { MayAskPlace W.word (F.pre accepts) item }
+            ensures { AnswersPlace W.word (F.post accepts) item.entry result }
+        { accepts(read_place::<W>(item)) },
+        strides,
+    );
+    match held {
+        Some(item) => Some(read_place::<W>(item)),
+        None => None,
     }
 }

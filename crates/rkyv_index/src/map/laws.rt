@@ -48,6 +48,6 @@ pub fn pairs_read_back_are_listed<
     H: KeyHasher,
     W: Width,
 >()
-    ensures { PairsReadBackAreListed K V H W W.word K.shape V.shape K.stands V.stands
+    ensures { PairsReadBackAreListed W.word K.shape V.shape K.stands V.stands
         (hash_at H.hasher K.key_calls) A.eq B.eq }
 {}

@@ -10,19 +10,20 @@
 //! A lookup in an untrusted map may read every group of its control bytes once.
 //! `FxHasher64` takes no secret key, so it doesn't protect from chosen input.
 ghost use Rattle.std.specs.Prelude.{IfSome, ◌<◌, ◌^◌, ◌≡◌, ◌≤◌};
-ghost use Rattle.rkyv_base.specs.Bytes.{number_at};
-ghost use Rattle.rkyv_base.specs.Scalar.{scalar_shape};
+ghost use Rattle.rkyv_base.specs.Entry.{entry_shape};
 ghost use Rattle.rkyv_scan.specs.Hash.{hash_of_calls};
-ghost use Rattle.rkyv_base.specs.View.{IsAt, IsView, bytes_of, pos_of};
+ghost use Rattle.rkyv_base.specs.View.{IsView, bytes_of, pos_of};
 ghost use Rattle.rkyv_base.specs.declared.view.View.{View};
-ghost use Rattle.rkyv_table.specs.Table.Reading.{IsItem};
-ghost use Rattle.rkyv_index.specs.Index.{AreEntries, IsFoundAt, IsFullIn, IsHeldPlace, IsIndexMap};
-ghost use Rattle.rkyv_index.specs.Index.{IsKeyOf, IsPairAt, IsPairOf, IsValueAt, IsValueOf};
-ghost use Rattle.rkyv_index.specs.Index.{MayAskKeys, ReadsFew, full_place, index_archive, index_of};
-ghost use Rattle.rkyv_index.specs.Index.{index_pos};
+ghost use Rattle.rkyv_table.specs.Table.Header.{len_at};
+ghost use Rattle.rkyv_index.specs.Index.{IsFoundAt, IsFullIn, IsHeldPlace, IsIndexMap};
+ghost use Rattle.rkyv_index.specs.Index.{IsKeyIn, IsPairAt, IsPairOf, IsValueAt};
+ghost use Rattle.rkyv_index.specs.Index.{IsValueOf, MayAskKeys, MayAskKeysIn, ReadsFew};
+ghost use Rattle.rkyv_index.specs.Index.{full_place, index_of};
+ghost use Rattle.rkyv_index.specs.IndexLayout.{entries_pos, index_shape};
 ghost use Rattle.rkyv_index.specs.Lookups.{GetsBy, GetsKey, GetsPlace, GetsPlaceBy, TellsKey};
 
 use crate::map::ArchivedIndexMap;
+use crate::map::entries::{find_place, key_in};
 use rkyv_base::element::Element;
 use rkyv_base::view::{PairView, View};
 use rkyv_base::width::Width;
@@ -51,23 +52,21 @@ impl<'a, K: KeyElement, V: Element, H: KeyHasher, W: Width> ArchivedIndexMap<'a,
         ensures bounded { ReadsFew W.word self.entry strides.old strides.new }
     {
         let hash = hash_value::<Q, H>(key);
-        let entries = self.entries();
         let table = self.table();
-        let held = table.get_counted(
+        let (view, begin) = (self.view, self.begin);
+        find_place::<W, _>(
+            table,
             hash,
-            |held|
-                requires entries { AreEntries W.word K.shape V.shape entries }
-                requires at { IsAt table.view (index_archive entries.map) (index_pos entries.map) }
-                requires held { IsItem W.word (scalar_shape W.Place.encoding) table held }
-                requires callable { MayAskKeys (index_of W.word K.shape V.shape entries.map)
-                    (F.pre cmp key) }
-                ensures { (k : View K) × IsKeyOf W.word K.shape V.shape entries.entry.map
-                    (number_at W.word (bytes_of held.entry) (pos_of held.entry)) k × F.post cmp
-                    key.entry k result }
-            { cmp(key, entries.key_held(table, held)) },
+            |place|
+                requires map { IsView (index_shape W.word (entry_shape K.shape V.shape)) view }
+                requires begin { begin ≡ entries_pos W.word (bytes_of view) (pos_of view) }
+                requires below { place < len_at W.word (bytes_of view) (pos_of view) }
+                requires callable { MayAskKeysIn W.word K.shape V.shape view (F.pre cmp key) }
+                ensures { (k : View K) × IsKeyIn W.word K.shape V.shape view.entry place k
+                    × F.post cmp key.entry k result }
+            { cmp(key, key_in(view, begin, place)) },
             strides,
-        );
-        entries.place_found(table, held)
+        )
     }
 
     /// Returns a pair whose key the comparison accepts, with its index, under the hash of `key`.

@@ -1,17 +1,49 @@
 //! Opening an index map, the number of its pairs, and the pair at an index.
-ghost use Rattle.std.specs.Prelude.{IsTrue, MatchOption, ◌↔◌, ◌≡◌, ◌≤◌};
+ghost use Rattle.std.specs.Prelude.{IsTrue, MatchOption, pos as int, unsigned_abs, ℕ, ◌<◌, ◌^◌};
+ghost use Rattle.std.specs.Prelude.{◌↔◌, ◌≡◌, ◌≤◌};
 ghost use Rattle.rkyv_base.specs.Entry.{entry_shape};
-ghost use Rattle.rkyv_base.specs.View.{IsView};
+ghost use Rattle.rkyv_base.specs.View.{IsView, bytes_of, pos_of};
+ghost use Rattle.rkyv_table.specs.Table.Decoded.{IsDecoded};
 ghost use Rattle.rkyv_index.specs.Index.{IsIndexMap, IsPairOf, index_len};
-ghost use Rattle.rkyv_index.specs.IndexLayout.{index_shape};
+ghost use Rattle.rkyv_index.specs.IndexLayout.{entries_pos, index_shape};
 
+use crate::map::check::begin_told;
 use crate::map::{ArchivedIndexMap, IndexMapOf};
 use rkyv_base::element::Element;
 use rkyv_base::view::{PairView, View};
 use rkyv_base::width::Width;
+use rkyv_table::table::decoded::Decoded;
+use rkyv_table::table::{ArchivedHashTable, TableOf};
+
+// Converts a position that is at least 0 and below 2^64.
+#[inline]
+fn pos_told(told: i128) -> u64
+    requires { (at : ℕ) × (int at ≡ told) × (at < 2 ^ 64) }
+    ensures { result ≡ unsigned_abs told }
+{
+    told as u64
+}
+
+// Decodes the header of the table of indices of a map.
+#[inline]
+fn decode<K: Element, V: Element, H, W: Width>(view: View<'_, IndexMapOf<K, V, H, W>>) -> Decoded
+    requires { IsView (index_shape W.word (entry_shape K.shape V.shape)) view }
+    ensures { IsDecoded W.word (bytes_of view.entry) (pos_of view.entry) result }
+{
+    ArchivedHashTable::of(view.at::<TableOf<W::Place, W>>(view.pos())).header()
+}
+
+// Returns the position of the first entry of a map.
+#[inline]
+fn begin<K: Element, V: Element, H, W: Width>(view: View<'_, IndexMapOf<K, V, H, W>>) -> u64
+    requires { IsView (index_shape W.word (entry_shape K.shape V.shape)) view }
+    ensures { result ≡ entries_pos W.word (bytes_of view.entry) (pos_of view.entry) }
+{
+    pos_told(begin_told::<W>(view.bytes(), view.pos()))
+}
 
 impl<'a, K: Element, V: Element, H, W: Width> ArchivedIndexMap<'a, K, V, H, W> {
-    /// Returns the map at a view of its header.
+    /// Returns the map at a view of its header, which is decoded here, once.
     ///
     /// # Requires
     ///
@@ -22,25 +54,27 @@ impl<'a, K: Element, V: Element, H, W: Width> ArchivedIndexMap<'a, K, V, H, W> {
         ensures view { result.view ≡ view.entry }
         ensures map { IsIndexMap W.word K.shape V.shape result }
     {
-        ArchivedIndexMap { view }
+        ArchivedIndexMap {
+            view,
+            header: decode(view),
+            begin: begin(view),
+        }
     }
 
     /// Returns `true` if and only if the map has no pairs.
     #[inline]
     pub fn is_empty(self) -> bool
-        requires { IsIndexMap W.word K.shape V.shape self }
         ensures { IsTrue result ↔ (index_len W.word self.entry ≡ 0) }
     {
-        self.table().is_empty()
+        self.len() == 0
     }
 
     /// Returns the number of pairs.
     #[inline]
     pub fn len(self) -> usize
-        requires { IsIndexMap W.word K.shape V.shape self }
         ensures { result ≡ index_len W.word self.entry }
     {
-        self.table().len()
+        self.header.len()
     }
 
     /// Returns the key and the value at an index, or `None` if the index isn't below the length.

@@ -16,6 +16,6 @@ pub fn items_read_back_are_listed<
     H: KeyHasher,
     W: Width,
 >()
-    ensures { ItemsReadBackAreListed K H W W.word K.shape K.stands
+    ensures { ItemsReadBackAreListed W.word K.shape K.stands
         (hash_at H.hasher K.key_calls) A.eq }
 {}

@@ -28,7 +28,7 @@ use rkyv_keys::keys::{KeyElement, Query};
 use rkyv_scan::hash::KeyHasher;
 
 impl<'a, K: Element, H, W: Width> ArchivedIndexSet<'a, K, H, W> {
-    /// Returns the set at a view of its header.
+    /// Returns the set at a view of its header, which is decoded here, once.
     ///
     /// # Requires
     ///
@@ -47,7 +47,6 @@ impl<'a, K: Element, H, W: Width> ArchivedIndexSet<'a, K, H, W> {
     /// Returns `true` if and only if the set has no keys.
     #[inline]
     pub fn is_empty(self) -> bool
-        requires { IsIndexSet W.word K.shape self }
         ensures { IsTrue result ↔ (index_len W.word (keys_of self.entry) ≡ 0) }
     {
         self.map.is_empty()
@@ -56,7 +55,6 @@ impl<'a, K: Element, H, W: Width> ArchivedIndexSet<'a, K, H, W> {
     /// Returns the number of keys.
     #[inline]
     pub fn len(self) -> usize
-        requires { IsIndexSet W.word K.shape self }
         ensures { result ≡ index_len W.word (keys_of self.entry) }
     {
         self.map.len()

@@ -2,7 +2,7 @@ use Rattle.std.proofs.Common.{ℕ, ◌-◌, ◌∙◌, subst, sym, length, List}
 use Rattle.std.specs.Borrow.{Bor}
 use Rattle.rkyv_scan.specs.Hash.{fx_hasher, low_halves}
 use Rattle.rkyv_index.specs.Index.{hash_at}
-use Rattle.rkyv_index.specs.IndexSet.{index_set_shape, keys_of}
+use Rattle.rkyv_index.specs.IndexSet.{index_set_shape, keys_of, set_bytes, set_pos}
 use Rattle.rkyv_index.specs.SetFormat.{IndexSetStands}
 use Rattle.rkyv_index.proofs.round_trip.items_come_back.Goals as goal
 
@@ -21,4 +21,4 @@ returns-in-Ok-deserialize_items g c =
     let at = c.of.ensures.at in
     let lent = subst (λ (a : Bor (List ℕ)). Told a.now c.in-Ok-access_in.root.pos) (sym at.0) viewed in
     let stands = subst (λ (q : ℕ). Told (keys_of c.of.result).view.archive.now q) (sym at.1) lent in
-    c.eq.ensures ∙ c.items_read_back_are_listed.ensures c.of.result (7, 8) listed c.in-Ok-deserialize_items.back.items c.of.ensures.set stands c.in-Ok-deserialize_items.ensures
+    c.eq.ensures ∙ c.items_read_back_are_listed.ensures (set_bytes c.of.result) (set_pos c.of.result) (7, 8) listed c.in-Ok-deserialize_items.back.items c.of.ensures.set stands c.in-Ok-deserialize_items.ensures

@@ -3,7 +3,7 @@ use Rattle.std.specs.Borrow.{Bor}
 use Rattle.rkyv_base.specs.Entry.{entry_shape}
 use Rattle.rkyv_base.specs.View.{bytes_of, pos_of}
 use Rattle.rkyv_scan.specs.Hash.{fx_hasher, low_halves}
-use Rattle.rkyv_index.specs.Index.{hash_at}
+use Rattle.rkyv_index.specs.Index.{hash_at, index_bytes, index_pos}
 use Rattle.rkyv_index.specs.IndexFormat.{IndexStands}
 use Rattle.rkyv_index.specs.IndexLayout.{index_shape}
 use Rattle.rkyv_index.proofs.round_trip.pairs_come_back.Goals as goal
@@ -22,4 +22,4 @@ returns-in-Ok-deserialize_pairs g c =
     let there = subst (λ (a : Bor (List ℕ)). Told a.now (length read.now - s.size)) (sym root.0) here in
     let viewed = subst (λ (q : ℕ). Told c.in-Ok-access_in.root.archive.now q) (sym root.1) there in
     let stands = subst (λ view. Told (bytes_of view) (pos_of view)) (sym c.of.ensures.view) viewed in
-    c.eq.ensures ∙ c.pairs_read_back_are_listed.ensures c.of.result (7, 8) listed c.in-Ok-deserialize_pairs.back.items c.of.ensures.map stands c.in-Ok-deserialize_pairs.ensures
+    c.eq.ensures ∙ c.pairs_read_back_are_listed.ensures (index_bytes c.of.result) (index_pos c.of.result) (7, 8) listed c.in-Ok-deserialize_pairs.back.items c.of.ensures.map stands c.in-Ok-deserialize_pairs.ensures

@@ -33,7 +33,7 @@ loop-place-init g c =
 
 pub loop-place-preserved : goal.loop-place-preserved
 loop-place-preserved g c =
-    let index : ArchivedIndexMap _ _ _ _ → _ = index_of g.W.Word.word g.K.Element.shape g.V.Element.shape in
+    let index : ArchivedIndexMap _ _ _ _ _ → _ = index_of g.W.Word.word g.K.Element.shape g.V.Element.shape in
     let m = index c.args.self in
     let n : ℕ = index_len g.W.Word.word c.args.self in
     let key_hash = hash_at g.H.KeyHasher.hasher g.K.KeyElement.key_calls in

@@ -15,17 +15,11 @@ use Rattle.rkyv_index.proofs.map.check.check_places.Goals as goal
 pub new-requires : goal.new-requires
 new-requires g c = places_viewed g.W.Word.word g.W.Place.Scalar.encoding g.met.W.Width.place c.args.bytes.now c.args.pos c.requires
 
-pub len-len-requires : goal.len-len-requires
-len-len-requires g c =
+pub of-table-requires : goal.of-table-requires
+of-table-requires g c =
     let s = table_shape g.W.Word.word (scalar_shape g.W.Place.Scalar.encoding) in
-    c.of-table.ensures.table (view_there s c.new.result c.args.bytes c.args.pos c.new.ensures
-    (places_viewed g.W.Word.word g.W.Place.Scalar.encoding g.met.W.Width.place c.args.bytes.now c.args.pos c.requires))
-
-pub raw_iter-at-items-requires : goal.raw_iter-at-items-requires
-raw_iter-at-items-requires g c =
-    let s = table_shape g.W.Word.word (scalar_shape g.W.Place.Scalar.encoding) in
-    c.of-table.ensures.table (view_there s c.new.result c.args.bytes c.args.pos c.new.ensures
-    (places_viewed g.W.Word.word g.W.Place.Scalar.encoding g.met.W.Width.place c.args.bytes.now c.args.pos c.requires))
+    view_there s c.new.result c.args.bytes c.args.pos c.new.ensures
+    (places_viewed g.W.Word.word g.W.Place.Scalar.encoding g.met.W.Width.place c.args.bytes.now c.args.pos c.requires)
 
 pub read_count-place-requires : goal.read_count-place-requires
 read_count-place-requires g c =

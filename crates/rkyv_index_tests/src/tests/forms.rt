@@ -1,4 +1,4 @@
-//! Finders: many lookups in one index map or index set.
+//! All forms of a lookup in an index map or an index set.
 
 use crate::tests::archives::{no_pairs, one_key_twice, one_pair, wide_pair};
 use rkyv_base::access::access_in;
@@ -8,8 +8,8 @@ use rkyv_index::{ArchivedIndexMap, ArchivedIndexSet, IndexMapOf, IndexSetOf};
 use rkyv_scan::hash::FxHasher64;
 use rkyv_testing::archives::{four_entries, one_index_key};
 
-// What the forms of a lookup by a finder answer: place, key and value; key and value; the value;
-// the place; whether the key is there.
+// The results of the forms of a lookup: place, key and value; key and value; the value; the place;
+// whether the key is found.
 type Found = (
     Option<(usize, i8, i8)>,
     Option<(i8, i8)>,
@@ -20,16 +20,16 @@ type Found = (
 
 fn found<W: Width>(bytes: &[u8], key: i8) -> Result<Found, VerifyError> {
     let root = access_in::<W, IndexMapOf<i8, i8, FxHasher64, W>>(bytes)?;
-    let finder = ArchivedIndexMap::of(root).finder();
-    let full = match finder.get_full(&key) {
+    let map = ArchivedIndexMap::of(root);
+    let full = match map.get_full(&key) {
         Some((place, key, value)) => Some((place, key.to_native(), value.to_native())),
         None => None,
     };
-    let pair = match finder.get_key_value(&key) {
+    let pair = match map.get_key_value(&key) {
         Some((key, value)) => Some((key.to_native(), value.to_native())),
         None => None,
     };
-    let value = match finder.get(&key) {
+    let value = match map.get(&key) {
         Some(value) => Some(value.to_native()),
         None => None,
     };
@@ -37,34 +37,34 @@ fn found<W: Width>(bytes: &[u8], key: i8) -> Result<Found, VerifyError> {
         full,
         pair,
         value,
-        finder.get_index_of(&key),
-        finder.contains_key(&key),
+        map.get_index_of(&key),
+        map.contains_key(&key),
     ))
 }
 
-// The same of a set: place and key; the key; the place; whether it is there.
+// The same in a set: place and key; the key; the place; whether the key is found.
 type Member = (Option<(usize, i8)>, Option<i8>, Option<usize>, bool);
 
 fn member(bytes: &[u8], key: i8) -> Result<Member, VerifyError> {
     let root = access_in::<Narrow, IndexSetOf<i8>>(bytes)?;
-    let finder = ArchivedIndexSet::of(root).finder();
-    let full = match finder.get_full(&key) {
+    let set = ArchivedIndexSet::of(root);
+    let full = match set.get_full(&key) {
         Some((place, key)) => Some((place, key.to_native())),
         None => None,
     };
-    let stored = match finder.get(&key) {
+    let stored = match set.get(&key) {
         Some(key) => Some(key.to_native()),
         None => None,
     };
     Ok((
         full,
         stored,
-        finder.get_index_of(&key),
-        finder.contains(&key),
+        set.get_index_of(&key),
+        set.contains(&key),
     ))
 }
 
-// What is answered of a pair that is found.
+// The results of the forms for a pair that is found.
 fn pair(place: usize, key: i8, value: i8) -> Option<Found> {
     Some((
         Some((place, key, value)),
@@ -76,7 +76,7 @@ fn pair(place: usize, key: i8, value: i8) -> Option<Found> {
 }
 
 #[test]
-fn a_finder_finds_pairs_with_their_places(rt: HostRuntime) {
+fn all_forms_find_pairs_with_their_places(rt: HostRuntime) {
     let none: Option<Found> = Some((None, None, None, None, false));
     let found = [
         found::<Narrow>(&four_entries(), 1).ok(),
@@ -101,10 +101,9 @@ fn a_finder_finds_pairs_with_their_places(rt: HostRuntime) {
     );
 }
 
-// The place of 5 in the archive of 1 to 2 whose key was changed to 5, which the hash of 5 doesn't
-// lead to.
+// 5 in the archive of 1 to 2 whose key was changed to 5: the hash of 5 doesn't lead to its bucket.
 #[test]
-fn a_finder_misses_a_key_that_was_changed(rt: HostRuntime) {
+fn all_forms_miss_a_key_that_was_changed(rt: HostRuntime) {
     let mut bytes = one_pair();
     bytes[39] = 5;
     let found = found::<Narrow>(&bytes, 5).ok();
@@ -112,7 +111,7 @@ fn a_finder_misses_a_key_that_was_changed(rt: HostRuntime) {
 }
 
 #[test]
-fn a_finder_finds_keys_of_a_set(rt: HostRuntime) {
+fn all_forms_find_keys_of_a_set(rt: HostRuntime) {
     let found = [
         member(&one_index_key(), 1).ok(),
         member(&one_index_key(), 2).ok(),
