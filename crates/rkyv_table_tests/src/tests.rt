@@ -2,13 +2,17 @@
 
 mod archives;
 mod asks;
+mod capacities;
 mod changes;
+mod cursors;
+mod distances;
 mod finders;
 mod headers;
 mod in_place;
 mod lookups;
 mod misplaced;
 mod nested;
+mod pieces;
 mod reading;
 mod refusals;
 mod sealed;

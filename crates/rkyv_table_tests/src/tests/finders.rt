@@ -30,7 +30,7 @@ fn counted<W: Width>(
     hash: u64,
     wanted: u8,
 ) -> Result<(Option<u8>, u64), VerifyError> {
-    let finder = ArchivedHashTable::of(access_in::<W, TableOf<u8, W>>(bytes)?).finder();
+    let finder = ArchivedHashTable::of(access_in::<W, TableOf<u8, W>>(bytes)?);
     let mut strides = Strides::new();
     match finder.get_counted(hash, |item| item.to_native() == wanted, &mut strides) {
         Some(item) => Ok((Some(item.to_native()), strides.count())),
@@ -44,7 +44,7 @@ fn viewed_and_placed(
     hash: u64,
     wanted: u8,
 ) -> Result<(Option<u8>, Option<u64>), VerifyError> {
-    let finder = ArchivedHashTable::of(access_in::<Narrow, TableOf<u8>>(bytes)?).finder();
+    let finder = ArchivedHashTable::of(access_in::<Narrow, TableOf<u8>>(bytes)?);
     let place = finder.get_pos_with(hash, |item| item.to_native() == wanted);
     match finder.get_with(hash, |item| item.to_native() == wanted) {
         Some(item) => Ok((Some(item.to_native()), place)),
