@@ -269,3 +269,55 @@ fn clones_are_the_same(rt: HostRuntime) {
     ];
     assert_eq!(rt; right, [true; 4]);
 }
+
+// Returns `true` if a mask whose lowest index was taken has a clone with the other ones, and keeps
+// them while the clone is walked.
+fn rest_is_cloned<M: Marks>(mask: M, others: &[usize]) -> bool {
+    let mut items = mask;
+    if items.next().is_none() {
+        return false;
+    }
+    match items.clone() {
+        Ok(same) => marks(same, others) && marks(items, others),
+        Err(_) => false,
+    }
+}
+
+// Returns `true` for each mask of a clone of the group whose own clone has the other indices: that
+// of a byte, of the empty control bytes and of the full ones.
+fn rests_are_cloned<G: GroupKind>(controls: &[u8; 16], byte: u8, others: &Places) -> [bool; 3] {
+    if G::WIDTH > 16 {
+        return [false; 3];
+    }
+    let Ok(group) = G::read(controls, 0).clone() else {
+        return [false; 3];
+    };
+    [
+        rest_is_cloned(group.match_byte(byte), others.byte),
+        rest_is_cloned(group.match_empty(), others.empty),
+        rest_is_cloned(group.match_full(), others.full),
+    ]
+}
+
+#[test]
+fn a_clone_of_a_mask_has_the_indices_that_are_left(rt: HostRuntime) {
+    let mut controls = [0xffu8; 16];
+    controls[3] = 0x28;
+    controls[6] = 0x28;
+    let eight = Places {
+        byte: &[6],
+        empty: &[1, 2, 4, 5, 7],
+        full: &[6],
+    };
+    let sixteen = Places {
+        empty: &[1, 2, 4, 5, 7, 8, 9, 10, 11, 12, 13, 14, 15],
+        ..eight
+    };
+    let right = [
+        rests_are_cloned::<bytewise::Group>(&controls, 0x28, &eight),
+        rests_are_cloned::<generic::Group>(&controls, 0x28, &eight),
+        rests_are_cloned::<lanes::Group>(&controls, 0x28, &sixteen),
+        rests_are_cloned::<halves::Group>(&controls, 0x28, &sixteen),
+    ];
+    assert_eq!(rt; right, [[true; 3]; 4]);
+}

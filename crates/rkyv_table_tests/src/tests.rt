@@ -4,12 +4,16 @@
 
 mod archives;
 mod asks;
+mod capacities;
 mod changes;
+mod cursors;
+mod distances;
 mod headers;
 mod in_place;
 mod lookups;
 mod misplaced;
 mod nested;
+mod pieces;
 mod reading;
 mod refusals;
 mod sealed;

@@ -1,4 +1,5 @@
 //! Writers of which one write fails, and the writes of the run.
+ghost use Rattle.std.specs.Prelude.{◌<◌};
 
 use crate::tests::scripts::{ANSWERS, SCRIPT};
 use rkyv_dict::run::{RunError, run};
@@ -77,7 +78,9 @@ fn is_returned(alloc: Global, most: usize, fails_at: usize) -> bool {
 }
 
 // Returns the number of writes of at most `most` bytes for the whole output.
-fn writes(most: usize) -> usize {
+fn writes(most: usize) -> usize
+    requires { 0 < most }
+{
     ANSWERS.len().div_ceil(most)
 }
 
@@ -85,10 +88,10 @@ fn writes(most: usize) -> usize {
 fn a_failed_write_is_returned(rt: HostRuntime) {
     let alloc = rt.alloc();
     let wrong = [
-        (1..=ANSWERS.len()).find(|n| !is_returned(alloc, 1, *n)),
-        (1..=writes(7)).find(|n| !is_returned(alloc, 7, *n)),
-        (1..=writes(64)).find(|n| !is_returned(alloc, 64, *n)),
-        (1..=1).find(|n| !is_returned(alloc, 1000, *n)),
+        (1..writes(1).saturating_add(1)).find(|n| !is_returned(alloc, 1, *n)),
+        (1..writes(7).saturating_add(1)).find(|n| !is_returned(alloc, 7, *n)),
+        (1..writes(64).saturating_add(1)).find(|n| !is_returned(alloc, 64, *n)),
+        (1..2).find(|n| !is_returned(alloc, 1000, *n)),
     ];
     assert_eq!(rt; wrong, [None; 4]);
 }

@@ -1,0 +1,26 @@
+//! The errors of capacities, by their text of `Debug`.
+
+use rkyv_table::controls::numbers::{CapacityError, capacity};
+use std::alloc::Global;
+
+// Returns `true` if the error of a capacity has this text of `Debug`.
+fn fails_with(alloc: Global, len: usize, load_factor: (usize, usize), text: &str) -> bool {
+    match capacity(len, load_factor, 4_294_967_295) {
+        Ok(_) => false,
+        Err(error) => match format!(in alloc; "{error:?}") {
+            Ok(shown) => shown.as_str() == text,
+            Err(_) => false,
+        },
+    }
+}
+
+#[test]
+fn errors_of_capacities_have_a_debug_text(rt: HostRuntime) {
+    let alloc = rt.alloc();
+    let shown = [
+        fails_with(alloc, 1, (8, 7), "InvalidLoadFactor"),
+        fails_with(alloc, 4_294_967_295, (1, 1), "CapacityTooLarge"),
+    ];
+    let same = capacity(1, (8, 7), 2) == Err(CapacityError::InvalidLoadFactor);
+    assert_eq!(rt; (shown, same), ([true; 2], true));
+}
