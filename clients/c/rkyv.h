@@ -16,7 +16,8 @@
  * Requirements that the calls cannot test:
  *
  *   - A pointer that is not null points to the number of bytes that the length beside it gives, or
- *     to one value of its type, during the call. No other thread uses what the call writes.
+ *     to one value of its type, during the call. No other thread uses the memory that the call
+ *     writes.
  *   - The bytes of a map stay at their address while a handle of it is in use. Only
  *     `rkyv_map_set_number` and `rkyv_map_set_text` change them.
  *   - A handle was filled by `rkyv_map_open` or `rkyv_map_open_writable`, or is all zeros.
