@@ -28,6 +28,7 @@ pub enum Width {
 ///     map.values().map(Into::into).sum()
 /// }
 /// ```
+#[diagnostic::on_unimplemented(message = "the keys of a map are `u32` or `str`, not `{Self}`")]
 pub trait Key: SealedKey + Ord + Hash + Debug + Display + Send + Sync + 'static {
     /// A key as an iterator returns it: `u32`, or a `&str` that borrows the archive.
     type Ref<'a>: Copy + Ord + Hash + Debug + Display + Borrow<Self> + Send + Sync;
@@ -36,6 +37,7 @@ pub trait Key: SealedKey + Ord + Hash + Debug + Display + Send + Sync + 'static 
 /// The type of a value: `u32` or `u64`.
 ///
 /// The trait is sealed, as [`Key`] is.
+#[diagnostic::on_unimplemented(message = "the values of a map are `u32` or `u64`, not `{Self}`")]
 pub trait Value:
     SealedValue
     + Copy
