@@ -1,15 +1,16 @@
-/* Makes the archive of a map, as an example of the builder of rkyv.h:
+/* An example of the builder of rkyv.h: builds the archive of a map.
  *
  *     build KIND WIDTH FILE < PAIRS
  *
- * A line `VALUE KEY` is a pair. Where a call is refused, its status is told and no file written. */
+ * KIND is the number of a `rkyv_kind`. A pair is a line `VALUE KEY`. The last status is printed.
+ * The file is written only if it is RKYV_OK. */
 #include "rkyv.h"
 
 #include <stdio.h>
 #include <stdlib.h>
 #include <string.h>
 
-/* Puts the pair that a line tells. */
+/* Appends the pair of a line. */
 static rkyv_status put(rkyv_builder *builder, int of_texts, char *line) {
     char *key;
     uint64_t value = strtoull(line, &key, 10);

@@ -1,9 +1,10 @@
-/* Opens the archive of a map and answers commands, as an example of rkyv.h:
+/* An example of rkyv.h: opens the archive of a map and runs commands.
  *
  *     maps KIND WIDTH FILE < COMMANDS
  *
- * A line `get KEY`, `set KEY VALUE`, `count` or `list` is a command, and what it is answered is a
- * line, or of `list` a line for each pair. The file stays as it is. */
+ * KIND is the number of a `rkyv_kind`. A command is a line `get KEY`, `set KEY VALUE`, `count` or
+ * `list`. Each prints its status and result on a line; `list` prints a line for each pair. `set`
+ * doesn't change the file. */
 #include "rkyv.h"
 
 #include <stdio.h>
@@ -33,7 +34,7 @@ static rkyv_status set(int of_texts, const char *key, uint64_t value) {
                     : rkyv_map_set_number(&map, (uint32_t)strtoul(key, NULL, 10), value);
 }
 
-static void answer(int of_texts, char *line) {
+static void run(int of_texts, char *line) {
     char *command = strtok(line, " \n"), *key = strtok(NULL, " \n"), *number = strtok(NULL, " \n");
     if (command == NULL) {
         return;
@@ -53,7 +54,7 @@ static void answer(int of_texts, char *line) {
     }
 }
 
-/* The bytes of a file, or null. */
+/* Reads a file. Returns null if that fails. */
 static void *bytes_of(const char *path, size_t *length) {
     FILE *file = fopen(path, "rb");
     if (file == NULL || fseek(file, 0, SEEK_END) != 0) {
@@ -80,7 +81,7 @@ int main(int count, char **words) {
                                                 (uint32_t)strtoul(words[2], NULL, 10), &map);
     printf("%s\n", rkyv_status_name(status));
     while (status == RKYV_OK && fgets(line, sizeof line, stdin) != NULL) {
-        answer(kind == RKYV_TEXT_TO_U32 || kind == RKYV_TEXT_TO_U64, line);
+        run(kind == RKYV_TEXT_TO_U32 || kind == RKYV_TEXT_TO_U64, line);
     }
     free(bytes);
     return 0;

@@ -1,5 +1,5 @@
-/* The three functions by which the proved library and rkyv.c ask for memory. memory.c has them over
- * the C library's; a program may have its own in its place. */
+/* The three functions with which the proved library and rkyv.c allocate memory. memory.c implements
+ * them over the C library. A program may implement them itself, and then leaves memory.c out. */
 #ifndef RKYV_MEMORY_H
 #define RKYV_MEMORY_H
 
@@ -10,20 +10,20 @@
 extern "C" {
 #endif
 
-/* Whether there is memory, and where. */
+/* The result of an allocation: a block, or none if `is_there` is false. */
 struct rattle_block {
     bool is_there;
     void *block;
 };
 
-/* A block of as many bytes, which may be 0, at a multiple of `align`, a power of two up to 16. */
+/* Allocates `size` bytes, which may be 0, at a multiple of `align`, a power of two up to 16. */
 struct rattle_block rattle_alloc(size_t size, size_t align);
 
-/* The block with another size, of which the first `kept` bytes are in use. Where there is no
- * memory, the block is as it was. */
+/* Gives a block another size and preserves its first `kept` bytes. If the allocation fails, the
+ * block is unchanged. */
 struct rattle_block rattle_realloc(void *block, size_t kept, size_t size, size_t align);
 
-/* Gives a block back. */
+/* Frees a block. */
 void rattle_dealloc(void *block);
 
 #ifdef __cplusplus

@@ -1,4 +1,4 @@
-/* The calls of rkyv.h: each tests what it is handed, and calls the proved library then. */
+/* The calls of rkyv.h. Each tests its arguments and then calls the proved library. */
 #include "rkyv.h"
 
 #include "memory.h"
@@ -6,7 +6,7 @@
 #include <stdbool.h>
 #include <string.h>
 
-/* A pair that is to be archived, and the bytes of an archive that was made. */
+/* A pair of a builder. Its layout is that of the library's. */
 typedef struct number_item {
     uint64_t value;
     uint32_t key;
@@ -18,13 +18,14 @@ typedef struct text_item {
     uint64_t value;
 } text_item;
 
+/* The bytes of an archive that the library has built. */
 typedef struct built {
     uint8_t *bytes;
     size_t length;
 } built;
 
-/* The proved library. Those that count, get, set and take the next pair require that the bytes were
- * accepted by the call that opens; the others require nothing. */
+/* The proved library. The functions that count, get, set and return the next pair require valid
+ * bytes: the function that opens has returned 0 for them. The others require nothing. */
 uint32_t rkyv_c_open_numbers(const uint8_t *archive, size_t length, bool long_values, bool wide);
 uint32_t rkyv_c_open_texts(const uint8_t *archive, size_t length, bool long_values, bool wide);
 size_t rkyv_c_count_numbers(const uint8_t *archive, size_t length, bool long_values, bool wide);
@@ -47,7 +48,7 @@ uint32_t rkyv_c_build_numbers(const number_item *items, size_t count, bool long_
 uint32_t rkyv_c_build_texts(const text_item *items, size_t count, bool long_values, bool wide,
                             built *built);
 
-/* No bytes, where a pointer may be null: the library's slices have none that is. */
+/* Replaces a null pointer of no bytes, since the library takes no null pointers. */
 static const uint8_t nothing[1] = {0};
 
 static bool is_of_texts(uint32_t kind) {
@@ -66,8 +67,8 @@ static bool is_wide(const rkyv_map *map) {
     return map->width == 64;
 }
 
-/* Whether the handle is of an open map whose keys are such. */
-static rkyv_status opened(const rkyv_map *map, bool is_such(uint32_t kind)) {
+/* RKYV_OK if the handle is of an open map with keys of the kind. */
+static rkyv_status check_map(const rkyv_map *map, bool has_kind(uint32_t kind)) {
     if (map == NULL) {
         return RKYV_NULL;
     }
@@ -75,11 +76,11 @@ static rkyv_status opened(const rkyv_map *map, bool is_such(uint32_t kind)) {
         || (map->width != 32 && map->width != 64)) {
         return RKYV_CLOSED;
     }
-    return is_such(map->kind) ? RKYV_OK : RKYV_WRONG_KIND;
+    return has_kind(map->kind) ? RKYV_OK : RKYV_WRONG_KIND;
 }
 
-/* Whether there are as many bytes as the length tells. */
-static rkyv_status there(const void *bytes, size_t length) {
+/* RKYV_OK if `length` bytes may be at the address. */
+static rkyv_status check_bytes(const void *bytes, size_t length) {
     if (bytes == NULL && length != 0) {
         return RKYV_NULL;
     }
@@ -135,7 +136,7 @@ static rkyv_status open_map(const void *bytes, uint8_t *writable, size_t length,
     if (width != 32 && width != 64) {
         return RKYV_UNKNOWN_WIDTH;
     }
-    rkyv_status status = there(bytes, length);
+    rkyv_status status = check_bytes(bytes, length);
     if (status != RKYV_OK) {
         return status;
     }
@@ -165,7 +166,7 @@ static bool is_any(uint32_t kind) {
 }
 
 rkyv_status rkyv_map_count(const rkyv_map *map, size_t *count) {
-    rkyv_status status = opened(map, is_any);
+    rkyv_status status = check_map(map, is_any);
     if (status != RKYV_OK) {
         return status;
     }
@@ -180,7 +181,7 @@ rkyv_status rkyv_map_count(const rkyv_map *map, size_t *count) {
 }
 
 rkyv_status rkyv_map_get_number(const rkyv_map *map, uint32_t key, uint64_t *value) {
-    rkyv_status status = opened(map, is_of_numbers);
+    rkyv_status status = check_map(map, is_of_numbers);
     if (status != RKYV_OK) {
         return status;
     }
@@ -193,9 +194,9 @@ rkyv_status rkyv_map_get_number(const rkyv_map *map, uint32_t key, uint64_t *val
 
 rkyv_status rkyv_map_get_text(const rkyv_map *map, const char *key, size_t length,
                               uint64_t *value) {
-    rkyv_status status = opened(map, is_of_texts);
+    rkyv_status status = check_map(map, is_of_texts);
     if (status == RKYV_OK) {
-        status = there(key, length);
+        status = check_bytes(key, length);
     }
     if (status != RKYV_OK) {
         return status;
@@ -208,7 +209,7 @@ rkyv_status rkyv_map_get_text(const rkyv_map *map, const char *key, size_t lengt
 }
 
 rkyv_status rkyv_map_set_number(const rkyv_map *map, uint32_t key, uint64_t value) {
-    rkyv_status status = opened(map, is_of_numbers);
+    rkyv_status status = check_map(map, is_of_numbers);
     if (status != RKYV_OK) {
         return status;
     }
@@ -221,9 +222,9 @@ rkyv_status rkyv_map_set_number(const rkyv_map *map, uint32_t key, uint64_t valu
 
 rkyv_status rkyv_map_set_text(const rkyv_map *map, const char *key, size_t length,
                               uint64_t value) {
-    rkyv_status status = opened(map, is_of_texts);
+    rkyv_status status = check_map(map, is_of_texts);
     if (status == RKYV_OK) {
-        status = there(key, length);
+        status = check_bytes(key, length);
     }
     if (status != RKYV_OK) {
         return status;
@@ -236,7 +237,7 @@ rkyv_status rkyv_map_set_text(const rkyv_map *map, const char *key, size_t lengt
 }
 
 rkyv_status rkyv_map_next_number(const rkyv_map *map, rkyv_number_pair *pair) {
-    rkyv_status status = opened(map, is_of_numbers);
+    rkyv_status status = check_map(map, is_of_numbers);
     if (status != RKYV_OK) {
         return status;
     }
@@ -248,26 +249,26 @@ rkyv_status rkyv_map_next_number(const rkyv_map *map, rkyv_number_pair *pair) {
 }
 
 rkyv_status rkyv_map_next_text(const rkyv_map *map, rkyv_text_pair *pair) {
-    rkyv_status status = opened(map, is_of_texts);
+    rkyv_status status = check_map(map, is_of_texts);
     if (status != RKYV_OK) {
         return status;
     }
     if (pair == NULL) {
         return RKYV_NULL;
     }
-    /* The pair that is handed in may hold a null pointer, which the library's may not. */
-    rkyv_text_pair taken = {pair->next, 0, (const char *)nothing, 0};
+    /* The key of the caller's pair may be null, but not that of the library's. */
+    rkyv_text_pair next = {pair->next, 0, (const char *)nothing, 0};
     status = rkyv_c_next_text(map->bytes, map->length, has_long_values(map->kind), is_wide(map),
-                              &taken);
+                              &next);
     if (status == RKYV_OK) {
-        *pair = taken;
+        *pair = next;
     }
     return status;
 }
 
-/* The pairs so far: an array of `number_item` or of `text_item`, and, behind one another, the bytes
- * of the keys of texts, in the order of the pairs. The arrays move as they grow, so pairs of texts
- * get the addresses of their keys only when an archive is made. */
+/* The pairs, an array of `number_item` or `text_item`, and the concatenated bytes of the text keys.
+ * The arrays move when they grow. So a `text_item` gets the address of its key when an archive is
+ * built. */
 struct rkyv_builder {
     void *items;
     size_t count;
@@ -279,8 +280,8 @@ struct rkyv_builder {
     uint32_t width;
 };
 
-/* Room for `more` elements of `size` bytes behind the `count` that an array of `room` has. Where
- * there is none, the array is as it was. */
+/* Ensures room for `more` elements behind the `count` of an array, which has room for `*room` of
+ * `size` bytes each. After an error the array is unchanged. */
 static rkyv_status grow(void **array, size_t *room, size_t count, size_t more, size_t size) {
     size_t most = PTRDIFF_MAX / size;
     if (more <= *room - count) {
@@ -324,19 +325,20 @@ rkyv_status rkyv_builder_new(uint32_t kind, uint32_t width, rkyv_builder **build
     return RKYV_OK;
 }
 
-/* Whether a pair with such a key and this value may be put. */
-static rkyv_status takes(const rkyv_builder *builder, bool is_such(uint32_t kind), uint64_t value) {
+/* RKYV_OK if the builder has keys of the kind and the value fits its values. */
+static rkyv_status check_pair(const rkyv_builder *builder, bool has_kind(uint32_t kind),
+                              uint64_t value) {
     if (builder == NULL) {
         return RKYV_NULL;
     }
-    if (!is_such(builder->kind)) {
+    if (!has_kind(builder->kind)) {
         return RKYV_WRONG_KIND;
     }
     return has_long_values(builder->kind) || value <= UINT32_MAX ? RKYV_OK : RKYV_VALUE_TOO_LARGE;
 }
 
 rkyv_status rkyv_builder_put_number(rkyv_builder *builder, uint32_t key, uint64_t value) {
-    rkyv_status status = takes(builder, is_of_numbers, value);
+    rkyv_status status = check_pair(builder, is_of_numbers, value);
     if (status == RKYV_OK) {
         status = grow(&builder->items, &builder->room, builder->count, 1, sizeof(number_item));
     }
@@ -349,9 +351,9 @@ rkyv_status rkyv_builder_put_number(rkyv_builder *builder, uint32_t key, uint64_
 
 rkyv_status rkyv_builder_put_text(rkyv_builder *builder, const char *key, size_t length,
                                   uint64_t value) {
-    rkyv_status status = takes(builder, is_of_texts, value);
+    rkyv_status status = check_pair(builder, is_of_texts, value);
     if (status == RKYV_OK) {
-        status = there(key, length);
+        status = check_bytes(key, length);
     }
     if (status == RKYV_OK && !rkyv_c_is_text(bytes_of(key), length)) {
         status = RKYV_NOT_TEXT;

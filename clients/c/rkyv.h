@@ -1,26 +1,28 @@
 /*
- * Hash maps in the bytes of an archive: built, opened, looked up, walked and written in place.
+ * Hash maps in rkyv's archived byte format.
  *
- * A map is of numbers of 32 bits or of texts, to numbers of 32 or of 64 bits, in an archive whose
- * positions have 32 or 64 bits. `rkyv_map_open` looks at all bytes once; the handle that it fills
- * is all that the other calls ask for, and each of them takes a time that is bounded by the length
- * of the archive, whoever made it.
+ * A map has the keys and values of a `rkyv_kind`. Its archive has a width: 32 or 64, the number of
+ * bits of its positions. The bytes record neither: open an archive with the kind and the width that
+ * it was built with. An archive of one kind may be valid as another, and then has meaningless
+ * pairs.
  *
- * A builder takes pairs one after the other, and makes the archive of their map.
+ * `rkyv_map_open` validates untrusted bytes once and fills a handle. The other calls of a map take
+ * the handle. A builder collects pairs and builds the archive of their map.
  *
- * Each call answers a status. Where that isn't RKYV_OK, what the call would have given is as it was
- * before, if nothing else is said. The calls keep no state of their own: two threads may use two
+ * A call returns RKYV_OK or the first of the errors listed at it. After an error its outputs are
+ * unchanged, unless its comment says otherwise. The calls keep no state. Two threads may use two
  * handles or two builders, or read by one handle, at the same time.
  *
- * What no call can test, and its caller owes:
+ * Requirements that the calls cannot test:
  *
- *   - a pointer that isn't null points to as many bytes as the length beside it tells, or to one
- *     value of its type, for as long as the call runs, and what is written is nobody else's;
- *   - the bytes of a map stay where they are while its handle is in use, and nothing but
- *     `rkyv_map_set_number` and `rkyv_map_set_text` changes them;
- *   - a handle is filled by `rkyv_map_open` or `rkyv_map_open_writable`, or is all zeros;
- *   - a builder is one of `rkyv_builder_new` that isn't freed yet, one thread at a time;
- *   - what `rkyv_bytes_free` is handed is of `rkyv_builder_finish`, and isn't freed yet.
+ *   - A pointer that is not null points to the number of bytes that the length beside it gives, or
+ *     to one value of its type, during the call. No other thread uses the memory that the call
+ *     writes.
+ *   - The bytes of a map stay at their address while a handle of it is in use. Only
+ *     `rkyv_map_set_number` and `rkyv_map_set_text` change them.
+ *   - A handle was filled by `rkyv_map_open` or `rkyv_map_open_writable`, or is all zeros.
+ *   - A builder is one of `rkyv_builder_new` that is not freed, used by one thread at a time.
+ *   - The argument of `rkyv_bytes_free` is one of `rkyv_builder_finish` that is not freed.
  */
 #ifndef RKYV_H
 #define RKYV_H
@@ -32,71 +34,74 @@
 extern "C" {
 #endif
 
-/* What a call answers. */
+/* The result of a call. */
 typedef enum rkyv_status {
-    /* The call did what it says. */
+    /* Success. */
     RKYV_OK = 0,
-    /* The key isn't found. */
+
+    /* Results of lookups and iterations, and wrong arguments. */
+
+    /* The lookup does not find the key. */
     RKYV_NOT_FOUND = 1,
-    /* No pair is left. */
+    /* No pair remains. */
     RKYV_END = 2,
-    /* The value has more than 32 bits, and the map's values have 32. */
+    /* The value has more than 32 bits, but the values of the map have 32. */
     RKYV_VALUE_TOO_LARGE = 3,
-    /* The key is no text: its bytes aren't UTF-8. */
+    /* The bytes of the key are not UTF-8. */
     RKYV_NOT_TEXT = 4,
-    /* A pointer is null that may not be. */
+    /* A pointer is null. */
     RKYV_NULL = 5,
     /* A length is greater than PTRDIFF_MAX. */
     RKYV_TOO_LONG = 6,
-    /* The kind is none of `rkyv_kind`. */
+    /* The kind is not one of `rkyv_kind`. */
     RKYV_UNKNOWN_KIND = 7,
     /* The width is neither 32 nor 64. */
     RKYV_UNKNOWN_WIDTH = 8,
-    /* The map's keys are of the other kind: numbers in place of texts, or the other way round. */
+    /* The call is for number keys and the map has text keys, or the reverse. */
     RKYV_WRONG_KIND = 9,
-    /* The handle is of no open map. */
+    /* The handle is not of an open map. */
     RKYV_CLOSED = 10,
-    /* The map was opened to be read alone. */
+    /* The map was opened with `rkyv_map_open`, which allows no writing. */
     RKYV_READ_ONLY = 11,
-    /* There is no memory. */
+    /* An allocation failed. */
     RKYV_NO_MEMORY = 12,
 
-    /* The bytes are no archive of such a map, for the first of these reasons that stands. */
+    /* Errors of validation: the bytes are not an archive of such a map. */
 
-    /* A part, or the map itself, doesn't lie in the bytes in which it may lie. */
+    /* The map or a part of it is outside the bytes that it may use. */
     RKYV_OUT_OF_RANGE = 16,
-    /* A part, or the map itself, doesn't stand at a multiple of its alignment. */
+    /* The map or a part of it is not at a multiple of its alignment. */
     RKYV_UNALIGNED = 17,
-    /* The number of pairs isn't below that of the buckets. */
+    /* The number of pairs is not less than the number of buckets. */
     RKYV_INVALID_LENGTH = 18,
-    /* Another number of buckets is full than the map has pairs. */
+    /* The number of full buckets differs from the number of pairs. */
     RKYV_WRONG_NUMBER_OF_ELEMENTS = 19,
-    /* A control byte behind those of the buckets doesn't repeat the one that it should. */
+    /* A mirrored control byte differs from the one that it mirrors. */
     RKYV_UNWRAPPED_CONTROL_BYTE = 20,
-    /* A place of an index map isn't below its length; no map here answers it. */
+    /* An index of an index map is not less than its length. No call here returns it. */
     RKYV_PLACE_OUT_OF_RANGE = 21,
-    /* A text isn't UTF-8, or its length is told in a form that none has. */
+    /* A text key is not UTF-8, or its length is malformed. */
     RKYV_INVALID_VALUE = 22,
-    /* The type refuses every value; no map here answers it. */
+    /* The type has no valid values. No call here returns it. */
     RKYV_REFUSED = 23,
 
-    /* There is no archive of the pairs, for one of these reasons. */
+    /* Errors of building: the pairs have no archive of the width. */
 
     /* The map needs more buckets than the width can count. */
     RKYV_CAPACITY_TOO_LARGE = 24,
-    /* The archive would be longer than its width allows: 4294967295 bytes, or PTRDIFF_MAX. */
+    /* The archive would exceed the width's limit: 4294967295 bytes, or PTRDIFF_MAX. */
     RKYV_POSITION_TOO_LARGE = 25,
-    /* A text, or the first pair, is too far away for the width to tell its distance. */
+    /* A distance between two parts of the archive does not fit the width. */
     RKYV_DISTANCE_TOO_LARGE = 26,
-    /* A text has as many bytes as its width allows, or more: 1073741824, or 4611686018427387904. */
+    /* A text key reaches the width's limit: 1073741824 bytes, or 4611686018427387904. */
     RKYV_TEXT_TOO_LONG = 27,
-    /* The load factor is none; no builder here answers it. */
+    /* The load factor is invalid. No call here returns it. */
     RKYV_INVALID_LOAD_FACTOR = 28,
-    /* There are more or fewer pairs than were told; no builder here answers it. */
+    /* The number of pairs differs from the expected one. No call here returns it. */
     RKYV_ITERATOR_LENGTH_MISMATCH = 29
 } rkyv_status;
 
-/* What a map is of. */
+/* The types of the keys and values of a map: a number key has 32 bits, a text key is UTF-8. */
 typedef enum rkyv_kind {
     RKYV_NUMBER_TO_U32 = 1,
     RKYV_NUMBER_TO_U64 = 2,
@@ -104,7 +109,7 @@ typedef enum rkyv_kind {
     RKYV_TEXT_TO_U64 = 4
 } rkyv_kind;
 
-/* A map that is open. Its members are the library's: nothing is to be read from them or written. */
+/* A handle of an open map. Its members are private. It may be copied, and needs no closing. */
 typedef struct rkyv_map {
     const uint8_t *bytes;
     uint8_t *writable;
@@ -113,15 +118,15 @@ typedef struct rkyv_map {
     uint32_t width;
 } rkyv_map;
 
-/* A pair of a map of numbers. `next` is the bucket from which on the next pair is looked for. */
+/* A pair of a map with number keys. `next` is the bucket at which the iteration continues. */
 typedef struct rkyv_number_pair {
     uint64_t next;
     uint64_t value;
     uint32_t key;
 } rkyv_number_pair;
 
-/* A pair of a map of texts. The key is a part of the archive, of `key_length` bytes: it ends with
- * no 0, and may hold one. */
+/* A pair of a map with text keys. `next` is the bucket at which the iteration continues. The key is
+ * `key_length` bytes of the archive. It is not terminated by a zero byte, and may contain one. */
 typedef struct rkyv_text_pair {
     uint64_t next;
     uint64_t value;
@@ -129,89 +134,130 @@ typedef struct rkyv_text_pair {
     size_t key_length;
 } rkyv_text_pair;
 
-/* The name of a status, as "RKYV_OK"; of another number "unknown". */
+/* Returns the name of a status, such as "RKYV_OK", or "unknown". */
 const char *rkyv_status_name(uint32_t status);
 
-/* Opens the map whose archive the bytes are, of a kind of `rkyv_kind` and the width 32 or 64.
+/* Validates the bytes and opens the map whose archive they are, to read. `kind` is a `rkyv_kind`,
+ * `width` is 32 or 64. `bytes` may be null if `length` is 0.
  *
- * RKYV_NULL, RKYV_TOO_LONG, RKYV_UNKNOWN_KIND, RKYV_UNKNOWN_WIDTH; from RKYV_OUT_OF_RANGE on why
- * the bytes are none. The handle is of no open map then. */
+ * Errors, after which the handle is not of an open map:
+ *   - RKYV_NULL: `map` is null;
+ *   - RKYV_UNKNOWN_KIND, RKYV_UNKNOWN_WIDTH;
+ *   - RKYV_NULL: `bytes` is null;
+ *   - RKYV_TOO_LONG;
+ *   - the first error of validation: RKYV_OUT_OF_RANGE to RKYV_INVALID_VALUE. */
 rkyv_status rkyv_map_open(const void *bytes, size_t length, uint32_t kind, uint32_t width,
                           rkyv_map *map);
 
-/* Opens it as `rkyv_map_open` does, so that values may be written in place too. */
+/* Opens a map as `rkyv_map_open` does, to read and to write values in place. */
 rkyv_status rkyv_map_open_writable(void *bytes, size_t length, uint32_t kind, uint32_t width,
                                    rkyv_map *map);
 
-/* How many pairs the map has.
+/* Stores the number of pairs. Pairs with equal keys count separately.
  *
- * RKYV_NULL, RKYV_CLOSED. */
+ * Errors:
+ *   - RKYV_NULL: `map` is null;
+ *   - RKYV_CLOSED;
+ *   - RKYV_NULL: `count` is null. */
 rkyv_status rkyv_map_count(const rkyv_map *map, size_t *count);
 
-/* The value of a number: in a map that was archived from a list of pairs, of the first pair with
- * this key.
+/* Stores the value of a number key. In a map that a builder has built, this is the value of the
+ * first pair with the key.
  *
- * RKYV_NULL, RKYV_CLOSED, RKYV_WRONG_KIND, RKYV_NOT_FOUND. */
+ * Errors:
+ *   - RKYV_NULL: `map` is null;
+ *   - RKYV_CLOSED, RKYV_WRONG_KIND;
+ *   - RKYV_NULL: `value` is null;
+ *   - RKYV_NOT_FOUND. */
 rkyv_status rkyv_map_get_number(const rkyv_map *map, uint32_t key, uint64_t *value);
 
-/* The value of a text of `length` bytes, which may be null where that is 0.
+/* Stores the value of a text key of `length` bytes, as `rkyv_map_get_number` does. `key` may be
+ * null if `length` is 0.
  *
- * RKYV_NULL, RKYV_CLOSED, RKYV_WRONG_KIND, RKYV_TOO_LONG, RKYV_NOT_TEXT, RKYV_NOT_FOUND. */
+ * Errors:
+ *   - RKYV_NULL: `map` is null;
+ *   - RKYV_CLOSED, RKYV_WRONG_KIND;
+ *   - RKYV_NULL: `key` is null;
+ *   - RKYV_TOO_LONG;
+ *   - RKYV_NULL: `value` is null;
+ *   - RKYV_NOT_TEXT, RKYV_NOT_FOUND. */
 rkyv_status rkyv_map_get_text(const rkyv_map *map, const char *key, size_t length,
                               uint64_t *value);
 
-/* Writes the value of a number in place.
+/* Writes the value of a number key in place: the value that `rkyv_map_get_number` finds.
  *
- * RKYV_NULL, RKYV_CLOSED, RKYV_READ_ONLY, RKYV_WRONG_KIND, RKYV_VALUE_TOO_LARGE, RKYV_NOT_FOUND; no
- * byte is changed then. */
+ * Errors, after which no byte is changed:
+ *   - RKYV_NULL: `map` is null;
+ *   - RKYV_CLOSED, RKYV_WRONG_KIND, RKYV_READ_ONLY, RKYV_VALUE_TOO_LARGE, RKYV_NOT_FOUND. */
 rkyv_status rkyv_map_set_number(const rkyv_map *map, uint32_t key, uint64_t value);
 
-/* Writes the value of a text in place.
+/* Writes the value of a text key of `length` bytes in place: the value that `rkyv_map_get_text`
+ * finds. `key` may be null if `length` is 0.
  *
- * As `rkyv_map_set_number`, and RKYV_TOO_LONG and RKYV_NOT_TEXT. */
+ * Errors, after which no byte is changed:
+ *   - RKYV_NULL: `map` is null;
+ *   - RKYV_CLOSED, RKYV_WRONG_KIND;
+ *   - RKYV_NULL: `key` is null;
+ *   - RKYV_TOO_LONG, RKYV_READ_ONLY, RKYV_NOT_TEXT, RKYV_VALUE_TOO_LARGE, RKYV_NOT_FOUND. */
 rkyv_status rkyv_map_set_text(const rkyv_map *map, const char *key, size_t length,
                               uint64_t value);
 
-/* Takes the next pair of a map of numbers. A pair of all zeros leads to the first one, and so on
- * until RKYV_END; each pair comes once, in the order in which it stands in the archive.
+/* Stores the next pair of a map with number keys, in the order of the archive. After a pair of
+ * zeros this is the first pair. Each pair of the map is stored once before RKYV_END.
  *
- * RKYV_NULL, RKYV_CLOSED, RKYV_WRONG_KIND, RKYV_END. */
+ * Errors:
+ *   - RKYV_NULL: `map` is null;
+ *   - RKYV_CLOSED, RKYV_WRONG_KIND;
+ *   - RKYV_NULL: `pair` is null;
+ *   - RKYV_END. */
 rkyv_status rkyv_map_next_number(const rkyv_map *map, rkyv_number_pair *pair);
 
-/* Takes the next pair of a map of texts, as `rkyv_map_next_number` does. */
+/* Stores the next pair of a map with text keys, as `rkyv_map_next_number` does. */
 rkyv_status rkyv_map_next_text(const rkyv_map *map, rkyv_text_pair *pair);
 
-/* Pairs that are to be archived as a map. */
+/* The pairs of a map that is to be archived. */
 typedef struct rkyv_builder rkyv_builder;
 
-/* A builder of no pairs yet, of a kind of `rkyv_kind` and the width 32 or 64, to be given back by
- * `rkyv_builder_free`.
+/* Allocates a builder without pairs. `kind` is a `rkyv_kind`, `width` is 32 or 64. The caller frees
+ * the builder with `rkyv_builder_free`.
  *
- * RKYV_NULL, RKYV_UNKNOWN_KIND, RKYV_UNKNOWN_WIDTH, RKYV_NO_MEMORY; `*builder` is null then. */
+ * Errors, after which `*builder` is null:
+ *   - RKYV_NULL: `builder` is null;
+ *   - RKYV_UNKNOWN_KIND, RKYV_UNKNOWN_WIDTH, RKYV_NO_MEMORY. */
 rkyv_status rkyv_builder_new(uint32_t kind, uint32_t width, rkyv_builder **builder);
 
-/* Puts a pair of a number behind the others. A key may be put again: lookups answer the value of
- * the first pair.
+/* Appends a pair with a number key. If an earlier pair has the same key, lookups find the earlier
+ * one.
  *
- * RKYV_NULL, RKYV_WRONG_KIND, RKYV_VALUE_TOO_LARGE, RKYV_NO_MEMORY; no pair is put then. */
+ * Errors, after which no pair is appended:
+ *   - RKYV_NULL: `builder` is null;
+ *   - RKYV_WRONG_KIND, RKYV_VALUE_TOO_LARGE, RKYV_NO_MEMORY. */
 rkyv_status rkyv_builder_put_number(rkyv_builder *builder, uint32_t key, uint64_t value);
 
-/* Puts a pair of a text of `length` bytes, which may be null where that is 0. The bytes are copied.
+/* Appends a pair with a text key of `length` bytes, which are copied. `key` may be null if `length`
+ * is 0.
  *
- * As `rkyv_builder_put_number`, and RKYV_TOO_LONG and RKYV_NOT_TEXT. */
+ * Errors, after which no pair is appended:
+ *   - RKYV_NULL: `builder` is null;
+ *   - RKYV_WRONG_KIND, RKYV_VALUE_TOO_LARGE;
+ *   - RKYV_NULL: `key` is null;
+ *   - RKYV_TOO_LONG, RKYV_NOT_TEXT, RKYV_NO_MEMORY. */
 rkyv_status rkyv_builder_put_text(rkyv_builder *builder, const char *key, size_t length,
                                   uint64_t value);
 
-/* Makes the archive of the pairs: new bytes, to be given back by `rkyv_bytes_free`. The builder
- * keeps its pairs, and takes further ones.
+/* Allocates the archive of the pairs. The caller frees it with `rkyv_bytes_free`. The builder keeps
+ * its pairs and takes further ones.
  *
- * RKYV_NULL, RKYV_NO_MEMORY; from RKYV_CAPACITY_TOO_LARGE on why there is none. */
+ * Errors:
+ *   - RKYV_NULL: a pointer is null;
+ *   - the first error of building: RKYV_NO_MEMORY, or RKYV_CAPACITY_TOO_LARGE to
+ *     RKYV_TEXT_TOO_LONG. */
 rkyv_status rkyv_builder_finish(rkyv_builder *builder, uint8_t **bytes, size_t *length);
 
-/* Gives a builder back, which may be null. The archives that it made stay. */
+/* Frees a builder, which may be null. The archives that it built stay. */
 void rkyv_builder_free(rkyv_builder *builder);
 
-/* Gives the bytes of an archive back that a builder made; they may be null. */
+/* Frees an archive that a builder built. It may be null. */
 void rkyv_bytes_free(uint8_t *bytes);
 
 #ifdef __cplusplus

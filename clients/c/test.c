@@ -1,6 +1,6 @@
-/* A test of rkyv.h on two archives that are written out by hand: each call, and each refusal that
- * it can be brought to. Prints what differs, and exits with 1 if anything does. It has its own
- * functions of memory, which count the blocks, and refuse one request where the test says so. */
+/* A test of rkyv.h: each call, and each error that small inputs can cause, with two archives that
+ * are written out by hand. Prints the differences, and exits with 1 if there are any. The functions
+ * of memory.h are here: they count the blocks, and let one request fail if a test asks for it. */
 #include "rkyv.h"
 
 #include "memory.h"
@@ -11,18 +11,18 @@
 
 static int faults;
 
-/* How many blocks aren't given back yet, how many requests there were, and which is refused. */
-static size_t blocks, requests, refused = SIZE_MAX;
+/* The number of blocks that are not freed, the number of requests, and the request that fails. */
+static size_t blocks, requests, failing = SIZE_MAX;
 
 struct rattle_block rattle_alloc(size_t size, size_t align) {
-    void *block = requests++ == refused ? NULL : malloc(size != 0 ? size : align);
+    void *block = requests++ == failing ? NULL : malloc(size != 0 ? size : align);
     blocks += block != NULL;
     return (struct rattle_block){block != NULL, block};
 }
 
 struct rattle_block rattle_realloc(void *block, size_t kept, size_t size, size_t align) {
     (void)kept;
-    void *grown = requests++ == refused ? NULL : realloc(block, size != 0 ? size : align);
+    void *grown = requests++ == failing ? NULL : realloc(block, size != 0 ? size : align);
     return (struct rattle_block){grown != NULL, grown};
 }
 
@@ -38,16 +38,16 @@ static void same(const char *what, uint64_t got, uint64_t wanted) {
     }
 }
 
-static void answers(const char *what, rkyv_status got, rkyv_status wanted) {
+static void returns(const char *what, rkyv_status got, rkyv_status wanted) {
     if (got != wanted) {
         faults++;
         printf("%s: %s, not %s\n", what, rkyv_status_name(got), rkyv_status_name(wanted));
     }
 }
 
-/* The map of the number 1 to 2: eight bytes of the pair, a bucket of zeros below it or above, 31
- * controls, and the header. The hash of 1 is 517cc1b727220a95: it is odd, so of two buckets the
- * pair is in bucket 1, which stands first, and its tag is 28. */
+/* The map of the number 1 to 2: the eight bytes of the pair, an empty bucket of zeros, 31 control
+ * bytes, and the header. The hash of 1 is 517cc1b727220a95. It is odd, so the pair is in bucket 1
+ * of two, which comes first in the bytes. The tag of the hash is 28. */
 static size_t one_to_two(uint8_t *bytes) {
     memset(bytes, 0xff, 60);
     memcpy(bytes, (uint8_t[]){1, 0, 0, 0, 2, 0, 0, 0}, 8);
@@ -57,8 +57,8 @@ static size_t one_to_two(uint8_t *bytes) {
     return 60;
 }
 
-/* The map of the empty text to 7, wide, with values of 64 bits. The hash of the empty text is
- * 2b44f56ffae88a6b: it is odd, and its tag is 15. */
+/* The wide map of the empty text to 7, with 64-bit values. The hash of the empty text is
+ * 2b44f56ffae88a6b. It is odd, and its tag is 15. */
 static size_t empty_to_seven(uint8_t *bytes) {
     memset(bytes, 0, 104);
     memset(bytes, 0xff, 16);
@@ -81,40 +81,40 @@ static void numbers(void) {
     rkyv_number_pair pair = {0, 0, 0};
     rkyv_text_pair text = {0, 0, NULL, 0};
 
-    answers("open", rkyv_map_open(bytes, length, RKYV_NUMBER_TO_U32, 32, &map), RKYV_OK);
-    answers("count", rkyv_map_count(&map, &count), RKYV_OK);
+    returns("open", rkyv_map_open(bytes, length, RKYV_NUMBER_TO_U32, 32, &map), RKYV_OK);
+    returns("count", rkyv_map_count(&map, &count), RKYV_OK);
     same("count", count, 1);
-    answers("get another", rkyv_map_get_number(&map, 2, &value), RKYV_NOT_FOUND);
+    returns("get another", rkyv_map_get_number(&map, 2, &value), RKYV_NOT_FOUND);
     same("kept", value, 9);
-    answers("get", rkyv_map_get_number(&map, 1, &value), RKYV_OK);
+    returns("get", rkyv_map_get_number(&map, 1, &value), RKYV_OK);
     same("value", value, 2);
-    answers("next", rkyv_map_next_number(&map, &pair), RKYV_OK);
+    returns("next", rkyv_map_next_number(&map, &pair), RKYV_OK);
     same("key", pair.key, 1);
     same("value", pair.value, 2);
-    answers("end", rkyv_map_next_number(&map, &pair), RKYV_END);
-    answers("end again", rkyv_map_next_number(&map, &pair), RKYV_END);
+    returns("end", rkyv_map_next_number(&map, &pair), RKYV_END);
+    returns("end again", rkyv_map_next_number(&map, &pair), RKYV_END);
     pair.next = UINT64_MAX;
-    answers("far behind the end", rkyv_map_next_number(&map, &pair), RKYV_END);
-    answers("set", rkyv_map_set_number(&map, 1, 3), RKYV_READ_ONLY);
+    returns("far behind the end", rkyv_map_next_number(&map, &pair), RKYV_END);
+    returns("set", rkyv_map_set_number(&map, 1, 3), RKYV_READ_ONLY);
 
-    answers("get null", rkyv_map_get_number(&map, 1, NULL), RKYV_NULL);
-    answers("get of null", rkyv_map_get_number(NULL, 1, &value), RKYV_NULL);
-    answers("count null", rkyv_map_count(&map, NULL), RKYV_NULL);
-    answers("next null", rkyv_map_next_number(&map, NULL), RKYV_NULL);
-    answers("get a text", rkyv_map_get_text(&map, "a", 1, &value), RKYV_WRONG_KIND);
-    answers("next text", rkyv_map_next_text(&map, &text), RKYV_WRONG_KIND);
-    answers("set a text", rkyv_map_set_text(&map, "a", 1, 2), RKYV_WRONG_KIND);
+    returns("get null", rkyv_map_get_number(&map, 1, NULL), RKYV_NULL);
+    returns("get of null", rkyv_map_get_number(NULL, 1, &value), RKYV_NULL);
+    returns("count null", rkyv_map_count(&map, NULL), RKYV_NULL);
+    returns("next null", rkyv_map_next_number(&map, NULL), RKYV_NULL);
+    returns("get a text", rkyv_map_get_text(&map, "a", 1, &value), RKYV_WRONG_KIND);
+    returns("next text", rkyv_map_next_text(&map, &text), RKYV_WRONG_KIND);
+    returns("set a text", rkyv_map_set_text(&map, "a", 1, 2), RKYV_WRONG_KIND);
 
-    answers("open to write", rkyv_map_open_writable(bytes, length, RKYV_NUMBER_TO_U32, 32, &map),
+    returns("open to write", rkyv_map_open_writable(bytes, length, RKYV_NUMBER_TO_U32, 32, &map),
             RKYV_OK);
-    answers("set another", rkyv_map_set_number(&map, 2, 3), RKYV_NOT_FOUND);
-    answers("set too much", rkyv_map_set_number(&map, 1, 1ull << 32), RKYV_VALUE_TOO_LARGE);
+    returns("set another", rkyv_map_set_number(&map, 2, 3), RKYV_NOT_FOUND);
+    returns("set too much", rkyv_map_set_number(&map, 1, 1ull << 32), RKYV_VALUE_TOO_LARGE);
     same("kept", bytes[4], 2);
-    answers("set", rkyv_map_set_number(&map, 1, UINT32_MAX), RKYV_OK);
-    answers("get", rkyv_map_get_number(&map, 1, &value), RKYV_OK);
+    returns("set", rkyv_map_set_number(&map, 1, UINT32_MAX), RKYV_OK);
+    returns("get", rkyv_map_get_number(&map, 1, &value), RKYV_OK);
     same("written", value, UINT32_MAX);
     same("of four bytes", bytes[3] + bytes[8], 0);
-    answers("open again", rkyv_map_open(bytes, length, RKYV_NUMBER_TO_U32, 32, &map), RKYV_OK);
+    returns("open again", rkyv_map_open(bytes, length, RKYV_NUMBER_TO_U32, 32, &map), RKYV_OK);
 }
 
 static void texts(void) {
@@ -124,31 +124,31 @@ static void texts(void) {
     rkyv_map map;
     rkyv_text_pair pair = {0, 0, NULL, 9};
 
-    answers("open", rkyv_map_open_writable(bytes, length, RKYV_TEXT_TO_U64, 64, &map), RKYV_OK);
-    answers("count", rkyv_map_count(&map, &count), RKYV_OK);
+    returns("open", rkyv_map_open_writable(bytes, length, RKYV_TEXT_TO_U64, 64, &map), RKYV_OK);
+    returns("count", rkyv_map_count(&map, &count), RKYV_OK);
     same("count", count, 1);
-    answers("get", rkyv_map_get_text(&map, NULL, 0, &value), RKYV_OK);
+    returns("get", rkyv_map_get_text(&map, NULL, 0, &value), RKYV_OK);
     same("value", value, 7);
-    answers("get another", rkyv_map_get_text(&map, "a", 1, &value), RKYV_NOT_FOUND);
-    answers("no text", rkyv_map_get_text(&map, "a\xff", 2, &value), RKYV_NOT_TEXT);
-    answers("a text that is cut", rkyv_map_get_text(&map, "\xc3\xa9", 1, &value), RKYV_NOT_TEXT);
-    answers("null", rkyv_map_get_text(&map, NULL, 1, &value), RKYV_NULL);
-    answers("too long", rkyv_map_get_text(&map, "a", SIZE_MAX, &value), RKYV_TOO_LONG);
-    answers("set no text", rkyv_map_set_text(&map, "\x80", 1, 8), RKYV_NOT_TEXT);
-    answers("set another", rkyv_map_set_text(&map, "b", 1, 8), RKYV_NOT_FOUND);
-    answers("set too long", rkyv_map_set_text(&map, "b", SIZE_MAX, 8), RKYV_TOO_LONG);
-    answers("set", rkyv_map_set_text(&map, "", 0, UINT64_MAX), RKYV_OK);
-    answers("next", rkyv_map_next_text(&map, &pair), RKYV_OK);
+    returns("get another", rkyv_map_get_text(&map, "a", 1, &value), RKYV_NOT_FOUND);
+    returns("no text", rkyv_map_get_text(&map, "a\xff", 2, &value), RKYV_NOT_TEXT);
+    returns("a text that is cut", rkyv_map_get_text(&map, "\xc3\xa9", 1, &value), RKYV_NOT_TEXT);
+    returns("null", rkyv_map_get_text(&map, NULL, 1, &value), RKYV_NULL);
+    returns("too long", rkyv_map_get_text(&map, "a", SIZE_MAX, &value), RKYV_TOO_LONG);
+    returns("set no text", rkyv_map_set_text(&map, "\x80", 1, 8), RKYV_NOT_TEXT);
+    returns("set another", rkyv_map_set_text(&map, "b", 1, 8), RKYV_NOT_FOUND);
+    returns("set too long", rkyv_map_set_text(&map, "b", SIZE_MAX, 8), RKYV_TOO_LONG);
+    returns("set", rkyv_map_set_text(&map, "", 0, UINT64_MAX), RKYV_OK);
+    returns("next", rkyv_map_next_text(&map, &pair), RKYV_OK);
     same("no key", pair.key_length, 0);
     same("written", pair.value, UINT64_MAX);
-    answers("end", rkyv_map_next_text(&map, &pair), RKYV_END);
+    returns("end", rkyv_map_next_text(&map, &pair), RKYV_END);
     same("kept", pair.value, UINT64_MAX);
-    answers("next null", rkyv_map_next_text(&map, NULL), RKYV_NULL);
-    answers("a number", rkyv_map_get_number(&map, 1, &value), RKYV_WRONG_KIND);
-    answers("set a number", rkyv_map_set_number(&map, 1, 1), RKYV_WRONG_KIND);
+    returns("next null", rkyv_map_next_text(&map, NULL), RKYV_NULL);
+    returns("a number", rkyv_map_get_number(&map, 1, &value), RKYV_WRONG_KIND);
+    returns("set a number", rkyv_map_set_number(&map, 1, 1), RKYV_WRONG_KIND);
 }
 
-/* Positions count from the first byte, wherever that lies in memory. */
+/* An archive may be at any address: positions count from its first byte. */
 static void anywhere(void) {
     uint8_t bytes[112];
     size_t length = empty_to_seven(bytes);
@@ -156,8 +156,8 @@ static void anywhere(void) {
         uint64_t value = 9;
         rkyv_map map;
         memmove(bytes + at, bytes + at - 1, length);
-        answers("open", rkyv_map_open(bytes + at, length, RKYV_TEXT_TO_U64, 64, &map), RKYV_OK);
-        answers("get", rkyv_map_get_text(&map, "", 0, &value), RKYV_OK);
+        returns("open", rkyv_map_open(bytes + at, length, RKYV_TEXT_TO_U64, 64, &map), RKYV_OK);
+        returns("get", rkyv_map_get_text(&map, "", 0, &value), RKYV_OK);
         same("value", value, 7);
     }
 }
@@ -171,42 +171,42 @@ static rkyv_status damaged(size_t place, uint8_t byte) {
     return rkyv_map_open(bytes, length, RKYV_NUMBER_TO_U32, 32, &map);
 }
 
-static void refusals(void) {
+static void errors(void) {
     uint8_t bytes[104];
     uint64_t value = 9;
     size_t length = one_to_two(bytes), count;
     rkyv_map map, closed = {NULL, NULL, 0, 0, 0};
 
-    answers("no map", rkyv_map_open(bytes, length, RKYV_NUMBER_TO_U32, 32, NULL), RKYV_NULL);
-    answers("null", rkyv_map_open(NULL, 1, RKYV_NUMBER_TO_U32, 32, &map), RKYV_NULL);
-    answers("closed", rkyv_map_get_number(&map, 1, &value), RKYV_CLOSED);
-    answers("too long", rkyv_map_open(bytes, SIZE_MAX, RKYV_NUMBER_TO_U32, 32, &map),
+    returns("no map", rkyv_map_open(bytes, length, RKYV_NUMBER_TO_U32, 32, NULL), RKYV_NULL);
+    returns("null", rkyv_map_open(NULL, 1, RKYV_NUMBER_TO_U32, 32, &map), RKYV_NULL);
+    returns("closed", rkyv_map_get_number(&map, 1, &value), RKYV_CLOSED);
+    returns("too long", rkyv_map_open(bytes, SIZE_MAX, RKYV_NUMBER_TO_U32, 32, &map),
             RKYV_TOO_LONG);
-    answers("kind 0", rkyv_map_open(bytes, length, 0, 32, &map), RKYV_UNKNOWN_KIND);
-    answers("kind 5", rkyv_map_open(bytes, length, 5, 32, &map), RKYV_UNKNOWN_KIND);
-    answers("width 16", rkyv_map_open(bytes, length, RKYV_NUMBER_TO_U32, 16, &map),
+    returns("kind 0", rkyv_map_open(bytes, length, 0, 32, &map), RKYV_UNKNOWN_KIND);
+    returns("kind 5", rkyv_map_open(bytes, length, 5, 32, &map), RKYV_UNKNOWN_KIND);
+    returns("width 16", rkyv_map_open(bytes, length, RKYV_NUMBER_TO_U32, 16, &map),
             RKYV_UNKNOWN_WIDTH);
-    answers("closed", rkyv_map_count(&closed, &count), RKYV_CLOSED);
-    answers("closed", rkyv_map_next_number(&closed, &(rkyv_number_pair){0, 0, 0}), RKYV_CLOSED);
+    returns("closed", rkyv_map_count(&closed, &count), RKYV_CLOSED);
+    returns("closed", rkyv_map_next_number(&closed, &(rkyv_number_pair){0, 0, 0}), RKYV_CLOSED);
 
-    answers("empty", rkyv_map_open(NULL, 0, RKYV_NUMBER_TO_U32, 32, &map), RKYV_OUT_OF_RANGE);
-    answers("cut", rkyv_map_open(bytes, length - 1, RKYV_NUMBER_TO_U32, 32, &map), RKYV_UNALIGNED);
-    answers("of another kind", rkyv_map_open(bytes, length, RKYV_TEXT_TO_U64, 64, &map),
+    returns("empty", rkyv_map_open(NULL, 0, RKYV_NUMBER_TO_U32, 32, &map), RKYV_OUT_OF_RANGE);
+    returns("cut", rkyv_map_open(bytes, length - 1, RKYV_NUMBER_TO_U32, 32, &map), RKYV_UNALIGNED);
+    returns("of another kind", rkyv_map_open(bytes, length, RKYV_TEXT_TO_U64, 64, &map),
             RKYV_UNALIGNED);
-    answers("a distance", damaged(48, 0), RKYV_OUT_OF_RANGE);
-    answers("a length", damaged(52, 2), RKYV_INVALID_LENGTH);
-    answers("a control", damaged(17, 0xff), RKYV_WRONG_NUMBER_OF_ELEMENTS);
-    answers("a repeated control", damaged(19, 0xff), RKYV_UNWRAPPED_CONTROL_BYTE);
+    returns("a distance", damaged(48, 0), RKYV_OUT_OF_RANGE);
+    returns("a length", damaged(52, 2), RKYV_INVALID_LENGTH);
+    returns("a control", damaged(17, 0xff), RKYV_WRONG_NUMBER_OF_ELEMENTS);
+    returns("a repeated control", damaged(19, 0xff), RKYV_UNWRAPPED_CONTROL_BYTE);
     length = empty_to_seven(bytes);
     bytes[0] = 0xc3;
-    answers("a key", rkyv_map_open(bytes, length, RKYV_TEXT_TO_U64, 64, &map), RKYV_INVALID_VALUE);
+    returns("a key", rkyv_map_open(bytes, length, RKYV_TEXT_TO_U64, 64, &map), RKYV_INVALID_VALUE);
 }
 
-/* The archive that a builder makes is these bytes. */
+/* Checks that the builder builds these bytes. */
 static void makes(rkyv_builder *builder, const uint8_t *wanted, size_t wanted_length) {
     uint8_t *bytes = NULL;
     size_t length = 0;
-    answers("finish", rkyv_builder_finish(builder, &bytes, &length), RKYV_OK);
+    returns("finish", rkyv_builder_finish(builder, &bytes, &length), RKYV_OK);
     same("length", length, wanted_length);
     same("bytes", length == wanted_length && memcmp(bytes, wanted, length) == 0, 1);
     rkyv_bytes_free(bytes);
@@ -219,21 +219,21 @@ static void built_numbers(void) {
     rkyv_builder *builder;
     rkyv_map map;
 
-    answers("new", rkyv_builder_new(RKYV_NUMBER_TO_U32, 32, &builder), RKYV_OK);
-    answers("put too much", rkyv_builder_put_number(builder, 1, 1ull << 32), RKYV_VALUE_TOO_LARGE);
-    answers("put a text", rkyv_builder_put_text(builder, "a", 1, 2), RKYV_WRONG_KIND);
+    returns("new", rkyv_builder_new(RKYV_NUMBER_TO_U32, 32, &builder), RKYV_OK);
+    returns("put too much", rkyv_builder_put_number(builder, 1, 1ull << 32), RKYV_VALUE_TOO_LARGE);
+    returns("put a text", rkyv_builder_put_text(builder, "a", 1, 2), RKYV_WRONG_KIND);
     makes(builder, (uint8_t[]){1, 0, 0, 0, 0, 0, 0, 0, 0, 0, 0, 0}, 12);
-    answers("put", rkyv_builder_put_number(builder, 1, 2), RKYV_OK);
+    returns("put", rkyv_builder_put_number(builder, 1, 2), RKYV_OK);
     makes(builder, wanted, length);
     makes(builder, wanted, length);
-    answers("put again", rkyv_builder_put_number(builder, 1, 3), RKYV_OK);
-    answers("put another", rkyv_builder_put_number(builder, 4, UINT32_MAX), RKYV_OK);
-    answers("finish", rkyv_builder_finish(builder, &bytes, &length), RKYV_OK);
+    returns("put again", rkyv_builder_put_number(builder, 1, 3), RKYV_OK);
+    returns("put another", rkyv_builder_put_number(builder, 4, UINT32_MAX), RKYV_OK);
+    returns("finish", rkyv_builder_finish(builder, &bytes, &length), RKYV_OK);
     rkyv_builder_free(builder);
-    answers("open", rkyv_map_open(bytes, length, RKYV_NUMBER_TO_U32, 32, &map), RKYV_OK);
-    answers("get", rkyv_map_get_number(&map, 1, &value), RKYV_OK);
+    returns("open", rkyv_map_open(bytes, length, RKYV_NUMBER_TO_U32, 32, &map), RKYV_OK);
+    returns("get", rkyv_map_get_number(&map, 1, &value), RKYV_OK);
     same("the first", value, 2);
-    answers("get", rkyv_map_get_number(&map, 4, &value), RKYV_OK);
+    returns("get", rkyv_map_get_number(&map, 4, &value), RKYV_OK);
     same("another", value, UINT32_MAX);
     rkyv_bytes_free(bytes);
     same("blocks", blocks, 0);
@@ -244,16 +244,16 @@ static void built_texts(void) {
     size_t length = empty_to_seven(wanted);
     rkyv_builder *builder;
 
-    answers("new", rkyv_builder_new(RKYV_TEXT_TO_U64, 64, &builder), RKYV_OK);
-    answers("put no text", rkyv_builder_put_text(builder, "a\xff", 2, 2), RKYV_NOT_TEXT);
-    answers("put null", rkyv_builder_put_text(builder, NULL, 1, 2), RKYV_NULL);
-    answers("put too long", rkyv_builder_put_text(builder, "a", SIZE_MAX, 2), RKYV_TOO_LONG);
-    answers("put a number", rkyv_builder_put_number(builder, 1, 2), RKYV_WRONG_KIND);
-    answers("put", rkyv_builder_put_text(builder, NULL, 0, 7), RKYV_OK);
+    returns("new", rkyv_builder_new(RKYV_TEXT_TO_U64, 64, &builder), RKYV_OK);
+    returns("put no text", rkyv_builder_put_text(builder, "a\xff", 2, 2), RKYV_NOT_TEXT);
+    returns("put null", rkyv_builder_put_text(builder, NULL, 1, 2), RKYV_NULL);
+    returns("put too long", rkyv_builder_put_text(builder, "a", SIZE_MAX, 2), RKYV_TOO_LONG);
+    returns("put a number", rkyv_builder_put_number(builder, 1, 2), RKYV_WRONG_KIND);
+    returns("put", rkyv_builder_put_text(builder, NULL, 0, 7), RKYV_OK);
     makes(builder, wanted, length);
     rkyv_builder_free(builder);
-    answers("new", rkyv_builder_new(RKYV_TEXT_TO_U32, 32, &builder), RKYV_OK);
-    answers("put too much", rkyv_builder_put_text(builder, "a", 1, 1ull << 32),
+    returns("new", rkyv_builder_new(RKYV_TEXT_TO_U32, 32, &builder), RKYV_OK);
+    returns("put too much", rkyv_builder_put_text(builder, "a", 1, 1ull << 32),
             RKYV_VALUE_TOO_LARGE);
     rkyv_builder_free(builder);
     same("blocks", blocks, 0);
@@ -264,40 +264,40 @@ static void unbuilt(void) {
     size_t length = 0;
     rkyv_builder *builder;
 
-    answers("no builder", rkyv_builder_new(RKYV_TEXT_TO_U32, 32, NULL), RKYV_NULL);
-    answers("kind 0", rkyv_builder_new(0, 32, &builder), RKYV_UNKNOWN_KIND);
-    answers("width 8", rkyv_builder_new(RKYV_TEXT_TO_U32, 8, &builder), RKYV_UNKNOWN_WIDTH);
+    returns("no builder", rkyv_builder_new(RKYV_TEXT_TO_U32, 32, NULL), RKYV_NULL);
+    returns("kind 0", rkyv_builder_new(0, 32, &builder), RKYV_UNKNOWN_KIND);
+    returns("width 8", rkyv_builder_new(RKYV_TEXT_TO_U32, 8, &builder), RKYV_UNKNOWN_WIDTH);
     same("none", builder == NULL, 1);
-    answers("put to null", rkyv_builder_put_number(NULL, 1, 2), RKYV_NULL);
-    answers("put to null", rkyv_builder_put_text(NULL, "a", 1, 2), RKYV_NULL);
-    answers("finish null", rkyv_builder_finish(NULL, &bytes, &length), RKYV_NULL);
-    answers("new", rkyv_builder_new(RKYV_NUMBER_TO_U64, 64, &builder), RKYV_OK);
-    answers("no bytes", rkyv_builder_finish(builder, NULL, &length), RKYV_NULL);
-    answers("no length", rkyv_builder_finish(builder, &bytes, NULL), RKYV_NULL);
+    returns("put to null", rkyv_builder_put_number(NULL, 1, 2), RKYV_NULL);
+    returns("put to null", rkyv_builder_put_text(NULL, "a", 1, 2), RKYV_NULL);
+    returns("finish null", rkyv_builder_finish(NULL, &bytes, &length), RKYV_NULL);
+    returns("new", rkyv_builder_new(RKYV_NUMBER_TO_U64, 64, &builder), RKYV_OK);
+    returns("no bytes", rkyv_builder_finish(builder, NULL, &length), RKYV_NULL);
+    returns("no length", rkyv_builder_finish(builder, &bytes, NULL), RKYV_NULL);
     rkyv_builder_free(builder);
     rkyv_builder_free(NULL);
     rkyv_bytes_free(NULL);
     same("blocks", blocks, 0);
 }
 
-/* How many calls were refused memory; each of them is made again. */
-static size_t refusals_of_memory;
+/* The number of calls that failed to allocate. Each of them is repeated. */
+static size_t failures;
 
 static int again(rkyv_status status) {
-    refusals_of_memory += status == RKYV_NO_MEMORY;
+    failures += status == RKYV_NO_MEMORY;
     if (status != RKYV_NO_MEMORY) {
-        answers("a call", status, RKYV_OK);
+        returns("a call", status, RKYV_OK);
     }
-    return status == RKYV_NO_MEMORY && refusals_of_memory < 9;
+    return status == RKYV_NO_MEMORY && failures < 9;
 }
 
-/* The archive of some pairs, of which one request of memory is refused. */
+/* The archive of some pairs, built while one request of memory fails. */
 static uint8_t *made_with(size_t one, uint32_t kind, size_t *length) {
     uint8_t *bytes = NULL;
     rkyv_builder *builder = NULL;
     char key[40];
-    refused = one;
-    requests = refusals_of_memory = 0;
+    failing = one;
+    requests = failures = 0;
     while (again(rkyv_builder_new(kind, 32, &builder))) {
     }
     for (uint32_t i = 0; i < 40; i++) {
@@ -309,13 +309,13 @@ static uint8_t *made_with(size_t one, uint32_t kind, size_t *length) {
     while (again(rkyv_builder_finish(builder, &bytes, length))) {
     }
     rkyv_builder_free(builder);
-    refused = SIZE_MAX;
+    failing = SIZE_MAX;
     return bytes;
 }
 
-/* Each request of memory refused in turn: the call that makes it says so, once, and the archive is
- * the same after it. */
-static void refused_memory(uint32_t kind) {
+/* Lets each request of memory fail in turn. One call then fails with RKYV_NO_MEMORY, and the
+ * archive is the same. */
+static void failing_memory(uint32_t kind) {
     size_t length = 0;
     uint8_t *bytes = made_with(SIZE_MAX, kind, &length);
     size_t all = requests;
@@ -323,7 +323,7 @@ static void refused_memory(uint32_t kind) {
     for (size_t one = 0; one < all; one++) {
         size_t other_length = 0;
         uint8_t *other = made_with(one, kind, &other_length);
-        same("refusals", refusals_of_memory, 1);
+        same("failures", failures, 1);
         same("the same", other_length == length && memcmp(bytes, other, length) == 0, 1);
         rkyv_bytes_free(other);
     }
@@ -331,7 +331,7 @@ static void refused_memory(uint32_t kind) {
     same("blocks", blocks, 0);
 }
 
-/* What the proved library is handed by a builder, which tests keys and values before. */
+/* The pairs that a builder passes to the proved library, after it has tested keys and values. */
 struct text_item {
     const void *key;
     size_t key_length;
@@ -346,9 +346,9 @@ struct built {
 uint32_t rkyv_c_build_texts(const struct text_item *items, size_t count, bool long_values,
                             bool wide, struct built *built);
 
-/* The refusals of the library itself. The text that is too long is of zeros, which take no memory
- * where they are only read. */
-static void refused_items(void) {
+/* The errors of the library's own tests of keys and values. The bytes of the long text are zeros
+ * that are only read, so they take no memory. */
+static void invalid_items(void) {
     uint8_t none[1];
     struct built built = {none, 0};
     size_t limit = (size_t)1 << 30;
@@ -356,11 +356,11 @@ static void refused_items(void) {
     struct text_item items[] = {
         {"a", 1, 2}, {"\xff", 1, 2}, {"b", 1, 1ull << 32}, {zeros, limit, 2},
     };
-    answers("no text", rkyv_c_build_texts(items, 2, true, false, &built), RKYV_NOT_TEXT);
-    answers("a large value", rkyv_c_build_texts(items + 2, 1, false, false, &built),
+    returns("no text", rkyv_c_build_texts(items, 2, true, false, &built), RKYV_NOT_TEXT);
+    returns("a large value", rkyv_c_build_texts(items + 2, 1, false, false, &built),
             RKYV_VALUE_TOO_LARGE);
     if (zeros != NULL) {
-        answers("a long text", rkyv_c_build_texts(items + 3, 1, false, false, &built),
+        returns("a long text", rkyv_c_build_texts(items + 3, 1, false, false, &built),
                 RKYV_TEXT_TOO_LONG);
     }
     same("kept", built.bytes == none && built.length == 0, 1);
@@ -372,15 +372,15 @@ int main(void) {
     numbers();
     texts();
     anywhere();
-    refusals();
+    errors();
     built_numbers();
     built_texts();
     unbuilt();
-    refused_memory(RKYV_NUMBER_TO_U64);
-    refused_memory(RKYV_TEXT_TO_U64);
-    refused_items();
+    failing_memory(RKYV_NUMBER_TO_U64);
+    failing_memory(RKYV_TEXT_TO_U64);
+    invalid_items();
     if (faults == 0) {
-        printf("all as wanted\n");
+        printf("all as expected\n");
     }
     return faults == 0 ? 0 : 1;
 }

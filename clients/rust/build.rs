@@ -1,60 +1,96 @@
-//! Compiles the C functions of `../c`, and links them and the static library of `rkyv_c`.
+//! Links the static library `librkyv_c.a` and the C functions of `../c`, which it compiles.
 //!
-//! The library is taken from `RKYV_C_LIBRARY`, the path of `librkyv_c.a`, or, where that isn't set,
-//! from where `rt lib` leaves it in the crate. The C compiler is `CC`, or `cc`.
+//! `RKYV_C_LIBRARY` is the library's path. If it isn't set, the library is expected where `rt lib`
+//! leaves it, in `../../crates/rkyv_c/out`. If it isn't there, nothing is compiled or linked:
+//! `cargo check`, `cargo clippy` and `cargo doc` work, and a warning says how to give the path.
+//!
+//! `CC` and `AR` are the C compiler and the archiver, `cc` and `ar` by default.
 
 use std::env;
+use std::fmt::Display;
 use std::path::{Path, PathBuf};
-use std::process::Command;
+use std::process::{exit, Command};
+
+const VARIABLE: &str = "RKYV_C_LIBRARY";
+
+fn fail(text: impl Display) -> ! {
+    eprintln!("{text}");
+    exit(1)
+}
 
 fn run(command: &mut Command) {
-    let status = command
-        .status()
-        .unwrap_or_else(|error| panic!("{command:?}: {error}"));
-    assert!(status.success(), "{command:?}: {status}");
+    match command.status() {
+        Ok(status) if status.success() => {}
+        Ok(status) => fail(format_args!("{command:?}: {status}")),
+        Err(error) => fail(format_args!("{command:?}: {error}")),
+    }
+}
+
+/// The program that the variable names, or the default one.
+fn program(variable: &str, default: &str) -> Command {
+    println!("cargo::rerun-if-env-changed={variable}");
+    Command::new(env::var_os(variable).unwrap_or_else(|| default.into()))
+}
+
+/// The library's absolute path, or `None` if it isn't given and isn't built.
+fn library(here: &Path) -> Option<PathBuf> {
+    println!("cargo::rerun-if-env-changed={VARIABLE}");
+    let given = env::var_os(VARIABLE).filter(|path| !path.is_empty());
+    let path = match &given {
+        Some(path) => PathBuf::from(path),
+        None => here.join("../../crates/rkyv_c/out/librkyv_c.a"),
+    };
+    println!("cargo::rerun-if-changed={}", path.display());
+    match path.canonicalize() {
+        Ok(path) => Some(path),
+        Err(error) if given.is_some() => {
+            fail(format_args!("{VARIABLE}={}: {error}", path.display()))
+        }
+        Err(_) => None,
+    }
+}
+
+/// Compiles the C functions to a static library in `out`.
+fn compile(sources: &Path, out: &Path) {
+    let archive = out.join("librkyv_calls.a");
+    let mut archiver = program("AR", "ar");
+    archiver.arg("crs").arg(&archive);
+    for name in ["rkyv", "memory"] {
+        let source = sources.join(name).with_extension("c");
+        let object = out.join(name).with_extension("o");
+        println!("cargo::rerun-if-changed={}", source.display());
+        println!(
+            "cargo::rerun-if-changed={}",
+            source.with_extension("h").display()
+        );
+        let mut compiler = program("CC", "cc");
+        compiler.args(["-std=c11", "-O2", "-fPIC", "-c"]);
+        run(compiler.arg(&source).arg("-o").arg(&object));
+        archiver.arg(&object);
+    }
+    let _ = std::fs::remove_file(&archive);
+    run(&mut archiver);
 }
 
 fn main() {
     let here = PathBuf::from(env::var_os("CARGO_MANIFEST_DIR").unwrap());
     let out = PathBuf::from(env::var_os("OUT_DIR").unwrap());
-    println!("cargo::rerun-if-env-changed=RKYV_C_LIBRARY");
-    let library = match env::var_os("RKYV_C_LIBRARY") {
-        Some(path) => PathBuf::from(path),
-        None => here.join("../../crates/rkyv_c/out/librkyv_c.a"),
+    println!("cargo::rerun-if-changed=build.rs");
+    let Some(library) = library(&here) else {
+        println!(
+            "cargo::warning=librkyv_c.a is not built, so programs cannot be linked. \
+             Run `rt lib` in crates/rkyv_c, or set {VARIABLE} to the path of the library."
+        );
+        return;
     };
-    println!("cargo::rerun-if-changed={}", library.display());
-    let library = library.canonicalize().unwrap_or_else(|error| {
-        panic!(
-            "{}: {error}. `rt lib` in crates/rkyv_c builds it; RKYV_C_LIBRARY may name another",
-            library.display()
-        )
-    });
-    let compiler = env::var_os("CC").unwrap_or_else(|| "cc".into());
-    let mut objects = Vec::new();
-    for name in ["rkyv", "memory"] {
-        let source = here.join("../c").join(name).with_extension("c");
-        println!("cargo::rerun-if-changed={}", source.display());
-        let object = out.join(name).with_extension("o");
-        let flags = ["-std=c11", "-O2", "-fPIC", "-c"];
-        run(Command::new(&compiler)
-            .args(flags)
-            .arg(&source)
-            .arg("-o")
-            .arg(&object));
-        objects.push(object);
-    }
-    let archive: &Path = &out.join("librkyv_calls.a");
-    let _ = std::fs::remove_file(archive);
-    run(Command::new("ar").arg("crs").arg(archive).args(&objects));
-    for name in ["rkyv.h", "memory.h"] {
-        let header = here.join("../c").join(name);
-        println!("cargo::rerun-if-changed={}", header.display());
-    }
+    compile(&here.join("../c"), &out);
+    let folder = library.parent().expect("the path of a file has a parent");
+    let name = library.file_name().expect("the path of a file has a name");
     println!("cargo::rustc-link-search=native={}", out.display());
-    println!(
-        "cargo::rustc-link-search=native={}",
-        library.parent().unwrap().display()
-    );
+    println!("cargo::rustc-link-search=native={}", folder.display());
     println!("cargo::rustc-link-lib=static=rkyv_calls");
-    println!("cargo::rustc-link-lib=static=rkyv_c");
+    println!(
+        "cargo::rustc-link-lib=static:+verbatim={}",
+        Path::new(name).display()
+    );
 }

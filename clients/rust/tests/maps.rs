@@ -1,8 +1,13 @@
-//! Maps that are written out by hand.
+//! Maps that are built, and archives that are written out by hand.
 
-use rkyv_maps::{Builder, Map, MapMut, Refusal, Width};
+use std::borrow::Borrow;
+use std::collections::HashMap;
+use std::iter::FusedIterator;
+use std::panic::catch_unwind;
 
-/// The map of 1 to 2.
+use rkyv_maps::{Archive, Builder, Error, Iter, Key, Keys, Map, MapMut, Value, Values, Width};
+
+/// The narrow archive of the map of 1 to 2.
 fn one_to_two() -> Vec<u8> {
     let mut bytes = vec![0xff; 60];
     bytes[..20].copy_from_slice(&[
@@ -12,7 +17,7 @@ fn one_to_two() -> Vec<u8> {
     bytes
 }
 
-/// The map of the empty text to 7, wide, with values of 64 bits.
+/// The wide archive of the map of the empty text to 7, with 64-bit values.
 fn empty_to_seven() -> Vec<u8> {
     let mut bytes = vec![0; 104];
     bytes[..16].fill(0xff);
@@ -27,86 +32,301 @@ fn empty_to_seven() -> Vec<u8> {
     bytes
 }
 
-#[test]
-fn numbers_are_found() {
-    let bytes = one_to_two();
-    let map: Map<u32, u32> = Map::open(&bytes, Width::Narrow).unwrap();
-    let pairs: Vec<(u32, u32)> = map.iter().collect();
-    assert_eq!((map.len(), map.get(&1), map.get(&2)), (1, Some(2), None));
-    assert_eq!(pairs, [(1, 2)]);
+/// Texts that are stored inline and out of line, in both widths.
+fn texts() -> Vec<(String, u64)> {
+    let lengths = [0, 1, 8, 9, 16, 17, 100];
+    let texts = lengths.map(|length| "ä日x".chars().cycle().take(length).collect());
+    texts.into_iter().zip(1 << 40..).collect()
 }
 
 #[test]
-fn texts_are_written_in_place() {
+fn numbers_are_found() {
+    let bytes = one_to_two();
+    let map = Map::<u32, u32>::open(&bytes, Width::Narrow).unwrap();
+    assert_eq!((map.len(), map.is_empty()), (1, false));
+    assert_eq!((map.get(&1), map.get(&2)), (Some(2), None));
+    assert_eq!((map.contains_key(&1), map.contains_key(&2)), (true, false));
+    assert_eq!(map.iter().collect::<Vec<_>>(), [(1, 2)]);
+}
+
+#[test]
+fn texts_are_found_in_both_widths() {
+    let pairs = texts();
+    let builder: Builder<str, u64> = pairs.iter().map(|(key, value)| (&**key, *value)).collect();
+    for width in [Width::Narrow, Width::Wide] {
+        let archive = builder.build(width).unwrap();
+        let map = archive.open();
+        assert_eq!((archive.width(), map.len()), (width, pairs.len()));
+        for (key, value) in &pairs {
+            assert_eq!(map.get(key), Some(*value));
+        }
+        assert_eq!(map.get("another"), None);
+        let mut found: Vec<(String, u64)> = map.iter().map(|(k, v)| (k.into(), v)).collect();
+        found.sort_by_key(|pair| pair.1);
+        assert_eq!(found, pairs);
+    }
+}
+
+#[test]
+fn values_are_written_in_place() {
     let mut bytes = empty_to_seven();
-    let mut map: MapMut<str, u64> = MapMut::open(&mut bytes, Width::Wide).unwrap();
+    let mut map = MapMut::<str, u64>::open(&mut bytes, Width::Wide).unwrap();
+    assert_eq!((map.get(""), map.get("a")), (Some(7), None));
     assert_eq!((map.set("", u64::MAX), map.set("a", 1)), (true, false));
-    assert_eq!(map.as_map().get(""), Some(u64::MAX));
-    let map: Map<str, u64> = Map::open(&bytes, Width::Wide).unwrap();
+    assert_eq!(
+        (map.get(""), map.as_map().get("")),
+        (Some(u64::MAX), Some(u64::MAX))
+    );
+    assert_eq!(
+        (map.len(), map.is_empty(), map.contains_key("")),
+        (1, false, true)
+    );
+    assert_eq!(format!("{map:?}"), r#"{"": 18446744073709551615}"#);
+    let map = Map::from(map);
+    assert_eq!(map.get(""), Some(u64::MAX));
+    let map = Map::<str, u64>::open(&bytes, Width::Wide).unwrap();
     assert_eq!(map.iter().collect::<Vec<_>>(), [("", u64::MAX)]);
 }
 
 #[test]
-fn other_bytes_are_refused() {
-    let mut bytes = one_to_two();
-    let wide = Map::<u32, u32>::open(&bytes, Width::Wide).err();
-    bytes[19] = 0xff;
-    let damaged = Map::<u32, u32>::open(&bytes, Width::Narrow).err();
-    let none = Map::<u32, u32>::open(&[], Width::Narrow).err();
-    assert_eq!(wide, Some(Refusal::Unaligned));
-    assert_eq!(damaged, Some(Refusal::UnwrappedControlByte));
-    assert_eq!(none, Some(Refusal::OutOfRange));
+fn values_of_an_archive_are_written_in_place() {
+    let mut archive = Builder::<u32, u32>::from([(1, 2), (4, 5)])
+        .build(Width::Narrow)
+        .unwrap();
+    let mut map = archive.open_mut();
+    assert!(map.set(&1, u32::MAX));
+    assert!(!map.set(&2, 3));
+    assert_eq!(
+        (archive.open().get(&1), archive.open().get(&4)),
+        (Some(u32::MAX), Some(5))
+    );
 }
 
 #[test]
-fn archives_are_built() {
-    let mut numbers: Builder<u32, u32> = Builder::new(Width::Narrow).unwrap();
-    let empty = numbers.finish().unwrap();
-    numbers.put(&1, 2).unwrap();
-    let archive = numbers.finish().unwrap();
-    numbers.put(&1, 3).unwrap();
-    numbers.put(&4, 5).unwrap();
-    let longer = numbers.finish().unwrap();
-    drop(numbers);
-    let map: Map<u32, u32> = Map::open(&longer, Width::Narrow).unwrap();
-    assert_eq!(&empty[..], [1, 0, 0, 0, 0, 0, 0, 0, 0, 0, 0, 0]);
-    assert_eq!(&archive[..], one_to_two());
+fn invalid_bytes_fail() {
+    let bytes = one_to_two();
+    let damaged = |index: usize, byte| {
+        let mut bytes = one_to_two();
+        bytes[index] = byte;
+        Map::<u32, u32>::open(&bytes, Width::Narrow).err()
+    };
+    assert_eq!(
+        Map::<u32, u32>::open(&[], Width::Narrow).err(),
+        Some(Error::OutOfRange)
+    );
+    assert_eq!(
+        Map::<u32, u32>::open(&bytes, Width::Wide).err(),
+        Some(Error::Unaligned)
+    );
+    assert_eq!(damaged(48, 0), Some(Error::OutOfRange));
+    assert_eq!(damaged(52, 2), Some(Error::InvalidLength));
+    assert_eq!(damaged(17, 0xff), Some(Error::WrongNumberOfElements));
+    assert_eq!(damaged(19, 0xff), Some(Error::UnwrappedControlByte));
+    let mut bytes = empty_to_seven();
+    bytes[0] = 0xc3;
+    let error = MapMut::<str, u64>::open(&mut bytes, Width::Wide).err();
+    assert_eq!(error, Some(Error::InvalidValue));
+}
+
+#[test]
+fn errors_display_sentences() {
+    let errors = [
+        Error::OutOfRange,
+        Error::Unaligned,
+        Error::InvalidLength,
+        Error::WrongNumberOfElements,
+        Error::UnwrappedControlByte,
+        Error::InvalidValue,
+        Error::NoMemory,
+        Error::CapacityTooLarge,
+        Error::PositionTooLarge,
+        Error::DistanceTooLarge,
+        Error::TextTooLong,
+        Error::Status(99),
+    ];
+    for error in errors {
+        let text = error.to_string();
+        assert!(
+            text.contains(' ') && !text.contains(&format!("{error:?}")),
+            "{text}"
+        );
+    }
+    let boxed: Box<dyn std::error::Error + Send + Sync> = Error::Unaligned.into();
+    assert_eq!(
+        boxed.to_string(),
+        "the map or a part of it is not at a multiple of its alignment"
+    );
+}
+
+#[test]
+fn builders_keep_their_pairs() {
+    let mut builder = Builder::<u32, u32>::with_capacity(3);
+    assert!(builder.is_empty());
+    let empty = builder.build(Width::Narrow).unwrap();
+    builder.push(&1, 2);
+    let archive = builder.build(Width::Narrow).unwrap();
+    builder.extend([(1, 3), (4, 5)]);
+    let longer = builder.clone().build(Width::Narrow).unwrap();
+    assert_eq!(
+        (builder.len(), format!("{builder:?}")),
+        (3, "{1: 2, 1: 3, 4: 5}".into())
+    );
+    drop(builder);
+    assert_eq!(empty.as_bytes(), [1, 0, 0, 0, 0, 0, 0, 0, 0, 0, 0, 0]);
+    assert_eq!(archive.as_ref(), one_to_two());
+    assert_eq!(Vec::from(archive), one_to_two());
+    let map = longer.open();
     assert_eq!((map.len(), map.get(&1), map.get(&4)), (3, Some(2), Some(5)));
+    assert!(format!("{empty:?}").starts_with("Archive { width: Narrow, bytes: [1, 0, "));
 }
 
 #[test]
-fn built_texts_are_written_in_place() {
-    let mut texts: Builder<str, u64> = Builder::new(Width::Wide).unwrap();
-    texts.put("", 7).unwrap();
-    let mut archive = texts.finish().unwrap();
-    assert_eq!(&archive[..], empty_to_seven());
-    let mut map: MapMut<str, u64> = MapMut::open(&mut archive, Width::Wide).unwrap();
-    assert_eq!((map.set("", u64::MAX), map.set("a", 1)), (true, false));
-    assert_eq!(map.as_map().get(""), Some(u64::MAX));
+fn builders_collect_owned_and_borrowed_keys() {
+    let wide = |builder: Builder<str, u64>| Vec::from(builder.build(Width::Wide).unwrap());
+    assert_eq!(wide([("", 7)].into()), empty_to_seven());
+    assert_eq!(wide([(String::new(), 7)].into()), empty_to_seven());
+    assert_eq!(
+        wide(HashMap::from([("", 7)]).into_iter().collect()),
+        empty_to_seven()
+    );
+    let narrow = |builder: Builder<u32, u32>| Vec::from(builder.build(Width::Narrow).unwrap());
+    assert_eq!(narrow([(1, 2)].into()), one_to_two());
+    assert_eq!(narrow([(&1, 2)].into()), one_to_two());
+    assert_eq!(Builder::<str, u32>::default().len(), 0);
+}
+
+#[test]
+fn iterators_know_their_lengths() {
+    let builder: Builder<u32, u64> = (0..100).map(|key| (key, u64::from(key) << 40)).collect();
+    let archive = builder.build(Width::Wide).unwrap();
+    let map = archive.open();
+    let mut pairs = map.iter();
+    assert_eq!(
+        (pairs.len(), map.keys().len(), map.values().len()),
+        (100, 100, 100)
+    );
+    pairs.next();
+    let rest = pairs.clone();
+    assert_eq!(
+        (pairs.len(), rest.count(), pairs.by_ref().count()),
+        (99, 99, 99)
+    );
+    assert_eq!((pairs.len(), pairs.next(), pairs.next()), (0, None, None));
+    assert_eq!(map.keys().sum::<u32>(), 4950);
+    assert_eq!(map.values().sum::<u64>(), 4950 << 40);
+    assert!(map.keys().zip(map.values()).eq(&map));
+    let mut count = 0;
+    for (key, value) in map {
+        assert_eq!(value, u64::from(key) << 40);
+        count += 1;
+    }
+    assert_eq!(count, 100);
+}
+
+#[test]
+fn maps_are_shown_as_maps() {
+    let archive = Builder::<str, u32>::from([("a", 1)])
+        .build(Width::Narrow)
+        .unwrap();
+    let map = archive.open();
+    assert_eq!(format!("{map:?}"), r#"{"a": 1}"#);
+    assert_eq!(format!("{:?}", map.iter()), r#"[("a", 1)]"#);
+    assert_eq!(
+        format!("{:?} {:?}", map.keys(), map.values()),
+        r#"["a"] [1]"#
+    );
+}
+
+#[test]
+fn an_absent_key_panics_with_a_text() {
+    let bytes = one_to_two();
+    let map = Map::<u32, u32>::open(&bytes, Width::Narrow).unwrap();
+    assert_eq!(map.at(&1), 2);
+    let panic = catch_unwind(|| map.at(&3)).unwrap_err();
+    assert_eq!(
+        panic.downcast_ref::<String>().unwrap(),
+        "no entry found for key 3"
+    );
+}
+
+/// The sum of the values of a map, each found by its key.
+fn total<K: Key + ?Sized, V: Value>(map: Map<'_, K, V>) -> u64 {
+    let values = map.keys().map(|key| map.at(key.borrow()));
+    values.map(Into::into).sum()
+}
+
+/// The archive of a list of pairs, and the sum of its values.
+fn built_total<K: Key + ?Sized, V: Value>(pairs: &[(&K, V)]) -> u64 {
+    let archive = pairs
+        .iter()
+        .copied()
+        .collect::<Builder<K, V>>()
+        .build(Width::Wide);
+    total(archive.unwrap().open())
+}
+
+#[test]
+fn functions_are_generic_over_keys_and_values() {
+    assert_eq!(built_total::<u32, u32>(&[(&1, 10), (&2, 20)]), 30);
+    assert_eq!(
+        built_total::<u32, u64>(&[(&1, 10), (&2, 1 << 40)]),
+        10 + (1 << 40)
+    );
+    assert_eq!(
+        built_total::<str, u32>(&[("one", 10), ("a longer text than fits", 20)]),
+        30
+    );
+    assert_eq!(built_total::<str, u64>(&[]), 0);
+}
+
+/// An archive of one type may be valid as another.
+#[test]
+fn types_are_not_recorded() {
+    let archive = Builder::<str, u64>::from([("main", 0x1139)])
+        .build(Width::Narrow)
+        .unwrap();
+    let other = Map::<u32, u32>::open(archive.as_ref(), Width::Narrow).unwrap();
+    assert_eq!((other.len(), other.iter().count()), (1, 1));
+    let empty = Builder::<u32, u32>::new().build(Width::Wide).unwrap();
+    assert!(Map::<str, u64>::open(empty.as_ref(), Width::Wide).is_ok());
 }
 
 #[test]
 fn threads_share_a_map() {
-    let mut numbers: Builder<u32, u64> = Builder::new(Width::Narrow).unwrap();
-    for key in 0..100 {
-        numbers.put(&key, u64::from(key) << 40).unwrap();
-    }
-    let archive = std::thread::spawn(move || numbers.finish().unwrap())
-        .join()
-        .unwrap();
-    let map: Map<u32, u64> = Map::open(&archive, Width::Narrow).unwrap();
-    let found = std::thread::scope(|scope| {
-        let even = scope.spawn(|| {
-            (0..100)
-                .step_by(2)
-                .filter_map(|key| map.get(&key))
-                .sum::<u64>()
-        });
-        let odd = (1..100)
+    let builder: Builder<u32, u64> = (0..100).map(|key| (key, u64::from(key) << 40)).collect();
+    let archive = std::thread::spawn(move || builder.build(Width::Narrow)).join();
+    let archive = archive.unwrap().unwrap();
+    let map = archive.open();
+    let found = |first| {
+        (first..100)
             .step_by(2)
             .filter_map(|key| map.get(&key))
-            .sum::<u64>();
-        even.join().unwrap() + odd
+            .sum::<u64>()
+    };
+    let sum = std::thread::scope(|scope| {
+        let even = scope.spawn(move || found(0));
+        found(1) + even.join().unwrap()
     });
-    assert_eq!(found, 4950 << 40);
+    assert_eq!(sum, 4950 << 40);
 }
+
+/// Asserted at compile time.
+const _: () = {
+    const fn is_send_and_sync<T: Send + Sync>() {}
+    const fn is_copy<T: Copy>() {}
+    const fn is_fused<T: ExactSizeIterator + FusedIterator + Clone>() {}
+    const fn is_error<T: std::error::Error + Send + Sync + 'static>() {}
+    is_error::<Error>();
+    is_copy::<Map<'static, u32, u64>>();
+    is_copy::<Map<'static, str, u64>>();
+    is_send_and_sync::<Map<'static, str, u64>>();
+    is_send_and_sync::<MapMut<'static, str, u64>>();
+    is_send_and_sync::<Iter<'static, str, u64>>();
+    is_send_and_sync::<Keys<'static, str, u64>>();
+    is_send_and_sync::<Values<'static, str, u64>>();
+    is_send_and_sync::<Builder<str, u64>>();
+    is_send_and_sync::<Archive<str, u64>>();
+    is_fused::<Iter<'static, str, u64>>();
+    is_fused::<Keys<'static, u32, u32>>();
+    is_fused::<Values<'static, str, u32>>();
+};

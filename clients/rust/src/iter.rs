@@ -1,0 +1,126 @@
+use std::fmt;
+use std::iter::FusedIterator;
+use std::marker::PhantomData;
+
+use crate::raw::RawMap;
+use crate::{Key, Value};
+
+/// An iterator over the pairs of a [`Map`](crate::Map), in the order of the archive.
+pub struct Iter<'a, K: ?Sized, V> {
+    raw: RawMap,
+    next: u64,
+    left: usize,
+    bytes: PhantomData<&'a [u8]>,
+    types: PhantomData<fn(&K) -> V>,
+}
+
+// SAFETY: as a map, an iterator is a shared borrow of bytes, which its calls only read. The
+// position is its own.
+unsafe impl<K: ?Sized, V> Send for Iter<'_, K, V> {}
+
+// SAFETY: a shared reference to an iterator gives access to its bytes and position only to read.
+unsafe impl<K: ?Sized, V> Sync for Iter<'_, K, V> {}
+
+impl<K: ?Sized, V> Iter<'_, K, V> {
+    /// The pairs of an open map with `len` pairs, whose bytes are borrowed.
+    pub(crate) fn new(raw: RawMap, len: usize) -> Self {
+        Iter {
+            raw,
+            next: 0,
+            left: len,
+            bytes: PhantomData,
+            types: PhantomData,
+        }
+    }
+}
+
+impl<K: ?Sized, V> Clone for Iter<'_, K, V> {
+    fn clone(&self) -> Self {
+        Iter { ..*self }
+    }
+}
+
+impl<'a, K: Key + ?Sized, V: Value> Iterator for Iter<'a, K, V> {
+    type Item = (K::Ref<'a>, V);
+
+    fn next(&mut self) -> Option<(K::Ref<'a>, V)> {
+        if self.left == 0 {
+            return None;
+        }
+        // SAFETY: the map is open, and its bytes are borrowed for 'a.
+        match unsafe { K::next(&self.raw, &mut self.next) } {
+            Ok((key, value)) => {
+                self.left -= 1;
+                Some((key, V::of(value)))
+            }
+            Err(status) => unreachable!("an open map has {} more pairs: {status}", self.left),
+        }
+    }
+
+    fn size_hint(&self) -> (usize, Option<usize>) {
+        (self.left, Some(self.left))
+    }
+}
+
+impl<K: Key + ?Sized, V: Value> ExactSizeIterator for Iter<'_, K, V> {}
+
+impl<K: Key + ?Sized, V: Value> FusedIterator for Iter<'_, K, V> {}
+
+impl<K: Key + ?Sized, V: Value> fmt::Debug for Iter<'_, K, V> {
+    fn fmt(&self, f: &mut fmt::Formatter<'_>) -> fmt::Result {
+        f.debug_list().entries(self.clone()).finish()
+    }
+}
+
+macro_rules! part {
+    ($(#[$doc:meta])* $name:ident, $item:ty, $index:tt) => {
+        $(#[$doc])*
+        pub struct $name<'a, K: ?Sized, V> {
+            pairs: Iter<'a, K, V>,
+        }
+
+        impl<'a, K: ?Sized, V> $name<'a, K, V> {
+            pub(crate) fn new(pairs: Iter<'a, K, V>) -> Self {
+                $name { pairs }
+            }
+        }
+
+        impl<K: ?Sized, V> Clone for $name<'_, K, V> {
+            fn clone(&self) -> Self {
+                $name::new(self.pairs.clone())
+            }
+        }
+
+        impl<'a, K: Key + ?Sized, V: Value> Iterator for $name<'a, K, V> {
+            type Item = $item;
+
+            fn next(&mut self) -> Option<$item> {
+                self.pairs.next().map(|pair| pair.$index)
+            }
+
+            fn size_hint(&self) -> (usize, Option<usize>) {
+                self.pairs.size_hint()
+            }
+        }
+
+        impl<K: Key + ?Sized, V: Value> ExactSizeIterator for $name<'_, K, V> {}
+
+        impl<K: Key + ?Sized, V: Value> FusedIterator for $name<'_, K, V> {}
+
+        impl<K: Key + ?Sized, V: Value> fmt::Debug for $name<'_, K, V> {
+            fn fmt(&self, f: &mut fmt::Formatter<'_>) -> fmt::Result {
+                f.debug_list().entries(self.clone()).finish()
+            }
+        }
+    };
+}
+
+part! {
+    /// An iterator over the keys of a [`Map`](crate::Map), in the order of the archive.
+    Keys, K::Ref<'a>, 0
+}
+
+part! {
+    /// An iterator over the values of a [`Map`](crate::Map), in the order of the archive.
+    Values, V, 1
+}

@@ -1,0 +1,273 @@
+use std::fmt;
+use std::marker::PhantomData;
+
+use crate::error::check;
+use crate::iter::{Iter, Keys, Values};
+use crate::raw::{self, RawMap};
+use crate::types::kind;
+use crate::{Error, Key, Value, Width};
+
+/// A map of `K`, which is `u32` or `str`, to `V`, which is `u32` or `u64`, that borrows an archive.
+///
+/// A `Map` is a few words: copy it freely. Lookups and iteration allocate nothing and read the
+/// bytes in place, at any alignment.
+///
+/// # Examples
+/// ```
+/// use rkyv_maps::{Builder, Map, Width};
+///
+/// # fn main() -> Result<(), rkyv_maps::Error> {
+/// let builder = Builder::<str, u64>::from([("main", 0x1139), ("_start", 0x1040)]);
+/// let archive = builder.build(Width::Narrow)?;
+/// let map = Map::<str, u64>::open(archive.as_ref(), Width::Narrow)?;
+/// assert_eq!(map.get("main"), Some(0x1139));
+/// assert_eq!(map.get("puts"), None);
+/// assert_eq!(map.iter().map(|(_, address)| address).max(), Some(0x1139));
+/// # Ok(())
+/// # }
+/// ```
+pub struct Map<'a, K: ?Sized, V> {
+    raw: RawMap,
+    bytes: PhantomData<&'a [u8]>,
+    types: PhantomData<fn(&K) -> V>,
+}
+
+// SAFETY: a map is a shared borrow of bytes, which may be sent to another thread. Its calls only
+// read the bytes, and keep no state.
+unsafe impl<K: ?Sized, V> Send for Map<'_, K, V> {}
+
+// SAFETY: as above. Several threads may read by one handle at the same time.
+unsafe impl<K: ?Sized, V> Sync for Map<'_, K, V> {}
+
+// Not derived: a derived impl would require `K: Copy`, which `str` isn't.
+impl<K: ?Sized, V> Clone for Map<'_, K, V> {
+    fn clone(&self) -> Self {
+        *self
+    }
+}
+
+impl<K: ?Sized, V> Copy for Map<'_, K, V> {}
+
+impl<'a, K: Key + ?Sized, V: Value> Map<'a, K, V> {
+    /// Validates the bytes and opens the map whose archive they are.
+    ///
+    /// Validation reads all bytes once. The bytes don't record their types: see [Types are not
+    /// recorded in the bytes](crate#types-are-not-recorded-in-the-bytes).
+    ///
+    /// # Errors
+    /// The first error of validation:
+    /// - [`Error::OutOfRange`]
+    /// - [`Error::Unaligned`]
+    /// - [`Error::InvalidLength`]
+    /// - [`Error::WrongNumberOfElements`]
+    /// - [`Error::UnwrappedControlByte`]
+    /// - [`Error::InvalidValue`]
+    pub fn open(bytes: &'a [u8], width: Width) -> Result<Self, Error> {
+        let (pointer, length) = (bytes.as_ptr().cast(), bytes.len());
+        let mut raw = RawMap::CLOSED;
+        // SAFETY: pointer and length are those of one slice, which the map borrows.
+        let status =
+            unsafe { raw::rkyv_map_open(pointer, length, kind::<K, V>(), width as u32, &mut raw) };
+        check(status).map(|()| Map {
+            raw,
+            bytes: PhantomData,
+            types: PhantomData,
+        })
+    }
+
+    /// Returns the number of pairs. Pairs with equal keys count separately.
+    pub fn len(&self) -> usize {
+        let mut count = 0;
+        // SAFETY: the map is open and borrows its bytes.
+        let status = unsafe { raw::rkyv_map_count(&self.raw, &mut count) };
+        check(status).expect("the map is open");
+        count
+    }
+
+    /// Returns `true` if the map has no pairs.
+    pub fn is_empty(&self) -> bool {
+        self.len() == 0
+    }
+
+    /// Returns the value of a key, or `None` if the lookup doesn't find the key.
+    ///
+    /// In a map that a [`Builder`](crate::Builder) has built, this is the value of the first pair
+    /// with the key.
+    pub fn get(&self, key: &K) -> Option<V> {
+        let mut value = 0;
+        // SAFETY: the map is open and borrows its bytes.
+        let status = unsafe { K::get(&self.raw, key, &mut value) };
+        found(status).then(|| V::of(value))
+    }
+
+    /// Returns the value of a key.
+    ///
+    /// This takes the role of `Index`, whose result would be a reference to the value. The bytes of
+    /// a value needn't be aligned, so there is no such reference.
+    ///
+    /// # Panics
+    /// If the lookup doesn't find the key.
+    #[track_caller]
+    pub fn at(&self, key: &K) -> V {
+        self.get(key)
+            .unwrap_or_else(|| panic!("no entry found for key {key:?}"))
+    }
+
+    /// Returns `true` if a lookup finds the key.
+    pub fn contains_key(&self, key: &K) -> bool {
+        self.get(key).is_some()
+    }
+
+    /// Returns an iterator over the pairs, in the order of the archive.
+    pub fn iter(&self) -> Iter<'a, K, V> {
+        Iter::new(self.raw, self.len())
+    }
+
+    /// Returns an iterator over the keys, in the order of the archive.
+    pub fn keys(&self) -> Keys<'a, K, V> {
+        Keys::new(self.iter())
+    }
+
+    /// Returns an iterator over the values, in the order of the archive.
+    pub fn values(&self) -> Values<'a, K, V> {
+        Values::new(self.iter())
+    }
+}
+
+impl<K: Key + ?Sized, V: Value> fmt::Debug for Map<'_, K, V> {
+    fn fmt(&self, f: &mut fmt::Formatter<'_>) -> fmt::Result {
+        f.debug_map().entries(self).finish()
+    }
+}
+
+impl<'a, K: Key + ?Sized, V: Value> IntoIterator for Map<'a, K, V> {
+    type Item = (K::Ref<'a>, V);
+    type IntoIter = Iter<'a, K, V>;
+
+    fn into_iter(self) -> Iter<'a, K, V> {
+        self.iter()
+    }
+}
+
+impl<'a, K: Key + ?Sized, V: Value> IntoIterator for &Map<'a, K, V> {
+    type Item = (K::Ref<'a>, V);
+    type IntoIter = Iter<'a, K, V>;
+
+    fn into_iter(self) -> Iter<'a, K, V> {
+        self.iter()
+    }
+}
+
+/// A map whose values can be written in place.
+///
+/// Keys can't be inserted or removed: the bytes keep their length.
+///
+/// # Examples
+/// ```
+/// use rkyv_maps::{Builder, Width};
+///
+/// # fn main() -> Result<(), rkyv_maps::Error> {
+/// let mut archive = Builder::<u32, u32>::from([(1, 10), (2, 20)]).build(Width::Narrow)?;
+/// let mut map = archive.open_mut();
+/// assert!(map.set(&1, 11));
+/// assert!(!map.set(&3, 30));
+/// assert_eq!(map.get(&1), Some(11));
+/// # Ok(())
+/// # }
+/// ```
+pub struct MapMut<'a, K: ?Sized, V> {
+    raw: RawMap,
+    bytes: PhantomData<&'a mut [u8]>,
+    types: PhantomData<fn(&K) -> V>,
+}
+
+// SAFETY: a map is a mutable borrow of bytes, which may be sent to another thread. Its calls keep
+// no state.
+unsafe impl<K: ?Sized, V> Send for MapMut<'_, K, V> {}
+
+// SAFETY: a shared reference to the map only reads the bytes. Writing takes a mutable one.
+unsafe impl<K: ?Sized, V> Sync for MapMut<'_, K, V> {}
+
+impl<'a, K: Key + ?Sized, V: Value> MapMut<'a, K, V> {
+    /// Validates the bytes and opens the map whose archive they are, to read and to write.
+    ///
+    /// # Errors
+    /// As [`Map::open`].
+    pub fn open(bytes: &'a mut [u8], width: Width) -> Result<Self, Error> {
+        let (pointer, length) = (bytes.as_mut_ptr().cast(), bytes.len());
+        let kind = kind::<K, V>();
+        let mut raw = RawMap::CLOSED;
+        // SAFETY: pointer and length are those of one slice, which the map borrows mutably.
+        let status =
+            unsafe { raw::rkyv_map_open_writable(pointer, length, kind, width as u32, &mut raw) };
+        check(status).map(|()| MapMut {
+            raw,
+            bytes: PhantomData,
+            types: PhantomData,
+        })
+    }
+
+    /// Reborrows the map, to read.
+    pub fn as_map(&self) -> Map<'_, K, V> {
+        Map {
+            raw: self.raw,
+            bytes: PhantomData,
+            types: PhantomData,
+        }
+    }
+
+    /// Returns the number of pairs. Pairs with equal keys count separately.
+    pub fn len(&self) -> usize {
+        self.as_map().len()
+    }
+
+    /// Returns `true` if the map has no pairs.
+    pub fn is_empty(&self) -> bool {
+        self.as_map().is_empty()
+    }
+
+    /// Returns the value of a key, as [`Map::get`] does.
+    pub fn get(&self, key: &K) -> Option<V> {
+        self.as_map().get(key)
+    }
+
+    /// Returns `true` if a lookup finds the key.
+    pub fn contains_key(&self, key: &K) -> bool {
+        self.as_map().contains_key(key)
+    }
+
+    /// Writes the value that [`get`](MapMut::get) returns, in place.
+    ///
+    /// Returns `false`, and changes nothing, if the lookup doesn't find the key.
+    #[must_use = "the value is not written if the key is not found"]
+    pub fn set(&mut self, key: &K, value: V) -> bool {
+        // SAFETY: the map is open and borrows its bytes mutably.
+        found(unsafe { K::set(&self.raw, key, value.into()) })
+    }
+}
+
+impl<'a, K: Key + ?Sized, V: Value> From<MapMut<'a, K, V>> for Map<'a, K, V> {
+    /// Ends writing: the map borrows the bytes for the same lifetime.
+    fn from(map: MapMut<'a, K, V>) -> Self {
+        Map {
+            raw: map.raw,
+            bytes: PhantomData,
+            types: PhantomData,
+        }
+    }
+}
+
+impl<K: Key + ?Sized, V: Value> fmt::Debug for MapMut<'_, K, V> {
+    fn fmt(&self, f: &mut fmt::Formatter<'_>) -> fmt::Result {
+        self.as_map().fmt(f)
+    }
+}
+
+/// Whether a key is found, by the status of a call with an open map.
+fn found(status: u32) -> bool {
+    if status == raw::NOT_FOUND {
+        return false;
+    }
+    check(status).expect("the map is open, and writable if it is written");
+    true
+}

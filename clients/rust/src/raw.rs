@@ -1,0 +1,95 @@
+//! The declarations of `../c/rkyv.h`.
+
+use std::ffi::c_void;
+
+/// A handle: the `rkyv_map` of the header.
+#[repr(C)]
+#[derive(Clone, Copy)]
+pub struct RawMap {
+    bytes: *const u8,
+    writable: *mut u8,
+    length: usize,
+    kind: u32,
+    width: u32,
+}
+
+impl RawMap {
+    /// A handle of no open map, which the calls that open fill.
+    pub const CLOSED: RawMap = RawMap {
+        bytes: std::ptr::null(),
+        writable: std::ptr::null_mut(),
+        length: 0,
+        kind: 0,
+        width: 0,
+    };
+}
+
+/// A pair of a map with number keys: the `rkyv_number_pair` of the header.
+#[repr(C)]
+pub struct RawNumberPair {
+    pub next: u64,
+    pub value: u64,
+    pub key: u32,
+}
+
+/// A pair of a map with text keys: the `rkyv_text_pair` of the header.
+#[repr(C)]
+pub struct RawTextPair {
+    pub next: u64,
+    pub value: u64,
+    pub key: *const u8,
+    pub key_length: usize,
+}
+
+/// A builder: the `rkyv_builder` of the header.
+#[repr(C)]
+pub struct RawBuilder {
+    _private: [u8; 0],
+}
+
+pub const OK: u32 = 0;
+pub const NOT_FOUND: u32 = 1;
+
+unsafe extern "C" {
+    pub fn rkyv_map_open(
+        bytes: *const c_void,
+        length: usize,
+        kind: u32,
+        width: u32,
+        map: *mut RawMap,
+    ) -> u32;
+    pub fn rkyv_map_open_writable(
+        bytes: *mut c_void,
+        length: usize,
+        kind: u32,
+        width: u32,
+        map: *mut RawMap,
+    ) -> u32;
+    pub fn rkyv_map_count(map: *const RawMap, count: *mut usize) -> u32;
+    pub fn rkyv_map_get_number(map: *const RawMap, key: u32, value: *mut u64) -> u32;
+    pub fn rkyv_map_get_text(
+        map: *const RawMap,
+        key: *const u8,
+        length: usize,
+        value: *mut u64,
+    ) -> u32;
+    pub fn rkyv_map_set_number(map: *const RawMap, key: u32, value: u64) -> u32;
+    pub fn rkyv_map_set_text(map: *const RawMap, key: *const u8, length: usize, value: u64) -> u32;
+    pub fn rkyv_map_next_number(map: *const RawMap, pair: *mut RawNumberPair) -> u32;
+    pub fn rkyv_map_next_text(map: *const RawMap, pair: *mut RawTextPair) -> u32;
+    pub fn rkyv_builder_new(kind: u32, width: u32, builder: *mut *mut RawBuilder) -> u32;
+    pub fn rkyv_builder_put_number(builder: *mut RawBuilder, key: u32, value: u64) -> u32;
+    pub fn rkyv_builder_put_text(
+        builder: *mut RawBuilder,
+        key: *const u8,
+        length: usize,
+        value: u64,
+    ) -> u32;
+    pub fn rkyv_builder_finish(
+        builder: *mut RawBuilder,
+        bytes: *mut *mut u8,
+        length: *mut usize,
+    ) -> u32;
+    pub fn rkyv_builder_free(builder: *mut RawBuilder);
+    pub fn rkyv_bytes_free(bytes: *mut u8);
+}
