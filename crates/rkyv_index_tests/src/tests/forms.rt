@@ -56,12 +56,7 @@ fn member(bytes: &[u8], key: i8) -> Result<Member, VerifyError> {
         Some(key) => Some(key.to_native()),
         None => None,
     };
-    Ok((
-        full,
-        stored,
-        set.get_index_of(&key),
-        set.contains(&key),
-    ))
+    Ok((full, stored, set.get_index_of(&key), set.contains(&key)))
 }
 
 // The results of the forms for a pair that is found.
