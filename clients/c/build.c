@@ -3,7 +3,7 @@
  *     build KIND WIDTH FILE < PAIRS
  *
  * KIND is the number of a `rkyv_kind`. A pair is a line `VALUE KEY`. The last status is printed.
- * The file is written only if it is RKYV_OK. */
+ * The file is written only if it is RKYV_OK. If it can't be written, the program exits with 1. */
 #include "rkyv.h"
 
 #include <stdio.h>
@@ -46,6 +46,9 @@ int main(int count, char **words) {
     rkyv_builder_free(builder);
     printf("%s\n", rkyv_status_name(status));
     int failed = status == RKYV_OK && !written(words[3], bytes, length);
+    if (failed) {
+        perror(words[3]);
+    }
     rkyv_bytes_free(bytes);
     return failed;
 }

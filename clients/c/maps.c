@@ -4,7 +4,7 @@
  *
  * KIND is the number of a `rkyv_kind`. A command is a line `get KEY`, `set KEY VALUE`, `count` or
  * `list`. Each prints its status and result on a line; `list` prints a line for each pair. `set`
- * doesn't change the file. */
+ * doesn't change the file. If the file can't be read, the program exits with 1. */
 #include "rkyv.h"
 
 #include <stdio.h>
@@ -57,14 +57,19 @@ static void run(int of_texts, char *line) {
 /* Reads a file. Returns null if that fails. */
 static void *bytes_of(const char *path, size_t *length) {
     FILE *file = fopen(path, "rb");
-    if (file == NULL || fseek(file, 0, SEEK_END) != 0) {
-        return NULL;
+    long size = file != NULL && fseek(file, 0, SEEK_END) == 0 ? ftell(file) : -1;
+    void *bytes = size < 0 ? NULL : malloc(size != 0 ? (size_t)size : 1);
+    if (bytes != NULL) {
+        rewind(file);
+        *length = fread(bytes, 1, (size_t)size, file);
+        if (*length != (size_t)size) {
+            free(bytes);
+            bytes = NULL;
+        }
     }
-    long size = ftell(file);
-    void *bytes = size < 0 ? NULL : malloc((size_t)size + 1);
-    rewind(file);
-    *length = bytes != NULL ? fread(bytes, 1, (size_t)size, file) : 0;
-    fclose(file);
+    if (file != NULL) {
+        fclose(file);
+    }
     return bytes;
 }
 
@@ -77,6 +82,10 @@ int main(int count, char **words) {
     }
     uint32_t kind = (uint32_t)strtoul(words[1], NULL, 10);
     void *bytes = bytes_of(words[3], &length);
+    if (bytes == NULL) {
+        perror(words[3]);
+        return 1;
+    }
     rkyv_status status = rkyv_map_open_writable(bytes, length, kind,
                                                 (uint32_t)strtoul(words[2], NULL, 10), &map);
     printf("%s\n", rkyv_status_name(status));

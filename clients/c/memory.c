@@ -4,7 +4,8 @@
 #include <stdlib.h>
 
 static struct rattle_block result_of(void *block) {
-    return (struct rattle_block){block != NULL, block};
+    const struct rattle_block result = {block != NULL, block};
+    return result;
 }
 
 /* `malloc` aligns a block to each power of two up to 16 that divides its size. A block of size 0 is

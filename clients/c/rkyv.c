@@ -1,4 +1,5 @@
-/* The calls of rkyv.h. Each tests its arguments and then calls the proved library. */
+/* The calls of rkyv.h. Each tests its arguments and then calls the proved library. This file is
+ * C99, and C++11 too: hence the casts. */
 #include "rkyv.h"
 
 #include "memory.h"
@@ -24,6 +25,10 @@ typedef struct built {
     size_t length;
 } built;
 
+#ifdef __cplusplus
+extern "C" {
+#endif
+
 /* The proved library. The functions that count, get, set and return the next pair require valid
  * bytes: the function that opens has returned 0 for them. The others require nothing. */
 uint32_t rkyv_c_open_numbers(const uint8_t *archive, size_t length, bool long_values, bool wide);
@@ -47,6 +52,10 @@ uint32_t rkyv_c_build_numbers(const number_item *items, size_t count, bool long_
                               built *built);
 uint32_t rkyv_c_build_texts(const text_item *items, size_t count, bool long_values, bool wide,
                             built *built);
+
+#ifdef __cplusplus
+}
+#endif
 
 /* Replaces a null pointer of no bytes, since the library takes no null pointers. */
 static const uint8_t nothing[1] = {0};
@@ -88,7 +97,7 @@ static rkyv_status check_bytes(const void *bytes, size_t length) {
 }
 
 static const uint8_t *bytes_of(const void *bytes) {
-    return bytes != NULL ? bytes : nothing;
+    return bytes != NULL ? (const uint8_t *)bytes : nothing;
 }
 
 const char *rkyv_status_name(uint32_t status) {
@@ -124,12 +133,13 @@ const char *rkyv_status_name(uint32_t status) {
     }
 }
 
-static rkyv_status open_map(const void *bytes, uint8_t *writable, size_t length, uint32_t kind,
+static rkyv_status open_map(const void *bytes, void *writable, size_t length, uint32_t kind,
                             uint32_t width, rkyv_map *map) {
+    const rkyv_map closed = {NULL, NULL, 0, 0, 0};
     if (map == NULL) {
         return RKYV_NULL;
     }
-    *map = (rkyv_map){NULL, NULL, 0, 0, 0};
+    *map = closed;
     if (!is_of_numbers(kind) && !is_of_texts(kind)) {
         return RKYV_UNKNOWN_KIND;
     }
@@ -141,11 +151,13 @@ static rkyv_status open_map(const void *bytes, uint8_t *writable, size_t length,
         return status;
     }
     const uint8_t *archive = bytes_of(bytes);
-    status = is_of_texts(kind)
-        ? rkyv_c_open_texts(archive, length, has_long_values(kind), width == 64)
-        : rkyv_c_open_numbers(archive, length, has_long_values(kind), width == 64);
+    status = (rkyv_status)(
+        is_of_texts(kind)
+            ? rkyv_c_open_texts(archive, length, has_long_values(kind), width == 64)
+            : rkyv_c_open_numbers(archive, length, has_long_values(kind), width == 64));
     if (status == RKYV_OK) {
-        *map = (rkyv_map){archive, writable, length, kind, width};
+        const rkyv_map opened = {archive, (uint8_t *)writable, length, kind, width};
+        *map = opened;
     }
     return status;
 }
@@ -188,8 +200,8 @@ rkyv_status rkyv_map_get_number(const rkyv_map *map, uint32_t key, uint64_t *val
     if (value == NULL) {
         return RKYV_NULL;
     }
-    return rkyv_c_get_number(map->bytes, map->length, has_long_values(map->kind), is_wide(map), key,
-                             value);
+    return (rkyv_status)rkyv_c_get_number(map->bytes, map->length, has_long_values(map->kind),
+                                          is_wide(map), key, value);
 }
 
 rkyv_status rkyv_map_get_text(const rkyv_map *map, const char *key, size_t length,
@@ -204,8 +216,8 @@ rkyv_status rkyv_map_get_text(const rkyv_map *map, const char *key, size_t lengt
     if (value == NULL) {
         return RKYV_NULL;
     }
-    return rkyv_c_get_text(map->bytes, map->length, has_long_values(map->kind), is_wide(map),
-                           bytes_of(key), length, value);
+    return (rkyv_status)rkyv_c_get_text(map->bytes, map->length, has_long_values(map->kind),
+                                        is_wide(map), bytes_of(key), length, value);
 }
 
 rkyv_status rkyv_map_set_number(const rkyv_map *map, uint32_t key, uint64_t value) {
@@ -216,8 +228,8 @@ rkyv_status rkyv_map_set_number(const rkyv_map *map, uint32_t key, uint64_t valu
     if (map->writable == NULL) {
         return RKYV_READ_ONLY;
     }
-    return rkyv_c_set_number(map->writable, map->length, has_long_values(map->kind), is_wide(map),
-                             key, value);
+    return (rkyv_status)rkyv_c_set_number(map->writable, map->length, has_long_values(map->kind),
+                                          is_wide(map), key, value);
 }
 
 rkyv_status rkyv_map_set_text(const rkyv_map *map, const char *key, size_t length,
@@ -232,8 +244,8 @@ rkyv_status rkyv_map_set_text(const rkyv_map *map, const char *key, size_t lengt
     if (map->writable == NULL) {
         return RKYV_READ_ONLY;
     }
-    return rkyv_c_set_text(map->writable, map->length, has_long_values(map->kind), is_wide(map),
-                           bytes_of(key), length, value);
+    return (rkyv_status)rkyv_c_set_text(map->writable, map->length, has_long_values(map->kind),
+                                        is_wide(map), bytes_of(key), length, value);
 }
 
 rkyv_status rkyv_map_next_number(const rkyv_map *map, rkyv_number_pair *pair) {
@@ -244,8 +256,8 @@ rkyv_status rkyv_map_next_number(const rkyv_map *map, rkyv_number_pair *pair) {
     if (pair == NULL) {
         return RKYV_NULL;
     }
-    return rkyv_c_next_number(map->bytes, map->length, has_long_values(map->kind), is_wide(map),
-                              pair);
+    return (rkyv_status)rkyv_c_next_number(map->bytes, map->length, has_long_values(map->kind),
+                                           is_wide(map), pair);
 }
 
 rkyv_status rkyv_map_next_text(const rkyv_map *map, rkyv_text_pair *pair) {
@@ -258,8 +270,8 @@ rkyv_status rkyv_map_next_text(const rkyv_map *map, rkyv_text_pair *pair) {
     }
     /* The key of the caller's pair may be null, but not that of the library's. */
     rkyv_text_pair next = {pair->next, 0, (const char *)nothing, 0};
-    status = rkyv_c_next_text(map->bytes, map->length, has_long_values(map->kind), is_wide(map),
-                              &next);
+    status = (rkyv_status)rkyv_c_next_text(map->bytes, map->length, has_long_values(map->kind),
+                                           is_wide(map), &next);
     if (status == RKYV_OK) {
         *pair = next;
     }
@@ -306,6 +318,7 @@ static rkyv_status grow(void **array, size_t *room, size_t count, size_t more, s
 }
 
 rkyv_status rkyv_builder_new(uint32_t kind, uint32_t width, rkyv_builder **builder) {
+    const rkyv_builder empty = {NULL, 0, 0, NULL, 0, 0, kind, width};
     if (builder == NULL) {
         return RKYV_NULL;
     }
@@ -320,8 +333,8 @@ rkyv_status rkyv_builder_new(uint32_t kind, uint32_t width, rkyv_builder **build
     if (!made.is_there) {
         return RKYV_NO_MEMORY;
     }
-    *builder = made.block;
-    **builder = (rkyv_builder){.kind = kind, .width = width};
+    *builder = (rkyv_builder *)made.block;
+    **builder = empty;
     return RKYV_OK;
 }
 
@@ -343,8 +356,8 @@ rkyv_status rkyv_builder_put_number(rkyv_builder *builder, uint32_t key, uint64_
         status = grow(&builder->items, &builder->room, builder->count, 1, sizeof(number_item));
     }
     if (status == RKYV_OK) {
-        number_item *items = builder->items;
-        items[builder->count++] = (number_item){value, key};
+        const number_item item = {value, key};
+        ((number_item *)builder->items)[builder->count++] = item;
     }
     return status;
 }
@@ -361,39 +374,41 @@ rkyv_status rkyv_builder_put_text(rkyv_builder *builder, const char *key, size_t
     if (status == RKYV_OK) {
         void *keys = builder->keys;
         status = grow(&keys, &builder->keys_room, builder->keys_length, length, 1);
-        builder->keys = keys;
+        builder->keys = (uint8_t *)keys;
     }
     if (status == RKYV_OK) {
         status = grow(&builder->items, &builder->room, builder->count, 1, sizeof(text_item));
     }
     if (status == RKYV_OK) {
-        text_item *items = builder->items;
+        const text_item item = {NULL, length, value};
         if (length != 0) {
             memcpy(builder->keys + builder->keys_length, key, length);
         }
         builder->keys_length += length;
-        items[builder->count++] = (text_item){NULL, length, value};
+        ((text_item *)builder->items)[builder->count++] = item;
     }
     return status;
 }
 
 static rkyv_status build_numbers(const rkyv_builder *builder, built *made) {
-    static const number_item none[1];
-    const number_item *items = builder->items != NULL ? builder->items : none;
-    return rkyv_c_build_numbers(items, builder->count, has_long_values(builder->kind),
-                                builder->width == 64, made);
+    static const number_item none[1] = {{0, 0}};
+    const number_item *items = (const number_item *)builder->items;
+    return (rkyv_status)rkyv_c_build_numbers(items != NULL ? items : none, builder->count,
+                                             has_long_values(builder->kind), builder->width == 64,
+                                             made);
 }
 
 static rkyv_status build_texts(rkyv_builder *builder, built *made) {
-    static const text_item none[1];
-    text_item *items = builder->items;
+    static const text_item none[1] = {{NULL, 0, 0}};
+    text_item *items = (text_item *)builder->items;
     const uint8_t *key = builder->keys != NULL ? builder->keys : nothing;
     for (size_t i = 0; i < builder->count; i++) {
         items[i].key = key;
         key += items[i].key_length;
     }
-    return rkyv_c_build_texts(items != NULL ? items : none, builder->count,
-                              has_long_values(builder->kind), builder->width == 64, made);
+    return (rkyv_status)rkyv_c_build_texts(items != NULL ? items : none, builder->count,
+                                           has_long_values(builder->kind), builder->width == 64,
+                                           made);
 }
 
 rkyv_status rkyv_builder_finish(rkyv_builder *builder, uint8_t **bytes, size_t *length) {
@@ -415,7 +430,7 @@ void rkyv_builder_free(rkyv_builder *builder) {
     if (builder == NULL) {
         return;
     }
-    rkyv_bytes_free(builder->items);
+    rkyv_bytes_free((uint8_t *)builder->items);
     rkyv_bytes_free(builder->keys);
     rattle_dealloc(builder);
 }

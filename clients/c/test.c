@@ -1,6 +1,7 @@
 /* A test of rkyv.h: each call, and each error that small inputs can cause, with two archives that
  * are written out by hand. Prints the differences, and exits with 1 if there are any. The functions
- * of memory.h are here: they count the blocks, and let one request fail if a test asks for it. */
+ * of memory.h are here: they count the blocks, and let one request fail if a test asks for it. This
+ * file is C99, and C++11 too. */
 #include "rkyv.h"
 
 #include "memory.h"
@@ -16,14 +17,16 @@ static size_t blocks, requests, failing = SIZE_MAX;
 
 struct rattle_block rattle_alloc(size_t size, size_t align) {
     void *block = requests++ == failing ? NULL : malloc(size != 0 ? size : align);
+    const struct rattle_block result = {block != NULL, block};
     blocks += block != NULL;
-    return (struct rattle_block){block != NULL, block};
+    return result;
 }
 
 struct rattle_block rattle_realloc(void *block, size_t kept, size_t size, size_t align) {
     (void)kept;
     void *grown = requests++ == failing ? NULL : realloc(block, size != 0 ? size : align);
-    return (struct rattle_block){grown != NULL, grown};
+    const struct rattle_block result = {grown != NULL, grown};
+    return result;
 }
 
 void rattle_dealloc(void *block) {
@@ -49,11 +52,14 @@ static void returns(const char *what, rkyv_status got, rkyv_status wanted) {
  * bytes, and the header. The hash of 1 is 517cc1b727220a95. It is odd, so the pair is in bucket 1
  * of two, which comes first in the bytes. The tag of the hash is 28. */
 static size_t one_to_two(uint8_t *bytes) {
+    static const uint8_t buckets[] = {1, 0, 0, 0, 2, 0, 0, 0, 0, 0, 0, 0, 0, 0, 0, 0};
+    static const uint8_t controls[] = {0xff, 0x28, 0xff, 0x28};
+    static const uint8_t header[] = {0xe0, 0xff, 0xff, 0xff, 1, 0, 0, 0, 2, 0, 0, 0};
     memset(bytes, 0xff, 60);
-    memcpy(bytes, (uint8_t[]){1, 0, 0, 0, 2, 0, 0, 0}, 8);
-    memset(bytes + 8, 0, 8);
-    memcpy(bytes + 16, (uint8_t[]){0xff, 0x28, 0xff, 0x28}, 4);
-    memcpy(bytes + 47, (uint8_t[]){0, 0xe0, 0xff, 0xff, 0xff, 1, 0, 0, 0, 2, 0, 0, 0}, 13);
+    memcpy(bytes, buckets, sizeof buckets);
+    memcpy(bytes + 16, controls, sizeof controls);
+    bytes[47] = 0;
+    memcpy(bytes + 48, header, sizeof header);
     return 60;
 }
 
@@ -176,6 +182,7 @@ static void errors(void) {
     uint64_t value = 9;
     size_t length = one_to_two(bytes), count;
     rkyv_map map, closed = {NULL, NULL, 0, 0, 0};
+    rkyv_number_pair pair = {0, 0, 0};
 
     returns("no map", rkyv_map_open(bytes, length, RKYV_NUMBER_TO_U32, 32, NULL), RKYV_NULL);
     returns("null", rkyv_map_open(NULL, 1, RKYV_NUMBER_TO_U32, 32, &map), RKYV_NULL);
@@ -187,7 +194,7 @@ static void errors(void) {
     returns("width 16", rkyv_map_open(bytes, length, RKYV_NUMBER_TO_U32, 16, &map),
             RKYV_UNKNOWN_WIDTH);
     returns("closed", rkyv_map_count(&closed, &count), RKYV_CLOSED);
-    returns("closed", rkyv_map_next_number(&closed, &(rkyv_number_pair){0, 0, 0}), RKYV_CLOSED);
+    returns("closed", rkyv_map_next_number(&closed, &pair), RKYV_CLOSED);
 
     returns("empty", rkyv_map_open(NULL, 0, RKYV_NUMBER_TO_U32, 32, &map), RKYV_OUT_OF_RANGE);
     returns("cut", rkyv_map_open(bytes, length - 1, RKYV_NUMBER_TO_U32, 32, &map), RKYV_UNALIGNED);
@@ -213,6 +220,7 @@ static void makes(rkyv_builder *builder, const uint8_t *wanted, size_t wanted_le
 }
 
 static void built_numbers(void) {
+    static const uint8_t empty[] = {1, 0, 0, 0, 0, 0, 0, 0, 0, 0, 0, 0};
     uint8_t wanted[64], *bytes = NULL;
     size_t length = one_to_two(wanted);
     uint64_t value = 9;
@@ -222,7 +230,7 @@ static void built_numbers(void) {
     returns("new", rkyv_builder_new(RKYV_NUMBER_TO_U32, 32, &builder), RKYV_OK);
     returns("put too much", rkyv_builder_put_number(builder, 1, 1ull << 32), RKYV_VALUE_TOO_LARGE);
     returns("put a text", rkyv_builder_put_text(builder, "a", 1, 2), RKYV_WRONG_KIND);
-    makes(builder, (uint8_t[]){1, 0, 0, 0, 0, 0, 0, 0, 0, 0, 0, 0}, 12);
+    makes(builder, empty, sizeof empty);
     returns("put", rkyv_builder_put_number(builder, 1, 2), RKYV_OK);
     makes(builder, wanted, length);
     makes(builder, wanted, length);
@@ -343,8 +351,16 @@ struct built {
     size_t length;
 };
 
+#ifdef __cplusplus
+extern "C"
+#endif
 uint32_t rkyv_c_build_texts(const struct text_item *items, size_t count, bool long_values,
                             bool wide, struct built *built);
+
+static rkyv_status build_texts(const struct text_item *items, size_t count, bool long_values,
+                               struct built *built) {
+    return (rkyv_status)rkyv_c_build_texts(items, count, long_values, false, built);
+}
 
 /* The errors of the library's own tests of keys and values. The bytes of the long text are zeros
  * that are only read, so they take no memory. */
@@ -356,12 +372,10 @@ static void invalid_items(void) {
     struct text_item items[] = {
         {"a", 1, 2}, {"\xff", 1, 2}, {"b", 1, 1ull << 32}, {zeros, limit, 2},
     };
-    returns("no text", rkyv_c_build_texts(items, 2, true, false, &built), RKYV_NOT_TEXT);
-    returns("a large value", rkyv_c_build_texts(items + 2, 1, false, false, &built),
-            RKYV_VALUE_TOO_LARGE);
+    returns("no text", build_texts(items, 2, true, &built), RKYV_NOT_TEXT);
+    returns("a large value", build_texts(items + 2, 1, false, &built), RKYV_VALUE_TOO_LARGE);
     if (zeros != NULL) {
-        returns("a long text", rkyv_c_build_texts(items + 3, 1, false, false, &built),
-                RKYV_TEXT_TOO_LONG);
+        returns("a long text", build_texts(items + 3, 1, false, &built), RKYV_TEXT_TOO_LONG);
     }
     same("kept", built.bytes == none && built.length == 0, 1);
     same("blocks", blocks, 0);
