@@ -54,6 +54,13 @@ impl<K: Key + ?Sized, V: Value> Builder<K, V> {
         self.values.reserve(additional);
     }
 
+    /// Returns the number of pairs that the builder has room for without allocating.
+    ///
+    /// The bytes of text keys are not counted.
+    pub fn capacity(&self) -> usize {
+        K::capacity(&self.keys).min(self.values.capacity())
+    }
+
     /// Returns the number of pairs. Pairs with equal keys count separately.
     pub fn len(&self) -> usize {
         self.values.len()

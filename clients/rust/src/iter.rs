@@ -6,6 +6,7 @@ use crate::raw::RawMap;
 use crate::{Key, Value};
 
 /// An iterator over the pairs of a [`Map`](crate::Map), in the order of the archive.
+#[must_use = "iterators are lazy and do nothing unless consumed"]
 pub struct Iter<'a, K: ?Sized, V> {
     raw: RawMap,
     next: u64,
@@ -75,6 +76,7 @@ impl<K: Key + ?Sized, V: Value> fmt::Debug for Iter<'_, K, V> {
 macro_rules! part {
     ($(#[$doc:meta])* $name:ident, $item:ty, $index:tt) => {
         $(#[$doc])*
+        #[must_use = "iterators are lazy and do nothing unless consumed"]
         pub struct $name<'a, K: ?Sized, V> {
             pairs: Iter<'a, K, V>,
         }

@@ -231,9 +231,33 @@ impl<'a, K: Key + ?Sized, V: Value> MapMut<'a, K, V> {
         self.as_map().get(key)
     }
 
+    /// Returns the value of a key, as [`Map::at`] does.
+    ///
+    /// # Panics
+    /// If the lookup doesn't find the key.
+    #[track_caller]
+    pub fn at(&self, key: &K) -> V {
+        self.as_map().at(key)
+    }
+
     /// Returns `true` if a lookup finds the key.
     pub fn contains_key(&self, key: &K) -> bool {
         self.as_map().contains_key(key)
+    }
+
+    /// Returns an iterator over the pairs, in the order of the archive.
+    pub fn iter(&self) -> Iter<'_, K, V> {
+        self.as_map().iter()
+    }
+
+    /// Returns an iterator over the keys, in the order of the archive.
+    pub fn keys(&self) -> Keys<'_, K, V> {
+        self.as_map().keys()
+    }
+
+    /// Returns an iterator over the values, in the order of the archive.
+    pub fn values(&self) -> Values<'_, K, V> {
+        self.as_map().values()
     }
 
     /// Writes the value that [`get`](MapMut::get) returns, in place.
@@ -243,6 +267,15 @@ impl<'a, K: Key + ?Sized, V: Value> MapMut<'a, K, V> {
     pub fn set(&mut self, key: &K, value: V) -> bool {
         // SAFETY: the map is open and borrows its bytes mutably.
         found(unsafe { K::set(&self.raw, key, value.into()) })
+    }
+}
+
+impl<'m, K: Key + ?Sized, V: Value> IntoIterator for &'m MapMut<'_, K, V> {
+    type Item = (K::Ref<'m>, V);
+    type IntoIter = Iter<'m, K, V>;
+
+    fn into_iter(self) -> Iter<'m, K, V> {
+        self.iter()
     }
 }
 

@@ -85,6 +85,8 @@ pub(crate) mod sealed {
 
         fn reserve(keys: &mut Self::Keys, additional: usize);
 
+        fn capacity(keys: &Self::Keys) -> usize;
+
         fn push(keys: &mut Self::Keys, key: &Self);
 
         fn iter(keys: &Self::Keys) -> impl Iterator<Item = &Self>;
@@ -137,6 +139,10 @@ impl SealedKey for u32 {
         keys.reserve(additional);
     }
 
+    fn capacity(keys: &Vec<u32>) -> usize {
+        keys.capacity()
+    }
+
     fn push(keys: &mut Vec<u32>, key: &u32) {
         keys.push(*key);
     }
@@ -183,6 +189,10 @@ impl SealedKey for str {
 
     fn reserve(keys: &mut Texts, additional: usize) {
         keys.ends.reserve(additional);
+    }
+
+    fn capacity(keys: &Texts) -> usize {
+        keys.ends.capacity()
     }
 
     fn push(keys: &mut Texts, key: &str) {

@@ -3,7 +3,7 @@
 use std::borrow::Borrow;
 use std::collections::HashMap;
 use std::iter::FusedIterator;
-use std::panic::catch_unwind;
+use std::panic::{catch_unwind, RefUnwindSafe, UnwindSafe};
 
 use rkyv_maps::{Archive, Builder, Error, Iter, Key, Keys, Map, MapMut, Value, Values, Width};
 
@@ -82,6 +82,9 @@ fn values_are_written_in_place() {
         (1, false, true)
     );
     assert_eq!(format!("{map:?}"), r#"{"": 18446744073709551615}"#);
+    assert_eq!(map.at(""), u64::MAX);
+    assert!(map.iter().eq([("", u64::MAX)]) && map.iter().eq(&map));
+    assert!(map.keys().eq([""]) && map.values().eq([u64::MAX]));
     let map = Map::from(map);
     assert_eq!(map.get(""), Some(u64::MAX));
     let map = Map::<str, u64>::open(&bytes, Width::Wide).unwrap();
@@ -161,7 +164,8 @@ fn errors_display_sentences() {
 #[test]
 fn builders_keep_their_pairs() {
     let mut builder = Builder::<u32, u32>::with_capacity(3);
-    assert!(builder.is_empty());
+    assert!(builder.is_empty() && builder.capacity() >= 3);
+    assert!(Builder::<str, u64>::with_capacity(30).capacity() >= 30);
     let empty = builder.build(Width::Narrow).unwrap();
     builder.push(&1, 2);
     let archive = builder.build(Width::Narrow).unwrap();
@@ -308,6 +312,15 @@ fn threads_share_a_map() {
         found(1) + even.join().unwrap()
     });
     assert_eq!(sum, 4950 << 40);
+}
+
+/// The auto traits hold in generic code, whose bounds are those of the traits alone.
+#[allow(dead_code)]
+const fn generic<K: Key + ?Sized, V: Value>() {
+    const fn is_safe<T: Send + Sync + UnwindSafe + RefUnwindSafe>() {}
+    is_safe::<Map<'static, K, V>>();
+    is_safe::<Iter<'static, K, V>>();
+    is_safe::<Archive<K, V>>();
 }
 
 /// Asserted at compile time.
