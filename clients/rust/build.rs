@@ -1,8 +1,8 @@
 //! Links the static library `librkyv_c.a` and the C functions of `../c`, which it compiles.
 //!
 //! `RKYV_C_LIBRARY` is the library's path. If it isn't set, the library is expected where `rt lib`
-//! leaves it, in `../../crates/rkyv_c/out`. If it isn't there, nothing is compiled or linked:
-//! `cargo check`, `cargo clippy` and `cargo doc` work, and a warning says how to give the path.
+//! leaves it, in `../../crates/rkyv_c/out`. If it isn't there, `cargo check`, `cargo clippy` and
+//! `cargo doc` work, building fails, and a warning says how to give the path.
 //!
 //! `CC` and `AR` are the C compiler and the archiver, `cc` and `ar` by default.
 
@@ -81,6 +81,8 @@ fn main() {
             "cargo::warning=librkyv_c.a is not built, so programs cannot be linked. \
              Run `rt lib` in crates/rkyv_c, or set {VARIABLE} to the path of the library."
         );
+        // Building then fails with one error, and not with one for each call.
+        println!("cargo::rustc-link-lib=static:+verbatim=librkyv_c.a");
         return;
     };
     compile(&here.join("../c"), &out);

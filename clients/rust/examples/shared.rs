@@ -5,7 +5,7 @@
 //! ```
 //!
 //! A map is a view of borrowed bytes, which is `Copy`, `Send` and `Sync`. So scoped threads share
-//! it without a lock and without `Arc`.
+//! it without a lock and without `Arc`. The example `dictionary` has threads that are not scoped.
 
 use std::thread;
 

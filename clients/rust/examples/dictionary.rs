@@ -1,0 +1,88 @@
+//! A dictionary that all threads of a program share, over one mapping of a file.
+//!
+//! ```sh
+//! cargo run --example dictionary
+//! ```
+//!
+//! The mapping is never unmapped, so the map has the lifetime `'static`. The file is validated
+//! once. Any thread then copies the map from a static variable, without a lock. In the example
+//! `shared` the threads end before the bytes do.
+
+mod mapping;
+
+use std::error::Error;
+use std::fs;
+use std::sync::OnceLock;
+use std::thread;
+
+use mapping::{Mapping, Temporary};
+use rkyv_maps::{Builder, Map, Width};
+
+static BYTES: OnceLock<Mapping> = OnceLock::new();
+static DICTIONARY: OnceLock<Map<'static, str, u32>> = OnceLock::new();
+
+/// The dictionary, which `main` opens before it starts threads.
+fn dictionary() -> Map<'static, str, u32> {
+    *DICTIONARY.get().expect("the dictionary is open")
+}
+
+/// The number that the dictionary has for a numeral, such as "seventy-two".
+fn number(words: &str) -> Option<u32> {
+    words.split('-').map(|word| dictionary().get(word)).sum()
+}
+
+const NUMERALS: [(&str, u32); 27] = [
+    ("one", 1),
+    ("two", 2),
+    ("three", 3),
+    ("four", 4),
+    ("five", 5),
+    ("six", 6),
+    ("seven", 7),
+    ("eight", 8),
+    ("nine", 9),
+    ("ten", 10),
+    ("eleven", 11),
+    ("twelve", 12),
+    ("thirteen", 13),
+    ("fourteen", 14),
+    ("fifteen", 15),
+    ("sixteen", 16),
+    ("seventeen", 17),
+    ("eighteen", 18),
+    ("nineteen", 19),
+    ("twenty", 20),
+    ("thirty", 30),
+    ("forty", 40),
+    ("fifty", 50),
+    ("sixty", 60),
+    ("seventy", 70),
+    ("eighty", 80),
+    ("ninety", 90),
+];
+
+fn main() -> Result<(), Box<dyn Error>> {
+    let file = Temporary::new("numerals.str-u32-narrow");
+    let archive = Builder::<str, u32>::from(NUMERALS).build(Width::Narrow)?;
+    fs::write(&*file, archive)?;
+
+    // SAFETY: the name of the file has the number of this process, so nobody else uses it.
+    let mapping = unsafe { Mapping::open(&file)? };
+    let map = Map::open(BYTES.get_or_init(|| mapping), Width::Narrow)?;
+    DICTIONARY.get_or_init(|| map);
+
+    let threads = ["seventy-two", "forty-one", "nineteen", "ninety-none"].map(|words| {
+        thread::spawn(move || {
+            let number = number(words);
+            (words, number)
+        })
+    });
+    for thread in threads {
+        match thread.join().expect("a thread doesn't panic") {
+            (words, Some(number)) => println!("{words} is {number}"),
+            (words, None) => println!("{words} is not in the dictionary"),
+        }
+    }
+    assert_eq!((number("seventy-two"), number("zero")), (Some(72), None));
+    Ok(())
+}

@@ -1,0 +1,118 @@
+//! A symbol table: a file of names and addresses, which is mapped to look names up.
+//!
+//! ```sh
+//! nm program | cargo run --example symbols -- build program.symbols
+//! cargo run --example symbols -- find program.symbols main _start
+//! cargo run --example symbols -- list program.symbols
+//! ```
+//!
+//! The status is 1 if a name is missing, and 2 after an error. Without arguments a small table is
+//! built in a temporary file and looked up.
+
+mod mapping;
+
+use std::error::Error;
+use std::fs;
+use std::io::{self, BufRead, Write};
+use std::path::Path;
+use std::process::ExitCode;
+
+use mapping::{Mapping, Temporary};
+use rkyv_maps::{Builder, Map, Width};
+
+const LINES: &str = "\
+0000000000001139 T main
+0000000000001040 T _start
+                 U puts@GLIBC_2.2.5
+0000000000004028 B a_name_that_is_longer_than_a_bucket
+";
+
+/// The width of each symbol table. The types are those of `Table`.
+const WIDTH: Width = Width::Narrow;
+
+type Table<'a> = Map<'a, str, u64>;
+
+/// Writes the symbols of `nm`'s lines, `ADDRESS TYPE NAME`, to a file. Others have no address.
+fn build(path: &Path, lines: impl BufRead) -> Result<usize, Box<dyn Error>> {
+    let mut symbols = Builder::<str, u64>::new();
+    for line in lines.lines() {
+        let line = line?;
+        let fields: Vec<&str> = line.split_whitespace().collect();
+        if let [address, _, name] = fields[..] {
+            let address = u64::from_str_radix(address, 16);
+            symbols.push(name, address.map_err(|error| format!("{line}: {error}"))?);
+        }
+    }
+    let archive = symbols.build(WIDTH)?;
+    fs::write(path, archive).map_err(|error| in_file(path, error))?;
+    Ok(symbols.len())
+}
+
+/// Maps a file, and passes its symbol table to a function.
+fn with_table<T>(path: &Path, use_table: impl FnOnce(Table) -> T) -> Result<T, Box<dyn Error>> {
+    // SAFETY: this program doesn't change a file that it has mapped. No other one should.
+    let bytes = unsafe { Mapping::open(path) }.map_err(|error| in_file(path, error))?;
+    let table = Table::open(&bytes, WIDTH).map_err(|error| in_file(path, error))?;
+    Ok(use_table(table))
+}
+
+fn in_file(path: &Path, error: impl Error) -> String {
+    format!("{}: {error}", path.display())
+}
+
+/// Prints the addresses of names, and whether each name is in the table.
+fn find<N: AsRef<str>>(table: Table, names: &[N]) -> bool {
+    let mut all = true;
+    for name in names.iter().map(AsRef::as_ref) {
+        match table.get(name) {
+            Some(address) => println!("{address:016x} {name}"),
+            None => eprintln!("{name}: no such symbol"),
+        }
+        all &= table.contains_key(name);
+    }
+    all
+}
+
+/// Prints the symbols by ascending address.
+fn list(table: Table) -> io::Result<()> {
+    let mut symbols: Vec<(&str, u64)> = table.iter().collect();
+    symbols.sort_by_key(|&(name, address)| (address, name));
+    let mut out = io::stdout().lock();
+    for (name, address) in symbols {
+        writeln!(out, "{address:016x} {name}")?;
+    }
+    Ok(())
+}
+
+fn run(words: &[&str]) -> Result<bool, Box<dyn Error>> {
+    match words {
+        [] => {
+            let file = Temporary::new("example.symbols");
+            println!("{} symbols", build(&file, LINES.as_bytes())?);
+            with_table(&file, |table| find(table, &["main", "_start"]))
+        }
+        ["build", file] => {
+            let count = build(file.as_ref(), io::stdin().lock())?;
+            println!("{count} symbols");
+            Ok(true)
+        }
+        ["find", file, names @ ..] => with_table(file.as_ref(), |table| find(table, names)),
+        ["list", file] => {
+            with_table(file.as_ref(), list)??;
+            Ok(true)
+        }
+        _ => Err("symbols [build FILE < LINES | find FILE NAME.. | list FILE]".into()),
+    }
+}
+
+fn main() -> ExitCode {
+    let words: Vec<String> = std::env::args().skip(1).collect();
+    match run(&words.iter().map(String::as_str).collect::<Vec<_>>()) {
+        Ok(true) => ExitCode::SUCCESS,
+        Ok(false) => ExitCode::from(1),
+        Err(error) => {
+            eprintln!("{error}");
+            ExitCode::from(2)
+        }
+    }
+}
