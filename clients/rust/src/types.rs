@@ -240,7 +240,8 @@ impl SealedKey for str {
         *next = pair.next;
         // SAFETY: the key is a part of the archive, which is borrowed for 'a, and never null.
         let key = unsafe { std::slice::from_raw_parts(pair.key, pair.key_length) };
-        // SAFETY: opening the map has validated each key as UTF-8, and only values are written.
+        // SAFETY: opening the map has validated each key as UTF-8. Only values are written, and a
+        // valid archive has no byte that is of both a key and a value.
         let key = unsafe { std::str::from_utf8_unchecked(key) };
         Ok((key, pair.value))
     }

@@ -199,6 +199,54 @@ fn builders_collect_owned_and_borrowed_keys() {
     assert_eq!(Builder::<str, u32>::default().len(), 0);
 }
 
+/// Compares a map with one of std that has the first value of each key.
+fn compared<K: Key + ?Sized, V: Value>(pairs: &[(&K, V)], absent: &[&K]) {
+    let mut first = HashMap::new();
+    for (key, value) in pairs {
+        first.entry(*key).or_insert(*value);
+    }
+    for width in [Width::Narrow, Width::Wide] {
+        let builder: Builder<K, V> = pairs.iter().copied().collect();
+        let archive = builder.build(width).unwrap();
+        let map = archive.open();
+        assert_eq!(map.len(), pairs.len());
+        for (key, value) in &first {
+            assert_eq!(map.get(key), Some(*value));
+        }
+        for key in absent {
+            assert_eq!(map.get(key), first.get(key).copied());
+        }
+        let mut listed: Vec<_> = map.iter().map(|(k, v)| (k.to_string(), v)).collect();
+        let mut wanted: Vec<_> = pairs.iter().map(|(k, v)| (k.to_string(), *v)).collect();
+        listed.sort();
+        wanted.sort();
+        assert_eq!(listed, wanted);
+    }
+}
+
+#[test]
+fn maps_are_those_of_std() {
+    // A sequence of numbers in which keys repeat.
+    let numbers: Vec<u32> = (0..3000_u32)
+        .map(|n| n.wrapping_mul(2_654_435_761) % 4000)
+        .collect();
+    let texts: Vec<String> = numbers
+        .iter()
+        .map(|n| format!("{n}ö").repeat(*n as usize % 9))
+        .collect();
+    for count in [0, 1, 6, 7, 8, 14, 16, 100, 3000] {
+        let pairs: Vec<_> = numbers.iter().zip(0_u32..).take(count).collect();
+        compared(&pairs, &[&4000, &u32::MAX]);
+        let pairs: Vec<_> = numbers.iter().zip(1_u64 << 50..).take(count).collect();
+        compared(&pairs, &[&4000, &u32::MAX]);
+        let names = || texts.iter().map(String::as_str);
+        let pairs: Vec<_> = names().zip(0_u32..).take(count).collect();
+        compared(&pairs, &["ö", "", "a text that is out of line"]);
+        let pairs: Vec<_> = names().zip(1_u64 << 50..).take(count).collect();
+        compared(&pairs, &["ö", "", "a text that is out of line"]);
+    }
+}
+
 #[test]
 fn iterators_know_their_lengths() {
     let builder: Builder<u32, u64> = (0..100).map(|key| (key, u64::from(key) << 40)).collect();

@@ -1,0 +1,139 @@
+//! Damaged archives, and archives that are opened as another type, are safe to use.
+
+use std::borrow::Borrow;
+
+use rkyv_maps::{Builder, Error, Key, Map, MapMut, Value, Width};
+
+const WIDTHS: [Width; 2] = [Width::Narrow, Width::Wide];
+
+/// Opens bytes as a map, and uses each pair. Returns whether the bytes are valid.
+fn used<K: Key + ?Sized, V: Value>(bytes: &[u8], width: Width) -> bool {
+    let Ok(map) = Map::<K, V>::open(bytes, width) else {
+        return false;
+    };
+    let found = |key: &K::Ref<'_>| map.get((*key).borrow()).is_some();
+    let count = map.keys().filter(found).count();
+    assert!(count <= map.len() && map.iter().count() == map.len());
+    assert!(!format!("{map:?}").is_empty());
+
+    let mut copy = bytes.to_vec();
+    let mut written = MapMut::<K, V>::open(&mut copy, width).unwrap();
+    for key in map.keys() {
+        let set = written.set(key.borrow(), V::default());
+        assert_eq!(set, map.contains_key(key.borrow()));
+    }
+    assert_eq!(written.len(), map.len());
+    true
+}
+
+/// The number of types and widths as which bytes are valid.
+fn used_as_all(bytes: &[u8]) -> usize {
+    let count = |width| {
+        [
+            used::<u32, u32>(bytes, width),
+            used::<u32, u64>(bytes, width),
+            used::<str, u32>(bytes, width),
+            used::<str, u64>(bytes, width),
+        ]
+        .map(usize::from)
+        .iter()
+        .sum::<usize>()
+    };
+    WIDTHS.map(count).iter().sum()
+}
+
+/// Archives of all types and both widths, each with its width.
+fn archives() -> Vec<(Width, Vec<u8>)> {
+    let texts = [
+        "",
+        "a",
+        "12345678",
+        "123456789",
+        "日本語日本語",
+        "a long text",
+    ];
+    let mut archives = Vec::new();
+    for width in WIDTHS {
+        let numbers: Builder<u32, u32> = (0..17).map(|key| (key * key, key)).collect();
+        archives.push((width, numbers.build(width).unwrap().into()));
+        let numbers: Builder<u32, u64> = (0..3).map(|key| (key << 30, 1 << 50)).collect();
+        archives.push((width, numbers.build(width).unwrap().into()));
+        let names: Builder<str, u32> = texts.into_iter().zip(1..).collect();
+        archives.push((width, names.build(width).unwrap().into()));
+        let names: Builder<str, u64> = texts.into_iter().zip(1 << 40..).collect();
+        archives.push((width, names.build(width).unwrap().into()));
+        archives.push((
+            width,
+            Builder::<str, u64>::new().build(width).unwrap().into(),
+        ));
+    }
+    archives
+}
+
+#[test]
+fn archives_are_safe_as_other_types() {
+    for (_, bytes) in archives() {
+        assert!(used_as_all(&bytes) >= 1);
+        for length in 0..bytes.len() {
+            used_as_all(&bytes[..length]);
+            used_as_all(&bytes[length..]);
+        }
+    }
+}
+
+#[test]
+fn damaged_bytes_are_safe() {
+    let mut valid = 0;
+    for (_, mut bytes) in archives() {
+        for index in 0..bytes.len() {
+            let byte = bytes[index];
+            let others = [0, 1, 0x7f, 0x80, 0xff, byte ^ 1, byte ^ 0x10, byte ^ 0x80];
+            for other in others.into_iter().filter(|other| *other != byte) {
+                bytes[index] = other;
+                valid += used_as_all(&bytes);
+            }
+            bytes[index] = byte;
+        }
+    }
+    // For example where the byte is one of a value.
+    assert!(valid > 0);
+}
+
+#[test]
+fn damaged_headers_are_safe() {
+    for (width, mut bytes) in archives() {
+        let (word, max) = match width {
+            Width::Narrow => (4, u64::from(u32::MAX)),
+            Width::Wide => (8, u64::MAX),
+        };
+        for field in (bytes.len() - 3 * word..bytes.len()).step_by(word) {
+            let kept = bytes[field..field + word].to_vec();
+            for number in (0..40).chain([max / 2, max / 2 + 1, max / 8]) {
+                for number in [number, number.wrapping_neg() & max] {
+                    bytes[field..field + word].copy_from_slice(&number.to_le_bytes()[..word]);
+                    used_as_all(&bytes);
+                }
+            }
+            bytes[field..field + word].copy_from_slice(&kept);
+        }
+    }
+}
+
+/// A key shares no byte with a bucket, so that writing a value keeps each key UTF-8.
+#[test]
+fn keys_in_buckets_fail() {
+    let archive = Builder::<str, u64>::from([("a key out of line", 7)])
+        .build(Width::Narrow)
+        .unwrap();
+    let mut bytes = Vec::from(archive);
+    // The 17 bytes of the key, 7 of padding, and two buckets of 16 bytes. The length is in the
+    // first byte of the full bucket. The distance to the key is in its second word.
+    let bucket = if bytes[24] == 0x91 { 24 } else { 40 };
+    assert_eq!(bytes[bucket], 0x91);
+    for (begin, distance) in (-(bucket as i32)..40).enumerate() {
+        bytes[bucket + 4..bucket + 8].copy_from_slice(&distance.to_le_bytes());
+        let error = Map::<str, u64>::open(&bytes, Width::Narrow).err();
+        let wanted = (begin + 17 > 24).then_some(Error::OutOfRange);
+        assert_eq!(error, wanted, "at {begin}");
+    }
+}
