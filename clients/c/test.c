@@ -169,11 +169,11 @@ static void anywhere(void) {
 }
 
 /* Opens the map of 1 to 2 with one byte changed. */
-static rkyv_status damaged(size_t place, uint8_t byte) {
+static rkyv_status damaged(size_t position, uint8_t byte) {
     uint8_t bytes[64];
     size_t length = one_to_two(bytes);
     rkyv_map map;
-    bytes[place] = byte;
+    bytes[position] = byte;
     return rkyv_map_open(bytes, length, RKYV_NUMBER_TO_U32, 32, &map);
 }
 

@@ -7,7 +7,7 @@ use rkyv_maps::{Builder, Error, Key, Map, MapMut, Value, Width};
 const WIDTHS: [Width; 2] = [Width::Narrow, Width::Wide];
 
 /// Opens bytes as a map, and uses each pair. Returns whether the bytes are valid.
-fn used<K: Key + ?Sized, V: Value>(bytes: &[u8], width: Width) -> bool {
+fn opens_safely<K: Key + ?Sized, V: Value>(bytes: &[u8], width: Width) -> bool {
     let Ok(map) = Map::<K, V>::open(bytes, width) else {
         return false;
     };
@@ -27,13 +27,13 @@ fn used<K: Key + ?Sized, V: Value>(bytes: &[u8], width: Width) -> bool {
 }
 
 /// The number of types and widths as which bytes are valid.
-fn used_as_all(bytes: &[u8]) -> usize {
+fn number_of_types(bytes: &[u8]) -> usize {
     let count = |width| {
         [
-            used::<u32, u32>(bytes, width),
-            used::<u32, u64>(bytes, width),
-            used::<str, u32>(bytes, width),
-            used::<str, u64>(bytes, width),
+            opens_safely::<u32, u32>(bytes, width),
+            opens_safely::<u32, u64>(bytes, width),
+            opens_safely::<str, u32>(bytes, width),
+            opens_safely::<str, u64>(bytes, width),
         ]
         .map(usize::from)
         .iter()
@@ -73,10 +73,10 @@ fn archives() -> Vec<(Width, Vec<u8>)> {
 #[test]
 fn archives_are_safe_as_other_types() {
     for (_, bytes) in archives() {
-        assert!(used_as_all(&bytes) >= 1);
+        assert!(number_of_types(&bytes) >= 1);
         for length in 0..bytes.len() {
-            used_as_all(&bytes[..length]);
-            used_as_all(&bytes[length..]);
+            number_of_types(&bytes[..length]);
+            number_of_types(&bytes[length..]);
         }
     }
 }
@@ -90,7 +90,7 @@ fn damaged_bytes_are_safe() {
             let others = [0, 1, 0x7f, 0x80, 0xff, byte ^ 1, byte ^ 0x10, byte ^ 0x80];
             for other in others.into_iter().filter(|other| *other != byte) {
                 bytes[index] = other;
-                valid += used_as_all(&bytes);
+                valid += number_of_types(&bytes);
             }
             bytes[index] = byte;
         }
@@ -111,7 +111,7 @@ fn damaged_headers_are_safe() {
             for number in (0..40).chain([max / 2, max / 2 + 1, max / 8]) {
                 for number in [number, number.wrapping_neg() & max] {
                     bytes[field..field + word].copy_from_slice(&number.to_le_bytes()[..word]);
-                    used_as_all(&bytes);
+                    number_of_types(&bytes);
                 }
             }
             bytes[field..field + word].copy_from_slice(&kept);

@@ -200,7 +200,7 @@ fn builders_collect_owned_and_borrowed_keys() {
 }
 
 /// Compares a map with one of std that has the first value of each key.
-fn compared<K: Key + ?Sized, V: Value>(pairs: &[(&K, V)], absent: &[&K]) {
+fn compare_with_std<K: Key + ?Sized, V: Value>(pairs: &[(&K, V)], absent: &[&K]) {
     let mut first = HashMap::new();
     for (key, value) in pairs {
         first.entry(*key).or_insert(*value);
@@ -236,14 +236,14 @@ fn maps_are_those_of_std() {
         .collect();
     for count in [0, 1, 6, 7, 8, 14, 16, 100, 3000] {
         let pairs: Vec<_> = numbers.iter().zip(0_u32..).take(count).collect();
-        compared(&pairs, &[&4000, &u32::MAX]);
+        compare_with_std(&pairs, &[&4000, &u32::MAX]);
         let pairs: Vec<_> = numbers.iter().zip(1_u64 << 50..).take(count).collect();
-        compared(&pairs, &[&4000, &u32::MAX]);
+        compare_with_std(&pairs, &[&4000, &u32::MAX]);
         let names = || texts.iter().map(String::as_str);
         let pairs: Vec<_> = names().zip(0_u32..).take(count).collect();
-        compared(&pairs, &["ö", "", "a text that is out of line"]);
+        compare_with_std(&pairs, &["ö", "", "a text that is out of line"]);
         let pairs: Vec<_> = names().zip(1_u64 << 50..).take(count).collect();
-        compared(&pairs, &["ö", "", "a text that is out of line"]);
+        compare_with_std(&pairs, &["ö", "", "a text that is out of line"]);
     }
 }
 
