@@ -1,0 +1,5 @@
+pub mod Checking
+pub mod HeaderBytes
+pub mod HeaderChecks
+pub mod Summing
+pub mod Opening

@@ -1,0 +1,201 @@
+-- The two sums of Adler-32 over the bytes so far.
+use Rattle.std.proofs.Common.{◌≡◌, ℕ, ◌+◌, ◌-◌, ◌*◌, ◌%◌, ◌<◌, ◌≤◌, List, [], ◌∷◌, ◌++◌, length, take, drop, get_or, sum, refl, sym, ap, ◌∙◌, arith, length-append, length-drop}
+use Rattle.std.specs.Prelude.{slice_range}
+use Rattle.std.proofs.lemmas.List.{take_more, take_all, length-take-le, get_or_at}
+use Rattle.std.proofs.lemmas.List.Sums.{sum_by_more, sum_by-append, sum_by-cons}
+use Rattle.std.proofs.lemmas.Nat.{mul-mod_second}
+use Rattle.rkyv_container.specs.Checksum.{weighted_sum, adler32_low, adler32_high, adler32_of, DetectsChange}
+use Rattle.rkyv_container.proofs.HeaderBytes.{slice_join}
+
+-- `low` and `high`: the sums after the first `i` bytes of `b`, from `l` and `h` on
+pub record IsSumOf (l h : ℕ) (b : List ℕ) (i low high : ℕ) : Type 0 where
+  pub low_is : low ≡ l + sum (take i b)
+  pub high_is : high ≡ h + i * l + weighted_sum (take i b)
+  pub low_bound : low ≤ 65520 + 255 * i
+  pub high_bound : high ≤ 65520 + 1110000 * i
+
+-- `low` and `high`: the reduced sums after the first `i` bytes of `b`
+pub record AreSumsOf (b : List ℕ) (i low high : ℕ) : Type 0 where
+  pub inside : i ≤ length b
+  pub low_is : low ≡ (1 + sum (take i b)) % 65521
+  pub high_is : high ≡ (i + weighted_sum (take i b)) % 65521
+
+add_mul : (a b c : ℕ) → (a + b) * c ≡ a * c + b * c
+add_mul a b c = grind arith
+
+mul_add : (a b c : ℕ) → a * (b + c) ≡ a * b + a * c
+mul_add a b c = grind arith
+
+-- the weighted sum of two lists, one after the other
+weighted_sum-append : (xs ys : List ℕ) → weighted_sum (xs ++ ys)
+    ≡ weighted_sum xs + length ys * sum xs + weighted_sum ys
+weighted_sum-append [] ys = omega arith
+weighted_sum-append (x ∷ xs) ys =
+    let n : length (xs ++ ys) ≡ length xs + length ys = length-append xs ys in
+    let s : sum (x ∷ xs) ≡ x + sum xs = sum_by-cons (λ y. y) x xs in
+    let e : (length (xs ++ ys) + 1) * x ≡ (length xs + 1) * x + length ys * x =
+    rw (n, ← add_mul (length xs + 1) (length ys) x)
+    (ap (λ (k : ℕ). k * x) (omega arith)) in
+    let f : length ys * sum (x ∷ xs) ≡ length ys * x + length ys * sum xs =
+    rw (s) (mul_add (length ys) x (sum xs)) in
+    let k = weighted_sum-append xs ys in
+    omega arith
+
+-- the sums after one more byte
+sum_more : (b : List ℕ) (i : ℕ) → i < length b
+    → sum (take (i + 1) b) ≡ sum (take i b) + get_or b i 0
+sum_more b i k = sum_by_more (λ y. y) b i 0 k
+
+weighted_sum_more : (b : List ℕ) (i : ℕ) → i < length b
+    → weighted_sum (take (i + 1) b) ≡ weighted_sum (take i b) + sum (take i b) + get_or b i 0
+weighted_sum_more b i k =
+    let e = weighted_sum-append (take i b) (get_or b i 0 ∷ []) in
+    let t = ap weighted_sum (take_more b i 0 k) in
+    omega arith
+
+pub sums_begin : (l h : ℕ) (b : List ℕ) → l < 65521 → h < 65521 → IsSumOf l h b 0 l h
+sums_begin l h b p q = record {
+  low_is = omega arith;
+  high_is = omega arith;
+  low_bound = omega arith;
+  high_bound = omega arith;
+}
+
+pub sums_more : (l h : ℕ) (b : List ℕ) (i low high x : ℕ) → length b ≤ 4096 → i < length b
+    → x ≡ get_or b i 0 → x < 256 → IsSumOf l h b i low high
+    → IsSumOf l h b (i + 1) (low + x) (high + (low + x))
+sums_more l h b i low high x n k e small s =
+    let f = sum_more b i k in
+    let g = weighted_sum_more b i k in
+    let m : (i + 1) * l ≡ i * l + l = rw (add_mul i 1 l) (omega arith) in
+    let sl = s.low_is in
+    let sh = s.high_is in
+    let bl = s.low_bound in
+    let bh = s.high_bound in
+    record {
+      low_is = omega arith;
+      high_is = omega arith;
+      low_bound = omega arith;
+      high_bound = omega arith;
+    }
+
+pub sums_end_low : (l h : ℕ) (b : List ℕ) (i low high : ℕ) → length b ≤ i
+    → IsSumOf l h b i low high → low % 65521 ≡ (l + sum b) % 65521
+sums_end_low l h b i low high n s =
+    ap (λ (k : ℕ). k % 65521) s.low_is
+    ∙ ap (λ (c : List ℕ). (l + sum c) % 65521) (take_all i b n)
+
+pub sums_end_high : (l h : ℕ) (b : List ℕ) (i low high : ℕ) → length b ≡ i
+    → IsSumOf l h b i low high
+    → high % 65521 ≡ (h + length b * l + weighted_sum b) % 65521
+sums_end_high l h b i low high n s =
+    ap (λ (k : ℕ). k % 65521) s.high_is
+    ∙ ap (λ (c : List ℕ). (h + i * l + weighted_sum c) % 65521) (take_all i b (omega arith))
+    ∙ ap (λ (k : ℕ). (h + k * l + weighted_sum b) % 65521) (sym n)
+
+-- equal remainders stay equal after an addition
+add_mod : (x y z : ℕ) → x % 65521 ≡ y % 65521 → (x + z) % 65521 ≡ (y + z) % 65521
+add_mod x y z e = omega arith
+
+take_part : (b : List ℕ) (i j : ℕ) → i ≤ j → take j b ≡ take i b ++ slice_range b i j
+take_part b i j k =
+    let e = slice_join b 0 i j (omega arith) k in
+    let z : i - 0 ≡ i = omega arith in
+    let w : j - 0 ≡ j = omega arith in
+    sym (rw (z, w) at e)
+
+reduced : (a x : ℕ) → a ≡ x % 65521 → a % 65521 ≡ x % 65521
+reduced a x e = omega arith
+
+-- the sums before any byte
+pub no_sums : (b : List ℕ) → AreSumsOf b 0 1 0
+no_sums b = record { inside = omega arith; low_is = refl; high_is = refl }
+
+-- the sums after a block
+pub block_sums : (b : List ℕ) (i j low high low' high' : ℕ) → i ≤ j → j ≤ length b
+    → AreSumsOf b i low high → low' ≡ (low + sum (slice_range b i j)) % 65521
+    → high' ≡ (high + length (slice_range b i j) * low + weighted_sum (slice_range b i j)) % 65521
+    → AreSumsOf b j low' high'
+block_sums b i j low high low' high' ij jn s e f =
+    let front = take i b in
+    let block = slice_range b i j in
+    let n = length block in
+    let t : take j b ≡ front ++ block = take_part b i j ij in
+    let len : n ≡ j - i = length-take-le (j - i) (drop i b) (omega (arith, length-drop i b)) in
+    let st : sum (take j b) ≡ sum front + sum block =
+    ap sum t ∙ sum_by-append (λ y. y) front block in
+    let wt : weighted_sum (take j b)
+    ≡ weighted_sum front + n * sum front + weighted_sum block =
+    ap weighted_sum t ∙ weighted_sum-append front block in
+    let l1 = add_mod low (1 + sum front) (sum block) (reduced low (1 + sum front) s.low_is) in
+    let l2 : 1 + sum front + sum block ≡ 1 + sum (take j b) = omega arith in
+    let h1 = add_mod high (i + weighted_sum front) (n * low + weighted_sum block)
+    (reduced high (i + weighted_sum front) s.high_is) in
+    let p : (n * low) % 65521 ≡ (n * (1 + sum front)) % 65521 =
+    ap (λ (k : ℕ). (n * k) % 65521) s.low_is ∙ mul-mod_second n (1 + sum front) 65521 in
+    let h2 = add_mod (n * low) (n * (1 + sum front)) (i + weighted_sum front + weighted_sum block)
+    p in
+    let q : n * (1 + sum front) ≡ n * 1 + n * sum front = mul_add n 1 (sum front) in
+    let h0 : high + n * low + weighted_sum block ≡ high + (n * low + weighted_sum block) =
+    omega arith in
+    let h3 : i + weighted_sum front + (n * low + weighted_sum block)
+    ≡ n * low + (i + weighted_sum front + weighted_sum block) = omega arith in
+    let h4 : n * (1 + sum front) + (i + weighted_sum front + weighted_sum block)
+    ≡ j + weighted_sum (take j b) = omega arith in
+    record {
+      inside = jn;
+      low_is = e ∙ l1 ∙ ap (λ (k : ℕ). k % 65521) l2;
+      high_is = f ∙ ap (λ (k : ℕ). k % 65521) h0 ∙ h1 ∙ ap (λ (k : ℕ). k % 65521) h3 ∙ h2
+          ∙ ap (λ (k : ℕ). k % 65521) h4;
+    }
+
+-- the checksum from the sums of all bytes
+pub all_sums : (b : List ℕ) (i low high : ℕ) → length b ≤ i → AreSumsOf b i low high
+    → high * 65536 + low ≡ adler32_of b
+all_sums b i low high n s =
+    let inside = s.inside in
+    let e : i ≡ length b = omega arith in
+    let t : take i b ≡ b = take_all i b n in
+    let l : low ≡ adler32_low b = s.low_is ∙ ap (λ (c : List ℕ). (1 + sum c) % 65521) t in
+    let h : high ≡ adler32_high b =
+    s.high_is ∙ ap (λ (c : List ℕ). (i + weighted_sum c) % 65521) t
+    ∙ ap (λ (k : ℕ). (k + weighted_sum b) % 65521) e in
+    ap (λ (k : ℕ). k * 65536 + low) h ∙ ap (λ (k : ℕ). adler32_high b * 65536 + k) l
+
+-- the low half of a checksum
+low_of : (h l : ℕ) (k m : ℕ) → l < 65536 → m < 65536 → h * 65536 + l ≡ k * 65536 + m → l ≡ m
+low_of h l k m p q e = omega arith
+
+low_below : (b : List ℕ) → adler32_low b < 65536
+low_below b = omega arith
+
+-- the low half after a change of one byte
+low_changes : (n x y : ℕ) → x < 256 → y < 256 → (n + x) % 65521 ≡ (n + y) % 65521 → y ≡ x
+low_changes n x y p q e = omega arith
+
+sum_with : (front back : List ℕ) (x : ℕ)
+    → 1 + sum (front ++ x ∷ back) ≡ (1 + sum front + sum back) + x
+sum_with front back x =
+    let e = sum_by-append (λ y. y) front (x ∷ back) in
+    let s = sum_by-cons (λ y. y) x back in
+    omega arith
+
+-- a change of one byte changes the checksum
+pub detects_change : (b : List ℕ) → ((i : ℕ) → get_or b i 0 < 256)
+    → DetectsChange b (adler32_of b)
+detects_change b small front back x y e q n c =
+    let other = front ++ y ∷ back in
+    let here : get_or b (length front) 0 ≡ x =
+    ap (λ (l : List ℕ). get_or l (length front) 0) e
+    ∙ get_or_at front x back 0 (length front) refl in
+    let small_x : x < 256 = omega (arith, small (length front)) in
+    let low : adler32_low b ≡ adler32_low other =
+    low_of (adler32_high b) (adler32_low b) (adler32_high other) (adler32_low other)
+    (low_below b) (low_below other) c in
+    let m = 1 + sum front + sum back in
+    let l : adler32_low b ≡ (m + x) % 65521 =
+    ap (λ (l : List ℕ). (1 + sum l) % 65521) e ∙ ap (λ (k : ℕ). k % 65521)
+    (sum_with front back x) in
+    let r : adler32_low other ≡ (m + y) % 65521 =
+    ap (λ (k : ℕ). k % 65521) (sum_with front back y) in
+    n (low_changes m x y small_x q (sym l ∙ low ∙ r))

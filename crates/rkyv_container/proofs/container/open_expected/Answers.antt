@@ -1,0 +1,23 @@
+use Rattle.std.proofs.Common.{inl}
+use Rattle.rkyv_container.specs.Container.{IsContainerOf, OpenAsFails}
+use Rattle.rkyv_container.proofs.Checking.{err_from}
+use Rattle.rkyv_container.proofs.Opening.{container_from, contents_from}
+use Rattle.rkyv_container.proofs.container.open_expected.Goals as goal
+
+pub returns-in_err-header : goal.returns-in_err-header
+returns-in_err-header c =
+    let b = c.args.bytes.now in
+    let x = c.args.expected in
+    err_from c.from_residual.result (λ r. IsContainerOf x r.now b) (OpenAsFails x b)
+    c.in_err-header.field-0.0 c.from_residual.ensures.1 (inl c.in_err-header.ensures)
+
+pub returns : goal.returns
+returns c =
+    let h = c.in_ok-header.header in (
+      h,
+      (
+        contents_from c.args.expected h.contents c.in_ok-check_contents.ensures,
+        container_from h c.in_ok-header.archive.now c.args.bytes.now c.in_ok-header.ensures
+            c.in_ok-check_archive.ensures,
+      ),
+    )

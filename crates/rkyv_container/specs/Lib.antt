@@ -1,0 +1,5 @@
+pub mod Codes
+pub mod Checks
+pub mod Checksum
+pub mod Header
+pub mod Container

@@ -1,0 +1,224 @@
+//! The header of a container.
+
+ghost use Rattle.std.specs.Prelude.{◌≡◌, ◌↔◌, ◌≤◌, MatchResult, length};
+ghost use Rattle.std.specs.Int.{from_le_bytes, w16, w32};
+ghost use Rattle.rkyv_container.specs.Checks.{AllPass, FirstFails};
+ghost use Rattle.rkyv_container.specs.Container.{header_of};
+ghost use Rattle.rkyv_container.specs.Header.{
+  IsChecksumField,
+  IsHeader,
+  code_checks,
+  contents_bytes,
+  flag_checks,
+  flags_of,
+  checksum_field,
+  header_bytes,
+  header_checks,
+  start_checks,
+};
+
+use crate::checksum::adler32;
+use crate::contents::{Contents, ItemType, Kind, Width};
+use crate::errors::ContainerError;
+use crate::fields::{read_u16, read_u32, read_u64};
+
+/// The number of bytes of a header, and the position of the archive in a container.
+///
+/// It is a multiple of every alignment of an archive.
+pub const HEADER_LEN: usize = 32;
+
+/// The first bytes of every container.
+pub const MAGIC: [u8; 8] = [0x89, b'R', b'K', b'Y', b'V', b'\r', b'\n', 0x1a];
+
+/// The version of containers that this crate reads and writes.
+pub const VERSION: u16 = 1;
+
+/// The header of a container: its contents, and the length and the checksum of its archive.
+#[derive(Clone, Copy, Debug, PartialEq, Eq)]
+pub struct Header {
+    /// The contents of the container.
+    pub contents: Contents,
+    /// The length of the archive in bytes.
+    pub len: u64,
+    /// The checksum Adler-32 of the archive, if the container has one.
+    pub checksum: Option<u32>,
+}
+
+impl Header {
+    /// Returns the header of an archive. It has a checksum if `checked` is `true`.
+    pub fn new(contents: Contents, archive: &[u8], checked: bool) -> Header
+        ensures { result ≡ header_of contents archive.now checked }
+    {
+        Header {
+            contents,
+            len: archive.len() as u64,
+            checksum: if checked {
+                Some(adler32(archive))
+            } else {
+                None
+            },
+        }
+    }
+
+    /// Returns the bytes of a header.
+    pub fn to_bytes(&self) -> [u8; 32]
+        ensures { result ≡ header_bytes self.now }
+    {
+        let m = MAGIC;
+        let v = VERSION.to_le_bytes();
+        let c = self.contents;
+        let f = flags(self.checksum).to_le_bytes();
+        let n = self.len.to_le_bytes();
+        let s = self.checksum.unwrap_or(0).to_le_bytes();
+        [
+            m[0],
+            m[1],
+            m[2],
+            m[3],
+            m[4],
+            m[5],
+            m[6],
+            m[7],
+            v[0],
+            v[1],
+            c.kind.code(),
+            c.key.code(),
+            c.value.code(),
+            c.width.code(),
+            f[0],
+            f[1],
+            n[0],
+            n[1],
+            n[2],
+            n[3],
+            n[4],
+            n[5],
+            n[6],
+            n[7],
+            s[0],
+            s[1],
+            s[2],
+            s[3],
+            0,
+            0,
+            0,
+            0,
+        ]
+    }
+
+    /// Writes the bytes of a header over the whole of `out`.
+    ///
+    /// # Requires
+    ///
+    /// - `out` has the length `HEADER_LEN`.
+    pub fn write(&self, out: &mut [u8])
+        requires { length out.old ≡ 32 }
+        ensures { out.new ≡ header_bytes self.now }
+    {
+        out.copy_from_slice(&self.to_bytes());
+    }
+
+    /// Reads the header at the beginning of `bytes`.
+    ///
+    /// The archive behind the header isn't read.
+    ///
+    /// # Errors
+    ///
+    /// - `TooShort`: there are fewer than 32 bytes.
+    /// - `WrongMagic`: the first eight bytes aren't `MAGIC`.
+    /// - `UnsupportedVersion`: the version isn't `VERSION`.
+    /// - `UnknownKind`, `UnknownKeyType`, `UnknownValueType`, `UnknownWidth`: nothing has the code.
+    /// - `UnknownFlags`: a flag other than the lowest bit is set.
+    /// - `UnexpectedChecksum`: there is no flag, but the checksum isn't 0.
+    /// - `NonzeroReserved`: the last four bytes aren't 0.
+    pub fn read(bytes: &[u8]) -> Result<Header, ContainerError>
+        ensures ok { (header : Header) → (result ≡ Ok header) ↔ IsHeader header bytes.now }
+        ensures err { (e : ContainerError) → (result ≡ Err e)
+            ↔ FirstFails (header_checks bytes.now) e }
+    {
+        read_fields(bytes)
+    }
+}
+
+// Returns the flags of a header with this checksum.
+fn flags(checksum: Option<u32>) -> u16
+    ensures { result ≡ flags_of checksum }
+{
+    match checksum {
+        Some(_) => 1,
+        None => 0,
+    }
+}
+
+// Reads a header.
+fn read_fields(bytes: &[u8]) -> Result<Header, ContainerError>
+    ensures { MatchResult result (λ header. IsHeader header bytes.now)
+        (λ e. FirstFails (header_checks bytes.now) e) }
+{
+    check_start(bytes)?;
+    let contents = read_contents(&bytes[10..14])?;
+    let checksum = read_checksum(&bytes[14..16], &bytes[24..28])?;
+    let reserved = read_u32(&bytes[28..32]);
+    if reserved != 0 {
+        return Err(ContainerError::NonzeroReserved(reserved));
+    }
+    Ok(Header {
+        contents,
+        len: read_u64(&bytes[16..24]),
+        checksum,
+    })
+}
+
+// Checks the length, the magic bytes and the version.
+fn check_start(bytes: &[u8]) -> Result<(), ContainerError>
+    ensures { MatchResult result (λ _. AllPass (start_checks bytes.now))
+        (λ e. FirstFails (start_checks bytes.now) e) }
+{
+    if bytes.len() < HEADER_LEN {
+        return Err(ContainerError::TooShort { len: bytes.len() });
+    }
+    if &bytes[..8] != MAGIC.as_slice() {
+        return Err(ContainerError::WrongMagic);
+    }
+    let version = read_u16(&bytes[8..10]);
+    if version != VERSION {
+        return Err(ContainerError::UnsupportedVersion(version));
+    }
+    Ok(())
+}
+
+// Reads the four codes of the contents.
+fn read_contents(field: &[u8]) -> Result<Contents, ContainerError>
+    requires { length field.now ≡ 4 }
+    ensures { MatchResult result (λ contents. field.now ≡ contents_bytes contents)
+        (λ e. FirstFails (code_checks field.now) e) }
+{
+    let kind = Kind::from_code(field[0]).ok_or(ContainerError::UnknownKind(field[0]))?;
+    let key = ItemType::from_code(field[1]).ok_or(ContainerError::UnknownKeyType(field[1]))?;
+    let value = ItemType::from_code(field[2]).ok_or(ContainerError::UnknownValueType(field[2]))?;
+    let width = Width::from_code(field[3]).ok_or(ContainerError::UnknownWidth(field[3]))?;
+    Ok(Contents {
+        kind,
+        key,
+        value,
+        width,
+    })
+}
+
+// Reads the checksum, if the flags say that there is one.
+fn read_checksum(flags_field: &[u8], field: &[u8]) -> Result<Option<u32>, ContainerError>
+    requires flags { length flags_field.now ≡ 2 }
+    requires checksum { length field.now ≡ 4 }
+    ensures { MatchResult result (λ checksum. IsChecksumField checksum flags_field.now field.now)
+        (λ e. FirstFails (flag_checks (from_le_bytes w16 flags_field.now)
+        (from_le_bytes w32 field.now)) e) }
+{
+    let flags = read_u16(flags_field);
+    let checksum = read_u32(field);
+    match flags {
+        0 if checksum == 0 => Ok(None),
+        0 => Err(ContainerError::UnexpectedChecksum(checksum)),
+        1 => Ok(Some(checksum)),
+        _ => Err(ContainerError::UnknownFlags(flags)),
+    }
+}
