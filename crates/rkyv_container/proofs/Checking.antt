@@ -1,5 +1,18 @@
 -- Laws of checks in order, and of results that state the first failing check.
-use Rattle.std.proofs.Common.{◌≡◌, ◌↔◌, Result, Ok, Err, MatchResult, IsErrAnd, inl, inr, ap, sym, subst}
+use Rattle.std.proofs.Common.{
+  ◌≡◌,
+  ◌↔◌,
+  Result,
+  Ok,
+  Err,
+  MatchResult,
+  IsErrAnd,
+  inl,
+  inr,
+  ap,
+  sym,
+  subst,
+}
 use Rattle.rkyv_container.specs.declared.errors.ContainerError.{ContainerError}
 use Rattle.rkyv_container.specs.Checks.{Checks, done, check, followed_by, AllPass, FirstFails}
 

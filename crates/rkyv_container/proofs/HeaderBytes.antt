@@ -1,19 +1,74 @@
 -- The bytes of a header: each field in its place, and headers with equal bytes are equal.
-use Rattle.std.proofs.Common.{◌≡◌, ℕ, ◌+◌, ◌-◌, ◌<◌, ◌≤◌, ◌==◌, ◌^◌, min, List, ◌++◌, length, take, drop, cond, Option, None, Some, refl, sym, ap, ◌∙◌, arith, length-take}
+use Rattle.std.proofs.Common.{
+  ◌≡◌,
+  ℕ,
+  ◌+◌,
+  ◌-◌,
+  ◌<◌,
+  ◌≤◌,
+  ◌==◌,
+  ◌^◌,
+  min,
+  List,
+  ◌++◌,
+  length,
+  take,
+  drop,
+  cond,
+  Option,
+  None,
+  Some,
+  refl,
+  sym,
+  ap,
+  ◌∙◌,
+  arith,
+  length-take,
+}
 use Rattle.std.specs.Prelude.{slice_range, slice_index}
 use Rattle.std.specs.Int.{w16, w32, w64, to_le_bytes, from_le_bytes}
 use Rattle.std.proofs.lemmas.List.{drop-take, take-take, take-append-drop, drop-drop}
-use Rattle.std.proofs.lemmas.Nat.{from_le_bytes-to_le_bytes_2, from_le_bytes-to_le_bytes_4, from_le_bytes-to_le_bytes_8}
+use Rattle.std.proofs.lemmas.Nat.{
+  from_le_bytes-to_le_bytes_2,
+  from_le_bytes-to_le_bytes_4,
+  from_le_bytes-to_le_bytes_8,
+}
 use Rattle.rkyv_container.specs.declared.contents.Kind.{Kind}
-use Rattle.rkyv_container.specs.declared.contents.Kind.TheVariants.{HashMap, HashSet, IndexMap, IndexSet}
+use Rattle.rkyv_container.specs.declared.contents.Kind.TheVariants.{
+  HashMap,
+  HashSet,
+  IndexMap,
+  IndexSet,
+}
 use Rattle.rkyv_container.specs.declared.contents.ItemType.{ItemType}
-use Rattle.rkyv_container.specs.declared.contents.ItemType.TheVariants.{Unit as UnitType, Bool as BoolType, Char, Text, Bytes, U8, U16, U32, U64, I8, I16, I32, I64}
+use Rattle.rkyv_container.specs.declared.contents.ItemType.TheVariants.{
+  Unit as UnitType,
+  Bool as BoolType,
+  Char,
+  Text,
+  Bytes,
+  U8,
+  U16,
+  U32,
+  U64,
+  I8,
+  I16,
+  I32,
+  I64,
+}
 use Rattle.rkyv_container.specs.declared.contents.Width.{Width}
 use Rattle.rkyv_container.specs.declared.contents.Width.TheVariants.{Narrow, Wide}
 use Rattle.rkyv_container.specs.declared.contents.Contents.{Contents}
 use Rattle.rkyv_container.specs.declared.header.Header.{Header}
 use Rattle.rkyv_container.specs.Codes.{kind_code, item_code, width_code}
-use Rattle.rkyv_container.specs.Header.{flags_of, checksum_field, contents_bytes, header_bytes, Fits, IsHeader}
+use Rattle.rkyv_container.specs.Header.{
+  flags_of,
+  checksum_field,
+  contents_bytes,
+  header_bytes,
+  Fits,
+  IsHeader,
+}
 
 -- a range of the first `n` bytes
 pub slice_take : (b : List ℕ) (n i j : ℕ) → i ≤ j → j ≤ n

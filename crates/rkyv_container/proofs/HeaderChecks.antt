@@ -1,17 +1,64 @@
 -- A header passes the checks of reading it, and bytes that pass them begin with a header.
-use Rattle.std.proofs.Common.{◌≡◌, ℕ, ◌+◌, ◌<◌, ◌≤◌, ◌^◌, List, ◌++◌, length, take, drop, get_or, Option, None, Some, refl, sym, ap, ◌∙◌, inl, inr, arith, lit<}
+use Rattle.std.proofs.Common.{
+  ◌≡◌,
+  ℕ,
+  ◌+◌,
+  ◌<◌,
+  ◌≤◌,
+  ◌^◌,
+  List,
+  ◌++◌,
+  length,
+  take,
+  drop,
+  get_or,
+  Option,
+  None,
+  Some,
+  refl,
+  sym,
+  ap,
+  ◌∙◌,
+  inl,
+  inr,
+  arith,
+  lit<,
+}
 use Rattle.std.specs.Prelude.{slice_range, slice_index}
 use Rattle.std.specs.Int.{w16, w32, w64, to_le_bytes, from_le_bytes}
-use Rattle.std.proofs.lemmas.List.{get_or-drop, get_or-take, get_or_past, length-take, length-take-le, length-drop}
+use Rattle.std.proofs.lemmas.List.{
+  get_or-drop,
+  get_or-take,
+  get_or_past,
+  length-take,
+  length-take-le,
+  length-drop,
+}
 use Rattle.std.proofs.lemmas.Bool.{cases_lt}
-use Rattle.std.proofs.lemmas.Nat.{from_le_bytes-to_le_bytes_2, from_le_bytes-to_le_bytes_4, le_bytes_2}
+use Rattle.std.proofs.lemmas.Nat.{
+  from_le_bytes-to_le_bytes_2,
+  from_le_bytes-to_le_bytes_4,
+  le_bytes_2,
+}
 use Rattle.rkyv_container.specs.declared.contents.Contents.{Contents}
 use Rattle.rkyv_container.specs.declared.header.Header.{Header}
 use Rattle.rkyv_container.specs.declared.errors.ContainerError.{ContainerError}
 use Rattle.rkyv_container.specs.declared.errors.ContainerError.TheVariants.{UnknownWidth}
 use Rattle.rkyv_container.specs.Codes.{IsKindCode, IsItemCode, IsWidthCode}
 use Rattle.rkyv_container.specs.Checks.{AllPass, FirstFails, followed_by}
-use Rattle.rkyv_container.specs.Header.{magic, flags_of, checksum_field, contents_bytes, IsHeader, IsChecksumField, start_checks, code_checks, flag_checks, reserved_checks, header_checks}
+use Rattle.rkyv_container.specs.Header.{
+  magic,
+  flags_of,
+  checksum_field,
+  contents_bytes,
+  IsHeader,
+  IsChecksumField,
+  start_checks,
+  code_checks,
+  flag_checks,
+  reserved_checks,
+  header_checks,
+}
 use Rattle.rkyv_container.proofs.Checking.{pass_both, fails_first, fails_later}
 use Rattle.rkyv_container.proofs.HeaderBytes.{field, header_length, slice_join}
 

@@ -1,14 +1,53 @@
 -- Containers from their checks, and the uniqueness of what opening returns.
-use Rattle.std.proofs.Common.{◌≡◌, ℕ, ◌⊎◌, ◌↔◌, List, ◌++◌, take, drop, Result, Ok, Err, MatchResult, IsOk, IsOkAnd, refl, sym, ap, ◌∙◌, subst, inl, inr}
+use Rattle.std.proofs.Common.{
+  ◌≡◌,
+  ℕ,
+  ◌⊎◌,
+  ◌↔◌,
+  List,
+  ◌++◌,
+  take,
+  drop,
+  Result,
+  Ok,
+  Err,
+  MatchResult,
+  IsOk,
+  IsOkAnd,
+  refl,
+  sym,
+  ap,
+  ◌∙◌,
+  subst,
+  inl,
+  inr,
+}
 use Rattle.std.proofs.lemmas.List.{take_at, drop_at, take-append-drop}
 use Rattle.rkyv_container.specs.declared.contents.Contents.{Contents}
 use Rattle.rkyv_container.specs.declared.header.Header.{Header}
 use Rattle.rkyv_container.specs.declared.errors.ContainerError.{ContainerError}
-use Rattle.rkyv_container.specs.declared.errors.ContainerError.TheVariants.{WrongValueType, WrongWidth}
+use Rattle.rkyv_container.specs.declared.errors.ContainerError.TheVariants.{
+  WrongValueType,
+  WrongWidth,
+}
 use Rattle.rkyv_container.specs.Checks.{Checks, AllPass, FirstFails, followed_by}
 use Rattle.rkyv_container.specs.Header.{IsHeader, header_bytes, header_checks}
-use Rattle.rkyv_container.specs.Container.{IsContainer, IsContainerOf, IsSplit, OpenFails, OpenAsFails, archive_checks, contents_checks}
-use Rattle.rkyv_container.proofs.Checking.{pass_both, fails_first, fails_later, pass_excludes, first_unique}
+use Rattle.rkyv_container.specs.Container.{
+  IsContainer,
+  IsContainerOf,
+  IsSplit,
+  OpenFails,
+  OpenAsFails,
+  archive_checks,
+  contents_checks,
+}
+use Rattle.rkyv_container.proofs.Checking.{
+  pass_both,
+  fails_first,
+  fails_later,
+  pass_excludes,
+  first_unique,
+}
 use Rattle.rkyv_container.proofs.HeaderBytes.{header_unique, contents_equal}
 use Rattle.rkyv_container.proofs.HeaderChecks.{header_passes}
 

@@ -1,10 +1,41 @@
 -- The two sums of Adler-32 over the bytes so far.
-use Rattle.std.proofs.Common.{◌≡◌, ℕ, ◌+◌, ◌-◌, ◌*◌, ◌%◌, ◌<◌, ◌≤◌, List, [], ◌∷◌, ◌++◌, length, take, drop, get_or, sum, refl, sym, ap, ◌∙◌, arith, length-append, length-drop}
+use Rattle.std.proofs.Common.{
+  ◌≡◌,
+  ℕ,
+  ◌+◌,
+  ◌-◌,
+  ◌*◌,
+  ◌%◌,
+  ◌<◌,
+  ◌≤◌,
+  List,
+  [],
+  ◌∷◌,
+  ◌++◌,
+  length,
+  take,
+  drop,
+  get_or,
+  sum,
+  refl,
+  sym,
+  ap,
+  ◌∙◌,
+  arith,
+  length-append,
+  length-drop,
+}
 use Rattle.std.specs.Prelude.{slice_range}
 use Rattle.std.proofs.lemmas.List.{take_more, take_all, length-take-le, get_or_at}
 use Rattle.std.proofs.lemmas.List.Sums.{sum_by_more, sum_by-append, sum_by-cons}
 use Rattle.std.proofs.lemmas.Nat.{mul-mod_second}
-use Rattle.rkyv_container.specs.Checksum.{weighted_sum, adler32_low, adler32_high, adler32_of, DetectsChange}
+use Rattle.rkyv_container.specs.Checksum.{
+  weighted_sum,
+  adler32_low,
+  adler32_high,
+  adler32_of,
+  DetectsChange,
+}
 use Rattle.rkyv_container.proofs.HeaderBytes.{slice_join}
 
 -- `low` and `high`: the sums after the first `i` bytes of `b`, from `l` and `h` on

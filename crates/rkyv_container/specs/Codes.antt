@@ -1,9 +1,28 @@
 -- The codes of kinds, types and widths, each one byte of a header.
 use Rattle.std.specs.Prelude.{◌≡◌, ℕ}
 use Rattle.rkyv_container.specs.declared.contents.Kind.{Kind}
-use Rattle.rkyv_container.specs.declared.contents.Kind.TheVariants.{HashMap, HashSet, IndexMap, IndexSet}
+use Rattle.rkyv_container.specs.declared.contents.Kind.TheVariants.{
+  HashMap,
+  HashSet,
+  IndexMap,
+  IndexSet,
+}
 use Rattle.rkyv_container.specs.declared.contents.ItemType.{ItemType}
-use Rattle.rkyv_container.specs.declared.contents.ItemType.TheVariants.{Unit as UnitType, Bool as BoolType, Char, Text, Bytes, U8, U16, U32, U64, I8, I16, I32, I64}
+use Rattle.rkyv_container.specs.declared.contents.ItemType.TheVariants.{
+  Unit as UnitType,
+  Bool as BoolType,
+  Char,
+  Text,
+  Bytes,
+  U8,
+  U16,
+  U32,
+  U64,
+  I8,
+  I16,
+  I32,
+  I64,
+}
 use Rattle.rkyv_container.specs.declared.contents.Width.{Width}
 use Rattle.rkyv_container.specs.declared.contents.Width.TheVariants.{Narrow, Wide}
 
@@ -35,12 +54,14 @@ abbrev pub width_code : Width → ℕ
 width_code Narrow = 4
 width_code Wide = 8
 
--- `c` is the code of a kind, of a type, of a width
+-- `c` is the code of a kind of collection
 abbrev pub IsKindCode : ℕ → Type 0
 IsKindCode c = (kind : Kind) × (kind_code kind ≡ c)
 
+-- `c` is the code of a type of keys or values
 abbrev pub IsItemCode : ℕ → Type 0
 IsItemCode c = (item : ItemType) × (item_code item ≡ c)
 
+-- `c` is the code of a width
 abbrev pub IsWidthCode : ℕ → Type 0
 IsWidthCode c = (width : Width) × (width_code width ≡ c)

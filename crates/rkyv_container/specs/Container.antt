@@ -3,7 +3,14 @@ use Rattle.std.specs.Prelude.{◌≡◌, ℕ, ◌⊎◌, List, ◌++◌, length,
 use Rattle.rkyv_container.specs.declared.contents.Contents.{Contents}
 use Rattle.rkyv_container.specs.declared.header.Header.{Header}
 use Rattle.rkyv_container.specs.declared.errors.ContainerError.{ContainerError}
-use Rattle.rkyv_container.specs.declared.errors.ContainerError.TheVariants.{WrongKind, WrongKeyType, WrongValueType, WrongWidth, WrongLength, WrongChecksum}
+use Rattle.rkyv_container.specs.declared.errors.ContainerError.TheVariants.{
+  WrongKind,
+  WrongKeyType,
+  WrongValueType,
+  WrongWidth,
+  WrongLength,
+  WrongChecksum,
+}
 use Rattle.rkyv_container.specs.Checks.{Checks, done, check, followed_by, FirstFails}
 use Rattle.rkyv_container.specs.Checksum.{adler32_of}
 use Rattle.rkyv_container.specs.Header.{Fits, IsHeader, header_bytes, header_checks, checksum_field}

@@ -1,10 +1,46 @@
 -- The header of a container: its bytes, and the checks of reading it.
-use Rattle.std.specs.Prelude.{◌≡◌, ℕ, ◌^◌, ◌<◌, ◌≤◌, ◌⊎◌, List, [], ◌∷◌, ◌++◌, length, take, slice_index, slice_range, Option, None, Some}
+use Rattle.std.specs.Prelude.{
+  ◌≡◌,
+  ℕ,
+  ◌^◌,
+  ◌<◌,
+  ◌≤◌,
+  ◌⊎◌,
+  List,
+  [],
+  ◌∷◌,
+  ◌++◌,
+  length,
+  take,
+  slice_index,
+  slice_range,
+  Option,
+  None,
+  Some,
+}
 use Rattle.std.specs.Int.{w16, w32, w64, to_le_bytes, from_le_bytes}
 use Rattle.rkyv_container.specs.declared.contents.Contents.{Contents}
 use Rattle.rkyv_container.specs.declared.header.Header.{Header}
-use Rattle.rkyv_container.specs.declared.errors.ContainerError.TheVariants.{TooShort, WrongMagic, UnsupportedVersion, UnknownKind, UnknownKeyType, UnknownValueType, UnknownWidth, UnknownFlags, UnexpectedChecksum, NonzeroReserved}
-use Rattle.rkyv_container.specs.Codes.{kind_code, item_code, width_code, IsKindCode, IsItemCode, IsWidthCode}
+use Rattle.rkyv_container.specs.declared.errors.ContainerError.TheVariants.{
+  TooShort,
+  WrongMagic,
+  UnsupportedVersion,
+  UnknownKind,
+  UnknownKeyType,
+  UnknownValueType,
+  UnknownWidth,
+  UnknownFlags,
+  UnexpectedChecksum,
+  NonzeroReserved,
+}
+use Rattle.rkyv_container.specs.Codes.{
+  kind_code,
+  item_code,
+  width_code,
+  IsKindCode,
+  IsItemCode,
+  IsWidthCode,
+}
 use Rattle.rkyv_container.specs.Checks.{Checks, done, check, followed_by}
 
 -- the first eight bytes of a container: 137, RKYV, carriage return, line feed, 26
@@ -67,7 +103,7 @@ code_checks field =
     (check (IsItemCode value) (UnknownValueType value)
     (check (IsWidthCode width) (UnknownWidth width) done)))
 
--- the checks of the flags and of the checksum field `sum`
+-- the checks of the number `flags` and of the number in the checksum field
 abbrev pub flag_checks : ℕ → ℕ → Checks
 flag_checks flags checksum =
     check (flags < 2) (UnknownFlags flags)

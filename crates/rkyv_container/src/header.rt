@@ -64,41 +64,41 @@ impl Header {
     pub fn to_bytes(&self) -> [u8; 32]
         ensures { result ≡ header_bytes self.now }
     {
-        let m = MAGIC;
-        let v = VERSION.to_le_bytes();
-        let c = self.contents;
-        let f = flags(self.checksum).to_le_bytes();
-        let n = self.len.to_le_bytes();
-        let s = self.checksum.unwrap_or(0).to_le_bytes();
+        let magic = MAGIC;
+        let version = VERSION.to_le_bytes();
+        let contents = self.contents;
+        let flags = flags_field(self.checksum).to_le_bytes();
+        let len = self.len.to_le_bytes();
+        let sum = self.checksum.unwrap_or(0).to_le_bytes();
         [
-            m[0],
-            m[1],
-            m[2],
-            m[3],
-            m[4],
-            m[5],
-            m[6],
-            m[7],
-            v[0],
-            v[1],
-            c.kind.code(),
-            c.key.code(),
-            c.value.code(),
-            c.width.code(),
-            f[0],
-            f[1],
-            n[0],
-            n[1],
-            n[2],
-            n[3],
-            n[4],
-            n[5],
-            n[6],
-            n[7],
-            s[0],
-            s[1],
-            s[2],
-            s[3],
+            magic[0],
+            magic[1],
+            magic[2],
+            magic[3],
+            magic[4],
+            magic[5],
+            magic[6],
+            magic[7],
+            version[0],
+            version[1],
+            contents.kind.code(),
+            contents.key.code(),
+            contents.value.code(),
+            contents.width.code(),
+            flags[0],
+            flags[1],
+            len[0],
+            len[1],
+            len[2],
+            len[3],
+            len[4],
+            len[5],
+            len[6],
+            len[7],
+            sum[0],
+            sum[1],
+            sum[2],
+            sum[3],
             0,
             0,
             0,
@@ -141,7 +141,7 @@ impl Header {
 }
 
 // Returns the flags of a header with this checksum.
-fn flags(checksum: Option<u32>) -> u16
+fn flags_field(checksum: Option<u32>) -> u16
     ensures { result ≡ flags_of checksum }
 {
     match checksum {

@@ -9,8 +9,8 @@
 //! - To read, `open_as` returns the archive of a container with the expected contents. `open`
 //!   returns the header and the archive of any container.
 //!
-//! A container detects a wrong type and an accident, not an attacker. Its archive is still untrusted
-//! bytes that `rkyv_base::access` validates.
+//! A container detects a wrong type and an accident, not an attacker. Its archive is still
+//! untrusted bytes that `rkyv_base::access` validates.
 #![tactic(auto)]
 
 pub mod checksum;
