@@ -62,7 +62,8 @@ impl Header {
 
     /// Returns the bytes of a header.
     pub fn to_bytes(&self) -> [u8; 32]
-        ensures { result ≡ header_bytes self.now }
+        ensures bytes { result ≡ header_bytes self.now }
+        ensures header { IsHeader self.now result }
     {
         let magic = MAGIC;
         let version = VERSION.to_le_bytes();
@@ -113,7 +114,8 @@ impl Header {
     /// - `out` has the length `HEADER_LEN`.
     pub fn write(&self, out: &mut [u8])
         requires { length out.old ≡ 32 }
-        ensures { out.new ≡ header_bytes self.now }
+        ensures bytes { out.new ≡ header_bytes self.now }
+        ensures header { IsHeader self.now out.new }
     {
         out.copy_from_slice(&self.to_bytes());
     }
