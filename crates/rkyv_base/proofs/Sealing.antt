@@ -1,11 +1,11 @@
 -- Writing one value of an archive in place: the new bytes, and the unchanged ones.
 use Rattle.std.specs.Prelude.{◌≡◌, ℕ, ◌+◌, ◌-◌, ◌≤◌, List, ◌++◌, length, take, drop, slice_range}
 use Rattle.std.specs.Int.{Width, byte_len, from_le_bytes, to_le_bytes}
-use Rattle.std.proofs.Common.{refl, arith, subst, sym, ◌∙◌, ap, inl, inr, zero-add, length-append, length-drop}
+use Rattle.std.proofs.Common.{refl, arith, subst, subst₂, sym, ◌∙◌, ap, inl, inr, zero-add, length-append, length-drop}
 use Rattle.std.proofs.lemmas.List.{drop-take, take-take, drop-drop, length-take-le}
 use Rattle.std.proofs.Math.Seq.{take-append_seam, drop-append_seam, drop-append-add}
 use Rattle.rkyv_base.specs.Bytes.{Same, number_at}
-use Rattle.rkyv_base.specs.Scalar.{Encoding, Encodes, IsWord, scalar_shape, word_bytes, word_reads_back}
+use Rattle.rkyv_base.specs.Scalar.{Encoding, Encodes, IsScalar, word_bytes, word_reads_back}
 use Rattle.rkyv_base.specs.Sealing.{with_bytes, with_value, value_at, IsValueAt, Sealed, Keeps, Outside}
 use Rattle.rkyv_base.specs.Shape.{Shape, IsElement, Viewed}
 use Rattle.rkyv_base.specs.Entry.{entry_shape, value_offset, parts_inside, viewed_key, viewed_value}
@@ -79,23 +79,23 @@ sealed_wider b c p n q m o h s =
     }
 
 -- a scalar was written in place: nothing else changes, it reads back, and valid bytes stay valid
-pub record ValueSet {V : Type 0} (e : Encoding V) (b c : List ℕ) (p : ℕ) (v : V) : Type 0 where
-  pub sealed : Sealed b p (byte_len e.word) c
+pub record ValueSet {V : Type 0} (s : Shape) (e : Encoding V) (b c : List ℕ) (p : ℕ) (v : V) : Type 0 where
+  pub sealed : Sealed b p s.size c
   pub reads : value_at e c p ≡ v
   pub value : IsValueAt e c p
-  pub holds : Keeps (scalar_shape e) b c p
+  pub holds : Keeps s b c p
 
-module _ {V : Type 0} (e : Encoding V) (word : IsWord e.word) (b c : List ℕ) (p : ℕ) (v : V) (out : List ℕ)
+module _ {V : Type 0} (s : Shape) (e : Encoding V) (laws : IsScalar s e) (b c : List ℕ) (p : ℕ) (v : V) (out : List ℕ)
     (inside : p + byte_len e.word ≤ length b) (encodes : Encodes e v out) (is : c ≡ with_value e b p v) where
   number_there : number_at e.word c p ≡ e.code v
   number_there =
       ap (λ (x : List ℕ). number_at e.word x p) is
-      ∙ ap (from_le_bytes e.word) (with_bytes-there b p (byte_len e.word) (to_le_bytes e.word (e.code v)) inside (word_bytes e.word word (e.code v)))
-      ∙ word_reads_back e.word word (e.code v) encodes.fits
+      ∙ ap (from_le_bytes e.word) (with_bytes-there b p (byte_len e.word) (to_le_bytes e.word (e.code v)) inside (word_bytes e.word laws.word (e.code v)))
+      ∙ word_reads_back e.word laws.word (e.code v) encodes.fits
 
-  value_sealed : Sealed b p (byte_len e.word) c
-  value_sealed = subst (λ x. Sealed b p (byte_len e.word) x) (sym is)
-      (with_bytes-sealed b p (byte_len e.word) (to_le_bytes e.word (e.code v)) inside (word_bytes e.word word (e.code v)))
+  value_sealed : Sealed b p s.size c
+  value_sealed = subst₂ (λ n x. Sealed b p n x) (sym laws.size) (sym is)
+      (with_bytes-sealed b p (byte_len e.word) (to_le_bytes e.word (e.code v)) inside (word_bytes e.word laws.word (e.code v)))
 
   value_there : value_at e c p ≡ v
   value_there = ap e.value number_there ∙ encodes.reads_back
@@ -103,10 +103,10 @@ module _ {V : Type 0} (e : Encoding V) (word : IsWord e.word) (b c : List ℕ) (
   value_good : IsValueAt e c p
   value_good = subst e.IsCode (sym number_there) encodes.is_code
 
-  value_holds : Keeps (scalar_shape e) b c p
-  value_holds lo hi l o h k = (k.0, value_good)
+  value_holds : Keeps s b c p
+  value_holds lo hi l o h k = (laws.holds c p lo hi l).1 (((laws.holds b p lo hi l).0 k).0, value_good)
 
-  pub value_set : ValueSet e b c p v
+  pub value_set : ValueSet s e b c p v
   value_set = record { sealed = value_sealed; reads = value_there; value = value_good; holds = value_holds }
 
 -- a value outside the sealed bytes stays valid, with the same parts, and is the same

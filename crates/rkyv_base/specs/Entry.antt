@@ -16,10 +16,12 @@ use Rattle.std.specs.Prelude.{
 }
 use Rattle.std.proofs.lemmas.Bool.{cases_lt}
 use Rattle.std.proofs.lemmas.Bool.Decides.{nat_tests}
+use Rattle.std.specs.Coded.{le_prop, ×_prop}
 use Rattle.std.proofs.Common.{refl, arith, inl, inr, subst, sym, ◌∙◌}
 use Rattle.rkyv_base.specs.declared.errors.VerifyError.{VerifyError}
 use Rattle.rkyv_base.specs.declared.errors.VerifyError.TheVariants.{Refused}
 use Rattle.rkyv_base.specs.Bytes.{Same, same_part}
+use Rattle.rkyv_base.specs.Lemmas.Props.{only_one, prop_by}
 use Rattle.rkyv_base.specs.Writing.{padding}
 use Rattle.rkyv_base.specs.Shape.{
   Shape,
@@ -109,6 +111,15 @@ pub parts_inside : (k v : Shape) → (k.size ≤ value_offset k v)
 parts_inside k v = (omega arith, omega arith)
 
 module _ (k v : Shape) (kl : IsElement k) (vl : IsElement v) where
+  entry_prop : (b : List ℕ) (p lo hi l : ℕ) → IsProp (EntryHolds k v b p lo hi l)
+  entry_prop b p lo hi l =
+      prop_by {B = IsSmall k v × ((m : ℕ) × (k.holds b p lo hi m
+      × v.holds b (p + value_offset k v) m hi l))}
+      (λ h. (h.0, (h.1, (h.2, h.3)))) (λ h. (h.0, h.1.0, h.1.1.0, h.1.1.1)) (λ _. refl)
+      (×_prop le_prop (only_one
+      (λ m. ×_prop (kl.proper b p lo hi m) (vl.proper b (p + value_offset k v) m hi l))
+      (λ m m' h h'. kl.one b p lo hi m m' h.0 h'.0)))
+
   entry_between : (b : List ℕ) (p lo hi l : ℕ) → lo ≤ hi → EntryHolds k v b p lo hi l → (lo ≤ l)
       × (l ≤ hi)
   entry_between b p lo hi l o h =
@@ -212,6 +223,7 @@ module _ (k v : Shape) (kl : IsElement k) (vl : IsElement v) where
         size_whole = size_multiple (whole_size k v) (max k.align v.align) al
             (round_up-multiple (value_offset k v + v.size) (max k.align v.align) al);
         size_small = size_of_any (whole_size k v);
+        proper = entry_prop;
         between = entry_between;
         one = entry_one;
         clear = entry_clear;

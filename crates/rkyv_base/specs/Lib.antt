@@ -8,6 +8,7 @@ pub mod Numbers
 pub mod Layout
 pub mod Lending
 pub mod Entry
+pub mod Elements
 pub mod View
 pub mod Access
 pub mod Pairs

@@ -1,6 +1,7 @@
 -- The range of bytes for the parts of a value.
 use Rattle.std.specs.Prelude.{◌≡◌, ◌≢◌, ℕ, ◌+◌, ◌%◌, ◌≤◌, ◌⊎◌, ℤ, pos, ◌+ℤ◌, ◌<ℤ◌}
 use Rattle.std.proofs.Common.{arith, ap, inl, inr, subst, sym, ◌∙◌}
+use Rattle.std.proofs.Props.{props}
 use Rattle.std.proofs.lemmas.Int.{ints}
 use Rattle.rkyv_base.specs.declared.errors.VerifyError.{VerifyError}
 use Rattle.rkyv_base.specs.declared.errors.VerifyError.TheVariants.{OutOfRange, Unaligned}
@@ -23,6 +24,9 @@ PartFails begin size align lo hi e =
 pub part_one : (begin : ℤ) (size align lo hi at at' : ℕ) → PartIn begin size align lo hi at
     → PartIn begin size align lo hi at' → at ≡ at'
 part_one begin size align lo hi at at' p q = omega (arith, ints, p.begins, q.begins)
+
+pub part_prop : (begin : ℤ) (size align lo hi at : ℕ) → IsProp (PartIn begin size align lo hi at)
+part_prop begin size align lo hi at = hlevel props
 
 -- a part in the range has no fault
 pub part_clear : (begin : ℤ) (size align lo hi at : ℕ) (e : VerifyError)

@@ -1,7 +1,10 @@
 -- Scalars, which are one little-endian number: numbers, `bool` and `char`.
-use Rattle.std.specs.Prelude.{◌≡◌, ℕ, ◌+◌, ◌%◌, ◌^◌, ◌<◌, ◌≤◌, ◌⊎◌, List, [], length, slice_range}
+use Rattle.std.specs.Prelude.{◌≡◌, ℕ, ◌+◌, ◌%◌, ◌^◌, ◌<◌, ◌≤◌, ◌⊎◌, ◌↔◌, List, [], length}
+use Rattle.std.specs.Prelude.{slice_range}
 use Rattle.std.specs.Int.{Width, w8, w16, w32, w64, byte_len, from_le_bytes, to_le_bytes}
+use Rattle.std.specs.Coded.{×_prop}
 use Rattle.std.proofs.Common.{refl, arith, inl, inr, subst, sym, ◌∙◌, ap}
+use Rattle.std.proofs.Props.{props}
 use Rattle.std.proofs.lemmas.Nat.{
   from_le_bytes-to_le_bytes_2,
   from_le_bytes-to_le_bytes_4,
@@ -12,7 +15,7 @@ use Rattle.rkyv_base.specs.declared.errors.VerifyError.{VerifyError}
 use Rattle.rkyv_base.specs.declared.errors.VerifyError.TheVariants.{InvalidValue}
 use Rattle.rkyv_base.specs.Bytes.{Same, Sits, number_at}
 use Rattle.rkyv_base.specs.Shape.{Shape, IsAlign, IsElement}
-use Rattle.rkyv_base.specs.Format.{Format, IsFormat, nothing_next, nothing_far}
+use Rattle.rkyv_base.specs.Format.{Format, IsFormat, StandsNear, nothing_next, nothing_far}
 
 -- an encoding of the values `V`. `word`: the number's width, `code`: number of a value,
 -- `value`: value of a number, `IsCode`: numbers of values
@@ -53,6 +56,19 @@ scalar_shape e = record {
 -- the number at `p` is that of the value `v`
 abbrev pub ScalarStands : {V : Type 0} → Encoding V → List ℕ → ℕ → V → Type 0
 ScalarStands e b p v = e.value (number_at e.word b p) ≡ v
+
+-- that a number is a value's is a proposition
+abbrev pub AreProps : {V : Type 0} → Encoding V → Type 0
+AreProps e = (n : ℕ) → IsProp (e.IsCode n)
+
+-- the shape `s` is that of scalars with the encoding `e`
+pub record IsScalar {V : Type 0} (s : Shape) (e : Encoding V) : Type 0 where
+  pub word : IsWord e.word
+  pub size : s.size ≡ byte_len e.word
+  pub align : s.align ≡ byte_len e.word
+  pub holds : (b : List ℕ) (p lo hi l : ℕ) → s.holds b p lo hi l ↔ ScalarHolds e b p lo hi l
+  pub fails : (b : List ℕ) (p lo hi : ℕ) (error : VerifyError) → s.fails b p lo hi error
+      ↔ ScalarFails e b p lo hi error
 
 -- the format of a scalar, which appends nothing before its fixed bytes
 abbrev pub scalar_format : {V : Type 0} → Encoding V → Format V Unit
@@ -97,8 +113,18 @@ word_small w h = by_word (λ v. byte_len v ≤ 1073741824) (omega arith) (omega 
     (omega arith) w h
 
 module _ {V : Type 0} (e : Encoding V) (word : IsWord e.word) where
-  pub scalar_element : IsElement (scalar_shape e)
-  scalar_element = record {
+  pub scalar_laws : IsScalar (scalar_shape e) e
+  scalar_laws = record {
+    word = word;
+    size = refl;
+    align = refl;
+    holds = λ b p lo hi l. (λ h. h, λ h. h);
+    fails = λ b p lo hi error. (λ f. f, λ f. f);
+  }
+
+  pub scalar_element : AreProps e → IsElement (scalar_shape e)
+  scalar_element codes = record {
+    proper = λ b p lo hi l. ×_prop (hlevel props) (codes (number_at e.word b p));
     align_is = word_align e.word word;
     size_whole = word_multiple e.word word;
     size_small = word_small e.word word;
@@ -114,29 +140,31 @@ module _ {V : Type 0} (e : Encoding V) (word : IsWord e.word) where
     );
   }
 
-  pub scalar_near : (v : V) (b c : List ℕ) (p lo hi l : ℕ) → lo ≤ hi → ScalarHolds e b p lo hi l
-      → Same b c p (p + byte_len e.word) → Same b c lo l
-      → ScalarStands e b p v → ScalarStands e c p v
+module _ {V : Type 0} (s : Shape) (e : Encoding V) (laws : IsScalar s e) where
+  pub scalar_near : StandsNear s (ScalarStands e)
   scalar_near v b c p lo hi l o h same part st =
-      subst (λ s. e.value (from_le_bytes e.word s) ≡ v) same st
+      let word : Same b c p (p + byte_len e.word) = subst (λ n. Same b c p (p + n)) laws.size
+      same in
+      subst (λ t. e.value (from_le_bytes e.word t) ≡ v) word st
 
   -- the number at `p` of bytes in an archive
   number_sits : (v : V) (out c : List ℕ) (p : ℕ) → Encodes e v out → Sits c p out
       → number_at e.word c p ≡ e.code v
-  number_sits v out c p i s =
+  number_sits v out c p i sits =
       let n : length out ≡ byte_len e.word = ap length i.bytes
-      ∙ word_bytes e.word word (e.code v) in
-      ap (from_le_bytes e.word) (ap (λ k. slice_range c p (p + k)) (sym n) ∙ s.there ∙ i.bytes)
-      ∙ word_reads_back e.word word (e.code v) i.fits
+      ∙ word_bytes e.word laws.word (e.code v) in
+      ap (from_le_bytes e.word) (ap (λ k. slice_range c p (p + k)) (sym n) ∙ sits.there ∙ i.bytes)
+      ∙ word_reads_back e.word laws.word (e.code v) i.fits
 
-  pub scalar_is_format : IsFormat (scalar_shape e) (ScalarStands e) (scalar_format e)
+  pub scalar_is_format : IsFormat s (ScalarStands e) (scalar_format e)
   scalar_is_format = record {
-    whole = λ v r p out i. ap length i.bytes ∙ word_bytes e.word word (e.code v);
+    whole = λ v r p out i. ap length i.bytes ∙ word_bytes e.word laws.word (e.code v)
+        ∙ sym laws.size;
     clear = λ v r p out i f. f;
     sound = λ v r c p0 p part out h i s t o al.
         let n : number_at e.word c p ≡ e.code v = number_sits v out c p i t in (
           p0,
-          (refl, subst e.IsCode (sym n) i.is_code),
+          (laws.holds c p p0 (p0 + length part) p0).1 (refl, subst e.IsCode (sym n) i.is_code),
           ap e.value n ∙ i.reads_back,
         );
   }

@@ -1,8 +1,11 @@
 -- The size and the alignment of an element, and the condition for valid bytes.
 use Rattle.std.specs.Prelude.{◌≡◌, ℕ, ◌+◌, ◌%◌, ◌<◌, ◌≤◌, ◌⊎◌, max, List, length}
+use Rattle.std.specs.Coded.{le_prop, ×_prop}
 use Rattle.std.proofs.Common.{refl, arith, inl, inr, subst, sym}
+use Rattle.std.proofs.Props.{props}
 use Rattle.rkyv_base.specs.declared.errors.VerifyError.{VerifyError}
 use Rattle.rkyv_base.specs.Bytes.{Same}
+use Rattle.rkyv_base.specs.Lemmas.Props.{only_one, prop_by}
 
 -- `holds b p lo hi l`: the bytes `b` have a valid value at `p`.
 -- Its parts are from `lo` on and below `hi`, and the next part may begin at `l`.
@@ -17,8 +20,9 @@ pub record Shape : Type 1 where
 abbrev pub IsAlign : ℕ → Type 0
 IsAlign a = (a ≡ 1) ⊎ (a ≡ 2) ⊎ (a ≡ 4) ⊎ (a ≡ 8)
 
--- The laws of an element. Its size is a multiple of its alignment. The new lower end is unique,
--- and in the range. No bytes are both valid and faulty, and a fault is unique.
+-- The laws of an element. Its size is a multiple of its alignment. That bytes are valid is
+-- a proposition. The new lower end is unique, and in the range. No bytes are both valid and
+-- faulty, and a fault is unique.
 -- A greater upper end keeps a value valid, with the same new lower end.
 -- A lesser lower end keeps it valid, with one that is not greater.
 -- Validity depends only on the fixed bytes, and on the parts up to the new lower end.
@@ -26,6 +30,7 @@ pub record IsElement (s : Shape) : Type 0 where
   pub align_is : IsAlign s.align
   pub size_whole : s.size % s.align ≡ 0
   pub size_small : s.size ≤ 1073741824
+  pub proper : (b : List ℕ) (p lo hi l : ℕ) → IsProp (s.holds b p lo hi l)
   pub between : (b : List ℕ) (p lo hi l : ℕ) → lo ≤ hi → s.holds b p lo hi l → (lo ≤ l) × (l ≤ hi)
   pub one : (b : List ℕ) (p lo hi l l' : ℕ) → s.holds b p lo hi l → s.holds b p lo hi l' → l ≡ l'
   pub clear : (b : List ℕ) (p lo hi l : ℕ) (e : VerifyError) → s.holds b p lo hi l
@@ -48,6 +53,17 @@ pub record Viewed (s : Shape) (b : List ℕ) (p : ℕ) : Type 0 where
   pub inside : p + s.size ≤ length b
   pub aligned : p % s.align ≡ 0
   pub stands : Standing s b p
+
+-- that the bytes have a valid value is a proposition
+pub standing_prop : (s : Shape) → IsElement s → (b : List ℕ) (p : ℕ) → IsProp (Standing s b p)
+standing_prop s laws b p = only_one (laws.proper b p 0 p) (laws.one b p 0 p)
+
+pub viewed_prop : (s : Shape) → IsElement s → (b : List ℕ) (p : ℕ) → IsProp (Viewed s b p)
+viewed_prop s laws b p =
+    prop_by {B = (p + s.size ≤ length b) × ((p % s.align ≡ 0) × Standing s b p)}
+    (λ v. (v.inside, (v.aligned, v.stands)))
+    (λ v. record { inside = v.0; aligned = v.1.0; stands = v.1.1 }) (λ _. refl)
+    (×_prop le_prop (×_prop (hlevel props) (standing_prop s laws b p)))
 
 -- a valid value with its parts in some range is valid with the widest range
 pub standing : (s : Shape) → IsElement s → (b : List ℕ) (p lo hi l : ℕ) → lo ≤ hi → hi ≤ p

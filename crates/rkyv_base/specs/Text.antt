@@ -28,16 +28,20 @@ use Rattle.std.specs.Prelude.{
 use Rattle.std.specs.List.{before_first}
 use Rattle.std.specs.Int.{Width, w32, w64, byte_len}
 use Rattle.std.specs.Str.{IsUtf8}
+use Rattle.std.specs.Coded.{le_prop, ×_prop}
 use Rattle.std.proofs.Common.{refl, arith, subst, sym, ◌∙◌, ap, inl, inr}
+use Rattle.std.proofs.Props.{props}
 use Rattle.rkyv_base.specs.declared.errors.VerifyError.{VerifyError}
 use Rattle.rkyv_base.specs.declared.errors.VerifyError.TheVariants.{InvalidValue}
 use Rattle.rkyv_base.specs.Bytes.{Same, number_at, signed_at, same_part}
 use Rattle.rkyv_base.specs.Shape.{Shape, IsAlign, IsElement, Viewed}
 use Rattle.rkyv_base.specs.Format.{StandsNear}
+use Rattle.rkyv_base.specs.Lemmas.Props.{either_prop, only_one, prop_by}
 use Rattle.rkyv_base.specs.Parts.{
   PartIn,
   PartFails,
   part_one,
+  part_prop,
   part_clear,
   part_one_failure,
   part_wider,
@@ -138,6 +142,29 @@ by_archive_word P p32 p64 w (inl e) = subst P (sym e) p32
 by_archive_word P p32 p64 w (inr e) = subst P (sym e) p64
 
 module _ (w : Width) where
+  -- a text is inline or out of line, and an out-of-line text has one position
+  far_prop : (s b : List ℕ) (p lo hi l : ℕ) → IsProp (FarHolds w s b p lo hi l)
+  far_prop s b p lo hi l =
+      let P : ℕ → Type 0 = λ at. PartIn (far_begin w s p) (far_length w s) 1 lo hi at
+      × (IsUtf8 (slice_range b at (at + far_length w s)) × (l ≡ at + far_length w s)) in
+      prop_by {B = (is_far s ≡ true) × ((text_size w < far_length w s) × ((at : ℕ) × P at))}
+      (λ h. (h.0, (h.1, (h.2, (h.3, (h.4, h.5))))))
+      (λ h. (h.0, h.1.0, h.1.1.0, h.1.1.1.0, h.1.1.1.1.0, h.1.1.1.1.1)) (λ _. refl)
+      (×_prop (hlevel props) (×_prop le_prop (only_one
+      (λ at. ×_prop (part_prop (far_begin w s p) (far_length w s) 1 lo hi at)
+      (×_prop (hlevel props) (hlevel props)))
+      (λ at at' h k. part_one (far_begin w s p) (far_length w s) 1 lo hi at at' h.0 k.0))))
+
+  inline_prop : (s : List ℕ) (lo l : ℕ) → IsProp (InlineHolds s lo l)
+  inline_prop s lo l =
+      prop_by {B = (is_far s ≡ false) × (IsUtf8 (inline_text s) × (l ≡ lo))}
+      (λ h. (h.0, (h.1, h.2))) (λ h. (h.0, h.1.0, h.1.1)) (λ _. refl)
+      (×_prop (hlevel props) (×_prop (hlevel props) (hlevel props)))
+
+  fixed_prop : (s b : List ℕ) (p lo hi l : ℕ) → IsProp (FixedHolds w s b p lo hi l)
+  fixed_prop s b p lo hi l =
+      either_prop (inline_prop s lo l) (far_prop s b p lo hi l) (λ h k. cc (h.0, k.0))
+
   holds_between : (s b : List ℕ) (p lo hi l : ℕ) → lo ≤ hi → FixedHolds w s b p lo hi l → (lo ≤ l)
       × (l ≤ hi)
   holds_between s b p lo hi l o (inl h) = (omega (arith, h.2), omega (arith, h.2))
@@ -279,6 +306,7 @@ module _ (w : Width) (kind : IsArchiveWord w) where
         (inr (inr (inr refl))) w kind;
     size_whole = by_archive_word (λ v. text_size v % byte_len v ≡ 0) refl refl w kind;
     size_small = by_archive_word (λ v. text_size v ≤ 1073741824) (omega arith) (omega arith) w kind;
+    proper = λ b p lo hi l. fixed_prop w (fixed_bytes w b p) b p lo hi l;
     between = λ b p lo hi l o h. holds_between w (fixed_bytes w b p) b p lo hi l o h;
     one = λ b p lo hi l l' h h'. holds_one w (fixed_bytes w b p) b p lo hi l l' h h';
     clear = λ b p lo hi l e h f. holds_clear w (fixed_bytes w b p) b p lo hi l e h f;

@@ -16,21 +16,29 @@ pub struct PartRange {
     pub hi: u64,
 }
 
+/// The size and the alignment of an element, and the condition for valid bytes, for contracts
+/// alone.
+///
+/// Views of collections have this bound, so that they can hold that their bytes are valid.
+pub trait Shaped {
+    // The size and the alignment of its values, and the condition for valid bytes.
+    ghost shape: { Shape };
+
+    ghost laws: { IsElement shape };
+}
+
 /// A type whose values are in the bytes of an archive.
 ///
 /// A value has `size` fixed bytes at a multiple of `align`.
 /// It may also have parts out of line, before it.
-pub trait Element {
-    // The size and the alignment of its values, and the condition for valid bytes.
-    ghost shape: { Shape };
-
+pub trait Element: Shaped {
     /// Returns the size of a value in bytes: a multiple of the alignment, at most 1,073,741,824.
     fn size() -> usize
-        ensures { result ≡ shape.size };
+        ensures { result ≡ Self.shape.size };
 
     /// Returns the alignment of a value in bytes: 1, 2, 4 or 8.
     fn align() -> usize
-        ensures { result ≡ shape.align };
+        ensures { result ≡ Self.shape.align };
 
     /// Validates the value at `pos`, whose parts must be in the range.
     ///
@@ -46,13 +54,11 @@ pub trait Element {
     ///
     /// The first fault that the validation finds.
     fn check(bytes: &[u8], pos: u64, range: PartRange) -> Result<PartRange, VerifyError>
-        requires inside { pos + shape.size ≤ length bytes.now }
-        requires aligned { pos % shape.align ≡ 0 }
+        requires inside { pos + Self.shape.size ≤ length bytes.now }
+        requires aligned { pos % Self.shape.align ≡ 0 }
         requires ordered { (range.lo ≤ range.hi) × (range.hi ≤ pos) }
-        ensures { MatchResult result (Passes shape bytes.now pos range)
-            (Fails shape bytes.now pos range) };
-
-    ghost laws: { IsElement shape };
+        ensures { MatchResult result (Passes Self.shape bytes.now pos range)
+            (Fails Self.shape bytes.now pos range) };
 }
 
 /// An element whose values represent values of the type `V`.

@@ -9,7 +9,7 @@ ghost use Rattle.rkyv_base.specs.Entry.{
   whole_size,
 };
 
-use crate::element::{Element, PartRange};
+use crate::element::{Element, PartRange, Shaped};
 use crate::errors::VerifyError;
 use std::marker::PhantomData;
 
@@ -55,9 +55,13 @@ pub fn whole_size<K: Element, V: Element>() -> usize
     rounded_up(offset + V::size(), K::align().max(V::align()))
 }
 
-impl<K: Element, V: Element> Element for Entry<K, V> {
+impl<K: Shaped, V: Shaped> Shaped for Entry<K, V> {
     ghost shape = { entry_shape K.shape V.shape };
 
+    ghost laws = { entry_element K.shape V.shape K.laws V.laws };
+}
+
+impl<K: Element, V: Element> Element for Entry<K, V> {
     #[inline]
     fn size() -> usize {
         let whole = whole_size::<K, V>();
@@ -80,6 +84,4 @@ impl<K: Element, V: Element> Element for Entry<K, V> {
             Err(e) => Err(e),
         }
     }
-
-    ghost laws = { entry_element K.shape V.shape K.laws V.laws };
 }

@@ -42,7 +42,7 @@ pub use access::{
 };
 pub use adapter::EntryAdapter;
 pub use archive::{Archive, ResolveResult, Serialize, WriteResult};
-pub use element::{Element, PartRange, StandsFor};
+pub use element::{Element, PartRange, Shaped, StandsFor};
 pub use entry::{Entry, LARGEST, value_offset, whole_size};
 pub use errors::{DistanceTooLarge, IteratorLengthMismatch, ReadError, VerifyError, WriteError};
 pub use lend::Lend;

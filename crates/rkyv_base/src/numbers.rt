@@ -3,9 +3,18 @@
 ghost use Rattle.std.specs.Prelude.{◌≡◌};
 ghost use Rattle.std.specs.Int.{w8, w16, w32, w64};
 ghost use Rattle.std.proofs.Common.{refl, inl, inr};
-ghost use Rattle.rkyv_base.specs.Numbers.{bool_encoding, char_encoding, signed, unsigned};
+ghost use Rattle.rkyv_base.specs.Numbers.{bool_codes, bool_encoding, char_codes, char_encoding};
+ghost use Rattle.rkyv_base.specs.Numbers.{signed, signed_codes, unsigned, unsigned_codes};
+ghost use Rattle.rkyv_base.specs.Scalar.{scalar_element, scalar_laws, scalar_shape};
 
+use crate::element::Shaped;
 use crate::scalars::Scalar;
+
+impl Shaped for u8 {
+    ghost shape = { scalar_shape (unsigned w8) };
+
+    ghost laws = { scalar_element (unsigned w8) (inl refl) (unsigned_codes w8) };
+}
 
 impl Scalar for u8 {
     ghost encoding = { unsigned w8 };
@@ -30,7 +39,13 @@ impl Scalar for u8 {
         bytes[0] = self;
     }
 
-    ghost word = { inl refl };
+    ghost laws = { scalar_laws (unsigned w8) (inl refl) };
+}
+
+impl Shaped for u16 {
+    ghost shape = { scalar_shape (unsigned w16) };
+
+    ghost laws = { scalar_element (unsigned w16) (inr (inl refl)) (unsigned_codes w16) };
 }
 
 impl Scalar for u16 {
@@ -56,7 +71,13 @@ impl Scalar for u16 {
         bytes.copy_from_slice(&self.to_le_bytes());
     }
 
-    ghost word = { inr (inl refl) };
+    ghost laws = { scalar_laws (unsigned w16) (inr (inl refl)) };
+}
+
+impl Shaped for u32 {
+    ghost shape = { scalar_shape (unsigned w32) };
+
+    ghost laws = { scalar_element (unsigned w32) (inr (inr (inl refl))) (unsigned_codes w32) };
 }
 
 impl Scalar for u32 {
@@ -82,7 +103,13 @@ impl Scalar for u32 {
         bytes.copy_from_slice(&self.to_le_bytes());
     }
 
-    ghost word = { inr (inr (inl refl)) };
+    ghost laws = { scalar_laws (unsigned w32) (inr (inr (inl refl))) };
+}
+
+impl Shaped for u64 {
+    ghost shape = { scalar_shape (unsigned w64) };
+
+    ghost laws = { scalar_element (unsigned w64) (inr (inr (inr refl))) (unsigned_codes w64) };
 }
 
 impl Scalar for u64 {
@@ -109,7 +136,13 @@ impl Scalar for u64 {
         bytes.copy_from_slice(&self.to_le_bytes());
     }
 
-    ghost word = { inr (inr (inr refl)) };
+    ghost laws = { scalar_laws (unsigned w64) (inr (inr (inr refl))) };
+}
+
+impl Shaped for i8 {
+    ghost shape = { scalar_shape (signed w8) };
+
+    ghost laws = { scalar_element (signed w8) (inl refl) (signed_codes w8) };
 }
 
 impl Scalar for i8 {
@@ -135,7 +168,13 @@ impl Scalar for i8 {
         bytes[0] = self.cast_unsigned();
     }
 
-    ghost word = { inl refl };
+    ghost laws = { scalar_laws (signed w8) (inl refl) };
+}
+
+impl Shaped for i16 {
+    ghost shape = { scalar_shape (signed w16) };
+
+    ghost laws = { scalar_element (signed w16) (inr (inl refl)) (signed_codes w16) };
 }
 
 impl Scalar for i16 {
@@ -161,7 +200,13 @@ impl Scalar for i16 {
         self.cast_unsigned().write(bytes);
     }
 
-    ghost word = { inr (inl refl) };
+    ghost laws = { scalar_laws (signed w16) (inr (inl refl)) };
+}
+
+impl Shaped for i32 {
+    ghost shape = { scalar_shape (signed w32) };
+
+    ghost laws = { scalar_element (signed w32) (inr (inr (inl refl))) (signed_codes w32) };
 }
 
 impl Scalar for i32 {
@@ -187,7 +232,13 @@ impl Scalar for i32 {
         self.cast_unsigned().write(bytes);
     }
 
-    ghost word = { inr (inr (inl refl)) };
+    ghost laws = { scalar_laws (signed w32) (inr (inr (inl refl))) };
+}
+
+impl Shaped for i64 {
+    ghost shape = { scalar_shape (signed w64) };
+
+    ghost laws = { scalar_element (signed w64) (inr (inr (inr refl))) (signed_codes w64) };
 }
 
 impl Scalar for i64 {
@@ -213,7 +264,13 @@ impl Scalar for i64 {
         self.cast_unsigned().write(bytes);
     }
 
-    ghost word = { inr (inr (inr refl)) };
+    ghost laws = { scalar_laws (signed w64) (inr (inr (inr refl))) };
+}
+
+impl Shaped for bool {
+    ghost shape = { scalar_shape bool_encoding };
+
+    ghost laws = { scalar_element bool_encoding (inl refl) bool_codes };
 }
 
 impl Scalar for bool {
@@ -239,7 +296,13 @@ impl Scalar for bool {
         bytes[0] = u8::from(self);
     }
 
-    ghost word = { inl refl };
+    ghost laws = { scalar_laws bool_encoding (inl refl) };
+}
+
+impl Shaped for char {
+    ghost shape = { scalar_shape char_encoding };
+
+    ghost laws = { scalar_element char_encoding (inr (inr (inl refl))) char_codes };
 }
 
 impl Scalar for char {
@@ -268,5 +331,5 @@ impl Scalar for char {
         u32::from(self).write(bytes);
     }
 
-    ghost word = { inr (inr (inl refl)) };
+    ghost laws = { scalar_laws char_encoding (inr (inr (inl refl))) };
 }

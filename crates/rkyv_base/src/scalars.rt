@@ -1,21 +1,19 @@
 //! Scalars: values of a few fixed bytes, which are one little-endian number.
 
-ghost use Rattle.std.specs.Prelude.{◌≡◌, ℕ, ◌+◌, ◌≤◌, length, IsTrue, ◌↔◌};
+ghost use Rattle.std.specs.Prelude.{◌≡◌, ◌+◌, length, IsTrue, ◌↔◌};
 ghost use Rattle.std.specs.Int.{byte_len, from_le_bytes};
 ghost use Rattle.rkyv_base.specs.Scalar.{
   Encodes,
   Encoding,
-  IsWord,
+  IsScalar,
   ScalarStands,
-  scalar_element,
   scalar_format,
   scalar_is_format,
   scalar_near,
-  scalar_shape,
 };
 
 use crate::archive::{Archive, ResolveResult, Serialize, WriteResult};
-use crate::element::{Element, PartRange, StandsFor};
+use crate::element::{Element, PartRange, Shaped, StandsFor};
 use crate::errors::VerifyError;
 use crate::width::Width;
 use crate::writer::Writer;
@@ -24,7 +22,7 @@ use std::alloc::Global;
 /// A value that is written as a little-endian number of 1, 2, 4 or 8 bytes.
 ///
 /// Each scalar is an element, represents itself and is archived as itself.
-pub trait Scalar: Copy {
+pub trait Scalar: Copy + Shaped {
     // The encoding of its values.
     ghost encoding: { Encoding Self };
 
@@ -61,12 +59,10 @@ pub trait Scalar: Copy {
         requires { length bytes.old ≡ byte_len encoding.word }
         ensures { Encodes encoding self bytes.new };
 
-    ghost word: { IsWord encoding.word };
+    ghost laws: { IsScalar Self.shape encoding };
 }
 
 impl<N: Scalar> Element for N {
-    ghost shape = { scalar_shape N.encoding };
-
     #[inline]
     fn size() -> usize {
         N::byte_count()
@@ -86,14 +82,12 @@ impl<N: Scalar> Element for N {
             Err(VerifyError::InvalidValue { pos })
         }
     }
-
-    ghost laws = { scalar_element N.encoding N.word };
 }
 
 impl<N: Scalar> StandsFor<N> for N {
     ghost stands = { ScalarStands N.encoding };
 
-    ghost near = { scalar_near N.encoding N.word };
+    ghost near = { scalar_near N.shape N.encoding N.Scalar.laws };
 }
 
 impl<W: Width, N: Scalar> Archive<W> for N {
@@ -109,7 +103,7 @@ impl<W: Width, N: Scalar> Archive<W> for N {
         Ok(())
     }
 
-    ghost laws = { scalar_is_format N.encoding N.word };
+    ghost laws = { scalar_is_format N.shape N.encoding N.Scalar.laws };
 }
 
 impl<S: Writer, W: Width, N: Scalar> Serialize<S, W> for N {

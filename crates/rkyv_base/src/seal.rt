@@ -4,12 +4,10 @@
 //! An `ArchiveSeal` borrows a whole archive, so other values of it can be read or sealed as well.
 //! `set_at` and `set_value` write to plain bytes.
 
-ghost use Rattle.std.specs.Prelude.{◌≡◌, ℕ, ◌+◌, ◌≤◌, List, length, take, drop};
+ghost use Rattle.std.specs.Prelude.{◌≡◌, ◌+◌, ◌≤◌, length, take, drop};
 ghost use Rattle.std.specs.Borrow.{sem};
-ghost use Rattle.std.specs.Int.{byte_len};
 ghost use Rattle.rkyv_base.specs.View.{IsView, bytes_of, pos_of};
 ghost use Rattle.rkyv_base.specs.Entry.{entry_shape};
-ghost use Rattle.rkyv_base.specs.Scalar.{scalar_shape};
 ghost use Rattle.rkyv_base.specs.Lending.{MayWrite, Wrote};
 ghost use Rattle.rkyv_base.specs.Seal.{
   ArchiveAt,
@@ -95,12 +93,12 @@ impl<'a, T> Seal<'a, T> {
 /// - The value's bytes end inside `bytes`.
 #[inline]
 pub fn set_at<N: Scalar>(bytes: &mut [u8], pos: usize, value: N)
-    requires { pos + byte_len N.encoding.word ≤ length bytes.old }
+    requires { pos + N.shape.size ≤ length bytes.old }
     ensures written { bytes.new ≡ with_value N.encoding bytes.old pos value }
-    ensures sealed { Sealed bytes.old pos (byte_len N.encoding.word) bytes.new }
+    ensures sealed { Sealed bytes.old pos (N.shape.size) bytes.new }
     ensures reads { value_at N.encoding bytes.new pos ≡ value }
     ensures value { IsValueAt N.encoding bytes.new pos }
-    ensures holds { Keeps (scalar_shape N.encoding) bytes.old bytes.new pos }
+    ensures holds { Keeps N.shape bytes.old bytes.new pos }
 {
     value.write(&mut bytes[pos..pos + N::byte_count()]);
 }
@@ -114,7 +112,7 @@ impl<'a, N: Scalar> Seal<'a, N> {
     /// - The bytes at the position are a valid value.
     #[inline]
     pub fn to_native(&self) -> N
-        requires inside { LiesIn (scalar_shape N.encoding) self.now }
+        requires inside { LiesIn N.shape self.now }
         requires value { IsValueAt N.encoding (bytes_in self.now) (seal_pos self.now) }
         ensures { result ≡ value_at N.encoding (bytes_in self.now) (seal_pos self.now) }
     {
@@ -128,15 +126,15 @@ impl<'a, N: Scalar> Seal<'a, N> {
     /// - The value's bytes end inside the borrowed bytes.
     #[inline]
     pub fn set(&mut self, value: N)
-        requires { LiesIn (scalar_shape N.encoding) self.old }
+        requires { LiesIn N.shape self.old }
         ensures stays { SealStays self.old self.new }
         ensures written { bytes_in self.new
             ≡ with_value N.encoding (bytes_in self.old) (seal_pos self.old) value }
         ensures sealed { Sealed (bytes_in self.old) (seal_pos self.old)
-            (byte_len N.encoding.word) (bytes_in self.new) }
+            (N.shape.size) (bytes_in self.new) }
         ensures reads { value_at N.encoding (bytes_in self.new) (seal_pos self.new) ≡ value }
         ensures value { IsValueAt N.encoding (bytes_in self.new) (seal_pos self.new) }
-        ensures holds { Keeps (scalar_shape N.encoding)
+        ensures holds { Keeps N.shape
             (bytes_in self.old) (bytes_in self.new) (seal_pos self.old) }
     {
         let pos = self.pos;
@@ -318,16 +316,16 @@ pub fn halves<K: Element, V: Element>(archive: &mut [u8], entry_pos: u64) -> (&m
 /// - The archive has a valid entry at `entry_pos`.
 #[inline]
 pub fn set_value<K: Element, N: Scalar>(archive: &mut [u8], entry_pos: u64, value: N)
-    requires { Viewed (entry_shape K.shape (scalar_shape N.encoding)) archive.old entry_pos }
+    requires { Viewed (entry_shape K.shape N.shape) archive.old entry_pos }
     ensures written { archive.new ≡ with_value N.encoding archive.old
-        (value_pos K.shape (scalar_shape N.encoding) entry_pos) value }
-    ensures sealed { Sealed archive.old (value_pos K.shape (scalar_shape N.encoding) entry_pos)
-        (byte_len N.encoding.word) archive.new }
+        (value_pos K.shape N.shape entry_pos) value }
+    ensures sealed { Sealed archive.old (value_pos K.shape N.shape entry_pos)
+        (N.shape.size) archive.new }
     ensures reads { value_at N.encoding archive.new
-        (value_pos K.shape (scalar_shape N.encoding) entry_pos) ≡ value }
-    ensures holds { Keeps (entry_shape K.shape (scalar_shape N.encoding))
+        (value_pos K.shape N.shape entry_pos) ≡ value }
+    ensures holds { Keeps (entry_shape K.shape N.shape)
         archive.old archive.new entry_pos }
-    ensures viewed { Viewed (entry_shape K.shape (scalar_shape N.encoding)) archive.new entry_pos }
+    ensures viewed { Viewed (entry_shape K.shape N.shape) archive.new entry_pos }
 {
     set_at(archive, entry_pos as usize + value_offset::<K, N>(), value);
 }

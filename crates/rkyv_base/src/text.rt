@@ -36,12 +36,12 @@ ghost use Rattle.rkyv_base.specs.Text.{
 ghost use Rattle.rkyv_base.specs.Shape.{Viewed};
 ghost use Rattle.rkyv_base.specs.View.{IsView, bytes_of, pos_of};
 
-use crate::element::{Element, PartRange, StandsFor};
+use crate::element::{Element, PartRange, Shaped, StandsFor};
 use crate::errors::VerifyError;
 use crate::part::part_in;
 use crate::sought::{Ff, High, first, is_ascii};
 use crate::view::View;
-use crate::width::{Narrow, Width};
+use crate::width::{Narrow, Width, Word};
 use std::marker::PhantomData;
 
 /// A text in an archive of the width `W`.
@@ -206,9 +206,13 @@ fn check_far<W: Width>(bytes: &[u8], pos: u64, range: PartRange) -> Result<PartR
     }
 }
 
-impl<W: Width> Element for Text<W> {
+impl<W: Word> Shaped for Text<W> {
     ghost shape = { text_shape W.word };
 
+    ghost laws = { text_element W.word W.kind };
+}
+
+impl<W: Width> Element for Text<W> {
     #[inline]
     fn size() -> usize {
         W::TEXT_SIZE
@@ -230,8 +234,6 @@ impl<W: Width> Element for Text<W> {
             Err(e) => Err(e),
         }
     }
-
-    ghost laws = { text_element W.word W.layout.kind };
 }
 
 /// Returns the position at which a part begins.

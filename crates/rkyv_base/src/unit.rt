@@ -1,6 +1,5 @@
 //! The unit value, which has no bytes in an archive.
 
-ghost use Rattle.std.specs.Prelude.{◌≡◌};
 ghost use Rattle.rkyv_base.specs.Empty.{
   unit_element,
   unit_format,
@@ -11,15 +10,19 @@ ghost use Rattle.rkyv_base.specs.Empty.{
 };
 
 use crate::archive::{Archive, ResolveResult, Serialize, WriteResult};
-use crate::element::{Element, PartRange, StandsFor};
+use crate::element::{Element, PartRange, Shaped, StandsFor};
 use crate::errors::VerifyError;
 use crate::width::Width;
 use crate::writer::Writer;
 use std::alloc::Global;
 
-impl Element for () {
+impl Shaped for () {
     ghost shape = { unit_shape };
 
+    ghost laws = { unit_element };
+}
+
+impl Element for () {
     #[inline]
     fn size() -> usize {
         0
@@ -34,8 +37,6 @@ impl Element for () {
     fn check(_bytes: &[u8], _pos: u64, range: PartRange) -> Result<PartRange, VerifyError> {
         Ok(range)
     }
-
-    ghost laws = { unit_element };
 }
 
 impl StandsFor<()> for () {

@@ -1,8 +1,8 @@
 //! Views: values that are read in place.
 
-ghost use Rattle.std.specs.Prelude.{◌≡◌, ℕ, ◌+◌};
+ghost use Rattle.std.specs.Prelude.{◌≡◌, ◌+◌};
 ghost use Rattle.rkyv_base.specs.Entry.{entry_shape, value_offset};
-ghost use Rattle.rkyv_base.specs.Scalar.{ScalarStands, scalar_shape};
+ghost use Rattle.rkyv_base.specs.Scalar.{ScalarStands};
 ghost use Rattle.rkyv_base.specs.Shape.{Viewed};
 ghost use Rattle.rkyv_base.specs.View.{IsAt, IsView, StandsAt, archive_of, bytes_of, pos_of};
 
@@ -75,7 +75,7 @@ impl<'a, N: Scalar> View<'a, N> {
     /// - The archive has a valid value at the position.
     #[inline]
     pub fn to_native(self) -> N
-        requires { IsView (scalar_shape N.encoding) self }
+        requires { IsView N.shape self }
         ensures { StandsAt (ScalarStands N.encoding) self.entry result }
     {
         let at = self.pos as usize;

@@ -34,7 +34,8 @@ ghost use Rattle.std.specs.Int.{
 ghost use mir.Val.{bits};
 ghost use Rattle.rkyv_base.specs.Bytes.{number_at, signed_at};
 ghost use Rattle.rkyv_base.specs.Layout.{IsLayout, IsPlace, narrow_layout, wide_layout};
-ghost use Rattle.std.proofs.Common.{refl};
+ghost use Rattle.rkyv_base.specs.Text.{IsArchiveWord};
+ghost use Rattle.std.proofs.Common.{inl, inr, refl};
 
 use crate::scalars::Scalar;
 
@@ -42,6 +43,8 @@ use crate::scalars::Scalar;
 pub trait Word {
     // The width of the word.
     ghost word: { IntWidth };
+
+    ghost kind: { IsArchiveWord word };
 }
 
 /// The width of the positions and counts of an archive, and the sizes that depend on it.
@@ -147,10 +150,14 @@ pub struct Wide;
 
 impl Word for Narrow {
     ghost word = { w32 };
+
+    ghost kind = { inl refl };
 }
 
 impl Word for Wide {
     ghost word = { w64 };
+
+    ghost kind = { inr refl };
 }
 
 impl Width for Narrow {

@@ -1,4 +1,5 @@
 -- The value behind the key that a lookup finds.
+use Rattle.rkyv_base.specs.declared.element.Shaped.{Ghosts as Shapes}
 use Rattle.rkyv_base.specs.declared.width.Word.{Ghosts as Words}
 use Rattle.std.proofs.Common.{◌≡◌, ℕ, ◌+◌, ap, refl, ◌∙◌, Option, None, Some}
 use Rattle.std.specs.Borrow.{Bor}
@@ -13,7 +14,7 @@ use Rattle.rkyv_collections.specs.declared.map.ArchivedHashMap.{ArchivedHashMap}
 use Rattle.rkyv_bench_calls.specs.Archives.{number_shape}
 use Rattle.rkyv_bench_calls.specs.Totals.{number_seen, value_or_miss}
 
-pub found_seen : {K V H W : Type 0} {wt : Words W} (key : Shape) (m : ArchivedHashMap K V H W wt) (found : Option (View V)) (place : Option ℕ) → IfSome found (IsValueIn w32 key number_shape m) → IsValueAt key number_shape found place
+pub found_seen : {K V H W : Type 0} {ks : Shapes K} {vs : Shapes V} {wt : Words W} (key : Shape) (m : ArchivedHashMap K V H W ks vs wt) (found : Option (View V)) (place : Option ℕ) → IfSome found (IsValueIn m) → IsValueAt key number_shape found place
     → number_seen found ≡ value_or_miss key (map_bytes m) place
 found_seen key m None None walked at = refl
 found_seen key m None (Some q) walked at = cc

@@ -1,4 +1,5 @@
 -- The archives of maps to numbers that are measured.
+use Rattle.rkyv_base.specs.declared.element.Shaped.{Ghosts as Shapes}
 use Rattle.rkyv_base.specs.declared.width.Word.{Ghosts as Words}
 use Rattle.std.specs.Prelude.{◌≡◌, ℕ, ◌+◌, ◌-◌, ◌⊎◌, List, length}
 use Rattle.std.specs.Borrow.{Bor}
@@ -9,7 +10,7 @@ use Rattle.rkyv_base.specs.Scalar.{scalar_shape}
 use Rattle.rkyv_base.specs.Shape.{Shape}
 use Rattle.rkyv_base.specs.Text.{text_shape}
 use Rattle.rkyv_base.specs.View.{IsAt}
-use Rattle.rkyv_collections.specs.Map.{map_shape}
+use Rattle.rkyv_collections.specs.MapShape.{map_shape}
 use Rattle.rkyv_collections.specs.declared.map.ArchivedHashMap.{ArchivedHashMap}
 use Rattle.rkyv_table.specs.Table.Header.{len_at}
 
@@ -34,7 +35,8 @@ abbrev pub root : List ℕ → ℕ
 root b = length b - 12
 
 -- `m` is the map at the root of the archive
-abbrev pub IsMapAtRoot : {K V H W : Type 0} {wt : Words W} → ArchivedHashMap K V H W wt
+abbrev pub IsMapAtRoot : {K V H W : Type 0} {ks : Shapes K} {vs : Shapes V} {wt : Words W}
+    → ArchivedHashMap K V H W ks vs wt
     → Bor (List ℕ) → Type 0
 IsMapAtRoot m archive = IsAt m.view archive (root archive.now)
 

@@ -1,4 +1,5 @@
 -- The archives of index maps that are measured, and the sums of the calls.
+use Rattle.rkyv_base.specs.declared.element.Shaped.{Ghosts as Shapes}
 use Rattle.rkyv_base.specs.declared.width.Word.{Ghosts as Words}
 use Rattle.std.specs.Prelude.{ℕ, ◌+◌, ◌-◌, ◌^◌, Bool, List, length, Option, None}
 use Rattle.std.specs.Prelude.{Some}
@@ -37,7 +38,8 @@ abbrev pub index_root : List ℕ → ℕ
 index_root b = length b - 16
 
 -- `m` is the index map at the root of the archive
-abbrev pub IsIndexAtRoot : {K V H W : Type 0} {wt : Words W} → ArchivedIndexMap K V H W wt
+abbrev pub IsIndexAtRoot : {K V H W : Type 0} {ks : Shapes K} {vs : Shapes V} {wt : Words W}
+    → ArchivedIndexMap K V H W ks vs wt
     → Bor (List ℕ) → Type 0
 IsIndexAtRoot m archive = IsAt m.view archive (index_root archive.now)
 
@@ -62,8 +64,8 @@ index_looked_up key b p calls fits = place_or_miss key b p
     (index_found w32 b p (hash_by calls) (λ i. fits b (index_key_pos key b p i)))
 
 -- the value of the entry that a lookup finds in the index map `m`, or 2 ^ 32
-abbrev pub index_answer : {K V H W : Type 0} {wt : Words W} → Shape
-    → ArchivedIndexMap K V H W wt → List HasherCall → (List ℕ → ℕ → Bool) → ℕ
+abbrev pub index_answer : {K V H W : Type 0} {ks : Shapes K} {vs : Shapes V} {wt : Words W} → Shape
+    → ArchivedIndexMap K V H W ks vs wt → List HasherCall → (List ℕ → ℕ → Bool) → ℕ
 index_answer key m = index_looked_up key (index_bytes m) (index_pos m)
 
 -- the value that a lookup of `number` finds in the index map at `p`, or 2 ^ 32
@@ -89,8 +91,8 @@ abbrev pub IsNumberIndex : List (ℕ × ℕ) → List ℕ → Type 0
 IsNumberIndex pairs bytes = ArchiveOf 4294967295 index_map
     (IndexStands w32 number_shape number_shape (ScalarStands (unsigned w32))
     (ScalarStands (unsigned w32)) (λ b q. number_hash (number_at w32 b q)) (7, 8))
-    (listed 4294967295 (7, 8) (index_format w32 (unsigned w32) number_shape number_shape
-    (scalar_format (unsigned w32)) (scalar_format (unsigned w32)) number_hash (7, 8)))
+    (listed 4294967295 (7, 8) (index_format w32 number_shape (unsigned w32) number_shape
+    number_shape (scalar_format (unsigned w32)) (scalar_format (unsigned w32)) number_hash (7, 8)))
     pairs bytes
 
 -- `bytes` are the archive of an index map of the numbers, each to the value at its index.

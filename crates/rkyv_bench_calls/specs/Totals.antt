@@ -1,4 +1,5 @@
 -- The sums of the calls.
+use Rattle.rkyv_base.specs.declared.element.Shaped.{Ghosts as Shapes}
 use Rattle.rkyv_base.specs.declared.width.Word.{Ghosts as Words}
 use Rattle.std.specs.Prelude.{ℕ, ◌+◌, ◌^◌, ◌%◌, ◌==◌, Bool, List, [], ◌∷◌, length, Option, None}
 use Rattle.std.specs.Prelude.{Some, ◌≡◌}
@@ -16,7 +17,7 @@ use Rattle.rkyv_keys.specs.OfTexts.{same_bytes}
 use Rattle.rkyv_keys.specs.Places.{at_view}
 use Rattle.rkyv_scan.specs.Groups.{generic_kind}
 use Rattle.rkyv_scan.specs.Hash.{HasherCall, U32, fx_hash, low_halves}
-use Rattle.rkyv_table.specs.Table.Reading.{item_positions, pos_found}
+use Rattle.rkyv_table.specs.Table.Positions.{item_positions, pos_found}
 use Rattle.rkyv_collections.specs.Map.{map_bytes, map_pos}
 use Rattle.rkyv_collections.specs.declared.map.ArchivedHashMap.{ArchivedHashMap}
 use Rattle.rkyv_bench_calls.specs.Archives.{number_shape, root, short_text}
@@ -62,7 +63,8 @@ looked_up key b p calls fits = value_or_miss key b
     (pos_found generic_kind w32 (entry_shape key number_shape).size b p (hash_by calls) (fits b))
 
 -- the value that a lookup finds in the map `m`, or 2 ^ 32
-abbrev pub map_answer : {K V H W : Type 0} {wt : Words W} → Shape → ArchivedHashMap K V H W wt
+abbrev pub map_answer : {K V H W : Type 0} {ks : Shapes K} {vs : Shapes V} {wt : Words W}
+    → Shape → ArchivedHashMap K V H W ks vs wt
     → List HasherCall → (List ℕ → ℕ → Bool) → ℕ
 map_answer key m = looked_up key (map_bytes m) (map_pos m)
 

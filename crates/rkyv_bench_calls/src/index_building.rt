@@ -46,8 +46,8 @@ where
     type Resolver = IndexMapResolver<W>;
 
     ghost format = { written_as (λ x. zip x.0.keys.now x.0.values.now) (listed W.MAX_CAPACITY (7, 8)
-        (index_format W.word W.Place.encoding A.Archived.shape B.Archived.shape A.format B.format
-        (hash_of H.hasher A.calls) (7, 8))) };
+        (index_format W.word W.Place.shape W.Place.encoding A.Archived.shape B.Archived.shape
+        A.format B.format (hash_of H.hasher A.calls) (7, 8))) };
 
     fn resolve(&self, resolver: IndexMapResolver<W>, pos: u64, out: &mut [u8]) -> ResolveResult {
         resolver.resolve(pos, out)
@@ -55,15 +55,15 @@ where
 
     ghost laws = { let stands = IndexStands W.word A.Archived.shape B.Archived.shape
         A.Archived.stands B.Archived.stands (hash_at H.hasher A.Archived.key_calls) (7, 8) in
-        let format = index_format W.word W.Place.encoding A.Archived.shape B.Archived.shape A.format
-        B.format (hash_of H.hasher A.calls) (7, 8) in
+        let format = index_format W.word W.Place.shape W.Place.encoding A.Archived.shape
+        B.Archived.shape A.format B.format (hash_of H.hasher A.calls) (7, 8) in
         let shape = index_shape W.word (entry_shape A.Archived.shape B.Archived.shape) in
         written_as-format (λ x. zip x.0.keys.now x.0.values.now) shape stands
         (listed W.MAX_CAPACITY (7, 8) format)
         (listed_format W.MAX_CAPACITY (7, 8) shape stands format
-        (index_sound H.hasher W.word W.layout.kind W.Place.encoding W.place W.reads_back
-        W.Place.word A.Archived.laws B.Archived.laws (7, 8) A.query A.native A.Eq.laws.refl A.reads
-        A.Archive.laws B.laws)) };
+        (index_sound H.hasher W.word W.layout.kind W.Place.shape W.Place.encoding
+        W.Place.Shaped.laws W.Place.Scalar.laws W.place W.reads_back A.Archived.laws
+        B.Archived.laws (7, 8) A.query A.native A.Eq.laws.refl A.reads A.Archive.laws B.laws)) };
 }
 
 impl<

@@ -2,7 +2,6 @@
 
 ghost use Rattle.std.specs.Int.{w32};
 ghost use Rattle.std.specs.Prelude.{◌≡◌};
-ghost use Rattle.rkyv_index.specs.Index.{IsIndexMap};
 ghost use Rattle.rkyv_bench_calls.specs.Archives.{number_shape};
 ghost use Rattle.rkyv_bench_calls.specs.Building.{IsBuilt};
 ghost use Rattle.rkyv_bench_calls.specs.Index.{IndexesNumbers, IsIndexArchive, IsIndexAtRoot};
@@ -46,7 +45,6 @@ pub fn access_index_u32(archive: &[u8]) -> usize
 fn index_in<'a>(archive: &'a [u8]) -> ArchivedIndexMap<'a, u32, u32>
     requires { IsIndexArchive archive.now }
     ensures at { IsIndexAtRoot result archive.entry }
-    ensures map { IsIndexMap w32 number_shape number_shape result }
 {
     ArchivedIndexMap::of(access_unchecked::<IndexMapOf<u32, u32>>(archive))
 }

@@ -1,12 +1,9 @@
 //! Lookups of keys in maps and index maps.
 
 ghost use Rattle.std.specs.Prelude.{IfSome, List, ℕ, Bool, ◌≡◌};
-ghost use Rattle.std.specs.Int.{w32};
 ghost use Rattle.rkyv_scan.specs.Hash.{HasherCall};
 ghost use Rattle.rkyv_base.specs.View.{IsView};
 ghost use Rattle.rkyv_keys.specs.Places.{at_view};
-ghost use Rattle.rkyv_collections.specs.Map.{IsMap};
-ghost use Rattle.rkyv_index.specs.Index.{IsIndexMap};
 ghost use Rattle.rkyv_bench_calls.specs.Archives.{number_shape};
 ghost use Rattle.rkyv_bench_calls.specs.Index.{index_answer};
 ghost use Rattle.rkyv_bench_calls.specs.Totals.{map_answer, number_seen, number_weight};
@@ -18,15 +15,11 @@ use rkyv_keys::keys::{KeyElement, Query};
 
 /// A map or an index map to numbers.
 pub(crate) trait Lookup<K: KeyElement>: Copy + Drop {
-    // The condition under which keys can be looked up.
-    ghost ready: { Self → Type 0 };
-
     // The value of the key with these hasher calls, by a test of the key at a position.
     ghost answer: { Self → List HasherCall → (List ℕ → ℕ → Bool) → ℕ };
 
     /// Returns the value of a key, or 2^32 if the lookup doesn't find it.
     fn value_or_miss<Q: Query<K>>(&self, key: &Q) -> u64
-        requires ready { ready self.now }
         requires read { Q.can_read key.now }
         ensures { result ≡ answer self.now (Q.calls key.now) (Q.fits key.now) };
 }
@@ -53,8 +46,6 @@ fn number_or_miss(found: Option<View<'_, u32>>) -> u64
 }
 
 impl<'a, K: KeyElement> Lookup<K> for ArchivedHashMap<'a, K, u32> {
-    ghost ready = { IsMap w32 K.shape number_shape };
-
     ghost answer = { map_answer K.shape };
 
     #[inline]
@@ -64,8 +55,6 @@ impl<'a, K: KeyElement> Lookup<K> for ArchivedHashMap<'a, K, u32> {
 }
 
 impl<'a, K: KeyElement> Lookup<K> for ArchivedIndexMap<'a, K, u32> {
-    ghost ready = { IsIndexMap w32 K.shape number_shape };
-
     ghost answer = { index_answer K.shape };
 
     #[inline]

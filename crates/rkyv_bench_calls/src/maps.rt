@@ -1,9 +1,6 @@
 //! The maps of archives.
 
-ghost use Rattle.std.specs.Int.{w32};
-ghost use Rattle.rkyv_collections.specs.Map.{IsMap};
 ghost use Rattle.rkyv_bench_calls.specs.Archives.{IsArchive, IsLengthAnd1, IsMapAtRoot};
-ghost use Rattle.rkyv_bench_calls.specs.Archives.{number_shape};
 
 use rkyv_base::access::{access, access_unchecked};
 use rkyv_base::element::Element;
@@ -25,7 +22,6 @@ pub(crate) fn length_and_1<K: Element>(archive: &[u8]) -> usize
 pub(crate) fn map_in<'a, K: Element>(archive: &'a [u8]) -> ArchivedHashMap<'a, K, u32>
     requires { IsArchive K.shape archive.now }
     ensures at { IsMapAtRoot result archive.entry }
-    ensures map { IsMap w32 K.shape number_shape result }
 {
     ArchivedHashMap::of(access_unchecked::<HashMapOf<K, u32>>(archive))
 }

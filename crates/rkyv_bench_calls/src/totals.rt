@@ -1,7 +1,6 @@
 //! Sums modulo 2^64.
 
 ghost use Rattle.std.specs.Iterator.{IsFinite};
-ghost use Rattle.rkyv_base.specs.View.{IsView};
 ghost use Rattle.rkyv_bench_calls.specs.Archives.{number_shape};
 ghost use Rattle.rkyv_bench_calls.specs.Totals.{CountsAll, GivesViews, hash_by, pair_seen};
 
@@ -39,7 +38,6 @@ pub(crate) fn lookup_total<
     I: Iterator<Item = B> + Drop,
     M: Lookup<K>,
 >(map: M, keys: I) -> u64
-    requires map { M.ready map }
     requires can { I.can_next keys }
     requires ends { IsFinite (I.remaining keys) }
     requires read { (key : Q) → Q.can_read key }

@@ -13,10 +13,12 @@ use Rattle.rkyv_keys.specs.Equality.{Comparison}
 use Rattle.rkyv_keys.specs.Fixed.{MakesFixedCalls}
 use Rattle.rkyv_keys.specs.Keys.{IsQuery}
 use Rattle.rkyv_keys.specs.OfEntries.{standing_key}
-use Rattle.rkyv_table.specs.Table.Reading.{WrittenAt, home_positions, item_at, pos_found}
+use Rattle.rkyv_table.specs.Table.Positions.{WrittenAt, home_positions, item_at, pos_found}
+use Rattle.rkyv_keys.specs.declared.hash.KeyHash.{Ghosts as KeyHashes}
 use Rattle.rkyv_collections.specs.BothHashers.{QueriedAlike, fx_hash_at}
 use Rattle.rkyv_collections.specs.Equality.{pair_at}
-use Rattle.rkyv_collections.specs.Map.{MapWrittenAt, map_shape}
+use Rattle.rkyv_collections.specs.Map.{MapWrittenAt}
+use Rattle.rkyv_collections.specs.MapShape.{map_shape}
 use Rattle.rkyv_collections.proofs.WrittenPairs.{first_accepted, pair_stands, place_of_pair}
 
 module _ (w : Width) (k v : Shape) (kl : IsElement k) (vl : IsElement v) (key_calls : List ℕ → ℕ → List HasherCall) (fixed : MakesFixedCalls k key_calls)
@@ -49,16 +51,16 @@ module _ (w : Width) (k v : Shape) (kl : IsElement k) (vl : IsElement v) (key_ca
 
 -- under either hasher, a query finds the first key that it fits
 pub queried_alike : (w : Width) (k v : Shape) (kl : IsElement k) (vl : IsElement v) {Q : Type 0} (same : Comparison) (key_calls : List ℕ → ℕ → List HasherCall)
-    (can_read : Q → Type 0) (calls : Q → List HasherCall) (fits : Q → List ℕ → ℕ → Bool)
-    → IsQuery k same key_calls can_read calls fits → MakesFixedCalls k key_calls → QueriedAlike w k v key_calls can_read calls fits
-queried_alike w k v kl vl same key_calls can_read calls fits is fixed one other b p homes view written query can =
+    (queries : KeyHashes Q) (fits : Q → List ℕ → ℕ → Bool)
+    → IsQuery k same key_calls queries.can_read queries.calls fits → MakesFixedCalls k key_calls → QueriedAlike w k v key_calls queries fits
+queried_alike w k v kl vl same key_calls queries fits is fixed one other b p homes view written query can =
     first one written ∙ sym (first other (written_alike w k v kl vl key_calls fixed one other b p homes view written))
   where
     first : (sizes : SizeWords) → MapWrittenAt w (entry_shape k v) (fx_hash_at sizes key_calls) b p homes
-        → pos_found generic_kind w (entry_shape k v).size b p (fx_hash sizes (calls query)) (fits query b) ≡ find (fits query b) (home_positions w (entry_shape k v).size b p homes)
+        → pos_found generic_kind w (entry_shape k v).size b p (fx_hash sizes (queries.calls query)) (fits query b) ≡ find (fits query b) (home_positions w (entry_shape k v).size b p homes)
     first sizes there =
         let h = fx_hash_at sizes key_calls in
-        first_accepted w k v kl vl h b p homes view there (fx_hash sizes (calls query)) (fits query b) (fx_fits sizes (calls query))
+        first_accepted w k v kl vl h b p homes view there (fx_hash sizes (queries.calls query)) (fits query b) (fx_fits sizes (queries.calls query))
         (λ i below accepted.
         let q = pair_at w k v b p homes i in
         let stands = standing_key kl vl b q (pair_stands w k v kl vl h b p homes view there i below) in

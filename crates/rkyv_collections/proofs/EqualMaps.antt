@@ -12,7 +12,7 @@ use Rattle.rkyv_base.specs.Shape.{IsElement, Shape, Standing}
 use Rattle.rkyv_keys.specs.Equality.{Comparison, IsEquivalence}
 use Rattle.rkyv_keys.specs.OfEntries.{entry_equivalence, entry_same, standing_key}
 use Rattle.rkyv_table.specs.Table.Header.{len_at}
-use Rattle.rkyv_table.specs.Table.Reading.{home_positions, item_at, item_positions}
+use Rattle.rkyv_table.specs.Table.Positions.{home_positions, item_at, item_positions}
 use Rattle.rkyv_table.proofs.Lists.{any_member, contains_member, none_find, some_find}
 use Rattle.rkyv_table.proofs.Search.{cases_option}
 use Rattle.rkyv_table.proofs.Written.{first_within}

@@ -13,11 +13,11 @@ use Rattle.rkyv_base.specs.Format.{StandsNear}
 use Rattle.rkyv_base.specs.Sealing.{Keeps, Sealed, value_pos}
 use Rattle.rkyv_base.specs.Shape.{IsElement, Shape, Standing, Viewed}
 use Rattle.rkyv_keys.specs.OfEntries.{standing_key}
-use Rattle.rkyv_table.specs.Table.Reading.{home_positions, item_at}
+use Rattle.rkyv_table.specs.Table.Positions.{home_positions, item_at}
 use Rattle.rkyv_collections.specs.InPlace.{WritesFound, with_first}
 use Rattle.rkyv_collections.specs.Lemmas.MapLaws.{HashNear}
 use Rattle.rkyv_collections.specs.ListedLookups.{AsksFor, first_pair}
-use Rattle.rkyv_collections.specs.Map.{map_shape}
+use Rattle.rkyv_collections.specs.MapShape.{map_shape}
 use Rattle.rkyv_collections.specs.MapFormat.{MapStands}
 use Rattle.rkyv_table.specs.Table.SealedTable.{WritesValue}
 use Rattle.rkyv_collections.proofs.ValueWrites.{written_value_stands}

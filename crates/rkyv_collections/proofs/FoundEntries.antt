@@ -1,29 +1,34 @@
 -- From a lookup in the table of a map to a lookup in the map.
+use Rattle.rkyv_base.specs.declared.element.Shaped.{Ghosts as Shapes}
 use Rattle.rkyv_base.specs.declared.width.Word.{Ghosts as Words}
 use Rattle.std.proofs.Common.{◌≡◌, ℕ, ◌<◌, ◌^◌, ◌∙◌, ap, sym, Bool, List, None, Option, Some, map}
 use Rattle.std.specs.Borrow.{Bor}
-use Rattle.std.specs.Int.{Width}
 use Rattle.std.specs.List.{find}
 use Rattle.std.specs.Prelude.{IfSome}
 use Rattle.rkyv_scan.specs.Groups.{generic_kind}
 use Rattle.rkyv_scan.specs.Hash.{Hasher, HasherCall, hash_of_calls}
+use Rattle.rkyv_base.specs.Elements.{entry_shapes}
 use Rattle.rkyv_base.specs.Entry.{entry_shape}
-use Rattle.rkyv_base.specs.Shape.{Shape, IsElement}
+use Rattle.rkyv_base.specs.Shape.{IsElement}
 use Rattle.rkyv_base.specs.View.{IsAt, IsView, archive_of, pos_of}
 use Rattle.rkyv_base.specs.declared.entry.Entry.{Entry}
 use Rattle.rkyv_base.specs.declared.view.View.{View}
 use Rattle.rkyv_keys.specs.Equality.{Comparison}
 use Rattle.rkyv_keys.specs.Keys.{IsQuery}
 use Rattle.rkyv_table.specs.Controls.Laws.{IsUnderHash}
-use Rattle.rkyv_table.specs.Table.Reading.{Answers, FindsFirst, FindsFound, IsItem, WrittenAt, home_positions, pos_found, pos_of_found, table_bytes, table_pos}
+use Rattle.rkyv_table.specs.Table.Positions.{WrittenAt, home_positions, pos_found}
+use Rattle.rkyv_table.specs.Table.Reading.{Answers, FindsFirst, FindsFound, IsItem, pos_of_found}
+use Rattle.rkyv_table.specs.Table.Reading.{table_bytes, table_pos}
 use Rattle.rkyv_table.specs.declared.table.ArchivedHashTable.{ArchivedHashTable}
-use Rattle.rkyv_collections.specs.Map.{AnswersKeys, AreUnderHash, FindsBy, FindsFirstBy, FindsKey, IsEntryAt, IsEntryIn, IsMap, MapWrittenAt, hash_at, map_archive, map_bytes, map_pos}
+use Rattle.rkyv_collections.specs.Map.{AnswersKeys, AreUnderHash, FindsBy, FindsFirstBy, FindsKey}
+use Rattle.rkyv_collections.specs.Map.{IsEntryAt, IsEntryIn, IsMap, MapWrittenAt, hash_at}
+use Rattle.rkyv_collections.specs.Map.{map_archive, map_bytes, map_pos}
 use Rattle.rkyv_collections.specs.Misplaced.{FindsOneKey}
 use Rattle.rkyv_collections.specs.declared.map.ArchivedHashMap.{ArchivedHashMap}
 use Rattle.rkyv_collections.proofs.Lookups.{entry_of_item, key_of_entry, under_hash}
 use Rattle.rkyv_collections.proofs.MisplacedKeys.{finds_the_one}
 
-module _ {K V H W : Type 0} {wt : Words W} (w : Width) (k v : Shape) (m : ArchivedHashMap K V H W wt) (t : ArchivedHashTable (Entry K V) W wt) (at : IsAt t.view (map_archive m) (map_pos m)) where
+module _ {K V H W : Type 0} {ks : Shapes K} {vs : Shapes V} {wt : Words W} (m : ArchivedHashMap K V H W ks vs wt) (t : ArchivedHashTable (Entry K V) W (entry_shapes ks vs) wt) (at : IsAt t.view (map_archive m) (map_pos m)) where
   same : table_bytes t ≡ map_bytes m
   same = ap (λ (x : Bor (List ℕ)). x.now) at.0
 
@@ -31,70 +36,70 @@ module _ {K V H W : Type 0} {wt : Words W} (w : Width) (k v : Shape) (m : Archiv
   same_place = at.1
 
   -- a comparison of an entry by its key depends only on the position of the key
-  told_by_key : (post : View K → Bool → Type 0) (accept : ℕ → Bool) → AnswersKeys w k v m post accept
-      → (entry : View (Entry K V)) (r : Bool) → IsItem w (entry_shape k v) t entry
-      → (key : View K) × IsAt key (archive_of entry) (pos_of entry) × IsView k key × post key r
+  told_by_key : (post : View K → Bool → Type 0) (accept : ℕ → Bool) → AnswersKeys m post accept
+      → (entry : View (Entry K V)) (r : Bool) → IsItem t entry
+      → (key : View K) × IsAt key (archive_of entry) (pos_of entry) × IsView ks.shape key × post key r
       → r ≡ accept entry.pos
   told_by_key post accept alone entry r item e =
-      alone e.0 r (key_of_entry w k v m entry e.0 (entry_of_item w k v m t at entry item) e.1 e.2) e.3 ∙ ap accept e.1.1
+      alone e.0 r (key_of_entry m entry e.0 (entry_of_item m t at entry item) e.1 e.2) e.3 ∙ ap accept e.1.1
 
   -- a found item is an entry of the map
-  pub entry_found : (result : Option (View (Entry K V))) → IfSome result (IsItem w (entry_shape k v) t) → IfSome result (IsEntryIn w k v m)
+  pub entry_found : (result : Option (View (Entry K V))) → IfSome result (IsItem t) → IfSome result (IsEntryIn m)
   entry_found None item = item
-  entry_found (Some entry) item = entry_of_item w k v m t at entry item
+  entry_found (Some entry) item = entry_of_item m t at entry item
 
   -- the table finds the same position as the map
   found_there : (hash asked : ℕ) (accept : ℕ → Bool) → hash ≡ asked
-      → pos_found generic_kind w (entry_shape k v).size (table_bytes t) (table_pos t) hash accept
-      ≡ pos_found generic_kind w (entry_shape k v).size (map_bytes m) (map_pos m) asked accept
+      → pos_found generic_kind wt.word (entry_shape ks.shape vs.shape).size (table_bytes t) (table_pos t) hash accept
+      ≡ pos_found generic_kind wt.word (entry_shape ks.shape vs.shape).size (map_bytes m) (map_pos m) asked accept
   found_there hash asked accept e =
-      let found : List ℕ → ℕ → ℕ → Option ℕ = λ b p h. pos_found generic_kind w (entry_shape k v).size b p h accept in
+      let found : List ℕ → ℕ → ℕ → Option ℕ = λ b p h. pos_found generic_kind wt.word (entry_shape ks.shape vs.shape).size b p h accept in
       ap (λ b. found b (table_pos t) hash) same ∙ ap (λ p. found (map_bytes m) p hash) same_place ∙ ap (found (map_bytes m) (map_pos m)) e
 
   -- the table was written with the same home buckets and the same positions,
   -- and each accepted item is under the hash
-  written_there : (hashes homes : List ℕ) → WrittenAt w (map_bytes m) (map_pos m) hashes homes → WrittenAt w (table_bytes t) (table_pos t) hashes homes
+  written_there : (hashes homes : List ℕ) → WrittenAt wt.word (map_bytes m) (map_pos m) hashes homes → WrittenAt wt.word (table_bytes t) (table_pos t) hashes homes
   written_there hashes homes written = rw (same, same_place) written
 
-  places_there : (homes : List ℕ) → home_positions w (entry_shape k v).size (table_bytes t) (table_pos t) homes ≡ home_positions w (entry_shape k v).size (map_bytes m) (map_pos m) homes
+  places_there : (homes : List ℕ) → home_positions wt.word (entry_shape ks.shape vs.shape).size (table_bytes t) (table_pos t) homes ≡ home_positions wt.word (entry_shape ks.shape vs.shape).size (map_bytes m) (map_pos m) homes
   places_there homes =
-      let places : List ℕ → ℕ → List ℕ = λ b p. home_positions w (entry_shape k v).size b p homes in
+      let places : List ℕ → ℕ → List ℕ = λ b p. home_positions wt.word (entry_shape ks.shape vs.shape).size b p homes in
       ap (λ b. places b (table_pos t)) same ∙ ap (places (map_bytes m)) same_place
 
   under_there : (hash asked : ℕ) (key_hash : List ℕ → ℕ → ℕ) (accept : ℕ → Bool) (homes : List ℕ) → hash ≡ asked
-      → AreUnderHash w k v m asked key_hash accept → MapWrittenAt w (entry_shape k v) key_hash (map_bytes m) (map_pos m) homes
-      → IsUnderHash hash (map (key_hash (map_bytes m)) (home_positions w (entry_shape k v).size (map_bytes m) (map_pos m) homes))
-      (home_positions w (entry_shape k v).size (table_bytes t) (table_pos t) homes) accept
+      → AreUnderHash m asked key_hash accept → MapWrittenAt wt.word (entry_shape ks.shape vs.shape) key_hash (map_bytes m) (map_pos m) homes
+      → IsUnderHash hash (map (key_hash (map_bytes m)) (home_positions wt.word (entry_shape ks.shape vs.shape).size (map_bytes m) (map_pos m) homes))
+      (home_positions wt.word (entry_shape ks.shape vs.shape).size (table_bytes t) (table_pos t) homes) accept
   under_there hash asked key_hash accept homes e under written =
-      let here = under_hash w k v m hash key_hash accept homes (λ q place fits. under q place fits ∙ sym e) written in
+      let here = under_hash m hash key_hash accept homes (λ q place fits. under q place fits ∙ sym e) written in
       rw (places_there homes) here
 
   -- a lookup in the table that compares each entry by its key finds the same as one in the map
   -- that compares keys
   module _ (compared : View (Entry K V) → Bool → Type 0) (post : View K → Bool → Type 0) (hash asked : ℕ) (same_hash : hash ≡ asked) (result : Option (View (Entry K V))) where
     abbrev AskedByKey : Type 0
-    AskedByKey = (entry : View (Entry K V)) (r : Bool) → compared entry r → (key : View K) × IsAt key (archive_of entry) (pos_of entry) × IsView k key × post key r
+    AskedByKey = (entry : View (Entry K V)) (r : Bool) → compared entry r → (key : View K) × IsAt key (archive_of entry) (pos_of entry) × IsView ks.shape key × post key r
 
-    answered : AskedByKey → (accept : ℕ → Bool) → AnswersKeys w k v m post accept → Answers compared w (entry_shape k v) t accept
+    answered : AskedByKey → (accept : ℕ → Bool) → AnswersKeys m post accept → Answers compared t accept
     answered by_key accept answers entry r item h = told_by_key post accept answers entry r item (by_key entry r h)
 
-    pub found_by_key : FindsFound compared generic_kind w (entry_shape k v) t hash (pos_of_found result) → AskedByKey → FindsBy w k v m post asked (IsEntryAt result)
+    pub found_by_key : FindsFound compared generic_kind t hash (pos_of_found result) → AskedByKey → FindsBy m post asked (IsEntryAt result)
     found_by_key found by_key = λ accept answers. found accept (answered by_key accept answers) ∙ found_there hash asked accept same_hash
 
-    pub first_by_key : FindsFirst compared w (entry_shape k v) t hash (pos_of_found result) → AskedByKey → (key_hash : List ℕ → ℕ → ℕ) → FindsFirstBy w k v m post asked key_hash (IsEntryAt result)
+    pub first_by_key : FindsFirst compared t hash (pos_of_found result) → AskedByKey → (key_hash : List ℕ → ℕ → ℕ) → FindsFirstBy m post asked key_hash (IsEntryAt result)
     first_by_key found by_key key_hash = λ accept answers under homes written.
-        let hashes = map (key_hash (map_bytes m)) (home_positions w (entry_shape k v).size (map_bytes m) (map_pos m) homes) in
+        let hashes = map (key_hash (map_bytes m)) (home_positions wt.word (entry_shape ks.shape vs.shape).size (map_bytes m) (map_pos m) homes) in
         found hashes homes accept (written_there hashes homes written) (answered by_key accept answers) (under_there hash asked key_hash accept homes same_hash under written)
         ∙ ap (find accept) (places_there homes)
 
 -- if no key is misplaced, a lookup under the hash of a query finds the one key that fits
-pub one_found : {K V H W Q State : Type 0} {wt : Words W} (w : Width) (k v : Shape) (m : ArchivedHashMap K V H W wt) (kl : IsElement k) (vl : IsElement v) (hasher : Hasher State)
+pub one_found : {K V H W Q State : Type 0} {ks : Shapes K} {vs : Shapes V} {wt : Words W} (m : ArchivedHashMap K V H W ks vs wt) (kl : IsElement ks.shape) (vl : IsElement vs.shape) (hasher : Hasher State)
     (same_key : Comparison) (key_calls : List ℕ → ℕ → List HasherCall) (can_read : Q → Type 0) (calls : Q → List HasherCall) (fits : Q → List ℕ → ℕ → Bool)
-    → IsQuery k same_key key_calls can_read calls fits → IsMap w k v m → (q : Q) → can_read q → hash_of_calls hasher (calls q) < 2 ^ 64 → (Told : Option ℕ → Type 0)
-    → FindsKey w k v m (hash_of_calls hasher (calls q)) (fits q (map_bytes m)) Told
-    → FindsOneKey w k v m (hash_at hasher key_calls) same_key (fits q (map_bytes m)) Told
-one_found w k v m kl vl hasher same_key key_calls can_read calls fits query is q can small Told found = λ none. (
-  pos_found generic_kind w (entry_shape k v).size (map_bytes m) (map_pos m) (hash_of_calls hasher (calls q)) (fits q (map_bytes m)),
-  finds_the_one w k v kl vl hasher same_key key_calls can_read calls fits query (map_bytes m) (map_pos m) is q can small none,
+    → IsQuery ks.shape same_key key_calls can_read calls fits → IsMap m → (q : Q) → can_read q → hash_of_calls hasher (calls q) < 2 ^ 64 → (Told : Option ℕ → Type 0)
+    → FindsKey m (hash_of_calls hasher (calls q)) (fits q (map_bytes m)) Told
+    → FindsOneKey m (hash_at hasher key_calls) same_key (fits q (map_bytes m)) Told
+one_found {ks = ks} {vs = vs} {wt = wt} m kl vl hasher same_key key_calls can_read calls fits query is q can small Told found = λ none. (
+  pos_found generic_kind wt.word (entry_shape ks.shape vs.shape).size (map_bytes m) (map_pos m) (hash_of_calls hasher (calls q)) (fits q (map_bytes m)),
+  finds_the_one wt.word ks.shape vs.shape kl vl hasher same_key key_calls can_read calls fits query (map_bytes m) (map_pos m) is q can small none,
   found,
 )

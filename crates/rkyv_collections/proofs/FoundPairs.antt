@@ -12,9 +12,10 @@ use Rattle.rkyv_base.specs.Pairs.{PairStands}
 use Rattle.rkyv_base.specs.Shape.{IsElement, Shape, Standing, Viewed}
 use Rattle.rkyv_base.specs.declared.view.View.{View}
 use Rattle.rkyv_keys.specs.OfEntries.{standing_key}
-use Rattle.rkyv_table.specs.Table.Reading.{home_positions, item_at}
+use Rattle.rkyv_table.specs.Table.Positions.{home_positions, item_at}
 use Rattle.rkyv_collections.specs.ListedLookups.{AsksFor, IsFoundPair, IsFoundValue, IsPairOf, first_pair}
-use Rattle.rkyv_collections.specs.Map.{IsEntryAt, IsFoundAt, IsPairAt, IsValueAt, map_shape}
+use Rattle.rkyv_collections.specs.Map.{IsEntryAt, IsFoundAt, IsPairAt, IsValueAt}
+use Rattle.rkyv_collections.specs.MapShape.{map_shape}
 use Rattle.rkyv_collections.specs.MapFormat.{MapStands}
 use Rattle.rkyv_collections.proofs.WrittenPairs.{pair_stands, place_of_pair}
 

@@ -1,86 +1,85 @@
 -- From the entry that a lookup finds to its result.
+use Rattle.rkyv_base.specs.declared.element.Shaped.{Ghosts as Shapes}
 use Rattle.rkyv_base.specs.declared.width.Word.{Ghosts as Words}
 use Rattle.std.proofs.Common.{◌≡◌, ℕ, ◌+◌, ◌<◌, ◌^◌, ◌∙◌, Bool, List, None, Option, Some, ap, refl, sym, subst}
 use Rattle.std.specs.Borrow.{Bor}
-use Rattle.std.specs.Int.{Width}
 use Rattle.std.specs.Option.{option_map}
 use Rattle.std.specs.Prelude.{IfSome, IsSome}
 use Rattle.std.proofs.lemmas.Option.{IfSome_then}
-use Rattle.rkyv_scan.specs.Groups.{generic_kind}
 use Rattle.rkyv_scan.specs.Hash.{Hasher, HasherCall, hash_of_calls}
 use Rattle.rkyv_base.specs.Entry.{entry_shape, value_offset}
 use Rattle.rkyv_base.specs.Shape.{Shape, IsElement}
-use Rattle.rkyv_base.specs.View.{IsAt, IsView, archive_of, pos_of}
+use Rattle.rkyv_base.specs.View.{IsView}
 use Rattle.rkyv_base.specs.declared.entry.Entry.{Entry}
 use Rattle.rkyv_base.specs.declared.view.View.{View}
 use Rattle.rkyv_keys.specs.Equality.{Comparison}
 use Rattle.rkyv_keys.specs.Keys.{IsQuery}
-use Rattle.rkyv_collections.specs.Lookups.{GetsBy, GetsKey, IsPairOfEntry, IsValueOfEntry}
-use Rattle.rkyv_collections.specs.Map.{AnswersKeys, IsEntryAt, IsEntryIn, IsKeyIn, IsMap, IsPairAt, IsPairIn, IsValueAt, IsValueIn, hash_at, key_pos_found, map_archive, map_bytes, map_pos}
+use Rattle.rkyv_keys.specs.Asked.{Asked, asked}
+use Rattle.rkyv_collections.specs.Lookups.{GetsBy, GetsKey, IsPairOfEntry, IsValueOfEntry, Part}
+use Rattle.rkyv_collections.specs.Lookups.{entry_part, key_part, pair_part, value_part}
+use Rattle.rkyv_collections.specs.Map.{AnswersKeys, IsEntryAt, IsEntryIn, IsMap, IsPairAt}
+use Rattle.rkyv_collections.specs.Map.{IsPairIn, IsValueAt, IsValueIn, hash_at, key_pos_found}
+use Rattle.rkyv_collections.specs.Map.{map_bytes}
 use Rattle.rkyv_collections.specs.declared.map.ArchivedHashMap.{ArchivedHashMap}
-use Rattle.rkyv_table.specs.Table.Reading.{FindsItem, pos_of_found}
-use Rattle.rkyv_table.specs.declared.table.ArchivedHashTable.{ArchivedHashTable}
-use Rattle.rkyv_collections.proofs.FoundEntries.{entry_found, first_by_key, found_by_key, one_found}
+use Rattle.rkyv_table.specs.Table.Reading.{pos_of_found}
+use Rattle.rkyv_collections.proofs.FoundEntries.{one_found}
 use Rattle.rkyv_collections.proofs.Lookups.{query_under_hash}
 
-module _ {K V H W State : Type 0} {wt : Words W} (w : Width) (k v : Shape) (m : ArchivedHashMap K V H W wt) (hasher : Hasher State) where
+module _ {K V H W : Type 0} {ks : Shapes K} {vs : Shapes V} {wt : Words W} (m : ArchivedHashMap K V H W ks vs wt) where
   -- the clauses on a found value are clauses on each value that is made of it
-  module _ {X Y : Type 0} (calls : List HasherCall) (key_calls : List ℕ → ℕ → List HasherCall)
-      (In : Width → Shape → Shape → ArchivedHashMap K V H W wt → X → Type 0) (OutIn : Width → Shape → Shape → ArchivedHashMap K V H W wt → Y → Type 0)
-      (At : Option X → Option ℕ → Type 0) (OutAt : Option Y → Option ℕ → Type 0) (found : Option X) (result : Option Y)
-      (walks : IfSome found (In w k v m) → IfSome result (OutIn w k v m)) (at : (place : Option ℕ) → At found place → OutAt result place) where
-    pub key_through : (same : Comparison) (fits : List ℕ → ℕ → Bool) → GetsKey In At w k v m hasher calls key_calls same fits found
-        → GetsKey OutIn OutAt w k v m hasher calls key_calls same fits result
-    key_through same fits h = record {
+  module _ {X Y : Type 0} (part : Part (ArchivedHashMap K V H W ks vs wt) X) (out : Part (ArchivedHashMap K V H W ks vs wt) Y) (found : Option X) (result : Option Y)
+      (walks : IfSome found (part.In m) → IfSome result (out.In m)) (at : (place : Option ℕ) → part.At found place → out.At result place) where
+    pub key_through : (a : Asked) → GetsKey part m a found → GetsKey out m a result
+    key_through a h = record {
       walked = walks h.walked;
       answer = at _ h.answer;
       first = λ homes written. at _ (h.first homes written);
       complete = λ none. let one = h.complete none in (one.0, one.1, at one.0 one.2);
     }
 
-    pub by_through : (post : View K → Bool → Type 0) → GetsBy In At w k v m hasher calls key_calls post found → GetsBy OutIn OutAt w k v m hasher calls key_calls post result
-    by_through post h = record {
+    pub by_through : (hash : ℕ) (key_hash : List ℕ → ℕ → ℕ) (post : View K → Bool → Type 0) → GetsBy part m hash key_hash post found → GetsBy out m hash key_hash post result
+    by_through hash key_hash post h = record {
       walked = walks h.walked;
       answer = λ accept answers. at _ (h.answer accept answers);
       first = λ accept answers under homes written. at _ (h.first accept answers under homes written);
     }
 
   -- a lookup by a comparison with the keys that a query fits is a lookup of the query
-  pub gets_query : {Q X : Type 0} (kl : IsElement k) (vl : IsElement v) (same_key : Comparison) (key_calls : List ℕ → ℕ → List HasherCall)
-      (can_read : Q → Type 0) (calls : Q → List HasherCall) (fits : Q → List ℕ → ℕ → Bool) → IsQuery k same_key key_calls can_read calls fits → IsMap w k v m
+  pub gets_query : {Q X State : Type 0} (hasher : Hasher State) (kl : IsElement ks.shape) (vl : IsElement vs.shape) (same_key : Comparison) (key_calls : List ℕ → ℕ → List HasherCall)
+      (can_read : Q → Type 0) (calls : Q → List HasherCall) (fits : Q → List ℕ → ℕ → Bool) → IsQuery ks.shape same_key key_calls can_read calls fits → IsMap m
       → (q : Q) → can_read q → hash_of_calls hasher (calls q) < 2 ^ 64
       → (post : View K → Bool → Type 0) → ((key : View K) (r : Bool) → post key r → r ≡ fits q key.archive.now key.pos)
-      → (In : Width → Shape → Shape → ArchivedHashMap K V H W wt → X → Type 0) (At : Option X → Option ℕ → Type 0) (result : Option X)
-      → GetsBy In At w k v m hasher (calls q) key_calls post result → GetsKey In At w k v m hasher (calls q) key_calls same_key (fits q) result
-  gets_query kl vl same_key key_calls can_read calls fits query is q can small post tells In At result h =
+      → (part : Part (ArchivedHashMap K V H W ks vs wt) X) (result : Option X)
+      → GetsBy part m (hash_of_calls hasher (calls q)) (hash_at hasher key_calls) post result → GetsKey part m (asked hasher key_calls same_key (calls q) (fits q)) result
+  gets_query hasher kl vl same_key key_calls can_read calls fits query is q can small post tells part result h =
       let accept : ℕ → Bool = fits q (map_bytes m) in
-      let answers : AnswersKeys w k v m post accept = λ key r in_map e. tells key r e ∙ ap (λ (a : Bor (List ℕ)). fits q a.now key.pos) in_map.archive in
+      let answers : AnswersKeys m post accept = λ key r in_map e. tells key r e ∙ ap (λ (a : Bor (List ℕ)). fits q a.now key.pos) in_map.archive in
       let found = h.answer accept answers in
       record {
         walked = h.walked;
         answer = found;
-        first = h.first accept answers (query_under_hash w k v m kl vl hasher same_key key_calls can_read calls fits query is q can);
-        complete = one_found w k v m kl vl hasher same_key key_calls can_read calls fits query is q can small (At result) found;
+        first = h.first accept answers (query_under_hash m kl vl hasher same_key key_calls can_read calls fits query is q can);
+        complete = one_found m kl vl hasher same_key key_calls can_read calls fits query is q can small (part.At result) found;
       }
 
-module _ {K V H W : Type 0} {wt : Words W} (w : Width) (k v : Shape) (m : ArchivedHashMap K V H W wt) where
+module _ {K V H W : Type 0} {ks : Shapes K} {vs : Shapes V} {wt : Words W} (m : ArchivedHashMap K V H W ks vs wt) where
   -- an entry of the map is valid
-  pub entry_viewed : (found : Option (View (Entry K V))) → IfSome found (IsEntryIn w k v m) → IfSome found (IsView (entry_shape k v))
+  pub entry_viewed : (found : Option (View (Entry K V))) → IfSome found (IsEntryIn m) → IfSome found (IsView (entry_shape ks.shape vs.shape))
   entry_viewed found walked = IfSome_then found walked (λ entry there. there.1)
 
   -- the pair of an entry of the map is a pair of the map
-  pair_walked : (found : Option (View (Entry K V))) (result : Option (View K × View V)) → IsPairOfEntry k v result found → IfSome found (IsEntryIn w k v m) → IfSome result (IsPairIn w k v m)
-  pair_walked None result is walked = subst (λ r. IfSome r (IsPairIn w k v m)) (sym is) tt
-  pair_walked (Some entry) result is walked = subst (λ r. IfSome r (IsPairIn w k v m)) (sym is.1) (record {
+  pair_walked : (found : Option (View (Entry K V))) (result : Option (View K × View V)) → IsPairOfEntry ks.shape vs.shape result found → IfSome found (IsEntryIn m) → IfSome result (IsPairIn m)
+  pair_walked None result is walked = subst (λ r. IfSome r (IsPairIn m)) (sym is) tt
+  pair_walked (Some entry) result is walked = subst (λ r. IfSome r (IsPairIn m)) (sym is.1) (record {
     key = record { archive = is.2.0 ∙ walked.0; viewed = is.3; place = (walked.2.0, walked.2.1, is.2.1 ∙ walked.2.2) };
     viewed = is.5;
-    at = (is.4.0 ∙ walked.0, is.4.1 ∙ ap (λ q. q + value_offset k v) (sym is.2.1));
+    at = (is.4.0 ∙ walked.0, is.4.1 ∙ ap (λ q. q + value_offset ks.shape vs.shape) (sym is.2.1));
   })
 
   -- the value of an entry of the map is a value of the map
-  value_walked : (found : Option (View (Entry K V))) (result : Option (View V)) → IsValueOfEntry k v result found → IfSome found (IsEntryIn w k v m) → IfSome result (IsValueIn w k v m)
-  value_walked None result is walked = subst (λ r. IfSome r (IsValueIn w k v m)) (sym is) tt
-  value_walked (Some entry) result is walked = subst (λ r. IfSome r (IsValueIn w k v m)) (sym is.1) (record {
+  value_walked : (found : Option (View (Entry K V))) (result : Option (View V)) → IsValueOfEntry ks.shape vs.shape result found → IfSome found (IsEntryIn m) → IfSome result (IsValueIn m)
+  value_walked None result is walked = subst (λ r. IfSome r (IsValueIn m)) (sym is) tt
+  value_walked (Some entry) result is walked = subst (λ r. IfSome r (IsValueIn m)) (sym is.1) (record {
     viewed = is.3;
     key = entry.pos;
     walked = walked.2;
@@ -99,52 +98,37 @@ module _ {K V : Type 0} (k v : Shape) where
   value_at (Some entry) result is place at = ap pos_of_found is.1 ∙ ap Some is.2.1 ∙ ap (option_map (λ (q : ℕ). q + value_offset k v)) at
 
 -- the clauses of a lookup on a found entry are clauses on its pair and on its value
-module _ {K V H W State : Type 0} {wt : Words W} {w : Width} {k v : Shape} {m : ArchivedHashMap K V H W wt} {hasher : Hasher State} {calls : List HasherCall} {key_calls : List ℕ → ℕ → List HasherCall} {found : Option (View (Entry K V))} where
-  pub pair_of_key : {same : Comparison} {fits : List ℕ → ℕ → Bool} {result : Option (View K × View V)} → GetsKey IsEntryIn IsEntryAt w k v m hasher calls key_calls same fits found → IsPairOfEntry k v result found
-      → GetsKey IsPairIn IsPairAt w k v m hasher calls key_calls same fits result
-  pair_of_key {same} {fits} {result} got is =
-      key_through w k v m hasher calls key_calls IsEntryIn IsPairIn IsEntryAt IsPairAt found result (pair_walked w k v m found result is) (pair_at k v found result is) same fits got
+module _ {K V H W : Type 0} {ks : Shapes K} {vs : Shapes V} {wt : Words W} {m : ArchivedHashMap K V H W ks vs wt} {found : Option (View (Entry K V))} where
+  pub pair_of_key : {a : Asked} {result : Option (View K × View V)} → GetsKey entry_part m a found → IsPairOfEntry ks.shape vs.shape result found
+      → GetsKey pair_part m a result
+  pair_of_key {a} {result} got is =
+      key_through m entry_part pair_part found result (pair_walked m found result is) (pair_at ks.shape vs.shape found result is) a got
 
-  pub value_of_key : {same : Comparison} {fits : List ℕ → ℕ → Bool} {result : Option (View V)} → GetsKey IsEntryIn IsEntryAt w k v m hasher calls key_calls same fits found → IsValueOfEntry k v result found
-      → GetsKey IsValueIn (IsValueAt k v) w k v m hasher calls key_calls same fits result
-  value_of_key {same} {fits} {result} got is =
-      key_through w k v m hasher calls key_calls IsEntryIn IsValueIn IsEntryAt (IsValueAt k v) found result (value_walked w k v m found result is) (value_at k v found result is) same fits got
+  pub value_of_key : {a : Asked} {result : Option (View V)} → GetsKey entry_part m a found → IsValueOfEntry ks.shape vs.shape result found
+      → GetsKey value_part m a result
+  value_of_key {a} {result} got is =
+      key_through m entry_part value_part found result (value_walked m found result is) (value_at ks.shape vs.shape found result is) a got
 
-  pub pair_by : {post : View K → Bool → Type 0} {result : Option (View K × View V)} → GetsBy IsEntryIn IsEntryAt w k v m hasher calls key_calls post found → IsPairOfEntry k v result found
-      → GetsBy IsPairIn IsPairAt w k v m hasher calls key_calls post result
-  pair_by {post} {result} got is = by_through w k v m hasher calls key_calls IsEntryIn IsPairIn IsEntryAt IsPairAt found result (pair_walked w k v m found result is) (pair_at k v found result is) post got
+  module _ {hash : ℕ} {key_hash : List ℕ → ℕ → ℕ} {post : View K → Bool → Type 0} where
+    pub pair_by : {result : Option (View K × View V)} → GetsBy entry_part m hash key_hash post found → IsPairOfEntry ks.shape vs.shape result found
+        → GetsBy pair_part m hash key_hash post result
+    pair_by {result} got is =
+        by_through m entry_part pair_part found result (pair_walked m found result is) (pair_at ks.shape vs.shape found result is) hash key_hash post got
 
-  pub value_by : {post : View K → Bool → Type 0} {result : Option (View V)} → GetsBy IsEntryIn IsEntryAt w k v m hasher calls key_calls post found → IsValueOfEntry k v result found
-      → GetsBy IsValueIn (IsValueAt k v) w k v m hasher calls key_calls post result
-  value_by {post} {result} got is = by_through w k v m hasher calls key_calls IsEntryIn IsValueIn IsEntryAt (IsValueAt k v) found result (value_walked w k v m found result is) (value_at k v found result is) post got
+    pub value_by : {result : Option (View V)} → GetsBy entry_part m hash key_hash post found → IsValueOfEntry ks.shape vs.shape result found
+        → GetsBy value_part m hash key_hash post result
+    value_by {result} got is =
+        by_through m entry_part value_part found result (value_walked m found result is) (value_at ks.shape vs.shape found result is) hash key_hash post got
 
 -- a set returns the key of the pair
-module _ {K V H W State : Type 0} {wt : Words W} {w : Width} {k v : Shape} {m : ArchivedHashMap K V H W wt} {hasher : Hasher State} {calls : List HasherCall} {key_calls : List ℕ → ℕ → List HasherCall}
-    {same : Comparison} {fits : List ℕ → ℕ → Bool} where
-  pub member_of_pair : {pair : View K × View V} → GetsKey IsPairIn IsPairAt w k v m hasher calls key_calls same fits (Some pair) → GetsKey IsKeyIn IsEntryAt w k v m hasher calls key_calls same fits (Some pair.0)
+module _ {K V H W : Type 0} {ks : Shapes K} {vs : Shapes V} {wt : Words W} {m : ArchivedHashMap K V H W ks vs wt} {a : Asked} where
+  pub member_of_pair : {pair : View K × View V} → GetsKey pair_part m a (Some pair) → GetsKey key_part m a (Some pair.0)
   member_of_pair got = record { walked = got.walked.key; answer = got.answer; first = got.first; complete = got.complete }
 
-  pub no_member : GetsKey IsPairIn IsPairAt w k v m hasher calls key_calls same fits None → GetsKey IsKeyIn IsEntryAt w k v m hasher calls key_calls same fits None
+  pub no_member : GetsKey pair_part m a None → GetsKey key_part m a None
   no_member got = record { walked = tt; answer = got.answer; first = got.first; complete = got.complete }
 
 -- an entry that has a position is found
 pub some_found : {E : Type 0} (found : Option (View E)) (place : Option ℕ) → IsEntryAt found place → IsSome place → IsSome found
 some_found None place at some = subst IsSome (sym at) some
 some_found (Some entry) place at some = refl
-
--- the clauses of a lookup in the table by the keys that fit are clauses on the map
-module _ {K V H W Q State : Type 0} {wt : Words W} (w : Width) (k v : Shape) (m : ArchivedHashMap K V H W wt) (t : ArchivedHashTable (Entry K V) W wt) (at : IsAt t.view (map_archive m) (map_pos m)) (kl : IsElement k) (vl : IsElement v)
-    (hasher : Hasher State) (same_key : Comparison) (key_calls : List ℕ → ℕ → List HasherCall) (can_read : Q → Type 0) (calls : Q → List HasherCall) (fits : Q → List ℕ → ℕ → Bool)
-    (query : IsQuery k same_key key_calls can_read calls fits) (is : IsMap w k v m) (q : Q) (can : can_read q) (hash : ℕ) (under : hash ≡ hash_of_calls hasher (calls q)) (small : hash < 2 ^ 64)
-    (compared : View (Entry K V) → Bool → Type 0)
-    (asks : (entry : View (Entry K V)) (r : Bool) → compared entry r → (key : View K) × IsAt key (archive_of entry) (pos_of entry) × IsView k key × (r ≡ fits q key.archive.now key.pos))
-    (result : Option (View (Entry K V))) (got : FindsItem compared generic_kind w (entry_shape k v) t hash result) where
-  pub gets_fitting : GetsKey IsEntryIn IsEntryAt w k v m hasher (calls q) key_calls same_key (fits q) result
-  gets_fitting =
-      let Fits : View K → Bool → Type 0 = λ key r. r ≡ fits q key.archive.now key.pos in
-      let asked = hash_of_calls hasher (calls q) in
-      gets_query w k v m hasher kl vl same_key key_calls can_read calls fits query is q can (subst (λ n. n < 2 ^ 64) under small) Fits (λ key r told. told) IsEntryIn IsEntryAt result (record {
-        walked = entry_found w k v m t at result got.walked;
-        answer = found_by_key w k v m t at compared Fits hash asked under result got.answer asks;
-        first = first_by_key w k v m t at compared Fits hash asked under result got.first asks (hash_at hasher key_calls);
-      })

@@ -1,4 +1,5 @@
 -- A lookup by a name finds the value of the list, which is read at its position.
+use Rattle.rkyv_base.specs.declared.element.Shaped.{Ghosts as Shapes}
 use Rattle.rkyv_base.specs.declared.width.Word.{Ghosts as Words}
 use Rattle.std.proofs.Common.{◌≡◌, ℕ, List, Option, None, Some, Result, Ok, Err, MatchResult, IfOk, ap, refl, sym, ◌∙◌}
 use Rattle.std.specs.Borrow.{Bor}
@@ -10,7 +11,7 @@ use Rattle.rkyv_collections.specs.declared.map.ArchivedHashMap.{ArchivedHashMap}
 use Rattle.rkyv_collections.specs.declared.map.HashMapOf.{HashMapOf}
 
 -- a map that is read at a view has the bytes and the position of the view
-pub read_at : {K V H W : Type 0} {wt : Words W} (m : ArchivedHashMap K V H W wt) (v : View (HashMapOf K V H W)) (b : Bor (List ℕ)) (p : ℕ) → m.view ≡ v → IsAt v b p → (map_bytes m ≡ b.now) × (map_pos m ≡ p)
+pub read_at : {K V H W : Type 0} {ks : Shapes K} {vs : Shapes V} {wt : Words W} (m : ArchivedHashMap K V H W ks vs wt) (v : View (HashMapOf K V H W)) (b : Bor (List ℕ)) (p : ℕ) → m.view ≡ v → IsAt v b p → (map_bytes m ≡ b.now) × (map_pos m ≡ p)
 read_at {K} {V} {H} {W} m v b p e at =
     (ap (λ (x : View (HashMapOf K V H W)). x.archive.now) e ∙ ap (λ (a : Bor (List ℕ)). a.now) at.0, ap (λ (x : View (HashMapOf K V H W)). x.pos) e ∙ at.1)
 

@@ -10,7 +10,7 @@ use Rattle.rkyv_base.specs.declared.errors.WriteError.{WriteError}
 use Rattle.rkyv_base.specs.declared.view.View.{View}
 use Rattle.rkyv_collections.specs.ListArchives.{IsListArchive, NoTextMap, TextMapResult, TextMapStands, TextPairs, map_root, scalar_found, text_map_format, text_map_shape}
 use Rattle.rkyv_collections.specs.ListedLookups.{IsFoundValue}
-use Rattle.rkyv_collections.specs.Map.{map_shape}
+use Rattle.rkyv_collections.specs.MapShape.{map_shape}
 use Rattle.rkyv_collections.specs.MapFormat.{MapStands}
 
 -- the result of `to_bytes` for a list with these pairs

@@ -18,13 +18,14 @@ use Rattle.rkyv_table.specs.Controls.Finding.{found}
 use Rattle.rkyv_table.specs.Table.Header.{cap_at, len_at}
 use Rattle.rkyv_table.specs.Table.Misplaced.{AloneAccepted, AsksForOne, IsSameness, NoneAccepted, misplaced, repeated, repeats_earlier}
 use Rattle.rkyv_table.specs.Controls.Placing.{walk}
-use Rattle.rkyv_table.specs.Table.Reading.{home_positions, item_at, pos_found, table_controls}
+use Rattle.rkyv_table.specs.Table.Positions.{home_positions, item_at, pos_found, table_controls}
 use Rattle.rkyv_table.proofs.Items.{controls_accepted, item_viewed, no_items}
 use Rattle.rkyv_table.proofs.Misplaced.{complete, repeated_misplaced}
 use Rattle.rkyv_table.proofs.RawWalks.{walk_count}
 use Rattle.rkyv_table.proofs.Walks.{filter_agree_range, full_walked, walked_full}
 use Rattle.rkyv_collections.specs.Equality.{pair_at}
-use Rattle.rkyv_collections.specs.Map.{MapWrittenAt, hash_at, map_shape}
+use Rattle.rkyv_collections.specs.Map.{MapWrittenAt, hash_at}
+use Rattle.rkyv_collections.specs.MapShape.{map_shape}
 use Rattle.rkyv_collections.specs.Misplaced.{FindsTheOne, RepeatedKeysAreMisplaced, map_misplaced}
 use Rattle.rkyv_collections.proofs.WrittenPairs.{hash_of_pair, pair_count, pair_stands}
 

@@ -18,7 +18,7 @@ use Rattle.rkyv_table.specs.Lemmas.TableLaws.{of_numbers}
 use Rattle.rkyv_table.specs.Table.Header.{begin_told, cap_at, controls_pos, len_at}
 use Rattle.rkyv_table.specs.Table.Layout.{IsPart, ItemsHold, TableAt, bucket_at, controls_at, table_shape}
 use Rattle.rkyv_table.specs.Table.Places.{AllHold}
-use Rattle.rkyv_table.specs.Table.Reading.{IsWalked, item_at, table_controls}
+use Rattle.rkyv_table.specs.Table.Positions.{IsWalked, item_at, table_controls}
 use Rattle.rkyv_table.proofs.Items.{part_of}
 use Rattle.rkyv_collections.specs.NestedWrites.{HoldsBefore, StaysAt, WritesParts}
 

@@ -13,7 +13,7 @@ use Rattle.rkyv_base.specs.Format.{StandsNear}
 use Rattle.rkyv_base.specs.Sealing.{Keeps, Sealed, value_pos}
 use Rattle.rkyv_base.specs.Shape.{IsElement, Shape, Viewed}
 use Rattle.rkyv_base.proofs.Sealing.{sealed_wider, viewed_kept}
-use Rattle.rkyv_table.specs.Table.Reading.{IsWalked, home_positions, item_at}
+use Rattle.rkyv_table.specs.Table.Positions.{IsWalked, home_positions, item_at}
 use Rattle.rkyv_table.specs.Lemmas.ItemPositions.{holds_at, item_holds}
 use Rattle.rkyv_table.specs.Lemmas.SameHeader.{item_same}
 use Rattle.rkyv_table.proofs.Items.{item_viewed}
@@ -22,7 +22,7 @@ use Rattle.rkyv_table.proofs.SealedTable.{value_kept}
 use Rattle.rkyv_collections.specs.InPlace.{with_first}
 use Rattle.rkyv_collections.specs.Lemmas.MapLaws.{HashNear}
 use Rattle.rkyv_collections.specs.ListedLookups.{AsksFor}
-use Rattle.rkyv_collections.specs.Map.{IsKeyPosAt, map_shape}
+use Rattle.rkyv_collections.specs.MapShape.{IsKeyPosAt, map_shape}
 use Rattle.rkyv_collections.specs.MapFormat.{MapStands}
 use Rattle.rkyv_collections.specs.NestedWrites.{HoldsBefore, KeepsOuterMap, StaysAt, WritesParts}
 use Rattle.rkyv_table.specs.Table.SealedTable.{WritesValue}

@@ -11,7 +11,7 @@ use Rattle.rkyv_base.specs.Pairs.{PairStands}
 use Rattle.rkyv_base.specs.Shape.{Shape}
 use Rattle.rkyv_table.specs.Table.Header.{cap_at}
 use Rattle.rkyv_table.specs.Controls.Numbers.{capacity}
-use Rattle.rkyv_table.specs.Table.Reading.{IsWalked, WrittenAt, home_positions, item_at}
+use Rattle.rkyv_table.specs.Table.Positions.{IsWalked, WrittenAt, home_positions, item_at}
 use Rattle.rkyv_table.specs.Lemmas.SameHeader.{cap_same, len_same}
 use Rattle.rkyv_table.proofs.Lists.{set_each}
 use Rattle.rkyv_table.proofs.WrittenAccepted.{homes_apart}

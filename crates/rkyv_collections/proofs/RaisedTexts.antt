@@ -17,12 +17,12 @@ use Rattle.rkyv_base.specs.Shape.{IsElement, Shape, Viewed}
 use Rattle.rkyv_base.specs.Text.{text_at, text_near, text_shape, text_size}
 use Rattle.rkyv_base.proofs.SealedText.{raised_holds, raised_reads, raised_sealed}
 use Rattle.rkyv_keys.specs.OfTexts.{IsTextOf}
-use Rattle.rkyv_table.specs.Table.Reading.{home_positions}
+use Rattle.rkyv_table.specs.Table.Positions.{home_positions}
 use Rattle.rkyv_collections.specs.InPlace.{with_first}
 use Rattle.rkyv_collections.specs.InPlaceText.{raised_list, text_raised, with_first_raised}
 use Rattle.rkyv_collections.specs.Lemmas.MapLaws.{HashNear}
 use Rattle.rkyv_collections.specs.ListedLookups.{AsksFor, IsPairOf, first_pair}
-use Rattle.rkyv_collections.specs.Map.{map_shape}
+use Rattle.rkyv_collections.specs.MapShape.{map_shape}
 use Rattle.rkyv_collections.specs.MapFormat.{MapStands}
 use Rattle.rkyv_collections.proofs.FirstWrites.{first_behind, some_place}
 use Rattle.rkyv_collections.proofs.FoundPairs.{first_listed}

@@ -1,4 +1,5 @@
 -- From a lookup in the map that is read to one in the map at the seal.
+use Rattle.rkyv_base.specs.declared.element.Shaped.{Ghosts as Shapes}
 use Rattle.rkyv_base.specs.declared.width.Word.{Ghosts as Words}
 use Rattle.std.proofs.Common.{◌≡◌, ℕ, ◌+◌, ◌≤◌, ◌∙◌, sym, ap, subst, Bool, List, None, Option, Some, length}
 use Rattle.std.specs.Borrow.{Bor}
@@ -13,8 +14,14 @@ use Rattle.rkyv_table.proofs.Items.{item_viewed}
 use Rattle.rkyv_table.proofs.Moved.{moved}
 use Rattle.rkyv_table.proofs.SealedTable.{value_kept}
 use Rattle.rkyv_base.specs.declared.entry.Entry.{Entry}
-use Rattle.rkyv_collections.specs.Map.{AnswersKeys, AreUnderHashAt, FindsBy, FindsFirstBy, FindsFirstKey, FindsFirstKeyAt, FindsKey, FindsKeyAt, IsEntryAt, IsEntryIn, IsKeyPosAt, IsValueIn, map_bytes, map_pos, map_shape}
-use Rattle.rkyv_collections.specs.SealedMap.{AnswersKeysAt, FindsByAt, FindsFirstByAt, IsPairPos}
+use Rattle.rkyv_collections.specs.Map.{AnswersKeys, AreUnderHashAt, FindsBy, FindsFirstBy}
+use Rattle.rkyv_collections.specs.Map.{FindsFirstKey, FindsFirstKeyAt, FindsKey, FindsKeyAt}
+use Rattle.rkyv_collections.specs.Map.{IsEntryAt, IsEntryIn, IsValueIn, map_bytes, map_pos}
+use Rattle.rkyv_collections.specs.MapAt.{MapAt, TellsKeyAt, map_at}
+use Rattle.rkyv_collections.specs.MapShape.{IsKeyPosAt, map_shape}
+use Rattle.rkyv_collections.specs.Misplaced.{FindsOneKey, FindsOneKeyAt}
+use Rattle.rkyv_keys.specs.Asked.{Asked}
+use Rattle.rkyv_collections.specs.SealedMap.{AnswersKeysAt, FindsByAt, FindsFirstByAt, IsPairPos, TellsByAt}
 use Rattle.rkyv_collections.specs.declared.map.ArchivedHashMap.{ArchivedHashMap}
 
 module _ (w : Width) (k v : Shape) (kl : IsElement k) (vl : IsElement v) (b : List ℕ) (p : ℕ) (view : Viewed (map_shape w k v) b p) where
@@ -54,41 +61,65 @@ found_told P Q says None pos at h = subst (λ (o : Option ℕ). IfSome o Q) at t
 found_told P Q says (Some x) pos at h = subst (λ (o : Option ℕ). IfSome o Q) at (says x h)
 
 -- the map that is read has these bytes and this position
-module _ {K V H W : Type 0} {wt : Words W} (m : ArchivedHashMap K V H W wt) (b : List ℕ) (p : ℕ) (bytes : map_bytes m ≡ b) (place : map_pos m ≡ p) where
+module _ {K V H W : Type 0} {ks : Shapes K} {vs : Shapes V} {wt : Words W} (m : ArchivedHashMap K V H W ks vs wt) (b : List ℕ) (p : ℕ) (bytes : map_bytes m ≡ b) (place : map_pos m ≡ p) where
   pub as_read : (F : List ℕ → ℕ → Type 0) → F (map_bytes m) (map_pos m) → F b p
   as_read F x = moved F (map_bytes m) b (map_pos m) p bytes place x
 
-  module _ (w : Width) (k v : Shape) where
-    answers_read : (post : View K → Bool → Type 0) (accept : ℕ → Bool) → AnswersKeysAt w k v b p post accept → AnswersKeys w k v m post accept
+  module _ where
+    answers_read : (post : View K → Bool → Type 0) (accept : ℕ → Bool) → AnswersKeysAt wt.word ks.shape vs.shape b p post accept → AnswersKeys m post accept
     answers_read post accept answers key r is told =
         answers key r (record {
           bytes = ap (λ (archive : Bor (List ℕ)). archive.now) is.archive ∙ bytes;
           viewed = is.viewed;
-          place = as_read (λ c q. IsKeyPosAt w k v c q (pos_of key)) is.place;
+          place = as_read (λ c q. IsKeyPosAt wt.word ks.shape vs.shape c q (pos_of key)) is.place;
         }) told
 
     -- a found entry has its key in the map, and a found value is behind a key
-    pub entry_read : (result : Option (View (Entry K V))) (pos : Option ℕ) → IsEntryAt result pos → IfSome result (IsEntryIn w k v m) → IfSome pos (IsKeyPosAt w k v b p)
+    pub entry_read : (result : Option (View (Entry K V))) (pos : Option ℕ) → IsEntryAt result pos → IfSome result (IsEntryIn m) → IfSome pos (IsKeyPosAt wt.word ks.shape vs.shape b p)
     entry_read result pos at found =
-        found_told (IsEntryIn w k v m) (IsKeyPosAt w k v b p) (λ x is. as_read (λ c q. IsKeyPosAt w k v c q (pos_of x)) is.2) result pos at found
+        found_told (IsEntryIn m) (IsKeyPosAt wt.word ks.shape vs.shape b p) (λ x is. as_read (λ c q. IsKeyPosAt wt.word ks.shape vs.shape c q (pos_of x)) is.2) result pos at found
 
-    pub value_read : (result : Option (View V)) (pos : Option ℕ) → IsEntryAt result pos → IfSome result (IsValueIn w k v m)
-        → IfSome pos (λ q. (key : ℕ) × IsKeyPosAt w k v b p key × (q ≡ value_pos k v key))
+    pub value_read : (result : Option (View V)) (pos : Option ℕ) → IsEntryAt result pos → IfSome result (IsValueIn m)
+        → IfSome pos (λ q. (key : ℕ) × IsKeyPosAt wt.word ks.shape vs.shape b p key × (q ≡ value_pos ks.shape vs.shape key))
     value_read result pos at found =
-        found_told (IsValueIn w k v m) (λ q. (key : ℕ) × IsKeyPosAt w k v b p key × (q ≡ value_pos k v key))
-        (λ x is. (is.key, as_read (λ c q. IsKeyPosAt w k v c q is.key) is.walked, is.at.1)) result pos at found
+        found_told (IsValueIn m) (λ q. (key : ℕ) × IsKeyPosAt wt.word ks.shape vs.shape b p key × (q ≡ value_pos ks.shape vs.shape key))
+        (λ x is. (is.key, as_read (λ c q. IsKeyPosAt wt.word ks.shape vs.shape c q is.key) is.walked, is.at.1)) result pos at found
 
     -- the property of a lookup in the map that is read, for its bytes and its position
     module _ (Told Said : Option ℕ → Type 0) (says : (found : Option ℕ) → Told found → Said found) where
-      pub key_read : (hash : ℕ) (fits : List ℕ → ℕ → Bool) → FindsKey w k v m hash (fits (map_bytes m)) Told → FindsKeyAt w k v b p hash (fits b) Said
-      key_read hash fits found = says _ (as_read (λ c q. FindsKeyAt w k v c q hash (fits c) Told) found)
+      pub key_read : (hash : ℕ) (fits : List ℕ → ℕ → Bool) → FindsKey m hash (fits (map_bytes m)) Told → FindsKeyAt wt.word ks.shape vs.shape b p hash (fits b) Said
+      key_read hash fits found = says _ (as_read (λ c q. FindsKeyAt wt.word ks.shape vs.shape c q hash (fits c) Told) found)
 
-      pub first_key_read : (key_hash : List ℕ → ℕ → ℕ) (fits : List ℕ → ℕ → Bool) → FindsFirstKey w k v m key_hash (fits (map_bytes m)) Told → FindsFirstKeyAt w k v b p key_hash (fits b) Said
-      first_key_read key_hash fits found = λ homes written. says _ (as_read (λ c q. FindsFirstKeyAt w k v c q key_hash (fits c) Told) found homes written)
+      pub first_key_read : (key_hash : List ℕ → ℕ → ℕ) (fits : List ℕ → ℕ → Bool) → FindsFirstKey m key_hash (fits (map_bytes m)) Told → FindsFirstKeyAt wt.word ks.shape vs.shape b p key_hash (fits b) Said
+      first_key_read key_hash fits found = λ homes written. says _ (as_read (λ c q. FindsFirstKeyAt wt.word ks.shape vs.shape c q key_hash (fits c) Told) found homes written)
 
-      pub by_read : (post : View K → Bool → Type 0) (hash : ℕ) → FindsBy w k v m post hash Told → FindsByAt w k v b p post hash Said
+      pub by_read : (post : View K → Bool → Type 0) (hash : ℕ) → FindsBy m post hash Told → FindsByAt wt.word ks.shape vs.shape b p post hash Said
       by_read post hash found = λ accept answers. key_read hash (λ c. accept) (found accept (answers_read post accept answers))
 
-      pub first_by_read : (post : View K → Bool → Type 0) (hash : ℕ) (key_hash : List ℕ → ℕ → ℕ) → FindsFirstBy w k v m post hash key_hash Told → FindsFirstByAt w k v b p post hash key_hash Said
+      pub first_by_read : (post : View K → Bool → Type 0) (hash : ℕ) (key_hash : List ℕ → ℕ → ℕ) → FindsFirstBy m post hash key_hash Told → FindsFirstByAt wt.word ks.shape vs.shape b p post hash key_hash Said
       first_by_read post hash key_hash found = λ accept answers under.
-          first_key_read key_hash (λ c. accept) (found accept (answers_read post accept answers) (moved (λ c q. AreUnderHashAt w k v c q hash key_hash accept) b (map_bytes m) p (map_pos m) (sym bytes) (sym place) under))
+          first_key_read key_hash (λ c. accept) (found accept (answers_read post accept answers) (moved (λ c q. AreUnderHashAt wt.word ks.shape vs.shape c q hash key_hash accept) b (map_bytes m) p (map_pos m) (sym bytes) (sym place) under))
+
+      pub tells_read : (a : Asked) → FindsKey m a.hash (a.fits (map_bytes m)) Told → FindsFirstKey m a.key_hash (a.fits (map_bytes m)) Told → FindsOneKey m a.key_hash a.same (a.fits (map_bytes m)) Told → TellsKeyAt (map_at wt ks vs b p) a Said
+      tells_read a answer first complete = record {
+        answer = key_read a.hash a.fits answer;
+        first = first_key_read a.key_hash a.fits first;
+        complete = λ none.
+            let one = as_read (λ c q. FindsOneKeyAt wt.word ks.shape vs.shape c q a.key_hash a.same (a.fits c) Told) complete none in
+            (one.0, one.1, says one.0 one.2);
+      }
+
+-- a property that follows from another of each position
+pub tells_more : (m : MapAt) (a : Asked) (Told Said : Option ℕ → Type 0) → ((place : Option ℕ) → Told place → Said place) → TellsKeyAt m a Told → TellsKeyAt m a Said
+tells_more m a Told Said says t = record {
+  answer = says _ t.answer;
+  first = λ homes written. says _ (t.first homes written);
+  complete = λ none. let one = t.complete none in (one.0, one.1, says one.0 one.2);
+}
+
+pub tells_more_by : {K : Type 0} (m : MapAt) (hash : ℕ) (key_hash : List ℕ → ℕ → ℕ) (post : View K → Bool → Type 0) (Told Said : Option ℕ → Type 0) → ((place : Option ℕ) → Told place → Said place)
+    → TellsByAt m hash key_hash post Told → TellsByAt m hash key_hash post Said
+tells_more_by m hash key_hash post Told Said says t = record {
+  answer = λ accept answers. says _ (t.answer accept answers);
+  first = λ accept answers under homes written. says _ (t.first accept answers under homes written);
+}

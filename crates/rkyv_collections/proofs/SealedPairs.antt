@@ -13,7 +13,7 @@ use Rattle.rkyv_base.specs.declared.seal.Seal.{Seal}
 use Rattle.rkyv_base.specs.declared.view.View.{View}
 use Rattle.rkyv_base.proofs.Sealing.{entry_kept, sealed_wider}
 use Rattle.rkyv_table.specs.Table.SealedItems.{StaysThere, TakesPosition, buckets_left, cursor_bytes}
-use Rattle.rkyv_table.specs.Table.Reading.{table_controls}
+use Rattle.rkyv_table.specs.Table.Positions.{table_controls}
 use Rattle.rkyv_table.specs.Table.SealedTable.{SameValue}
 use Rattle.rkyv_table.specs.Controls.Walking.{full_from}
 use Rattle.rkyv_table.specs.declared.table.raw_iter_seal.RawIterSeal.{RawIterSeal}

@@ -17,10 +17,11 @@ use Rattle.rkyv_base.specs.Text.{IsArchiveWord}
 use Rattle.rkyv_keys.specs.Equality.{Comparison}
 use Rattle.rkyv_keys.specs.Keys.{FitsItsEqual, IsQuery}
 use Rattle.rkyv_keys.specs.OfEntries.{standing_key}
-use Rattle.rkyv_table.specs.Table.Reading.{home_positions, pos_found}
+use Rattle.rkyv_table.specs.Table.Positions.{home_positions, pos_found}
 use Rattle.rkyv_collections.specs.Equality.{pair_at}
 use Rattle.rkyv_collections.specs.ListedLookups.{IsPairOf, first_pair}
-use Rattle.rkyv_collections.specs.Map.{hash_at, map_shape}
+use Rattle.rkyv_collections.specs.Map.{hash_at}
+use Rattle.rkyv_collections.specs.MapShape.{map_shape}
 use Rattle.rkyv_collections.specs.MapFormat.{MapStands, hash_of, map_format}
 use Rattle.rkyv_collections.specs.Lemmas.MapSound.{listed_map_sound}
 use Rattle.rkyv_table.specs.Table.Listed.{listed}

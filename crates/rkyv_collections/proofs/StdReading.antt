@@ -9,14 +9,14 @@ use Rattle.std.specs.Map.{lookup, update_all}
 use Rattle.std.proofs.lemmas.List.Elements.{All-head, All-map, All-tail, All-weaker}
 use Rattle.rkyv_base.specs.Entry.{entry_element, entry_shape}
 use Rattle.rkyv_base.specs.Pairs.{PairStands}
-use Rattle.rkyv_base.specs.Shape.{IsElement, Shape, Viewed}
+use Rattle.rkyv_base.specs.Shape.{IsElement, Shape}
 use Rattle.rkyv_table.specs.Table.Header.{cap_at}
 use Rattle.rkyv_table.specs.Controls.Placing.{walk}
-use Rattle.rkyv_table.specs.Table.Reading.{IsWalked, item_at, item_positions, table_controls}
+use Rattle.rkyv_table.specs.Table.Positions.{IsWalked, item_at, item_positions, table_controls}
 use Rattle.rkyv_table.specs.Table.PairWalks.{TakesFirst}
-use Rattle.rkyv_table.specs.Table.RawItems.{AllStand, ItemsLeft}
+use Rattle.rkyv_table.specs.Table.RawItems.{ItemsLeft}
 use Rattle.rkyv_table.proofs.RawWalks.{walked_all}
-use Rattle.rkyv_collections.specs.Map.{IsKeyPosAt}
+use Rattle.rkyv_collections.specs.MapShape.{IsKeyPosAt}
 use Rattle.rkyv_table.specs.Table.Lent.{with_units}
 use Rattle.rkyv_collections.specs.StdMap.{ArePairsAt}
 
@@ -54,14 +54,13 @@ module _ {A B : Type 0} (w : Width) (k v : Shape) (key : List ℕ → ℕ → A 
   all_positions = item_positions w (entry_shape k v).size archive.now p
 
   abbrev pub WalksOn : ItemsLeft → (A → Option B) → Type 0
-  WalksOn left found = AllStand (entry_shape k v) left × (left.archive ≡ archive) × All (IsKeyPosAt w k v archive.now p) left.places
+  WalksOn left found = (left.archive ≡ archive) × All (IsKeyPosAt w k v archive.now p) left.places
       × LeadsOn k v key value equal archive.now all_positions left.places found
 
-  pub walks_first : IsElement k → IsElement v → (left walk : ItemsLeft) → left ≡ walk → AllStand (entry_shape k v) walk → walk.archive ≡ archive → walk.places ≡ all_positions
+  pub walks_first : IsElement k → IsElement v → (left walk : ItemsLeft) → left ≡ walk → walk.archive ≡ archive → walk.places ≡ all_positions
       → (found : A → Option B) → ((q : A) → found q ≡ None) → WalksOn left found
-  walks_first kl vl left walk same stand whole places found empty =
+  walks_first kl vl left walk same whole places found empty =
       let at : left.places ≡ all_positions = ap (λ (x : ItemsLeft). x.places) same ∙ places in (
-        subst (AllStand (entry_shape k v)) (sym same) stand,
         ap (λ (x : ItemsLeft). x.archive) same ∙ whole,
         subst (All (IsKeyPosAt w k v archive.now p)) (sym at) (keys_walked w k v kl vl archive.now p),
         subst (λ (xs : List ℕ). LeadsOn k v key value equal archive.now all_positions xs found) (sym at) (leads_first k v key value equal archive.now all_positions found empty),
@@ -70,23 +69,20 @@ module _ {A B : Type 0} (w : Width) (k v : Shape) (key : List ℕ → ℕ → A 
   module _ (before after : ItemsLeft) (place : ℕ) (found : A → Option B) (step : TakesFirst before place after) (on : WalksOn before found) where
     -- the next key is one of the map, in the same bytes
     pub walks_key : IsKeyPosAt w k v archive.now p place
-    walks_key = All-head (IsKeyPosAt w k v archive.now p) place after.places (subst (All (IsKeyPosAt w k v archive.now p)) step.first on.2)
+    walks_key = All-head (IsKeyPosAt w k v archive.now p) place after.places (subst (All (IsKeyPosAt w k v archive.now p)) step.first on.1)
 
     pub walks_next : (found' : A → Option B) (a : A) (x : B) → PairStands k v key value archive.now place (a, x) → ((q : A) → found' q ≡ cond (equal a q) (Some x) (found q)) → WalksOn after found'
-    walks_next found' a x stands inserted =
-        let Here : List ℕ → ℕ → Type 0 = λ b q. Viewed (entry_shape k v) b q in (
-          subst (λ (bytes : Bor (List ℕ)). All (Here bytes.now) after.places) (sym step.archive)
-              (All-tail (Here before.archive.now) place after.places (subst (All (Here before.archive.now)) step.first on.0)),
-          step.archive ∙ on.1,
-          All-tail (IsKeyPosAt w k v archive.now p) place after.places (subst (All (IsKeyPosAt w k v archive.now p)) step.first on.2),
-          leads_next k v key value equal archive.now all_positions place after.places found found' a x
-              (subst (λ (xs : List ℕ). LeadsOn k v key value equal archive.now all_positions xs found) step.first on.3) stands inserted,
-        )
+    walks_next found' a x stands inserted = (
+      step.archive ∙ on.0,
+      All-tail (IsKeyPosAt w k v archive.now p) place after.places (subst (All (IsKeyPosAt w k v archive.now p)) step.first on.1),
+      leads_next k v key value equal archive.now all_positions place after.places found found' a x
+          (subst (λ (xs : List ℕ). LeadsOn k v key value equal archive.now all_positions xs found) step.first on.2) stands inserted,
+    )
 
   pub walks_last : (left : ItemsLeft) (found : A → Option B) → WalksOn left found → left.places ≡ []
       → (pairs : List (A × B)) × ArePairsAt k v key value archive.now all_positions pairs × ((q : A) → found q ≡ update_all equal (λ _. None) pairs q)
   walks_last left found on none =
-      leads_last k v key value equal archive.now all_positions found (subst (λ (xs : List ℕ). LeadsOn k v key value equal archive.now all_positions xs found) none on.3)
+      leads_last k v key value equal archive.now all_positions found (subst (λ (xs : List ℕ). LeadsOn k v key value equal archive.now all_positions xs found) none on.2)
 
 -- a lookup among keys, each with the unit value
 pub unit_lookup : {A : Type 0} (test : A → Bool) (keys : List A) → lookup test (with_units keys) ≡ cond (list_any test keys) (Some tt) None

@@ -17,13 +17,15 @@ use Rattle.rkyv_base.proofs.Sealing.{viewed_kept}
 use Rattle.rkyv_keys.specs.Asking.{RestsOnKeys}
 use Rattle.rkyv_keys.specs.OfValues.{IsValueAt, value_fits}
 use Rattle.rkyv_table.specs.Table.Header.{cap_at, len_at}
-use Rattle.rkyv_table.specs.Table.Reading.{IsWalked, bucket_found, home_positions, item_at, pos_found, table_controls}
+use Rattle.rkyv_table.specs.Table.Positions.{IsWalked, bucket_found, home_positions, item_at}
+use Rattle.rkyv_table.specs.Table.Positions.{pos_found, table_controls}
 use Rattle.rkyv_table.specs.Table.SealedTable.{KeepsTable, RestsOnKey, SameValue, WritesValue}
 use Rattle.rkyv_table.proofs.Items.{controls_accepted, item_viewed, some_cap}
 use Rattle.rkyv_table.proofs.Misplaced.{found_agree}
 use Rattle.rkyv_table.proofs.SealedTable.{item_stays, lookup_kept, value_kept, written_kept}
 use Rattle.rkyv_table.proofs.Walks.{walked_full}
-use Rattle.rkyv_collections.specs.Map.{IsKeyPosAt, MapWrittenAt, map_shape}
+use Rattle.rkyv_collections.specs.Map.{MapWrittenAt}
+use Rattle.rkyv_collections.specs.MapShape.{IsKeyPosAt, map_shape}
 use Rattle.rkyv_collections.specs.MapFormat.{MapStands}
 use Rattle.rkyv_collections.specs.Lemmas.MapLaws.{HashNear}
 use Rattle.rkyv_collections.proofs.NewValues.{home, new_value_stands, own_place, own_walked, written_again}

@@ -15,7 +15,7 @@ use Rattle.rkyv_base.specs.Shape.{Shape}
 use Rattle.rkyv_table.specs.Controls.Placing.{walk}
 use Rattle.rkyv_table.specs.Table.Header.{cap_at}
 use Rattle.rkyv_table.specs.Table.Lent.{with_units}
-use Rattle.rkyv_table.specs.Table.Reading.{WrittenAt, home_positions, item_at, table_controls}
+use Rattle.rkyv_table.specs.Table.Positions.{WrittenAt, home_positions, item_at, table_controls}
 use Rattle.rkyv_table.specs.Table.WalkLaws.{VisitsHomes}
 use Rattle.rkyv_table.proofs.WalkedHomes.{none_visits, walked_homes}
 use Rattle.rkyv_table.proofs.WrittenTables.{home_count, home_pos}

@@ -12,14 +12,16 @@ use Rattle.rkyv_base.specs.Entry.{entry_element, entry_shape}
 use Rattle.rkyv_base.specs.Shape.{IsElement, Shape, Standing, Viewed}
 use Rattle.rkyv_table.specs.Table.Header.{cap_at, len_at}
 use Rattle.rkyv_table.specs.Controls.Placing.{walk}
-use Rattle.rkyv_table.specs.Table.Reading.{IsWalked, home_positions, item_at, item_positions, pos_found, table_controls}
+use Rattle.rkyv_table.specs.Table.Positions.{IsWalked, home_positions, item_at, item_positions}
+use Rattle.rkyv_table.specs.Table.Positions.{pos_found, table_controls}
 use Rattle.rkyv_table.proofs.FirstFound.{first_found}
 use Rattle.rkyv_table.proofs.Items.{item_viewed}
 use Rattle.rkyv_table.proofs.RawWalks.{walk_count}
 use Rattle.rkyv_table.proofs.WalkedHomes.{walked_homes}
 use Rattle.rkyv_table.proofs.Walks.{full_walked}
 use Rattle.rkyv_collections.specs.Equality.{pair_at}
-use Rattle.rkyv_collections.specs.Map.{MapWrittenAt, map_shape}
+use Rattle.rkyv_collections.specs.Map.{MapWrittenAt}
+use Rattle.rkyv_collections.specs.MapShape.{map_shape}
 use Rattle.rkyv_table.proofs.WrittenTables.{home_pos, home_walked}
 
 module _ (w : Width) (k v : Shape) (kl : IsElement k) (vl : IsElement v) (key_hash : List ℕ → ℕ → ℕ)

@@ -6,8 +6,10 @@ use Rattle.rkyv_scan.specs.Hash.{HasherCall, SizeWords, fx_hash}
 use Rattle.rkyv_scan.specs.Laws.{IsFixed}
 use Rattle.rkyv_base.specs.Entry.{entry_shape}
 use Rattle.rkyv_base.specs.Shape.{Shape, Viewed}
-use Rattle.rkyv_table.specs.Table.Reading.{pos_found}
-use Rattle.rkyv_collections.specs.Map.{MapWrittenAt, map_shape}
+use Rattle.rkyv_keys.specs.declared.hash.KeyHash.{Ghosts as KeyHashes}
+use Rattle.rkyv_table.specs.Table.Positions.{pos_found}
+use Rattle.rkyv_collections.specs.Map.{MapWrittenAt}
+use Rattle.rkyv_collections.specs.MapShape.{map_shape}
 
 -- the hash of the key at `q`, under a rule for `usize` and `isize`
 abbrev pub fx_hash_at : SizeWords → (List ℕ → ℕ → List HasherCall) → List ℕ → ℕ → ℕ
@@ -33,12 +35,12 @@ module _ (w : Width) (k v : Shape) where
       → fx_found one calls b p accept ≡ fx_found other calls b p accept
 
   -- in a written map, a query finds the same key under both rules
-  abbrev pub QueriedAlike : {Q : Type 0} → (List ℕ → ℕ → List HasherCall) → (Q → Type 0)
-      → (Q → List HasherCall) → (Q → List ℕ → ℕ → Bool) → Type 0
-  QueriedAlike {Q} key_calls can_read calls fits =
+  abbrev pub QueriedAlike : {Q : Type 0} → (List ℕ → ℕ → List HasherCall) → KeyHashes Q
+      → (Q → List ℕ → ℕ → Bool) → Type 0
+  QueriedAlike {Q} key_calls queries fits =
       (one other : SizeWords) (b : List ℕ) (p : ℕ) (homes : List ℕ)
       → Viewed (map_shape w k v) b p
       → MapWrittenAt w (entry_shape k v) (fx_hash_at one key_calls) b p homes
-      → (query : Q) → can_read query
-      → fx_found one (calls query) b p (fits query b)
-      ≡ fx_found other (calls query) b p (fits query b)
+      → (query : Q) → queries.can_read query
+      → fx_found one (queries.calls query) b p (fits query b)
+      ≡ fx_found other (queries.calls query) b p (fits query b)

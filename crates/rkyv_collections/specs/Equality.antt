@@ -1,4 +1,6 @@
 -- The equality of two maps.
+use Rattle.rkyv_base.specs.declared.element.Shaped.{Ghosts as Shapes}
+use Rattle.rkyv_base.specs.declared.width.Word.{Ghosts as Words}
 use Rattle.std.specs.Prelude.{◌≡◌, ℕ, ◌+◌, ◌<◌, ◌↔◌, List, Bool, true, false, ◌&&◌, ◌==◌, length}
 use Rattle.std.specs.Prelude.{slice_index}
 use Rattle.std.specs.Int.{Width}
@@ -7,11 +9,15 @@ use Rattle.std.specs.Option.{option_map, unwrap_or}
 use Rattle.rkyv_scan.specs.Groups.{generic_kind}
 use Rattle.rkyv_base.specs.Entry.{entry_shape, value_offset}
 use Rattle.rkyv_base.specs.Shape.{Shape, Viewed}
+use Rattle.rkyv_base.specs.View.{bytes_of, pos_of}
+use Rattle.rkyv_base.specs.declared.view.View.{View}
 use Rattle.rkyv_keys.specs.Equality.{Comparison}
 use Rattle.rkyv_keys.specs.OfEntries.{entry_same}
 use Rattle.rkyv_table.specs.Table.Header.{len_at}
-use Rattle.rkyv_table.specs.Table.Reading.{item_at, item_positions, pos_found}
-use Rattle.rkyv_collections.specs.Map.{MapWrittenAt, map_shape}
+use Rattle.rkyv_table.specs.Table.Positions.{item_at, item_positions, pos_found}
+use Rattle.rkyv_collections.specs.Map.{MapWrittenAt, map_bytes, map_pos}
+use Rattle.rkyv_collections.specs.declared.map.ArchivedHashMap.{ArchivedHashMap}
+use Rattle.rkyv_collections.specs.MapShape.{map_shape}
 
 -- the position of the pair with the number `i`, in insertion order
 abbrev pub pair_at : Width → Shape → Shape → List ℕ → ℕ → List ℕ → ℕ → ℕ
@@ -50,3 +56,10 @@ module _ (w : Width) (k v : Shape) (key_hash : List ℕ → ℕ
   EqualHaveSamePairs = (b c : List ℕ) (p r : ℕ) (homes others : List ℕ) → IsWrittenApart b p homes
       → IsWrittenApart c r others
       → (map_equal b p c r ≡ true) ↔ (EachIsIn b p homes c r others × EachIsIn c r others b p homes)
+
+-- a lookup of the key in the map finds the value behind the key
+abbrev pub finds_same : {K V H W : Type 0} {ks : Shapes K} {vs : Shapes V} {wt : Words W}
+    → ArchivedHashMap K V H W ks vs wt → (List ℕ → ℕ → ℕ) → Comparison → Comparison → View K → Bool
+finds_same {ks = ks} {vs = vs} {wt = wt} m key_hash same_key same_value key =
+    pair_matches wt.word ks.shape vs.shape key_hash same_key same_value (bytes_of key) (pos_of key)
+    (map_bytes m) (map_pos m)

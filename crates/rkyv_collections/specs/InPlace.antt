@@ -3,28 +3,16 @@ use Rattle.std.specs.Prelude.{◌≡◌, ℕ, ◌+◌, ◌≤◌, Bool, List, []
 use Rattle.std.specs.Prelude.{Some, cond, false, length, true}
 use Rattle.std.specs.Borrow.{MutBor}
 use Rattle.std.specs.Int.{Width}
-use Rattle.std.specs.Option.{is_some, option_map}
-use Rattle.rkyv_base.specs.Scalar.{Encoding, ScalarStands, scalar_shape}
-use Rattle.rkyv_base.specs.Sealing.{value_pos, with_value}
+use Rattle.std.specs.Option.{is_some}
+use Rattle.rkyv_base.specs.Scalar.{Encoding, ScalarStands}
+use Rattle.rkyv_base.specs.Sealing.{with_value}
 use Rattle.rkyv_base.specs.Shape.{Shape}
+use Rattle.rkyv_keys.specs.Asked.{Asked}
 use Rattle.rkyv_table.specs.Table.SealedItems.{WrittenBy}
 use Rattle.rkyv_collections.specs.ListedLookups.{first_pair}
-use Rattle.rkyv_collections.specs.Map.{FindsFirstKeyAt, FindsKeyAt}
+use Rattle.rkyv_collections.specs.MapAt.{AskedValue, MapAt, TellsValueAt}
 use Rattle.rkyv_collections.specs.MapFormat.{MapStands}
 use Rattle.rkyv_collections.specs.ValueWrites.{KeepsMap}
-
-module _ (w : Width) (k v : Shape) (b : List ℕ) (p : ℕ) where
-  -- the property applies to the position of the value that a lookup under the hash finds,
-  -- or to `None`
-  abbrev pub FindsValueAt : ℕ → (ℕ → Bool) → (Option ℕ → Type 0) → Type 0
-  FindsValueAt hash accept Told =
-      FindsKeyAt w k v b p hash accept (λ place. Told (option_map (value_pos k v) place))
-
-  -- if the map at `p` was written, the property applies to the position of the value
-  -- of the first accepted key in insertion order
-  abbrev pub FindsFirstValueAt : (List ℕ → ℕ → ℕ) → (ℕ → Bool) → (Option ℕ → Type 0) → Type 0
-  FindsFirstValueAt key_hash accept Told =
-      FindsFirstKeyAt w k v b p key_hash accept (λ place. Told (option_map (value_pos k v) place))
 
 -- the writer can be called with the archive and each position at which a value fits
 abbrev pub MayWriteFound : {F : Type 0} → Shape → (F → MutBor (List ℕ) → ℕ → Type 0) → List ℕ → F
@@ -45,26 +33,26 @@ with_first asks value [] = []
 with_first asks value (pair ∷ rest) =
     cond (asks pair.0) ((pair.0, value) ∷ rest) (pair ∷ with_first asks value rest)
 
-module _ {N : Type 0} (w : Width) (k : Shape) (e : Encoding N) where
+module _ {N : Type 0} (w : Width) (k v : Shape) (e : Encoding N) where
   -- No value is found, and the archive is unchanged. Or the value at the position is the new one,
   -- all other bytes are unchanged, and the map is kept
   abbrev pub SetsFound : (List ℕ → ℕ → ℕ) → List ℕ → ℕ → N → Bool → List ℕ → Option ℕ → Type 0
   SetsFound key_hash b p value result c place = MatchOption place ((result ≡ false) × (c ≡ b))
       (λ q. (result ≡ true) × (c ≡ with_value e b q value)
-      × ((i : ℕ) × KeepsMap w k (scalar_shape e) key_hash b c p i))
+      × ((i : ℕ) × KeepsMap w k v key_hash b c p i))
 
-  -- the value that a lookup under the hash finds is written, if it finds one
-  abbrev pub SetsValueAt : (List ℕ → ℕ → ℕ) → List ℕ → ℕ → ℕ → (ℕ → Bool) → N → Bool → List ℕ
-      → Type 0
-  SetsValueAt key_hash b p hash accept value result c =
-      FindsValueAt w k (scalar_shape e) b p hash accept (SetsFound key_hash b p value result c)
+-- the value that a lookup finds is written, if it finds one. `result`: it finds one, `c`: bytes
+-- afterwards
+abbrev pub SetsValue : {N : Type 0} → MapAt → Asked → Encoding N → N → Bool → List ℕ → Type 0
+SetsValue m a e value result c = TellsValueAt m a
+    (SetsFound m.word m.key m.value e a.key_hash m.bytes m.pos value result c)
 
-  -- a map that represents a list of pairs represents the list with the new value in the first pair
-  -- with an accepted key
-  abbrev pub SetsFirst : {A : Type 0} → (List ℕ → ℕ → A → Type 0) → (List ℕ → ℕ → ℕ) → (A → Bool)
-      → List ℕ → ℕ → N → Bool → List ℕ → Type 0
-  SetsFirst {A} key key_hash asks b p value result c = (factor : ℕ × ℕ) (pairs : List (A × N))
-      → MapStands w k (scalar_shape e) key (ScalarStands e) key_hash factor b p pairs
-      → (result ≡ is_some (first_pair asks pairs))
-      × MapStands w k (scalar_shape e) key (ScalarStands e) key_hash factor c p
-      (with_first asks value pairs)
+-- a map that represents a list of pairs represents the list with the new value in the first pair
+-- with an accepted key
+abbrev pub SetsFirst : {A N : Type 0} → MapAt → AskedValue A → Encoding N → N → Bool → List ℕ
+    → Type 0
+SetsFirst {A} {N} m a e value result c = (factor : ℕ × ℕ) (pairs : List (A × N))
+    → MapStands m.word m.key m.value a.stands (ScalarStands e) a.key_hash factor m.bytes m.pos pairs
+    → (result ≡ is_some (first_pair a.asks pairs))
+    × MapStands m.word m.key m.value a.stands (ScalarStands e) a.key_hash factor c m.pos
+    (with_first a.asks value pairs)

@@ -1,4 +1,6 @@
 -- Calls that write the inline text of a key in upper case over the bytes of an archive.
+use Rattle.rkyv_base.specs.declared.element.Shaped.{Ghosts as Shapes}
+use Rattle.rkyv_base.specs.declared.width.Word.{Ghosts as Words}
 use Rattle.std.specs.Prelude.{◌≡◌, ℕ, Bool, List, [], ◌∷◌, None, Option, Some, cond, map}
 use Rattle.std.specs.Borrow.{Bor}
 use Rattle.std.specs.Char.{to_ascii_uppercase}
@@ -7,10 +9,11 @@ use Rattle.std.specs.Option.{is_some}
 use Rattle.rkyv_base.specs.SealedText.{Raised}
 use Rattle.rkyv_base.specs.Shape.{Shape}
 use Rattle.rkyv_base.specs.Text.{text_shape}
+use Rattle.rkyv_keys.specs.Asked.{Asked}
 use Rattle.rkyv_keys.specs.OfTexts.{IsTextOf}
-use Rattle.rkyv_collections.specs.InPlace.{FindsValueAt}
+use Rattle.rkyv_collections.specs.MapAt.{AskedValue, MapAt, TellsValueAt}
 use Rattle.rkyv_collections.specs.ListedLookups.{first_pair}
-use Rattle.rkyv_collections.specs.Map.{map_shape}
+use Rattle.rkyv_collections.specs.MapShape.{map_shape}
 use Rattle.rkyv_collections.specs.MapFormat.{MapStands}
 use Rattle.rkyv_collections.specs.ValueWrites.{KeepsMap}
 
@@ -38,26 +41,35 @@ module _ (w : Width) (k : Shape) where
       (inline : Bool) × (result ≡ Some inline) × Raised w b q c inline
       × ((i : ℕ) × KeepsMap w k (text_shape w) key_hash b c p i)
 
-  -- the text that a lookup finds is written in upper case, if the lookup finds one
-  abbrev pub RaisesTextAt : (List ℕ → ℕ → ℕ) → List ℕ → ℕ → ℕ → (ℕ → Bool) → Option Bool → List ℕ
-      → Type 0
-  RaisesTextAt key_hash b p hash accept result c =
-      FindsValueAt w k (text_shape w) b p hash accept (RaisesFound key_hash b p result c)
-
   -- the list after the call, with a text in upper case if the result is `Some(true)`
   abbrev pub raised_list : {A : Type 0} → (A → Bool) → Option Bool → List (A × Bor (List ℕ))
       → List (A × Bor (List ℕ))
   raised_list asks None pairs = pairs
   raised_list asks (Some inline) pairs = cond inline (with_first_raised asks pairs) pairs
 
-  -- A map that represents a list of pairs of keys and texts. If the text of the first pair
-  -- with an accepted key is inline, the map represents the list with that text in upper case.
-  -- Otherwise it represents the same list. The result is `None` if and only if no key is accepted
-  abbrev pub RaisesFirst : {A : Type 0} → (List ℕ → ℕ → A → Type 0) → (List ℕ → ℕ → ℕ) → (A → Bool)
-      → List ℕ → ℕ → Option Bool → List ℕ → Type 0
-  RaisesFirst {A} key key_hash asks b p result c =
-      (factor : ℕ × ℕ) (pairs : List (A × Bor (List ℕ)))
-      → MapStands w k (text_shape w) key (IsTextOf w (λ text. text.now)) key_hash factor b p pairs
-      → (is_some result ≡ is_some (first_pair asks pairs))
-      × MapStands w k (text_shape w) key (IsTextOf w (λ text. text.now)) key_hash factor c p
-      (raised_list asks result pairs)
+-- the map of keys `ks` to texts in an archive of the word `wt`, with its header at `pos`
+abbrev pub text_map_at : {K W : Type 0} → Words W → Shapes K → List ℕ → ℕ → MapAt
+text_map_at wt ks bytes pos = record {
+  word = wt.word;
+  key = ks.shape;
+  value = text_shape wt.word;
+  bytes = bytes;
+  pos = pos;
+}
+
+-- the text that a lookup finds in a map to texts is written in upper case, if it finds one.
+-- `c`: bytes afterwards
+abbrev pub RaisesText : MapAt → Asked → Option Bool → List ℕ → Type 0
+RaisesText m a result c =
+    TellsValueAt m a (RaisesFound m.word m.key a.key_hash m.bytes m.pos result c)
+
+-- A map that represents a list of pairs of keys and texts. If the text of the first pair
+-- with an accepted key is inline, the map represents the list with that text in upper case.
+-- Otherwise it represents the same list. The result is `None` if and only if no key is accepted
+abbrev pub RaisesFirst : {A : Type 0} → MapAt → AskedValue A → Option Bool → List ℕ → Type 0
+RaisesFirst {A} m a result c = (factor : ℕ × ℕ) (pairs : List (A × Bor (List ℕ)))
+    → MapStands m.word m.key m.value a.stands (IsTextOf m.word (λ text. text.now)) a.key_hash factor
+    m.bytes m.pos pairs
+    → (is_some result ≡ is_some (first_pair a.asks pairs))
+    × MapStands m.word m.key m.value a.stands (IsTextOf m.word (λ text. text.now)) a.key_hash factor
+    c m.pos (raised_list m.word m.key a.asks result pairs)

@@ -1,6 +1,9 @@
+pub mod Natives
 pub mod Map
+pub mod MapShape
 pub mod Equality
 pub mod Misplaced
+pub mod MapAt
 pub mod Lookups
 pub mod MapFormat
 pub mod Handing

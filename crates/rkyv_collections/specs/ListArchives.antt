@@ -1,4 +1,5 @@
 -- Archives with a root map that represents a list of pairs, and the scalars that are found in one.
+use Rattle.rkyv_base.specs.declared.element.Shaped.{Ghosts as Shapes}
 use Rattle.rkyv_base.specs.declared.width.Word.{Ghosts as Words}
 use Rattle.std.specs.Prelude.{◌≡◌, ℕ, ◌-◌, Bool, IfSome, List, MatchResult, Option, Result, length}
 use Rattle.std.specs.Borrow.{Bor}
@@ -25,8 +26,9 @@ use Rattle.rkyv_table.specs.Table.Listed.{listed}
 use Rattle.rkyv_table.specs.Table.TableFormat.{TableResolver}
 use Rattle.rkyv_collections.specs.ListedLookups.{first_value}
 use Rattle.rkyv_collections.specs.Map.{FindsFirstKey, IsValueAt, IsValueIn, hash_at, map_bytes}
-use Rattle.rkyv_collections.specs.Map.{map_shape}
+use Rattle.rkyv_collections.specs.MapShape.{map_shape}
 use Rattle.rkyv_collections.specs.MapFormat.{MapStands, hash_of, map_format}
+use Rattle.rkyv_collections.specs.Natives.{NativeKeys}
 use Rattle.rkyv_collections.specs.declared.map.ArchivedHashMap.{ArchivedHashMap}
 use Rattle.rkyv_collections.specs.declared.map.HashMapOf.{HashMapOf}
 
@@ -99,16 +101,17 @@ scalar_found e found = option_map (λ view. value_at e (bytes_of view) (pos_of v
 
 -- The root of the archive is a map that represents a list of pairs. The scalar that a lookup
 -- finds is the value of the first pair with an equal key, and `None` if no pair has one.
--- `wt`: word of the archive
-abbrev pub ScalarsFoundAreListed : {A N : Type 0} → (K H W : Type 0) → Words W → Shape → Encoding N
-    → (List ℕ → ℕ → A → Type 0) → (List ℕ → ℕ → ℕ) → (A → List ℕ → ℕ → Bool) → (A → A → Bool)
-    → Type 0
-ScalarsFoundAreListed {A} {N} K H W wt k e key hash fits equal =
-    (map : ArchivedHashMap K N H W wt) (root : View (HashMapOf K N H W)) (archive : Bor (List ℕ))
+-- `wt`: word of the archive, `e`: encoding of the scalars
+abbrev pub ScalarsFoundAreListed : {A K N W : Type 0} → (H : Type 0) → Words W → Shapes K → Shapes N
+    → Encoding N → NativeKeys A → Type 0
+ScalarsFoundAreListed {A} {K} {N} {W} H wt ks vs e keys =
+    (map : ArchivedHashMap K N H W ks vs wt) (root : View (HashMapOf K N H W)) (archive : Bor
+    (List ℕ))
     (limit : ℕ) (pairs : List (A × N)) (asked : A) (found : Option (View N))
-    → map.view ≡ root → IsAt root archive (map_root wt.word k (scalar_shape e) archive.now)
-    → IsListArchive limit wt.word k (scalar_shape e) key (ScalarStands e) hash archive.now pairs
-    → IfSome found (IsValueIn wt.word k (scalar_shape e) map)
-    → FindsFirstKey wt.word k (scalar_shape e) map hash (fits asked (map_bytes map))
-    (IsValueAt k (scalar_shape e) found)
-    → scalar_found e found ≡ first_value (equal asked) pairs
+    → map.view ≡ root → IsAt root archive (map_root wt.word ks.shape vs.shape archive.now)
+    → IsListArchive limit wt.word ks.shape vs.shape keys.stands (ScalarStands e) keys.key_hash
+    archive.now pairs
+    → IfSome found (IsValueIn map)
+    → FindsFirstKey map keys.key_hash (keys.fits asked (map_bytes map))
+    (IsValueAt ks.shape vs.shape found)
+    → scalar_found e found ≡ first_value (keys.equal asked) pairs

@@ -1,16 +1,17 @@
 -- Lookups in a map that represents a list of pairs, in terms of the list alone.
+use Rattle.rkyv_base.specs.declared.element.Shaped.{Ghosts as Shapes}
 use Rattle.rkyv_base.specs.declared.width.Word.{Ghosts as Words}
 use Rattle.std.specs.Prelude.{◌≡◌, ℕ, Bool, IfSome, List, None, Option, Some}
-use Rattle.std.specs.Int.{Width}
 use Rattle.std.specs.List.{find}
 use Rattle.std.specs.Option.{is_some, option_map}
 use Rattle.rkyv_base.specs.Pairs.{PairStands}
 use Rattle.rkyv_base.specs.Shape.{Shape, Standing}
 use Rattle.rkyv_base.specs.View.{StandsAt}
 use Rattle.rkyv_base.specs.declared.view.View.{View}
-use Rattle.rkyv_collections.specs.Map.{FindsFirstKey, IsEntryAt, IsFoundAt, IsKeyIn, IsMap}
+use Rattle.rkyv_collections.specs.Map.{FindsFirstKey, IsEntryAt, IsFoundAt, IsKeyIn}
 use Rattle.rkyv_collections.specs.Map.{IsPairAt, IsPairIn, IsValueAt, IsValueIn, map_bytes, map_pos}
 use Rattle.rkyv_collections.specs.MapFormat.{MapStands}
+use Rattle.rkyv_collections.specs.Natives.{NativePairs}
 use Rattle.rkyv_collections.specs.declared.map.ArchivedHashMap.{ArchivedHashMap}
 
 -- a valid key is accepted if and only if `asks` accepts the value that it represents
@@ -51,30 +52,33 @@ module _ {A B : Type 0} (k v : Shape) (key : List ℕ → ℕ → A → Type 0)
   IsPairOf b None (Some pair) = ⊥
   IsPairOf b (Some q) None = ⊥
 
+module _ {A B K V H W : Type 0} {ks : Shapes K} {vs : Shapes V} {wt : Words W}
+    (key : List ℕ → ℕ → A → Type 0) (value : List ℕ → ℕ → B → Type 0) (key_hash : List ℕ → ℕ → ℕ)
+    (m : ArchivedHashMap K V H W ks vs wt) (accept : ℕ → Bool) (asks : A → Bool) where
   -- The results of `get_key_value`, a set's `get`, `get` and `contains_key`,
   -- by their clauses on the first accepted key. They are the first pair
   -- of the list with an accepted key, its key, its value, and `true` if there is one
-  pub record FindsListed {K V H W : Type 0} {wt : Words W} (w : Width) (key_hash : List ℕ → ℕ → ℕ)
-      (m : ArchivedHashMap K V H W wt) (accept : ℕ → Bool) (asks : A → Bool) (pairs : List (A × B))
-      : Type 0 where
-    pub gives_pair : (result : Option (View K × View V)) → IfSome result (IsPairIn w k v m)
-        → FindsFirstKey w k v m key_hash accept (IsPairAt result)
+  pub record FindsListed (pairs : List (A × B)) : Type 0 where
+    pub gives_pair : (result : Option (View K × View V)) → IfSome result (IsPairIn m)
+        → FindsFirstKey m key_hash accept (IsPairAt result)
         → IsFoundPair key value result (first_pair asks pairs)
-    pub gives_key : (result : Option (View K)) → IfSome result (IsKeyIn w k v m)
-        → FindsFirstKey w k v m key_hash accept (IsEntryAt result)
+    pub gives_key : (result : Option (View K)) → IfSome result (IsKeyIn m)
+        → FindsFirstKey m key_hash accept (IsEntryAt result)
         → IsFoundValue key result (option_map (λ pair. pair.0) (first_pair asks pairs))
-    pub gives_value : (result : Option (View V)) → IfSome result (IsValueIn w k v m)
-        → FindsFirstKey w k v m key_hash accept (IsValueAt k v result)
+    pub gives_value : (result : Option (View V)) → IfSome result (IsValueIn m)
+        → FindsFirstKey m key_hash accept (IsValueAt ks.shape vs.shape result)
         → IsFoundValue value result (first_value asks pairs)
-    pub contains : (result : Bool) → FindsFirstKey w k v m key_hash accept (IsFoundAt result)
+    pub contains : (result : Bool) → FindsFirstKey m key_hash accept (IsFoundAt result)
         → result ≡ is_some (first_pair asks pairs)
 
-  -- In a map that represents a list of pairs, a lookup finds the first pair
-  -- of the list with an accepted key. `wt`: word of the archive
-  abbrev pub LookupsFindListed : (K V H W : Type 0) → Words W → (List ℕ → ℕ → ℕ) → Type 0
-  LookupsFindListed K V H W wt key_hash =
-      (m : ArchivedHashMap K V H W wt) (accept : ℕ → Bool) (asks : A → Bool) (factor : ℕ × ℕ)
-      (pairs : List (A × B))
-      → IsMap wt.word k v m → AsksFor k key (map_bytes m) accept asks
-      → MapStands wt.word k v key value key_hash factor (map_bytes m) (map_pos m) pairs
-      → FindsListed wt.word key_hash m accept asks pairs
+-- In a map that represents a list of pairs, a lookup finds the first pair
+-- of the list with an accepted key. `wt`: word of the archive, `native`: what represents the pairs
+abbrev pub LookupsFindListed : {A B K V W : Type 0} → (H : Type 0) → Words W → Shapes K → Shapes V
+    → NativePairs A B → Type 0
+LookupsFindListed {A} {B} {K} {V} {W} H wt ks vs native =
+    (m : ArchivedHashMap K V H W ks vs wt) (accept : ℕ → Bool) (asks : A → Bool) (factor : ℕ × ℕ)
+    (pairs : List (A × B))
+    → AsksFor ks.shape native.key (map_bytes m) accept asks
+    → MapStands wt.word ks.shape vs.shape native.key native.value native.key_hash factor
+    (map_bytes m) (map_pos m) pairs
+    → FindsListed native.key native.value native.key_hash m accept asks pairs

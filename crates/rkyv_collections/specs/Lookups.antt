@@ -1,53 +1,66 @@
 -- The clauses of lookups on their results.
+use Rattle.rkyv_base.specs.declared.element.Shaped.{Ghosts as Shapes}
 use Rattle.rkyv_base.specs.declared.width.Word.{Ghosts as Words}
 use Rattle.std.specs.Prelude.{◌≡◌, ℕ, ◌+◌, Bool, IfSome, List, MatchOption, None, Option, Some}
-use Rattle.std.specs.Int.{Width}
-use Rattle.rkyv_scan.specs.Hash.{Hasher, HasherCall, hash_of_calls}
 use Rattle.rkyv_base.specs.Entry.{value_offset}
 use Rattle.rkyv_base.specs.Shape.{Shape}
 use Rattle.rkyv_base.specs.View.{IsAt, IsView, archive_of, pos_of}
 use Rattle.rkyv_base.specs.declared.entry.Entry.{Entry}
 use Rattle.rkyv_base.specs.declared.view.View.{View}
-use Rattle.rkyv_keys.specs.Equality.{Comparison}
-use Rattle.rkyv_collections.specs.Map.{FindsBy, FindsFirstBy, FindsFirstKey, FindsKey, hash_at}
-use Rattle.rkyv_collections.specs.Map.{map_bytes}
+use Rattle.rkyv_keys.specs.Asked.{Asked}
+use Rattle.rkyv_collections.specs.Map.{FindsBy, FindsFirstBy, FindsFirstKey, FindsKey, IsEntryAt}
+use Rattle.rkyv_collections.specs.Map.{IsEntryIn, IsKeyIn, IsPairAt, IsPairIn, IsValueAt}
+use Rattle.rkyv_collections.specs.Map.{IsValueIn, map_bytes}
 use Rattle.rkyv_collections.specs.Misplaced.{FindsOneKey}
 use Rattle.rkyv_collections.specs.declared.map.ArchivedHashMap.{ArchivedHashMap}
 
-module _ {K V H W State : Type 0} {wt : Words W} (w : Width) (k v : Shape)
-    (m : ArchivedHashMap K V H W wt)
-    (hasher : Hasher State) (calls : List HasherCall)
-    (key_calls : List ℕ → ℕ → List HasherCall) where
-  -- The property applies to the position that a lookup of a query finds: in any map,
-  -- in a written map, and if no key is misplaced. `calls`: hasher calls of the query,
-  -- `fits`: keys that it fits, `key_calls b q`: hasher calls of the key at `q`
-  pub record TellsKey (same : Comparison) (fits : List ℕ → ℕ → Bool) (Told : Option ℕ → Type 0) :
+-- What a lookup in `M` returns of the pair that it finds. `In m x`: `x` is of a pair of `m`,
+-- `At result place`: the result is that of the key at the place, or there is neither
+pub record Part (M X : Type 0) : Type 1 where
+  pub In : M → X → Type 0
+  pub At : Option X → Option ℕ → Type 0
+
+module _ {K V H W : Type 0} {ks : Shapes K} {vs : Shapes V} {wt : Words W} where
+  -- the property applies to the position that a lookup finds: in any map, in a written map,
+  -- and if no key is misplaced
+  pub record TellsKey (m : ArchivedHashMap K V H W ks vs wt) (a : Asked) (Told : Option ℕ
+      → Type 0) :
       Type 0 where
-    pub answer : FindsKey w k v m (hash_of_calls hasher calls) (fits (map_bytes m)) Told
-    pub first : FindsFirstKey w k v m (hash_at hasher key_calls) (fits (map_bytes m)) Told
-    pub complete : FindsOneKey w k v m (hash_at hasher key_calls) same (fits (map_bytes m)) Told
+    pub answer : FindsKey m a.hash (a.fits (map_bytes m)) Told
+    pub first : FindsFirstKey m a.key_hash (a.fits (map_bytes m)) Told
+    pub complete : FindsOneKey m a.key_hash a.same (a.fits (map_bytes m)) Told
 
-module _ {K V H W X State : Type 0} {wt : Words W}
-    (In : Width → Shape → Shape → ArchivedHashMap K V H W wt → X → Type 0)
-    (At : Option X → Option ℕ → Type 0) (w : Width) (k v : Shape) (m : ArchivedHashMap K V H W wt)
-    (hasher : Hasher State) (calls : List HasherCall)
-    (key_calls : List ℕ → ℕ → List HasherCall) where
-  -- the clauses of a lookup of a query on a result that is `In` the map and `At` the position
-  -- of a key
-  pub record GetsKey (same : Comparison) (fits : List ℕ → ℕ → Bool) (result : Option X) : Type 0
-    where
-      pub walked : IfSome result (In w k v m)
-      pub answer : FindsKey w k v m (hash_of_calls hasher calls) (fits (map_bytes m)) (At result)
-      pub first : FindsFirstKey w k v m (hash_at hasher key_calls) (fits (map_bytes m)) (At result)
-      pub complete : FindsOneKey w k v m (hash_at hasher key_calls) same (fits (map_bytes m))
-          (At result)
+  -- the entry of the pair
+  abbrev pub entry_part : Part (ArchivedHashMap K V H W ks vs wt) (View (Entry K V))
+  entry_part = record { In = IsEntryIn; At = IsEntryAt }
 
-  -- the clauses of a lookup by a comparison on such a result
-  pub record GetsBy (post : View K → Bool → Type 0) (result : Option X) : Type 0 where
-    pub walked : IfSome result (In w k v m)
-    pub answer : FindsBy w k v m post (hash_of_calls hasher calls) (At result)
-    pub first : FindsFirstBy w k v m post (hash_of_calls hasher calls) (hash_at hasher key_calls)
-        (At result)
+  -- the key and the value
+  abbrev pub pair_part : Part (ArchivedHashMap K V H W ks vs wt) (View K × View V)
+  pair_part = record { In = IsPairIn; At = IsPairAt }
+
+  -- the key
+  abbrev pub key_part : Part (ArchivedHashMap K V H W ks vs wt) (View K)
+  key_part = record { In = IsKeyIn; At = IsEntryAt }
+
+  -- the value
+  abbrev pub value_part : Part (ArchivedHashMap K V H W ks vs wt) (View V)
+  value_part = record { In = IsValueIn; At = IsValueAt ks.shape vs.shape }
+
+  module _ {X : Type 0} (part : Part (ArchivedHashMap K V H W ks vs wt) X)
+      (m : ArchivedHashMap K V H W ks vs wt) where
+    -- `result`: part of the pair that a lookup finds
+    pub record GetsKey (a : Asked) (result : Option X) : Type 0 where
+      pub walked : IfSome result (part.In m)
+      pub answer : FindsKey m a.hash (a.fits (map_bytes m)) (part.At result)
+      pub first : FindsFirstKey m a.key_hash (a.fits (map_bytes m)) (part.At result)
+      pub complete : FindsOneKey m a.key_hash a.same (a.fits (map_bytes m)) (part.At result)
+
+    -- `result`: part of the pair that a lookup by a comparison finds, under the hash
+    pub record GetsBy (hash : ℕ) (key_hash : List ℕ → ℕ → ℕ) (post : View K → Bool → Type 0)
+        (result : Option X) : Type 0 where
+      pub walked : IfSome result (part.In m)
+      pub answer : FindsBy m post hash (part.At result)
+      pub first : FindsFirstBy m post hash key_hash (part.At result)
 
 module _ {K V : Type 0} (k v : Shape) where
   -- the pair is that of the entry, or there is neither

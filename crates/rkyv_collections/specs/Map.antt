@@ -1,4 +1,5 @@
 -- Hash maps in an archive, and the results of lookups in them.
+use Rattle.rkyv_base.specs.declared.element.Shaped.{Ghosts as Shapes}
 use Rattle.rkyv_base.specs.declared.width.Word.{Ghosts as Words}
 use Rattle.std.specs.Prelude.{◌≡◌, ℕ, ◌+◌, ◌↔◌, List, Bool, true, Option, IsSome, IsTrue, map}
 use Rattle.std.specs.Borrow.{Bor}
@@ -13,78 +14,74 @@ use Rattle.rkyv_base.specs.View.{IsAt, IsView, archive_of, bytes_of, pos_of}
 use Rattle.rkyv_base.specs.declared.entry.Entry.{Entry}
 use Rattle.rkyv_base.specs.declared.view.View.{View}
 use Rattle.rkyv_table.specs.Table.Header.{cap_at, len_at}
-use Rattle.rkyv_table.specs.Table.Reading.{IsWalked, WrittenAt, home_positions, item_at}
-use Rattle.rkyv_table.specs.Table.Reading.{item_positions, pos_found, pos_of_found}
-use Rattle.rkyv_table.specs.Table.Layout.{table_shape}
+use Rattle.rkyv_table.specs.Table.Positions.{WrittenAt, home_positions}
+use Rattle.rkyv_table.specs.Table.Positions.{item_positions, pos_found}
+use Rattle.rkyv_table.specs.Table.Reading.{pos_of_found}
 use Rattle.rkyv_collections.specs.declared.map.ArchivedHashMap.{ArchivedHashMap}
 use Rattle.rkyv_collections.specs.declared.map.HashMapOf.{HashMapOf}
+use Rattle.rkyv_collections.specs.MapShape.{IsKeyPosAt, map_shape}
 
--- the element of a map: the header of a table of its entries
-abbrev pub map_shape : Width → Shape → Shape → Shape
-map_shape w k v = table_shape w (entry_shape k v)
-
--- the map at `p` has a key at `q`
-abbrev pub IsKeyPosAt : Width → Shape → Shape → List ℕ → ℕ → ℕ → Type 0
-IsKeyPosAt w k v b p q = (i : ℕ) × IsWalked w b p i × (q ≡ item_at w (entry_shape k v).size b p i)
-
-module _ {K V H W : Type 0} {wt : Words W} where
+module _ {K V H W : Type 0} {ks : Shapes K} {vs : Shapes V} {wt : Words W} where
   -- the view of `m` is of a valid map
-  abbrev pub IsMap : Width → Shape → Shape → ArchivedHashMap K V H W wt → Type 0
-  IsMap w k v m = IsView (map_shape w k v) m.view
+  abbrev pub IsMap : ArchivedHashMap K V H W ks vs wt → Type 0
+  IsMap m = IsView (map_shape wt.word ks.shape vs.shape) m.view
 
   -- the view of the map's header
-  abbrev pub map_view : ArchivedHashMap K V H W wt → View (HashMapOf K V H W)
+  abbrev pub map_view : ArchivedHashMap K V H W ks vs wt → View (HashMapOf K V H W)
   map_view m = m.view
 
   -- the archive of the map
-  abbrev pub map_archive : ArchivedHashMap K V H W wt → Bor (List ℕ)
+  abbrev pub map_archive : ArchivedHashMap K V H W ks vs wt → Bor (List ℕ)
   map_archive m = archive_of m.view
 
   -- the bytes of the map's archive
-  abbrev pub map_bytes : ArchivedHashMap K V H W wt → List ℕ
+  abbrev pub map_bytes : ArchivedHashMap K V H W ks vs wt → List ℕ
   map_bytes m = bytes_of m.view
 
   -- the position of the map's header
-  abbrev pub map_pos : ArchivedHashMap K V H W wt → ℕ
+  abbrev pub map_pos : ArchivedHashMap K V H W ks vs wt → ℕ
   map_pos m = pos_of m.view
 
   -- the number of pairs
-  abbrev pub map_len : Width → ArchivedHashMap K V H W wt → ℕ
-  map_len w m = len_at w (map_bytes m) (map_pos m)
+  abbrev pub map_len : ArchivedHashMap K V H W ks vs wt → ℕ
+  map_len m = len_at wt.word (map_bytes m) (map_pos m)
 
   -- the number of buckets
-  abbrev pub map_cap : Width → ArchivedHashMap K V H W wt → ℕ
-  map_cap w m = cap_at w (map_bytes m) (map_pos m)
+  abbrev pub map_cap : ArchivedHashMap K V H W ks vs wt → ℕ
+  map_cap m = cap_at wt.word (map_bytes m) (map_pos m)
 
   -- the positions of the keys, in bucket order
-  abbrev pub key_positions : Width → Shape → Shape → ArchivedHashMap K V H W wt → List ℕ
-  key_positions w k v m = item_positions w (entry_shape k v).size (map_bytes m) (map_pos m)
+  abbrev pub key_positions : ArchivedHashMap K V H W ks vs wt → List ℕ
+  key_positions m =
+      item_positions wt.word (entry_shape ks.shape vs.shape).size (map_bytes m) (map_pos m)
 
   -- the map has a key at `q`
-  abbrev pub IsKeyPos : Width → Shape → Shape → ArchivedHashMap K V H W wt → ℕ → Type 0
-  IsKeyPos w k v m q = IsKeyPosAt w k v (map_bytes m) (map_pos m) q
+  abbrev pub IsKeyPos : ArchivedHashMap K V H W ks vs wt → ℕ → Type 0
+  IsKeyPos m q = IsKeyPosAt wt.word ks.shape vs.shape (map_bytes m) (map_pos m) q
 
   -- the view is that of a key of the map
-  pub record IsKeyIn (w : Width) (k v : Shape) (m : ArchivedHashMap K V H W wt) (key : View K) :
-      Type 0 where
+  pub record IsKeyIn (m : ArchivedHashMap K V H W ks vs wt) (key : View K) : Type 0 where
     pub archive : key.archive ≡ map_archive m
-    pub viewed : IsView k key
-    pub place : IsKeyPos w k v m key.pos
+    pub viewed : IsView ks.shape key
+    pub place : IsKeyPos m key.pos
 
   -- the view is that of the value behind a key of the map
-  pub record IsValueIn (w : Width) (k v : Shape) (m : ArchivedHashMap K V H W wt)
-      (value : View V) : Type 0 where
-    pub viewed : IsView v value
+  pub record IsValueIn (m : ArchivedHashMap K V H W ks vs wt) (value : View V) : Type 0 where
+    pub viewed : IsView vs.shape value
     pub key : ℕ
-    pub walked : IsKeyPos w k v m key
-    pub at : IsAt value (map_archive m) (key + value_offset k v)
+    pub walked : IsKeyPos m key
+    pub at : IsAt value (map_archive m) (key + value_offset ks.shape vs.shape)
 
   -- the views are those of a key of the map and of the value behind it
-  pub record IsPairIn (w : Width) (k v : Shape) (m : ArchivedHashMap K V H W wt)
-      (pair : View K × View V) : Type 0 where
-    pub key : IsKeyIn w k v m pair.0
-    pub viewed : IsView v pair.1
-    pub at : IsAt pair.1 (map_archive m) (pos_of pair.0 + value_offset k v)
+  pub record IsPairIn (m : ArchivedHashMap K V H W ks vs wt) (pair : View K × View V) : Type 0 where
+    pub key : IsKeyIn m pair.0
+    pub viewed : IsView vs.shape pair.1
+    pub at : IsAt pair.1 (map_archive m) (pos_of pair.0 + value_offset ks.shape vs.shape)
+
+  -- the view is that of an entry of the map
+  abbrev pub IsEntryIn : ArchivedHashMap K V H W ks vs wt → View (Entry K V) → Type 0
+  IsEntryIn m entry = (entry.archive ≡ map_archive m)
+      × IsView (entry_shape ks.shape vs.shape) entry × IsKeyPos m entry.pos
 
 -- the hash of the key at `q`
 abbrev pub hash_at : {State : Type 0} → Hasher State → (List ℕ → ℕ → List HasherCall) → List ℕ → ℕ
@@ -116,32 +113,33 @@ module _ (w : Width) (k v : Shape) (b : List ℕ) (p : ℕ) where
       (homes : List ℕ) → MapWrittenAt w (entry_shape k v) key_hash b p homes
       → Told (find accept (home_positions w (entry_shape k v).size b p homes))
 
-module _ {K V H W : Type 0} {wt : Words W} (w : Width) (k v : Shape)
-    (m : ArchivedHashMap K V H W wt) where
+module _ {K V H W : Type 0} {ks : Shapes K} {vs : Shapes V} {wt : Words W}
+    (m : ArchivedHashMap K V H W ks vs wt) where
   -- the comparison can be called with each key
   abbrev pub MayAskKeys : (View K → Type 0) → Type 0
-  MayAskKeys pre = (key : View K) → IsKeyIn w k v m key → pre key
+  MayAskKeys pre = (key : View K) → IsKeyIn m key → pre key
 
   -- the comparison returns `accept` of the position of a key
   abbrev pub AnswersKeys : (View K → Bool → Type 0) → (ℕ → Bool) → Type 0
-  AnswersKeys post accept = (key : View K) (r : Bool) → IsKeyIn w k v m key → post key r
+  AnswersKeys post accept = (key : View K) (r : Bool) → IsKeyIn m key → post key r
       → r ≡ accept key.pos
 
   -- each accepted key of the map is under the hash
   abbrev pub AreUnderHash : ℕ → (List ℕ → ℕ → ℕ) → (ℕ → Bool) → Type 0
   AreUnderHash hash key_hash accept =
-      AreUnderHashAt w k v (map_bytes m) (map_pos m) hash key_hash accept
+      AreUnderHashAt wt.word ks.shape vs.shape (map_bytes m) (map_pos m) hash key_hash accept
 
   -- the property applies to the position of the key that a lookup under the hash finds in the map,
   -- or to `None`
   abbrev pub FindsKey : ℕ → (ℕ → Bool) → (Option ℕ → Type 0) → Type 0
-  FindsKey hash accept Told = FindsKeyAt w k v (map_bytes m) (map_pos m) hash accept Told
+  FindsKey hash accept Told = FindsKeyAt wt.word ks.shape vs.shape (map_bytes m) (map_pos m) hash
+      accept Told
 
   -- if the map was written, the property applies to the position of the first accepted key
   -- in insertion order, or to `None`
   abbrev pub FindsFirstKey : (List ℕ → ℕ → ℕ) → (ℕ → Bool) → (Option ℕ → Type 0) → Type 0
   FindsFirstKey key_hash accept Told =
-      FindsFirstKeyAt w k v (map_bytes m) (map_pos m) key_hash accept Told
+      FindsFirstKeyAt wt.word ks.shape vs.shape (map_bytes m) (map_pos m) key_hash accept Told
 
   -- the property applies to the position that a lookup by a comparison finds,
   -- if the comparison depends only on the position of a key
@@ -154,12 +152,6 @@ module _ {K V H W : Type 0} {wt : Words W} (w : Width) (k v : Shape)
   FindsFirstBy post hash key_hash Told =
       (accept : ℕ → Bool) → AnswersKeys post accept → AreUnderHash hash key_hash accept
       → FindsFirstKey key_hash accept Told
-
--- the view is that of an entry of the map
-abbrev pub IsEntryIn : {K V H W : Type 0} {wt : Words W} → Width → Shape → Shape
-    → ArchivedHashMap K V H W wt → View (Entry K V) → Type 0
-IsEntryIn w k v m entry = (entry.archive ≡ map_archive m) × IsView (entry_shape k v) entry
-    × IsKeyPos w k v m entry.pos
 
 -- the position is that of the found entry or key, or there is neither
 abbrev pub IsEntryAt : {E : Type 0} → Option (View E) → Option ℕ → Type 0

@@ -8,9 +8,11 @@ use Rattle.rkyv_base.specs.Shape.{Shape}
 use Rattle.rkyv_scan.specs.Hash.{Hasher, HasherCall, hash_of_calls}
 use Rattle.rkyv_table.specs.Table.Header.{cap_at, len_at}
 use Rattle.rkyv_table.specs.Controls.Numbers.{capacity}
-use Rattle.rkyv_table.specs.Table.Reading.{home_positions}
+use Rattle.rkyv_table.specs.Table.Positions.{home_positions}
 use Rattle.rkyv_table.specs.Table.TableFormat.{TableResolver, table_format}
-use Rattle.rkyv_collections.specs.Map.{MapWrittenAt, map_shape}
+use Rattle.rkyv_collections.specs.Map.{MapWrittenAt}
+use Rattle.rkyv_collections.specs.MapShape.{map_shape}
+use Rattle.rkyv_collections.specs.Natives.{NativePairs, PairFormat}
 
 -- the hash of a value with the hasher calls `calls`
 abbrev pub hash_of : {State A : Type 0} → Hasher State → (A → List HasherCall) → A → ℕ
@@ -41,10 +43,13 @@ pub record MapStands {A B : Type 0} (w : Width) (k v : Shape) (key : List ℕ �
       → PairStands k v key value b (slice_index (home_positions w (entry_shape k v).size b p homes)
       i) pair
 
--- In any archive with the written bytes of a map and its header, the map represents the pairs,
--- under each load factor. `hash`: hash of the key at a position, `own`: hash of a native key
-abbrev pub WrittenMapsStand : {A B R Q : Type 0} → Width → Shape → Shape → (List ℕ → ℕ → A → Type 0)
-    → (List ℕ → ℕ → B → Type 0) → (List ℕ → ℕ → ℕ) → Format A R → Format B Q → (A → ℕ) → Type 0
-WrittenMapsStand w k v key value hash key_format value_format own = (load_factor : ℕ × ℕ)
-    → IsFormat (map_shape w k v) (MapStands w k v key value hash load_factor)
-    (map_format w k v key_format value_format own load_factor)
+-- in any archive with the written bytes of a map and its header, the map represents the pairs,
+-- under each load factor. `format`: how its pairs are written, `native`: what represents them
+abbrev pub WrittenMapsStand : {A B R Q : Type 0} → Width → PairFormat A B R Q → NativePairs A B
+    → Type 0
+WrittenMapsStand w format native = (load_factor : ℕ × ℕ)
+    → IsFormat (map_shape w format.key_shape format.value_shape)
+    (MapStands w format.key_shape format.value_shape native.key native.value native.key_hash
+    load_factor)
+    (map_format w format.key_shape format.value_shape format.key format.value format.hash
+    load_factor)

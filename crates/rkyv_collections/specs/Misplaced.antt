@@ -1,4 +1,5 @@
 -- The keys of a map that a lookup of their own doesn't find.
+use Rattle.rkyv_base.specs.declared.element.Shaped.{Ghosts as Shapes}
 use Rattle.rkyv_base.specs.declared.width.Word.{Ghosts as Words}
 use Rattle.std.specs.Prelude.{◌≡◌, ℕ, List, Bool, true, false, Option, MatchOption}
 use Rattle.std.specs.Int.{Width}
@@ -8,8 +9,9 @@ use Rattle.rkyv_base.specs.Shape.{Shape, Viewed}
 use Rattle.rkyv_keys.specs.Equality.{Comparison}
 use Rattle.rkyv_table.specs.Table.Header.{cap_at, len_at}
 use Rattle.rkyv_table.specs.Table.Misplaced.{misplaced, repeated}
-use Rattle.rkyv_table.specs.Table.Reading.{IsWalked, home_positions, item_at, table_controls}
-use Rattle.rkyv_collections.specs.Map.{MapWrittenAt, map_bytes, map_pos, map_shape}
+use Rattle.rkyv_table.specs.Table.Positions.{IsWalked, home_positions, item_at, table_controls}
+use Rattle.rkyv_collections.specs.Map.{MapWrittenAt, map_bytes, map_pos}
+use Rattle.rkyv_collections.specs.MapShape.{map_shape}
 use Rattle.rkyv_collections.specs.declared.map.ArchivedHashMap.{ArchivedHashMap}
 
 -- the number of buckets for whose keys a lookup finds another bucket, or none
@@ -18,6 +20,12 @@ map_misplaced w k v key_hash same_key b p =
     let at : ℕ → ℕ = item_at w (entry_shape k v).size b p in
     misplaced generic_kind (table_controls w b p) (cap_at w b p) (len_at w b p)
     (λ i. key_hash b (at i)) (λ i j. same_key b (at i) b (at j))
+
+-- the number of misplaced keys of a map
+abbrev pub misplaced_keys : {K V H W : Type 0} {ks : Shapes K} {vs : Shapes V} {wt : Words W}
+    → ArchivedHashMap K V H W ks vs wt → (List ℕ → ℕ → ℕ) → Comparison → ℕ
+misplaced_keys {ks = ks} {vs = vs} {wt = wt} m key_hash same_key =
+    map_misplaced wt.word ks.shape vs.shape key_hash same_key (map_bytes m) (map_pos m)
 
 -- in a valid written map, the number of misplaced keys is that of keys
 -- that are the same as an earlier key
@@ -45,12 +53,17 @@ module _ (w : Width) (size : ℕ) (b : List ℕ) (p : ℕ) (fits : ℕ → Bool)
   abbrev pub FindsTheOne : Option ℕ → Type 0
   FindsTheOne found = MatchOption found NoneFits FitsAlone
 
--- If no key of the map is misplaced, the property applies to the position of the one key that fits.
--- It applies to `None` if no key fits
-abbrev pub FindsOneKey : {K V H W : Type 0} {wt : Words W} → Width → Shape → Shape
-    → ArchivedHashMap K V H W wt → (List ℕ → ℕ → ℕ) → Comparison
+-- If no key of the map at `p` is misplaced, the property applies to the position of the one key
+-- that fits. It applies to `None` if no key fits
+abbrev pub FindsOneKeyAt : Width → Shape → Shape → List ℕ → ℕ → (List ℕ → ℕ → ℕ) → Comparison
     → (ℕ → Bool) → (Option ℕ → Type 0) → Type 0
-FindsOneKey w k v m key_hash same_key fits Told =
-    map_misplaced w k v key_hash same_key (map_bytes m) (map_pos m) ≡ 0
-    → (place : Option ℕ) × FindsTheOne w (entry_shape k v).size (map_bytes m) (map_pos m) fits place
-    × Told place
+FindsOneKeyAt w k v b p key_hash same_key fits Told =
+    map_misplaced w k v key_hash same_key b p ≡ 0
+    → (place : Option ℕ) × FindsTheOne w (entry_shape k v).size b p fits place × Told place
+
+-- the same for a map
+abbrev pub FindsOneKey : {K V H W : Type 0} {ks : Shapes K} {vs : Shapes V} {wt : Words W}
+    → ArchivedHashMap K V H W ks vs wt → (List ℕ → ℕ → ℕ) → Comparison → (ℕ → Bool)
+    → (Option ℕ → Type 0) → Type 0
+FindsOneKey {ks = ks} {vs = vs} {wt = wt} m key_hash same_key fits Told =
+    FindsOneKeyAt wt.word ks.shape vs.shape (map_bytes m) (map_pos m) key_hash same_key fits Told

@@ -6,10 +6,12 @@ use Rattle.rkyv_base.specs.Bytes.{Same}
 use Rattle.rkyv_base.specs.Entry.{entry_shape}
 use Rattle.rkyv_base.specs.Sealing.{Sealed, value_pos}
 use Rattle.rkyv_base.specs.Shape.{Shape, Viewed}
-use Rattle.rkyv_table.specs.Table.Reading.{IsWalked, table_controls}
+use Rattle.rkyv_table.specs.Table.Positions.{IsWalked, table_controls}
 use Rattle.rkyv_collections.specs.InPlace.{with_first}
-use Rattle.rkyv_collections.specs.Map.{FindsFirstKeyAt, IsKeyPosAt, MapWrittenAt, map_shape}
+use Rattle.rkyv_collections.specs.Map.{FindsFirstKeyAt, MapWrittenAt}
+use Rattle.rkyv_collections.specs.MapShape.{IsKeyPosAt, map_shape}
 use Rattle.rkyv_collections.specs.MapFormat.{MapStands}
+use Rattle.rkyv_collections.specs.Natives.{NativeKeys}
 use Rattle.rkyv_table.specs.Table.SealedTable.{WritesValue}
 use Rattle.rkyv_collections.specs.ValueWrites.{entry_at}
 
@@ -67,14 +69,15 @@ module _ (w : Width) (k v : Shape) where
 
   -- The map represents a list of pairs, and the value of the first pair with a key
   -- equal to `asked` is written among its parts. The map then represents
-  -- the list with the new value there
-  abbrev pub NestedWritesStand : {A B : Type 0} → (List ℕ → ℕ → A → Type 0)
-      → (List ℕ → ℕ → B → Type 0) → (List ℕ → ℕ → ℕ) → (A → List ℕ → ℕ → Bool) → (A → A → Bool)
-      → Type 0
-  NestedWritesStand {A} {B} key value key_hash fits equal =
+  -- the list with the new value there. `keys`: native keys of the map, `value`: what represents
+  -- a value
+  abbrev pub NestedWritesStand : {A B : Type 0} → NativeKeys A → (List ℕ → ℕ → B → Type 0) → Type 0
+  NestedWritesStand {A} {B} keys value =
       (b c : List ℕ) (p pos : ℕ) (factor : ℕ × ℕ) (pairs : List (A × B)) (asked : A) (new : B)
-      → Viewed (map_shape w k v) b p → MapStands w k v key value key_hash factor b p pairs
-      → FindsFirstKeyAt w k v b p key_hash (fits asked b)
+      → Viewed (map_shape w k v) b p
+      → MapStands w k v keys.stands value keys.key_hash factor b p pairs
+      → FindsFirstKeyAt w k v b p keys.key_hash (keys.fits asked b)
       (λ place. Some pos ≡ option_map (value_pos k v) place)
       → WritesParts v b c pos → value c pos new
-      → MapStands w k v key value key_hash factor c p (with_first (equal asked) new pairs)
+      → MapStands w k v keys.stands value keys.key_hash factor c p
+      (with_first (keys.equal asked) new pairs)

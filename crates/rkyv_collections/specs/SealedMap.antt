@@ -1,4 +1,6 @@
 -- Lookups in a map that return a seal of the value.
+use Rattle.rkyv_base.specs.declared.element.Shaped.{Ghosts as Shapes}
+use Rattle.rkyv_base.specs.declared.width.Word.{Ghosts as Words}
 use Rattle.std.specs.Prelude.{◌≡◌, ℕ, List, Bool, Option}
 use Rattle.std.specs.Int.{Width}
 use Rattle.std.specs.Option.{option_map}
@@ -11,11 +13,13 @@ use Rattle.rkyv_base.specs.declared.seal.ArchiveSeal.{ArchiveSeal}
 use Rattle.rkyv_base.specs.declared.seal.Seal.{Seal}
 use Rattle.rkyv_base.specs.declared.view.View.{View}
 use Rattle.rkyv_table.specs.Table.PairSeals.{LendsPair, LendsValue}
-use Rattle.rkyv_table.specs.Table.Reading.{IsWalked, item_at}
+use Rattle.rkyv_table.specs.Table.Positions.{IsWalked, item_at}
 use Rattle.rkyv_table.specs.Table.SealedLookup.{pos_of_seal}
 use Rattle.rkyv_table.specs.Table.SealedTable.{KeptByValueWrites}
-use Rattle.rkyv_collections.specs.Map.{AreUnderHashAt, FindsFirstKeyAt, FindsKeyAt, IsKeyPosAt}
-use Rattle.rkyv_collections.specs.Map.{map_shape}
+use Rattle.rkyv_collections.specs.Map.{AreUnderHashAt, FindsFirstKeyAt, FindsKeyAt}
+use Rattle.rkyv_collections.specs.MapAt.{MapAt, map_at}
+use Rattle.rkyv_collections.specs.MapShape.{IsKeyPosAt}
+use Rattle.rkyv_collections.specs.MapShape.{map_shape}
 use Rattle.rkyv_collections.specs.declared.map.HashMapOf.{HashMapOf}
 
 -- the archive has a valid map at the seal
@@ -63,26 +67,17 @@ module _ {K V H W : Type 0} (w : Width) (k v : Shape) (a : ArchiveSeal (HashMapO
   abbrev pub MayAskKeysIn : (View K → Type 0) → Type 0
   MayAskKeysIn pre = MayAskKeysAt w k v (archive_in a) (pos_in a) pre
 
-  -- the property applies to the position of the key that a lookup under the hash finds in the map,
-  -- or to `None`
-  abbrev pub FindsKeyIn : ℕ → (ℕ → Bool) → (Option ℕ → Type 0) → Type 0
-  FindsKeyIn hash accept Told = FindsKeyAt w k v (archive_in a) (pos_in a) hash accept Told
+-- the map of keys `ks` and values `vs` at the seal
+abbrev pub map_sealed : {K V H W : Type 0} → Words W → Shapes K → Shapes V
+    → ArchiveSeal (HashMapOf K V H W) → MapAt
+map_sealed wt ks vs a = map_at wt ks vs (archive_in a) (pos_in a)
 
-  -- the property applies to the position that a lookup by a comparison finds
-  abbrev pub FindsByIn : (View K → Bool → Type 0) → ℕ → (Option ℕ → Type 0) → Type 0
-  FindsByIn post hash Told = FindsByAt w k v (archive_in a) (pos_in a) post hash Told
-
-  -- the same for a written map, if each accepted key is under the hash
-  abbrev pub FindsFirstByIn : (View K → Bool → Type 0) → ℕ → (List ℕ → ℕ → ℕ) → (Option ℕ → Type 0)
-      → Type 0
-  FindsFirstByIn post hash key_hash Told =
-      FindsFirstByAt w k v (archive_in a) (pos_in a) post hash key_hash Told
-
-  -- if the map was written, the property applies to the position of the first accepted key
-  -- in insertion order, or to `None`
-  abbrev pub FindsFirstKeyIn : (List ℕ → ℕ → ℕ) → (ℕ → Bool) → (Option ℕ → Type 0) → Type 0
-  FindsFirstKeyIn key_hash accept Told =
-      FindsFirstKeyAt w k v (archive_in a) (pos_in a) key_hash accept Told
+-- the property applies to the position of the key that a lookup by a comparison finds
+-- under the hash, or to `None`: in any map and in a written one
+pub record TellsByAt {K : Type 0} (m : MapAt) (hash : ℕ) (key_hash : List ℕ → ℕ → ℕ)
+    (post : View K → Bool → Type 0) (Told : Option ℕ → Type 0) : Type 0 where
+  pub answer : FindsByAt m.word m.key m.value m.bytes m.pos post hash Told
+  pub first : FindsFirstByAt m.word m.key m.value m.bytes m.pos post hash key_hash Told
 
 -- `q`: position of the key in bucket `i` of the map at `p`, with the value behind it.
 -- Each write of the value alone that keeps it valid keeps the map: its header, its control bytes,

@@ -11,7 +11,7 @@ use Rattle.rkyv_base.specs.declared.view.View.{View}
 use Rattle.rkyv_table.specs.Controls.Placing.{walk}
 use Rattle.rkyv_table.specs.Table.PairSeals.{LendsPair, LendsValue}
 use Rattle.rkyv_table.specs.Table.Header.{cap_at, len_at}
-use Rattle.rkyv_table.specs.Table.Reading.{table_controls}
+use Rattle.rkyv_table.specs.Table.Positions.{table_controls}
 use Rattle.rkyv_table.specs.Table.SealedItems.{CountsDown, IsSealIter, SameArchive, StaysThere}
 use Rattle.rkyv_table.specs.Table.SealedItems.{buckets_left, cursor_bytes, items_left}
 use Rattle.rkyv_table.specs.Table.SealedTable.{KeepsTable, SameValue}

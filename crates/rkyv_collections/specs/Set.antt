@@ -1,19 +1,21 @@
 -- Hash sets in an archive, and the results of lookups in them, as in the map of the keys.
+use Rattle.rkyv_base.specs.declared.element.Shaped.{Ghosts as Shapes}
 use Rattle.rkyv_base.specs.declared.width.Word.{Ghosts as Words}
-use Rattle.std.specs.Prelude.{ℕ, List, Bool, Option}
+use Rattle.std.specs.Prelude.{ℕ, List, Option}
 use Rattle.std.specs.Borrow.{Bor}
 use Rattle.std.specs.Int.{Width}
-use Rattle.rkyv_scan.specs.Hash.{Hasher, HasherCall}
 use Rattle.rkyv_base.specs.Empty.{unit_shape}
 use Rattle.rkyv_base.specs.Shape.{Shape}
 use Rattle.rkyv_base.specs.View.{IsAt}
 use Rattle.rkyv_base.specs.declared.view.View.{View}
+use Rattle.rkyv_keys.specs.Asked.{Asked}
 use Rattle.rkyv_keys.specs.Equality.{Comparison}
 use Rattle.rkyv_keys.specs.OfUnits.{unit_same}
 use Rattle.rkyv_collections.specs.Equality.{map_equal}
-use Rattle.rkyv_collections.specs.Lookups.{GetsKey, TellsKey}
-use Rattle.rkyv_collections.specs.Map.{IsEntryAt, IsKeyIn, IsMap, key_positions}
-use Rattle.rkyv_collections.specs.Map.{map_archive, map_bytes, map_len, map_pos, map_shape}
+use Rattle.rkyv_collections.specs.Lookups.{GetsKey, TellsKey, key_part}
+use Rattle.rkyv_collections.specs.Map.{IsKeyIn, IsMap, key_positions, map_archive, map_bytes}
+use Rattle.rkyv_collections.specs.Map.{map_len, map_pos}
+use Rattle.rkyv_collections.specs.MapShape.{map_shape}
 use Rattle.rkyv_collections.specs.Map.{map_view}
 use Rattle.rkyv_collections.specs.Misplaced.{map_misplaced}
 use Rattle.rkyv_collections.specs.declared.map.HashMapOf.{HashMapOf}
@@ -23,56 +25,50 @@ use Rattle.rkyv_collections.specs.declared.set.ArchivedHashSet.{ArchivedHashSet}
 abbrev pub set_shape : Width → Shape → Shape
 set_shape w k = map_shape w k unit_shape
 
-module _ {K H W : Type 0} {wt : Words W} where
+module _ {K H W : Type 0} {ks : Shapes K} {wt : Words W} where
   -- the view of `s` is of a valid set
-  abbrev pub IsSet : Width → Shape → ArchivedHashSet K H W wt → Type 0
-  IsSet w k s = IsMap w k unit_shape s.map
+  abbrev pub IsSet : ArchivedHashSet K H W ks wt → Type 0
+  IsSet s = IsMap s.map
 
   -- the view of the set's header, as that of the map of the keys
-  abbrev pub set_view : ArchivedHashSet K H W wt → View (HashMapOf K (Unit {0}) H W)
+  abbrev pub set_view : ArchivedHashSet K H W ks wt → View (HashMapOf K (Unit {0}) H W)
   set_view s = map_view s.map
 
   -- the archive of the set
-  abbrev pub set_archive : ArchivedHashSet K H W wt → Bor (List ℕ)
+  abbrev pub set_archive : ArchivedHashSet K H W ks wt → Bor (List ℕ)
   set_archive s = map_archive s.map
 
   -- the bytes of the set's archive
-  abbrev pub set_bytes : ArchivedHashSet K H W wt → List ℕ
+  abbrev pub set_bytes : ArchivedHashSet K H W ks wt → List ℕ
   set_bytes s = map_bytes s.map
 
   -- the position of the set's header
-  abbrev pub set_pos : ArchivedHashSet K H W wt → ℕ
+  abbrev pub set_pos : ArchivedHashSet K H W ks wt → ℕ
   set_pos s = map_pos s.map
 
   -- the set's header is at `p` of the archive
-  abbrev pub IsSetAt : ArchivedHashSet K H W wt → Bor (List ℕ) → ℕ → Type 0
+  abbrev pub IsSetAt : ArchivedHashSet K H W ks wt → Bor (List ℕ) → ℕ → Type 0
   IsSetAt s archive p = IsAt s.map.view archive p
 
   -- the number of keys
-  abbrev pub set_len : Width → ArchivedHashSet K H W wt → ℕ
-  set_len w s = map_len w s.map
+  abbrev pub set_len : ArchivedHashSet K H W ks wt → ℕ
+  set_len s = map_len s.map
 
   -- the positions of the keys, in bucket order
-  abbrev pub member_positions : Width → Shape → ArchivedHashSet K H W wt → List ℕ
-  member_positions w k s = key_positions w k unit_shape s.map
+  abbrev pub member_positions : ArchivedHashSet K H W ks wt → List ℕ
+  member_positions s = key_positions s.map
 
   -- the view is that of a key of the set
-  abbrev pub IsMemberIn : Width → Shape → ArchivedHashSet K H W wt → View K → Type 0
-  IsMemberIn w k s key = IsKeyIn w k unit_shape s.map key
+  abbrev pub IsMemberIn : ArchivedHashSet K H W ks wt → View K → Type 0
+  IsMemberIn s key = IsKeyIn s.map key
 
--- the property applies to the position that a lookup of a query finds, as in the map of the keys
-abbrev pub TellsMember : {K H W State : Type 0} {wt : Words W} → Width → Shape
-    → ArchivedHashSet K H W wt → Hasher State → List HasherCall → (List ℕ → ℕ → List HasherCall)
-    → Comparison → (List ℕ → ℕ → Bool) → (Option ℕ → Type 0) → Type 0
-TellsMember w k s hasher calls key_calls same fits Told =
-    TellsKey w k unit_shape s.map hasher calls key_calls same fits Told
+  -- the property applies to the position that a lookup finds, as in the map of the keys
+  abbrev pub TellsMember : ArchivedHashSet K H W ks wt → Asked → (Option ℕ → Type 0) → Type 0
+  TellsMember s a Told = TellsKey s.map a Told
 
--- the clauses of such a lookup on the key that it finds
-abbrev pub GetsMember : {K H W State : Type 0} {wt : Words W} → Width → Shape
-    → ArchivedHashSet K H W wt → Hasher State → List HasherCall → (List ℕ → ℕ → List HasherCall)
-    → Comparison → (List ℕ → ℕ → Bool) → Option (View K) → Type 0
-GetsMember w k s hasher calls key_calls same fits result =
-    GetsKey IsKeyIn IsEntryAt w k unit_shape s.map hasher calls key_calls same fits result
+  -- `result`: key that a lookup finds
+  abbrev pub GetsMember : ArchivedHashSet K H W ks wt → Asked → Option (View K) → Type 0
+  GetsMember s a result = GetsKey key_part s.map a result
 
 -- the sets have the same length, and each key of the first is found in the second
 abbrev pub set_equal : Width → Shape → (List ℕ → ℕ → ℕ) → Comparison → Comparison

@@ -1,4 +1,6 @@
 -- Lookups in an archive of a map or a set of std.
+use Rattle.rkyv_base.specs.declared.element.Shaped.{Ghosts as Shapes}
+use Rattle.rkyv_base.specs.declared.width.Word.{Ghosts as Words}
 use Rattle.std.specs.Prelude.{◌≡◌, ℕ, ◌+◌, Bool, List, None, Option, Some}
 use Rattle.std.specs.HashMap.{HashMap}
 use Rattle.std.specs.HashSet.{HashSet}
@@ -11,10 +13,13 @@ use Rattle.rkyv_base.specs.Empty.{unit_shape}
 use Rattle.rkyv_base.specs.Entry.{entry_shape, value_offset}
 use Rattle.rkyv_base.specs.Format.{Format, IsFormat}
 use Rattle.rkyv_base.specs.Shape.{Shape}
-use Rattle.rkyv_table.specs.Table.Reading.{pos_found}
+use Rattle.rkyv_table.specs.Table.Positions.{pos_found}
 use Rattle.rkyv_collections.specs.ListedLookups.{AsksFor}
-use Rattle.rkyv_collections.specs.Map.{map_shape}
+use Rattle.rkyv_collections.specs.Map.{map_bytes, map_pos}
+use Rattle.rkyv_collections.specs.MapShape.{map_shape}
+use Rattle.rkyv_collections.specs.Natives.{ElementMembers, Queried}
 use Rattle.rkyv_collections.specs.Set.{set_shape}
+use Rattle.rkyv_collections.specs.declared.map.ArchivedHashMap.{ArchivedHashMap}
 use Rattle.rkyv_collections.specs.declared.std_maps.hashed.Hashed.{Hashed}
 
 -- the value is `offset` bytes behind the position, or there is neither
@@ -51,14 +56,27 @@ module _ {Q A : Type 0} (w : Width) (k : Shape) (hash : Q → ℕ) (fits : Q →
           (pos_found generic_kind w (entry_shape k unit_shape).size b p (hash q) (fits q b))
           ≡ list_any asks keys
 
-      -- in any archive with the written bytes of a map of std, each query that can be read finds
-      -- the value that the map has
-      abbrev pub FindsInWrittenMap : {B S H R : Type 0} → Shape → (List ℕ → ℕ → B → Type 0)
-          → Format (Hashed (HashMap A B S) H) R → Type 0
-      FindsInWrittenMap v value f =
-          IsFormat (map_shape w k v) (λ b p x. FindsEntries v value b p x.map.entries) f
+-- The query finds the value of the first entry with an accepted key in the map.
+-- It finds none if and only if no entry has one
+abbrev pub FindsAskedIn : {A B K V H W Q : Type 0} {ks : Shapes K} {vs : Shapes V} {wt : Words W}
+    → ArchivedHashMap K V H W ks vs wt → Queried Q → (List ℕ → ℕ → B → Type 0) → Q → (A → Bool)
+    → List (A × B) → Type 0
+FindsAskedIn {ks = ks} {vs = vs} {wt = wt} m queries value q asks entries =
+    FindsAsked wt.word ks.shape queries.hash queries.fits vs.shape value (map_bytes m) (map_pos m) q
+    asks entries
 
-      -- In any archive with the written bytes of a set of std, each query
-      -- that can be read is looked up. It is found if and only if the set has an accepted key
-      abbrev pub FindsInWrittenSet : {S H R : Type 0} → Format (Hashed (HashSet A S) H) R → Type 0
-      FindsInWrittenSet f = IsFormat (set_shape w k) (λ b p x. FindsMembers b p x.map.keys) f
+-- In any archive with the written bytes of a map of std, each query that can be read finds
+-- the value that the map has. `k`, `v`: what represents the keys and the values
+abbrev pub FindsInWrittenMap : {A B S H R Q : Type 0} → Width → ElementMembers A
+    → ElementMembers B → Queried Q → (Q → Type 0) → Format (Hashed (HashMap A B S) H) R → Type 0
+FindsInWrittenMap w k v queries can_read f = IsFormat (map_shape w k.shape v.shape)
+    (λ b p x. FindsEntries w k.shape queries.hash queries.fits k.stands can_read v.shape v.stands
+    b p x.map.entries)
+    f
+
+-- In any archive with the written bytes of a set of std, each query
+-- that can be read is looked up. It is found if and only if the set has an accepted key
+abbrev pub FindsInWrittenSet : {A S H R Q : Type 0} → Width → ElementMembers A → Queried Q
+    → (Q → Type 0) → Format (Hashed (HashSet A S) H) R → Type 0
+FindsInWrittenSet w k queries can_read f = IsFormat (set_shape w k.shape)
+    (λ b p x. FindsMembers w k.shape queries.hash queries.fits k.stands can_read b p x.map.keys) f

@@ -14,8 +14,8 @@ use Rattle.rkyv_base.specs.declared.errors.ReadError.TheVariants.{Memory}
 use Rattle.rkyv_base.specs.declared.view.View.{View}
 use Rattle.rkyv_keys.specs.OfEntries.{entry_refuses}
 use Rattle.rkyv_keys.specs.Reading.{Refusals}
-use Rattle.rkyv_table.specs.Table.Reading.{item_positions}
-use Rattle.rkyv_collections.specs.Map.{IsKeyPosAt}
+use Rattle.rkyv_table.specs.Table.Positions.{item_positions}
+use Rattle.rkyv_collections.specs.MapShape.{IsKeyPosAt}
 
 module _ {A B : Type 0} (k v : Shape) (key : List ℕ → ℕ → A → Type 0) (value : List ℕ → ℕ → B
     → Type 0) where

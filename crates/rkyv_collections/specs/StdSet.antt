@@ -1,4 +1,6 @@
 -- Sets of std, as their keys, each with the unit value.
+use Rattle.rkyv_base.specs.declared.element.Shaped.{Ghosts as Shapes}
+use Rattle.rkyv_base.specs.declared.width.Word.{Ghosts as Words}
 use Rattle.std.specs.Prelude.{◌≡◌, ℕ, ◌⊎◌, Bool, true, List, [], ◌∷◌, MatchResult, Result, length}
 use Rattle.std.proofs.Common.{refl, ap, ◌∙◌, arith}
 use Rattle.std.specs.HashSet.{HashSet, IsUnique, Updates, hash_set_len, hasher_of}
@@ -16,9 +18,12 @@ use Rattle.rkyv_base.specs.declared.errors.ReadError.TheVariants.{Memory}
 use Rattle.rkyv_base.specs.declared.view.View.{View}
 use Rattle.rkyv_keys.specs.Reading.{Refusals}
 use Rattle.rkyv_table.specs.Table.Header.{len_at}
-use Rattle.rkyv_collections.specs.Map.{IsKeyPosAt}
+use Rattle.rkyv_collections.specs.MapShape.{IsKeyPosAt}
 use Rattle.rkyv_table.specs.Table.Lent.{with_units}
+use Rattle.rkyv_collections.specs.Natives.{Queried}
+use Rattle.rkyv_collections.specs.Set.{set_bytes, set_pos}
 use Rattle.rkyv_collections.specs.StdEquality.{EntriesEqual, FindsPair}
+use Rattle.rkyv_collections.specs.declared.set.ArchivedHashSet.{ArchivedHashSet}
 use Rattle.rkyv_collections.specs.StdMap.{EntriesStand}
 
 -- the set at `p` represents a set of std: its keys, each with the unit value
@@ -60,6 +65,12 @@ abbrev pub StdSetEquals : {A S : Type 0} → Width → Shape → (A → ℕ) →
 StdSetEquals w k hash fits b p s =
     (len_at w b p ≡ hash_set_len s)
     × All (λ key. FindsPair w k unit_shape hash fits unit_stands b p (key, tt)) s.keys
+
+-- the set equals a set of std
+abbrev pub StdSetEqualsIn : {A S K H W : Type 0} {ks : Shapes K} {wt : Words W}
+    → ArchivedHashSet K H W ks wt → Queried A → HashSet A S → Type 0
+StdSetEqualsIn {ks = ks} {wt = wt} s q other =
+    StdSetEquals wt.word ks.shape q.hash q.fits (set_bytes s) (set_pos s) other
 
 all_units : {A : Type 0} (P : A × Unit {0} → Type 0) (keys : List A) → All P (with_units keys)
     → All (λ key. P (key, tt)) keys

@@ -5,9 +5,10 @@ use Rattle.rkyv_scan.specs.Groups.{generic_kind}
 use Rattle.rkyv_base.specs.Entry.{entry_shape}
 use Rattle.rkyv_base.specs.Sealing.{value_pos}
 use Rattle.rkyv_base.specs.Shape.{Shape, Viewed}
-use Rattle.rkyv_table.specs.Table.Reading.{IsWalked, home_positions, item_at, pos_found}
+use Rattle.rkyv_table.specs.Table.Positions.{IsWalked, home_positions, item_at, pos_found}
 use Rattle.rkyv_table.specs.Table.SealedTable.{KeepsTable, RestsOnKey, SameValue, WritesValue}
-use Rattle.rkyv_collections.specs.Map.{MapWrittenAt, map_shape}
+use Rattle.rkyv_collections.specs.Map.{MapWrittenAt}
+use Rattle.rkyv_collections.specs.MapShape.{map_shape}
 use Rattle.rkyv_collections.specs.MapFormat.{MapStands}
 
 module _ (w : Width) (k v : Shape) where

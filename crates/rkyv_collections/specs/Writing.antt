@@ -1,33 +1,79 @@
 -- The results of writing a map or a set of the items of an iterator.
-use Rattle.std.specs.Prelude.{ℕ, Option, Result}
+use Rattle.std.specs.Prelude.{ℕ, List, Result}
 use Rattle.std.specs.Int.{Width}
+use Rattle.std.specs.declared.iter.Iterator.{Ghosts as Iterators}
 use Rattle.rkyv_base.specs.Format.{Format}
 use Rattle.rkyv_base.specs.Pairs.{written_as}
-use Rattle.rkyv_base.specs.Shape.{Shape}
 use Rattle.rkyv_base.specs.Writing.{Output}
 use Rattle.rkyv_base.specs.declared.errors.WriteError.{WriteError}
-use Rattle.rkyv_table.specs.Table.Input.{from_iter}
+use Rattle.rkyv_base.specs.declared.lend.Lend.{Ghosts as Lends}
+use Rattle.rkyv_table.specs.Table.Header.{WritesHeader}
+use Rattle.rkyv_table.specs.Table.Input.{Input, from_iter}
 use Rattle.rkyv_table.specs.Table.Lent.{lent_keys, lent_pairs}
 use Rattle.rkyv_table.specs.Table.Serializing.{WritesItems}
 use Rattle.rkyv_table.specs.Table.TableFormat.{TableResolver}
 use Rattle.rkyv_collections.specs.MapFormat.{map_format}
+use Rattle.rkyv_collections.specs.Natives.{KeyFormat, PairFormat, WidthMembers}
 use Rattle.rkyv_collections.specs.SetFormat.{set_format}
 
-module _ {Y F : Type 0} (w : Width) (max limit : ℕ) where
-  -- `len` pairs of an iterator are written as a map, under the hashes of the keys
-  -- and the load factor. The result is its resolver, or an error. `output`: output of a writer
-  abbrev pub WritesMap : {A B R Q BK BV S : Type 0} → Shape → Shape → Format A R → Format B Q
-      → (A → ℕ) → ℕ × ℕ → (BK → A) → (BV → B) → ℕ → (S → Option (BK × BV) → S → Type 0) → S
-      → (Y → Output) → Y → Y → Result TableResolver (WriteError F) → Type 0
-  WritesMap k v key value hash load_factor key_lent value_lent len steps iter output old new =
-      WritesItems (from_iter steps iter) len load_factor max limit
-      (written_as (lent_pairs key_lent value_lent) (map_format w k v key value hash load_factor))
-      (output old) (output new)
+-- items to be written. `input`: the items, `lent`: the values that they lend, `len`: their claimed
+-- number, `load_factor`: the load factor
+pub record LentItems (X Y : Type 0) : Type 1 where
+  pub input : Input X
+  pub lent : List X → List Y
+  pub len : ℕ
+  pub load_factor : ℕ × ℕ
 
-  -- the same for the keys of an iterator, as a set
-  abbrev pub WritesSet : {A R BK S : Type 0} → Shape → Format A R → (A → ℕ) → ℕ × ℕ → (BK → A) → ℕ
-      → (S → Option BK → S → Type 0) → S → (Y → Output) → Y → Y
+-- `len` pairs of an iterator, which lend keys and values
+abbrev pub pairs_in : {BK BV A B S : Type 0} → Lends BK A → Lends BV B → Iterators S (BK × BV) → S
+    → ℕ → ℕ × ℕ → LentItems (BK × BV) (A × B)
+pairs_in key value steps iter len load_factor = record {
+  input = from_iter steps.next_gives iter;
+  lent = lent_pairs key.lent value.lent;
+  len = len;
+  load_factor = load_factor;
+}
+
+-- `len` items of an iterator, which lend keys
+abbrev pub keys_in : {BK A S : Type 0} → Lends BK A → Iterators S BK → S → ℕ → ℕ × ℕ
+    → LentItems BK A
+keys_in key steps iter len load_factor = record {
+  input = from_iter steps.next_gives iter;
+  lent = lent_keys key.lent;
+  len = len;
+  load_factor = load_factor;
+}
+
+module _ {F : Type 0} (w : WidthMembers) where
+  -- the items are written in the format under their load factor. The result is a resolver,
+  -- or an error
+  abbrev pub WritesLent : {X Y : Type 0} → (ℕ × ℕ → Format (List Y) TableResolver) → LentItems X Y
+      → Output → Output → Result TableResolver (WriteError F) → Type 0
+  WritesLent format items o o' result =
+      WritesItems items.input items.len items.load_factor w.MAX_CAPACITY w.LIMIT
+      (written_as items.lent (format items.load_factor)) o o' result
+
+  -- the pairs that the items lend are written as a map, under the hashes of the keys
+  -- and the load factor. The result is its resolver, or an error
+  abbrev pub WritesMap : {X A B R Q : Type 0} → PairFormat A B R Q → LentItems X (A × B) → Output
+      → Output → Result TableResolver (WriteError F) → Type 0
+  WritesMap pair items o o' result = WritesLent
+      (map_format w.word pair.key_shape pair.value_shape pair.key pair.value pair.hash) items o o'
+      result
+
+  -- the same for keys, as a set
+  abbrev pub WritesSet : {X A R : Type 0} → KeyFormat A R → LentItems X A → Output → Output
       → Result TableResolver (WriteError F) → Type 0
-  WritesSet k key hash load_factor lent len steps iter output old new =
-      WritesItems (from_iter steps iter) len load_factor max limit
-      (written_as (lent_keys lent) (set_format w k key hash load_factor)) (output old) (output new)
+  WritesSet key items o o' result =
+      WritesLent (set_format w.word key.shape key.format key.hash) items o o' result
+
+-- the resolver of `len` items under a load factor, with the first control byte at `pos`
+abbrev pub resolver_of : ℕ → ℕ × ℕ → ℕ → TableResolver
+resolver_of len load_factor pos = record { pos = pos; len = len; load_factor = load_factor }
+
+-- the bytes became the header at `p` of the resolved map. Or the distance doesn't fit,
+-- and they are unchanged
+abbrev pub ResolvesMap : {T E : Type 0} → Width → TableResolver → ℕ → List ℕ → List ℕ → Result T E
+    → Type 0
+ResolvesMap w r p before after result =
+    WritesHeader w r.len r.load_factor r.pos p before after result

@@ -4,7 +4,10 @@
 //! - `iter` has the iterators over a map, and `iter_seal` the cursors that write values.
 //! - `in_place` and `in_place_text` write the value of one key over the bytes of an archive.
 //! - `laws`, `list_archives`, `nested` and `sealed` have laws that a proof cites.
+ghost use Rattle.rkyv_base.specs.Shape.{viewed_prop};
+ghost use Rattle.rkyv_base.specs.View.{IsView};
 ghost use Rattle.rkyv_table.specs.Table.Decoded.{IsDecoded};
+ghost use Rattle.rkyv_collections.specs.MapShape.{map_element, map_shape};
 
 mod debug;
 mod element;
@@ -24,6 +27,7 @@ pub mod sealed;
 pub mod writing;
 pub mod written;
 
+use rkyv_base::element::Shaped;
 use rkyv_base::view::View;
 use rkyv_base::width::{Narrow, Word};
 use rkyv_scan::hash::FxHasher64;
@@ -41,18 +45,21 @@ pub struct HashMapOf<K, V, H = FxHasher64, W = Narrow> {
 
 /// A hash map of `K` to `V` under the hasher `H` that is read in an archive of the width `W`.
 ///
-/// It holds its decoded header.
-pub struct ArchivedHashMap<'a, K, V, H = FxHasher64, W: Word = Narrow> {
+/// Its bytes are valid. It holds its decoded header.
+pub struct ArchivedHashMap<'a, K: Shaped, V: Shaped, H = FxHasher64, W: Word = Narrow> {
     pub(crate) view: View<'a, HashMapOf<K, V, H, W>>,
     pub(crate) header: Decoded,
+    ghost valid: { IsView (map_shape W.word K.shape V.shape) view } by { viewed_prop (map_shape
+        W.word K.shape V.shape)
+        (map_element W.word W.kind K.shape V.shape K.laws V.laws) view.archive.now view.pos },
     ghost decoded: { IsDecoded W.word view.archive.now view.pos header },
 }
 
-impl<'a, K, V, H, W: Word> Clone for ArchivedHashMap<'a, K, V, H, W> {
+impl<'a, K: Shaped, V: Shaped, H, W: Word> Clone for ArchivedHashMap<'a, K, V, H, W> {
     #[inline]
     fn clone(&self) -> Result<ArchivedHashMap<'a, K, V, H, W>, AllocError> {
         Ok(*self)
     }
 }
 
-impl<'a, K, V, H, W: Word> Copy for ArchivedHashMap<'a, K, V, H, W> {}
+impl<'a, K: Shaped, V: Shaped, H, W: Word> Copy for ArchivedHashMap<'a, K, V, H, W> {}

@@ -11,6 +11,7 @@ pub mod writing;
 pub mod written;
 
 use crate::map::ArchivedHashMap;
+use rkyv_base::element::Shaped;
 use rkyv_base::width::{Narrow, Word};
 use rkyv_scan::hash::FxHasher64;
 use std::alloc::AllocError;
@@ -26,15 +27,15 @@ pub struct HashSetOf<K, H = FxHasher64, W = Narrow> {
 /// A hash set of `K` under the hasher `H` that is read in an archive of the width `W`.
 ///
 /// It is the map of its keys to the unit value, and holds its decoded header.
-pub struct ArchivedHashSet<'a, K, H = FxHasher64, W: Word = Narrow> {
+pub struct ArchivedHashSet<'a, K: Shaped, H = FxHasher64, W: Word = Narrow> {
     pub(crate) map: ArchivedHashMap<'a, K, (), H, W>,
 }
 
-impl<'a, K, H, W: Word> Clone for ArchivedHashSet<'a, K, H, W> {
+impl<'a, K: Shaped, H, W: Word> Clone for ArchivedHashSet<'a, K, H, W> {
     #[inline]
     fn clone(&self) -> Result<ArchivedHashSet<'a, K, H, W>, AllocError> {
         Ok(*self)
     }
 }
 
-impl<'a, K, H, W: Word> Copy for ArchivedHashSet<'a, K, H, W> {}
+impl<'a, K: Shaped, H, W: Word> Copy for ArchivedHashSet<'a, K, H, W> {}

@@ -12,7 +12,7 @@ use Rattle.rkyv_base.specs.Numbers.{unsigned}
 use Rattle.rkyv_base.specs.Scalar.{ScalarStands}
 use Rattle.rkyv_base.specs.Text.{TextReads, text_at}
 use Rattle.rkyv_keys.specs.OfTexts.{same_bytes}
-use Rattle.rkyv_table.specs.Table.Reading.{home_positions}
+use Rattle.rkyv_table.specs.Table.Positions.{home_positions}
 use Rattle.rkyv_dict.specs.Archives.{hash, pair_shape, root, value_text}
 use Rattle.rkyv_dict.specs.Built.{Holds, PairsStand, PairsStandAt}
 use Rattle.rkyv_dict.specs.First.{HasHomes, first_under, first_value}

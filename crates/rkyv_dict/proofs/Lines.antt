@@ -1,14 +1,13 @@
 -- The lines of the pairs of a map, in turn.
-use Rattle.std.proofs.Common.{◌≡◌, ℕ, ◌+◌, ap, sym, subst, ◌∙◌, append_assoc, List, ◌∷◌, ◌++◌, Result, Ok, Err, OnOk}
+use Rattle.std.proofs.Common.{◌≡◌, ℕ, ◌+◌, ap, sym, ◌∙◌, append_assoc, List, ◌∷◌, ◌++◌, Result, Ok, Err, OnOk}
 use Rattle.std.specs.Borrow.{Bor}
-use Rattle.std.specs.List.{All, flat_map}
+use Rattle.std.specs.List.{flat_map}
 use Rattle.std.specs.Prelude.{codes}
-use Rattle.std.proofs.lemmas.List.Elements.{All-tail}
-use Rattle.rkyv_base.specs.Entry.{entry_shape, value_offset}
-use Rattle.rkyv_base.specs.Shape.{Shape, Viewed}
+use Rattle.rkyv_base.specs.Entry.{value_offset}
+use Rattle.rkyv_base.specs.Shape.{Shape}
 use Rattle.rkyv_base.specs.declared.view.View.{View}
 use Rattle.rkyv_keys.specs.Places.{at_view}
-use Rattle.rkyv_table.specs.Table.RawItems.{AllStand, ItemsLeft}
+use Rattle.rkyv_table.specs.Table.RawItems.{ItemsLeft}
 use Rattle.rkyv_table.specs.Table.PairWalks.{TakesFirst, ViewsAt}
 use Rattle.rkyv_dict.specs.Archives.{line, line_at}
 
@@ -25,12 +24,6 @@ module _ {K V : Type 0} (s : Shape) (text : List ℕ → ℕ → List ℕ) (arch
       ap (λ (a : Bor (List ℕ)). line (text a.now key.pos ++ codes " " ++ at_view text value)) (k.at.0 ∙ same)
       ∙ ap (λ (a : Bor (List ℕ)). line (text archive.now key.pos ++ codes " " ++ text a.now value.pos)) (v.at.0 ∙ same)
       ∙ ap (λ q. line (text archive.now key.pos ++ codes " " ++ text archive.now q)) v.at.1
-
-  pub stand_after : AllStand (entry_shape s s) before → AllStand (entry_shape s s) after
-  stand_after h =
-      let P = Viewed (entry_shape s s) before.archive.now in
-      let all : All P (key.pos ∷ after.places) = subst (All P) takes.first h in
-      subst (λ (a : Bor (List ℕ)). All (Viewed (entry_shape s s) a.now) after.places) (sym takes.archive) (All-tail P key.pos after.places all)
 
   pub lines_after : (all old new : List ℕ) → all ≡ old ++ flat_map (line_at s text archive.now) before.places → new ≡ old ++ line (at_view text key ++ codes " " ++ at_view text value)
       → all ≡ new ++ flat_map (line_at s text archive.now) after.places

@@ -4,7 +4,7 @@ use Rattle.std.specs.Int.{w32}
 use Rattle.rkyv_base.specs.Access.{Accepted, AccessFails}
 use Rattle.rkyv_base.specs.Entry.{entry_element, round_up}
 use Rattle.rkyv_base.specs.Format.{Format}
-use Rattle.rkyv_base.specs.Numbers.{unsigned}
+use Rattle.rkyv_base.specs.Numbers.{unsigned, unsigned_codes}
 use Rattle.rkyv_base.specs.Root.{ArchiveOf}
 use Rattle.rkyv_base.specs.Scalar.{ScalarStands, scalar_element, scalar_format}
 use Rattle.rkyv_base.specs.Shape.{IsElement, Shape}
@@ -110,7 +110,7 @@ access_one limit s laws b e d (inr (inr f)) (inr (inl g)) = absurd (g.2 f.2)
 access_one limit s laws b e d (inr (inr f)) (inr (inr g)) = laws.one_failure b (length b - s.size) 0 (length b - s.size) e d f.3 g.3
 
 part_element : (kind : Kind) (bits : Bits) → IsElement (parts_in kind bits).shape
-part_element Num bits = scalar_element (unsigned w32) (inr (inr (inl refl)))
+part_element Num bits = scalar_element (unsigned w32) (inr (inr (inl refl))) (unsigned_codes w32)
 part_element Text bits = text_element (word_of bits) (is_word bits)
 
 part_word : (kind : Kind) (bits : Bits) → IsArchiveWord (parts_in kind bits).word

@@ -4,10 +4,10 @@ use Rattle.std.specs.Prelude.{◌⊎◌}
 use Rattle.std.specs.Int.{w32}
 use Rattle.rkyv_base.specs.Entry.{entry_element}
 use Rattle.rkyv_base.specs.Format.{Format, IsFormat}
-use Rattle.rkyv_base.specs.Numbers.{unsigned}
+use Rattle.rkyv_base.specs.Numbers.{unsigned, unsigned_codes}
 use Rattle.rkyv_base.specs.Pairs.{PairStands, pair_format, pair_is_format, written_as}
 use Rattle.rkyv_base.specs.Root.{ArchiveOf, ArchiveRefused, RootBytes, RootNext}
-use Rattle.rkyv_base.specs.Scalar.{ScalarStands, scalar_element, scalar_format, scalar_is_format}
+use Rattle.rkyv_base.specs.Scalar.{ScalarStands, scalar_element, scalar_format, scalar_is_format, scalar_laws, scalar_shape}
 use Rattle.rkyv_base.specs.Shape.{IsElement, Shape}
 use Rattle.rkyv_base.specs.Text.{IsArchiveWord, TextReads, text_element}
 use Rattle.rkyv_base.specs.TextWriting.{text_format, text_is_format}
@@ -126,8 +126,8 @@ module _ (k : Parts) (word : IsArchiveWord k.word) (part : IsElement k.shape) {A
 causes_in : (kind : Kind) (bits : Bits) (factor : ℕ × ℕ) (pairs : Pairs) (c d : WriteError NoMemory) → refused_in kind bits factor pairs c → refused_in kind bits factor pairs d
     → wants_memory c ≡ false → wants_memory d ≡ false → cause_told c ≡ cause_told d
 causes_in Num bits factor (numbers pairs) c d x y m n =
-    map_causes (number_parts bits) (is_word bits) (scalar_element (unsigned w32) (inr (inr (inl refl)))) factor (buckets_of bits) (scalar_format (unsigned w32)) number_calls
-    (scalars_one_way (unsigned w32)) (scalars_end (unsigned w32)) (ScalarStands (unsigned w32)) (scalar_is_format (unsigned w32) (inr (inr (inl refl)))) pairs c d x y m n
+    map_causes (number_parts bits) (is_word bits) (scalar_element (unsigned w32) (inr (inr (inl refl))) (unsigned_codes w32)) factor (buckets_of bits) (scalar_format (unsigned w32)) number_calls
+    (scalars_one_way (unsigned w32)) (scalars_end (unsigned w32)) (ScalarStands (unsigned w32)) (scalar_is_format (scalar_shape (unsigned w32)) (unsigned w32) (scalar_laws (unsigned w32) (inr (inr (inl refl))))) pairs c d x y m n
 causes_in Text bits factor (texts pairs) c d x y m n =
     map_causes (text_parts bits) (is_word bits) (text_element (word_of bits) (is_word bits)) factor (buckets_of bits) (text_format (word_of bits)) text_calls
     (texts_one_way (word_of bits) (is_word bits)) (texts_end (word_of bits) (is_word bits)) (TextReads (word_of bits)) (text_is_format (word_of bits) (is_word bits)) pairs c d x y m n
@@ -137,8 +137,8 @@ causes_in Text bits factor (numbers pairs) c d x y m n = absurd x
 built_in_clear : (kind : Kind) (bits : Bits) (factor : ℕ × ℕ) (pairs : Pairs) (b : List ℕ) (c : WriteError NoMemory) → built_in kind bits factor pairs b → refused_in kind bits factor pairs c
     → wants_memory c ≡ false → ⊥
 built_in_clear Num bits factor (numbers pairs) b c x y m =
-    map_built (number_parts bits) (is_word bits) (scalar_element (unsigned w32) (inr (inr (inl refl)))) factor (buckets_of bits) (scalar_format (unsigned w32)) number_calls
-    (scalars_one_way (unsigned w32)) (scalars_end (unsigned w32)) (ScalarStands (unsigned w32)) (scalar_is_format (unsigned w32) (inr (inr (inl refl)))) pairs b c x y m
+    map_built (number_parts bits) (is_word bits) (scalar_element (unsigned w32) (inr (inr (inl refl))) (unsigned_codes w32)) factor (buckets_of bits) (scalar_format (unsigned w32)) number_calls
+    (scalars_one_way (unsigned w32)) (scalars_end (unsigned w32)) (ScalarStands (unsigned w32)) (scalar_is_format (scalar_shape (unsigned w32)) (unsigned w32) (scalar_laws (unsigned w32) (inr (inr (inl refl))))) pairs b c x y m
 built_in_clear Text bits factor (texts pairs) b c x y m =
     map_built (text_parts bits) (is_word bits) (text_element (word_of bits) (is_word bits)) factor (buckets_of bits) (text_format (word_of bits)) text_calls
     (texts_one_way (word_of bits) (is_word bits)) (texts_end (word_of bits) (is_word bits)) (TextReads (word_of bits)) (text_is_format (word_of bits) (is_word bits)) pairs b c x y m

@@ -16,7 +16,7 @@ use Rattle.rkyv_base.proofs.GivingUp.{told_as}
 use Rattle.rkyv_keys.specs.Calls.{text_calls}
 use Rattle.rkyv_table.specs.Controls.Numbers.{capacity}
 use Rattle.rkyv_table.specs.Table.Serializing.{HasCapacity}
-use Rattle.rkyv_table.specs.Table.Reading.{home_positions}
+use Rattle.rkyv_table.specs.Table.Positions.{home_positions}
 use Rattle.rkyv_table.specs.Table.TableFormat.{PairsNext, TableParts, TableResolver}
 use Rattle.rkyv_table.specs.Table.Listed.{ListRefuses}
 use Rattle.rkyv_collections.specs.MapFormat.{keyed}

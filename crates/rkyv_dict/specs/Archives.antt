@@ -15,8 +15,8 @@ use Rattle.rkyv_base.specs.declared.errors.VerifyError.{VerifyError}
 use Rattle.rkyv_keys.specs.Calls.{text_calls}
 use Rattle.rkyv_keys.specs.OfTexts.{same_bytes}
 use Rattle.rkyv_table.specs.Table.Header.{len_at}
-use Rattle.rkyv_table.specs.Table.Reading.{item_positions, pos_found}
-use Rattle.rkyv_collections.specs.Map.{map_shape}
+use Rattle.rkyv_table.specs.Table.Positions.{item_positions, pos_found}
+use Rattle.rkyv_collections.specs.MapShape.{map_shape}
 use Rattle.rkyv_collections.specs.Misplaced.{map_misplaced}
 use Rattle.rkyv_dict.specs.declared.form.Bits.{Bits}
 use Rattle.rkyv_dict.specs.declared.form.Form.{Form}

@@ -5,7 +5,7 @@ ghost use Rattle.std.specs.List.{flat_map};
 ghost use Rattle.std.specs.Option.{option_map};
 ghost use Rattle.rkyv_base.specs.View.{IsAt, IsView};
 ghost use Rattle.rkyv_keys.specs.Places.{at_view};
-ghost use Rattle.rkyv_collections.specs.Map.{IsMap, key_positions, map_bytes};
+ghost use Rattle.rkyv_collections.specs.Map.{key_positions, map_bytes};
 ghost use Rattle.rkyv_dict.specs.Archives.{IsArchive, IsMapArchive, IsRefused, MapArchiveFails};
 ghost use Rattle.rkyv_dict.specs.Archives.{entry_count, keys_misplaced, line, line_at, listing};
 ghost use Rattle.rkyv_dict.specs.Archives.{misplaced_count, pair_count, pair_lines, root};
@@ -56,7 +56,6 @@ fn map_of<'a, P: Part, W: Width>(bytes: &'a [u8]) -> ArchivedHashMap<'a, P, P, F
         IsMapArchive m bytes.now }
     ensures at { let m = parts_by W.word W.LIMIT P.shape P.text P.same P.key_calls in
         IsAt result.view bytes.entry (root m bytes.now) }
-    ensures map { IsMap W.word P.shape P.shape result }
 {
     ArchivedHashMap::of(access_unchecked(bytes))
 }
@@ -123,9 +122,8 @@ fn push_lines<P: Part, W: Width>(
     map: ArchivedHashMap<'_, P, P, FxHasher64, W>,
     out: &mut String,
 ) -> Result<(), AllocError>
-    requires { IsMap W.word P.shape P.shape map }
     ensures { let lines = flat_map (line_at P.shape P.text (map_bytes map.entry)) in
-        Pushes result out.old out.new (lines (key_positions W.word P.shape P.shape map.entry)) }
+        Pushes result out.old out.new (lines (key_positions map.entry)) }
 {
     for (key, value) in map.iter() {
         push_pair(key, value, out)?;

@@ -17,7 +17,7 @@ use Rattle.rkyv_base.specs.Writing.{Appends, Output, end_of, padding, zeros}
 use Rattle.rkyv_base.specs.declared.element.PartRange.{PartRange}
 use Rattle.rkyv_base.specs.declared.errors.VerifyError.{VerifyError}
 use Rattle.rkyv_base.specs.declared.errors.WriteError.{WriteError}
-use Rattle.rkyv_base.specs.declared.element.Element.{Ghosts as Elements}
+use Rattle.rkyv_base.specs.declared.element.Shaped.{Ghosts as Shapes}
 use Rattle.rkyv_base.specs.declared.element.StandsFor.{Ghosts as Stands}
 use Rattle.rkyv_base.specs.declared.view.View.{View}
 use Rattle.rkyv_base.specs.declared.width.Width.{Ghosts as Widths}
@@ -31,7 +31,7 @@ use Rattle.rkyv_table.specs.Table.FirstItem.{AreUnder, IsFirstOf}
 use Rattle.rkyv_table.specs.Table.Header.{IsHeader, cap_at}
 use Rattle.rkyv_table.specs.Controls.Numbers.{capacity}
 use Rattle.rkyv_table.specs.Controls.Laws.{IsUnderHash}
-use Rattle.rkyv_table.specs.Table.Reading.{home_positions, table_controls}
+use Rattle.rkyv_table.specs.Table.Positions.{home_positions, table_controls}
 use Rattle.rkyv_table.specs.Table.Taking.{hashes_of, items_of}
 use Rattle.rkyv_table.specs.Table.WalkLaws.{VisitsHomes, WalkVisitsHomes}
 use Rattle.rkyv_table.specs.Table.WrittenTables.{StandingWereWritten}
@@ -65,6 +65,7 @@ use Rattle.rkyv_headline.specs.declared.whole.ListError.TheVariants.{Look}
 abbrev pub width_members : {W P : Type 0} → Words W → Widths W P → WidthMembers
 width_members w v = record {
   word = w.word;
+  kind = w.kind;
   LIMIT = v.LIMIT;
   ALIGN = v.ALIGN;
   MAX_CAPACITY = v.MAX_CAPACITY;
@@ -75,8 +76,8 @@ width_members w v = record {
 }
 
 -- the members of an element, from those of its two traits
-abbrev pub element_members : {T V : Type 0} → Elements T → Stands T V → ElementMembers V
-element_members e v = record { shape = e.shape; stands = v.stands }
+abbrev pub element_members : {T V : Type 0} → Shapes T → Stands T V → ElementMembers V
+element_members e v = record { shape = e.shape; laws = e.laws; stands = v.stands }
 
 -- an error of writing the table is an error of writing the list
 pub no_list : {X R F : Type 0} (list : ListInput X R) (o o' : Output) (e : WriteError F)

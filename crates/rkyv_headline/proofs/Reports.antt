@@ -1,4 +1,5 @@
 -- Validation, walk and lookup of a table, step by step.
+use Rattle.rkyv_base.specs.declared.element.Shaped.{Ghosts as Shapes}
 use Rattle.rkyv_base.specs.declared.width.Word.{Ghosts as Words}
 use Rattle.std.proofs.Common.{◌≡◌, ℕ, ◌+◌, ◌*◌, ◌/◌, ◌%◌, ◌≤◌, ◌∙◌, refl, sym, ap, subst, arith, Bool, true, List, length, map, Option, Some, None}
 use Rattle.std.specs.Prelude.{IfSome}
@@ -18,7 +19,9 @@ use Rattle.rkyv_table.specs.Lemmas.TableLaws.{table_element}
 use Rattle.rkyv_table.specs.Table.Bare.{AcceptedOf, LooksUp, ReadsExactly}
 use Rattle.rkyv_table.specs.Table.Header.{cap_at, len_at}
 use Rattle.rkyv_table.specs.Table.Layout.{table_shape}
-use Rattle.rkyv_table.specs.Table.Reading.{CountsWithin, FindsFirst, FindsFound, IsItem, item_at, item_positions, pos_of_found, table_controls}
+use Rattle.rkyv_table.specs.Table.Positions.{item_at, item_positions, table_controls}
+use Rattle.rkyv_table.specs.Table.Reading.{CountsWithin, FindsFirst, FindsFound, IsItem}
+use Rattle.rkyv_table.specs.Table.Reading.{pos_of_found}
 use Rattle.rkyv_table.specs.declared.table.ArchivedHashTable.{ArchivedHashTable}
 use Rattle.rkyv_table.proofs.Bare.{looks_up_none, looks_up_some}
 use Rattle.rkyv_table.proofs.RawWalks.{places_count, places_viewed}
@@ -66,17 +69,17 @@ module _ {T : Type 0} (post : View T → Bool → Type 0) (w : Width) (s : Shape
   }
 
 -- the result of a lookup in the table is its result in the bytes
-pub looks_found : {T W : Type 0} {wt : Words W} (post : View T → Bool → Type 0) (w : Width) (s : Shape) (b : List ℕ) (p : ℕ) (t : ArchivedHashTable T W wt) → t.view.archive.now ≡ b → t.view.pos ≡ p
-    → (hash : ℕ) (found : Option (View T)) → IfSome found (IsItem w s t) → IfSome found (λ v. post v true) → FindsFound post generic_kind w s t hash (pos_of_found found)
-    → FindsFirst post w s t hash (pos_of_found found) → LooksUp post generic_kind w s b p hash (pos_of_found found)
-looks_found post w s b p t bytes place hash None walked accepted answer first = looks_up_none w s b p t bytes place post generic_kind hash answer first
-looks_found post w s b p t bytes place hash (Some v) walked accepted answer first = looks_up_some w s b p t bytes place post generic_kind hash v.pos answer first (v, walked, refl, accepted)
+pub looks_found : {T W : Type 0} {ts : Shapes T} {wt : Words W} (post : View T → Bool → Type 0) (b : List ℕ) (p : ℕ) (t : ArchivedHashTable T W ts wt) → t.view.archive.now ≡ b → t.view.pos ≡ p
+    → (hash : ℕ) (found : Option (View T)) → IfSome found (IsItem t) → IfSome found (λ v. post v true) → FindsFound post generic_kind t hash (pos_of_found found)
+    → FindsFirst post t hash (pos_of_found found) → LooksUp post generic_kind wt.word ts.shape b p hash (pos_of_found found)
+looks_found post b p t bytes place hash None walked accepted answer first = looks_up_none b p t bytes place post generic_kind hash answer first
+looks_found post b p t bytes place hash (Some v) walked accepted answer first = looks_up_some b p t bytes place post generic_kind hash v.pos answer first (v, walked, refl, accepted)
 
 -- the strides that a lookup in the table reads are those of the bytes
-pub few_read : {T W : Type 0} {wt : Words W} (w : Width) (b : List ℕ) (p : ℕ) (t : ArchivedHashTable T W wt) → t.view.archive.now ≡ b → t.view.pos ≡ p
-    → (before after : ℕ) → before ≡ 0 → CountsWithin w t before after → ReadsFew w b p after
-few_read w b p t bytes place before after none within =
-    let P = λ (c : List ℕ) (q : ℕ). ReadsWithin (len_at w c q) (probe_capacity (cap_at w c q) / 16) before after in
+pub few_read : {T W : Type 0} {ts : Shapes T} {wt : Words W} (b : List ℕ) (p : ℕ) (t : ArchivedHashTable T W ts wt) → t.view.archive.now ≡ b → t.view.pos ≡ p
+    → (before after : ℕ) → before ≡ 0 → CountsWithin t before after → ReadsFew wt.word b p after
+few_read {wt = wt} b p t bytes place before after none within =
+    let P = λ (c : List ℕ) (q : ℕ). ReadsWithin (len_at wt.word c q) (probe_capacity (cap_at wt.word c q) / 16) before after in
     let there : P b p = subst (P b) place (subst (λ (c : List ℕ). P c t.view.pos) bytes within) in
     let most = there.most in
     record {

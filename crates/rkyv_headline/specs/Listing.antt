@@ -8,7 +8,8 @@ use Rattle.rkyv_base.specs.Entry.{round_up}
 use Rattle.rkyv_base.specs.Format.{Format}
 use Rattle.rkyv_base.specs.Pairs.{written_as}
 use Rattle.rkyv_base.specs.Root.{RootGaveUp}
-use Rattle.rkyv_base.specs.Shape.{Shape}
+use Rattle.rkyv_base.specs.Shape.{IsElement, Shape}
+use Rattle.rkyv_base.specs.Text.{IsArchiveWord}
 use Rattle.rkyv_base.specs.View.{IsView}
 use Rattle.rkyv_base.specs.Writing.{Appended, Output, end_of, held, padding, zeros}
 use Rattle.rkyv_base.specs.declared.archive.Archive.{Ghosts as Archives}
@@ -22,7 +23,7 @@ use Rattle.rkyv_table.specs.Table.Input.{Input, from_both}
 use Rattle.rkyv_table.specs.Table.Layout.{table_shape}
 use Rattle.rkyv_table.specs.Table.Lending.{lent_stands}
 use Rattle.rkyv_table.specs.Table.Passing.{HoldsAround}
-use Rattle.rkyv_table.specs.Table.Reading.{WrittenAt, home_positions, table_controls}
+use Rattle.rkyv_table.specs.Table.Positions.{WrittenAt, home_positions, table_controls}
 use Rattle.rkyv_table.specs.Table.Serializing.{Came, HasCapacity, OwnCause}
 use Rattle.rkyv_table.specs.Table.TableFormat.{TableResolver, TableStands, table_format}
 use Rattle.rkyv_table.specs.Table.Taking.{hashes_of, items_of}
@@ -42,6 +43,7 @@ CanCompareAny {T} pre s = (v : View T) → IsView s v → pre v
 abbrev pub WidthMembers : Type 0
 WidthMembers = record {
   word : Width;
+  kind : IsArchiveWord word;
   LIMIT : ℕ;
   ALIGN : ℕ;
   MAX_CAPACITY : ℕ;
@@ -53,7 +55,11 @@ WidthMembers = record {
 
 -- the members of an element, and what its values represent
 abbrev pub ElementMembers : Type 0 → Type 1
-ElementMembers V = record { shape : Shape; stands : List ℕ → ℕ → V → Type 0 }
+ElementMembers V = record {
+  shape : Shape;
+  laws : IsElement shape;
+  stands : List ℕ → ℕ → V → Type 0;
+}
 
 -- the encoding of an item. `shape`: shape of its element, `represents`: bytes at a position
 -- represent the item, `format`: its format

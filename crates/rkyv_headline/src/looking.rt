@@ -6,7 +6,8 @@ ghost use Rattle.rkyv_base.specs.Shape.{Viewed};
 ghost use Rattle.rkyv_scan.specs.Groups.{generic_kind};
 ghost use Rattle.rkyv_table.specs.Table.Bare.{LooksUp, MayAskOf, ReadsExactly};
 ghost use Rattle.rkyv_table.specs.Table.Layout.{table_shape};
-ghost use Rattle.rkyv_table.specs.Table.Reading.{item_positions, pos_of_found};
+ghost use Rattle.rkyv_table.specs.Table.Positions.{item_positions};
+ghost use Rattle.rkyv_table.specs.Table.Reading.{pos_of_found};
 ghost use Rattle.rkyv_headline.specs.Report.{CanCompareItems, LooksOver, ReadsFew, table_in};
 
 use rkyv_base::element::{Element, PartRange};
@@ -124,8 +125,8 @@ pub fn look_over<W: Width, T: Element, F: Fn(View<'_, T>) -> bool>(
     requires inside { pos + 3 * byte_len W.word ≤ length bytes.now }
     requires aligned { pos % byte_len W.word ≡ 0 }
     requires ordered { (range.lo ≤ range.hi) × (range.hi ≤ pos) }
-    requires callable { CanCompareItems (table_in W.Word T.Element bytes.now pos) (F.pre cmp) }
-    ensures { LooksOver (table_in W.Word T.Element bytes.now pos) range (F.post cmp) hash result }
+    requires callable { CanCompareItems (table_in W.Word T.Shaped bytes.now pos) (F.pre cmp) }
+    ensures { LooksOver (table_in W.Word T.Shaped bytes.now pos) range (F.post cmp) hash result }
 {
     match ArchivedHashTable::<T, W>::verify(bytes, pos, range) {
         Ok(_) => {}

@@ -7,7 +7,7 @@ use Rattle.std.proofs.Math.Nat.{add-mul, mul-zero}
 use Rattle.std.proofs.lemmas.Int.{to_z-of_z}
 use Rattle.std.proofs.lemmas.Nat.{mul-mod}
 use Rattle.rkyv_base.specs.Layout.{IsPlace}
-use Rattle.rkyv_base.specs.Scalar.{Encoding, scalar_shape}
+use Rattle.rkyv_base.specs.Scalar.{Encoding, IsScalar}
 use Rattle.rkyv_base.specs.Shape.{IsElement, Shape, Viewed, by_align, standing, sum_multiple}
 use Rattle.rkyv_base.specs.Text.{IsArchiveWord}
 use Rattle.rkyv_base.specs.View.{IsAt, IsView}
@@ -47,12 +47,12 @@ pub view_at : {T X : Type 0} (v : View T) (archive : Bor (List ℕ)) (p : ℕ) �
 view_at v archive p at read = ap (λ (x : Bor (List ℕ)). read x.now v.pos) at.0 ∙ ap (read archive.now) at.1
 
 -- the table of a valid index map is valid for a view
-pub table_viewed : {V : Type 0} (w : Width) → IsArchiveWord w → (e : Encoding V) → IsPlace w e → (b : List ℕ) (p lo hi m : ℕ)
-    → p + 4 * byte_len w ≤ length b → p % byte_len w ≡ 0 → lo ≤ hi → hi ≤ p → TableHolds w (scalar_shape e) b p lo hi m → Viewed (table_shape w (place_shape w)) b p
-table_viewed w kind e is b p lo hi m inside aligned o o' h = record {
+pub table_viewed : {V : Type 0} (w : Width) → IsArchiveWord w → (s : Shape) (e : Encoding V) → IsScalar s e → IsPlace w e → (b : List ℕ) (p lo hi m : ℕ)
+    → p + 4 * byte_len w ≤ length b → p % byte_len w ≡ 0 → lo ≤ hi → hi ≤ p → TableHolds w s b p lo hi m → Viewed (table_shape w (place_shape w)) b p
+table_viewed w kind s e laws is b p lo hi m inside aligned o o' h = record {
   inside = omega arith;
   aligned = aligned;
-  stands = standing (table_shape w (place_shape w)) (table_element w kind (place_shape w) (place_element w kind)) b p lo hi m o o' (words_hold w e is b p lo hi m h);
+  stands = standing (table_shape w (place_shape w)) (table_element w kind (place_shape w) (place_element w kind)) b p lo hi m o o' (words_hold w s e laws is b p lo hi m h);
 }
 
 -- one more index of a range, which passes the test `P` or fails it

@@ -18,7 +18,7 @@ use Rattle.rkyv_keys.specs.OfEntries.{standing_key}
 use Rattle.rkyv_table.specs.Controls.Finding.{found}
 use Rattle.rkyv_table.specs.Table.Header.{cap_at, len_at}
 use Rattle.rkyv_table.specs.Table.Misplaced.{is_answer}
-use Rattle.rkyv_table.specs.Table.Reading.{item_at, table_controls}
+use Rattle.rkyv_table.specs.Table.Positions.{item_at, table_controls}
 use Rattle.rkyv_table.proofs.Items.{controls_accepted, no_items}
 use Rattle.rkyv_table.proofs.Misplaced.{found_agree, found_walked}
 use Rattle.rkyv_table.proofs.Walks.{walked_full}

@@ -6,12 +6,12 @@ use Rattle.std.specs.List.{All}
 use Rattle.std.proofs.lemmas.List.Elements.{All-contains, All-cons, All-nil}
 use Rattle.rkyv_base.specs.Bytes.{number_at}
 use Rattle.rkyv_base.specs.Layout.{IsPlace}
-use Rattle.rkyv_base.specs.Scalar.{Encoding, scalar_shape}
+use Rattle.rkyv_base.specs.Scalar.{Encoding, IsScalar}
 use Rattle.rkyv_base.specs.Shape.{IsElement, Shape, Viewed, standing}
 use Rattle.rkyv_base.specs.Text.{IsArchiveWord}
 use Rattle.rkyv_table.specs.Table.Header.{cap_at, len_at}
 use Rattle.rkyv_table.specs.Controls.Placing.{walk}
-use Rattle.rkyv_table.specs.Table.Reading.{IsWalked, item_at, table_controls}
+use Rattle.rkyv_table.specs.Table.Positions.{IsWalked, item_at, table_controls}
 use Rattle.rkyv_table.specs.Table.Layout.{table_shape}
 use Rattle.rkyv_table.specs.Lemmas.TableLaws.{table_element}
 use Rattle.rkyv_table.proofs.Items.{item_viewed}
@@ -81,6 +81,6 @@ module _ (w : Width) (kind : IsArchiveWord w) (s : Shape) (law : IsElement s) (b
       (All-unmap (λ q. number_at w b q < len_at w b p) (item_at w (byte_len w) b p) (walk (table_controls w b p) (cap_at w b p)) held.below)
       (full_walked (cap_at w b p) (table_controls w b p) i walked)
 
-  module _ {V : Type 0} (e : Encoding V) (is : IsPlace w e) where
-    pub table_of_places : Viewed (table_shape w (scalar_shape e)) b p
-    table_of_places = places_viewed w e is b p table_there
+  module _ {V : Type 0} (ps : Shape) (e : Encoding V) (pk : IsScalar ps e) (is : IsPlace w e) where
+    pub table_of_places : Viewed (table_shape w ps) b p
+    table_of_places = places_viewed w ps e pk is b p table_there

@@ -4,7 +4,7 @@ use Rattle.std.specs.Int.{Width}
 use Rattle.std.specs.Iterator.{Drains, Yields, YieldsFirst}
 use Rattle.rkyv_base.specs.declared.errors.WriteError.{WriteError}
 use Rattle.rkyv_base.specs.Format.{Format, GaveUp, Serialized}
-use Rattle.rkyv_base.specs.Scalar.{Encoding, scalar_format, scalar_shape}
+use Rattle.rkyv_base.specs.Scalar.{Encoding, scalar_format}
 use Rattle.rkyv_base.specs.Shape.{Shape}
 use Rattle.rkyv_base.specs.Writing.{Appends, Only, Output, Step, Told, Within, end_of, padding, piece, zeros}
 use Rattle.rkyv_base.proofs.GivingUp.{appends_after, end-appends, grows, told_after, told_as, within_after}
@@ -12,7 +12,7 @@ use Rattle.rkyv_table.specs.Table.Counting.{GaveOther}
 use Rattle.rkyv_table.specs.Table.Serializing.{NoItems, WroteItems}
 use Rattle.rkyv_table.specs.Table.TableFormat.{PairsNext, TableResolver, table_format}
 use Rattle.rkyv_table.proofs.TableSteps.{told_piece, zeros_behind}
-use Rattle.rkyv_index.specs.Handing.{NoOther, OwnOrGaveUp, WritesPlaces}
+use Rattle.rkyv_index.specs.Handing.{NoOther, OwnOrGaveUp}
 use Rattle.rkyv_index.specs.IndexFormat.{BeforeRow, BeforeZeros, IndexNext, places_from, row_format}
 use Rattle.rkyv_index.specs.Row.{RowNext, RowParts, RowPartsNext, WroteRow}
 use Rattle.rkyv_table.proofs.Through.{own_counted}
@@ -41,48 +41,48 @@ pub places_count : {X P : Type 0} (hash : X → ℕ) (place : ℕ → P) (i : �
 places_count hash place i [] = refl
 places_count hash place i (x ∷ xs) = ap suc (places_count hash place (i + 1) xs)
 
-module _ (F : Type 0) {P X : Type 0} (w : Width) (e : Encoding P) (hash : X → ℕ) (factor : ℕ × ℕ) (limit : ℕ) (xs : List X) (o : Output) where
+module _ (F : Type 0) {P X : Type 0} (w : Width) (ps : Shape) (e : Encoding P) (hash : X → ℕ) (factor : ℕ × ℕ) (limit : ℕ) (xs : List X) (o : Output) where
   abbrev Places : List (ℕ × P)
   Places = places_from hash e.value 0 xs
 
   abbrev TableOf : Format (List (ℕ × P)) TableResolver
-  TableOf = table_format w (scalar_shape e) (scalar_format e) factor
+  TableOf = table_format w ps (scalar_format e) factor
 
   module _ {S : Type 0} (rest : S → List (ℕ × P)) (state : S) (there : rest state ≡ Places) (max : ℕ) (o1 : Output) where
     abbrev Gave : List (ℕ × P) → Type 0
     Gave = Drains (YieldsFirst rest) state
 
     wrote_places : (r : TableResolver) → WroteItems Gave (length xs) factor max TableOf o o1 limit r → Serialized limit TableOf Places o o1 r
-    wrote_places r h = subst (λ ps. Serialized limit TableOf ps o o1 r) (drained rest h.1 state h.2.0 ∙ there) h.3
+    wrote_places r h = subst (λ l. Serialized limit TableOf l o o1 r) (drained rest h.1 state h.2.0 ∙ there) h.3
 
     no_places : (err : WriteError F) → NoItems Gave (length xs) factor max TableOf o o1 limit (GaveOther (YieldsFirst rest) (length xs) state) err
         → OwnOrGaveUp (length xs) factor max NoOther limit TableOf Places o o1 err
     no_places err (inl h) =
         let n : length (rest state) ≡ length xs = ap length there ∙ places_count hash e.value 0 xs in
         inl (own_counted (length xs) factor max (GaveOther (YieldsFirst rest) (length xs) state) NoOther (λ k g. no_other_drained rest (length xs) state n k g) err h.0, h.1)
-    no_places err (inr h) = inr (subst (λ ps. GaveUp limit TableOf ps o o1 err) (drained rest h.1 state h.2.0 ∙ there) h.3)
+    no_places err (inr h) = inr (subst (λ l. GaveUp limit TableOf l o o1 err) (drained rest h.1 state h.2.0 ∙ there) h.3)
 
     -- the result of writing the table is that of writing the indices
     pub answers_places : (result : Result TableResolver (WriteError F))
         → MatchResult result (WroteItems Gave (length xs) factor max TableOf o o1 limit) (NoItems Gave (length xs) factor max TableOf o o1 limit (GaveOther (YieldsFirst rest) (length xs) state))
-        → WritesPlaces w e hash factor max limit xs o o1 result
+        → MatchResult result (Serialized limit TableOf Places o o1) (OwnOrGaveUp (length xs) factor max NoOther limit TableOf Places o o1)
     answers_places (Ok r) h = wrote_places r h
     answers_places (Err err) h = no_places err h
 
   module _ {R : Type 0} (s : Shape) (f : Format X R) where
     abbrev Next : List ℕ → Step → Type 0
-    Next = IndexNext w e s f hash factor xs (end_of o)
+    Next = IndexNext w ps e s f hash factor xs (end_of o)
 
     abbrev Stopped : Output → WriteError F → Type 0
     Stopped o' err = Told limit Next o o' err
 
     stopped_table : (o1 : Output) (err : WriteError F) → GaveUp limit TableOf Places o o1 err → Stopped o1 err
     stopped_table o1 err t =
-        told_as limit Next (PairsNext w (scalar_shape e) (scalar_format e) factor Places (end_of o)) o o1 err (λ g step h. inl h) t
+        told_as limit Next (PairsNext w ps (scalar_format e) factor Places (end_of o)) o o1 err (λ g step h. inl h) t
 
     -- if writing the indices fails, writing the values fails with the same error
     pub stopped_places : (max : ℕ) (o1 : Output) (err : WriteError F) → OwnOrGaveUp (length xs) factor max NoOther limit TableOf Places o o1 err
-        → OwnOrGaveUp (length xs) factor max NoOther limit (row_format w e s f hash factor) xs o o1 err
+        → OwnOrGaveUp (length xs) factor max NoOther limit (row_format w ps e s f hash factor) xs o o1 err
     stopped_places max o1 err (inl h) = inl h
     stopped_places max o1 err (inr h) = inr (stopped_table o1 err h)
 
@@ -109,7 +109,7 @@ module _ (F : Type 0) {P X : Type 0} (w : Width) (e : Encoding P) (hash : X → 
         within2 : Within limit o2 head
         within2 = within_after limit o1 o2 table row (grows o1 o2 row b) wrote.3 inside
 
-        before : BeforeZeros w e s f hash factor xs (end_of o) head t rs
+        before : BeforeZeros w ps e s f hash factor xs (end_of o) head t rs
         before = record { table = table; row = row; made = wrote.2; parts = subst (λ k. RowParts f xs k row rs) at1 parts; is = refl }
 
         abbrev pad : List ℕ
@@ -132,7 +132,7 @@ module _ (F : Type 0) {P X : Type 0} (w : Width) (e : Encoding P) (hash : X → 
           at3 : end_of o3 ≡ end_of o + length front
           at3 = end-appends o o3 front whole3
 
-          before_row : BeforeRow w e s f hash factor xs (end_of o) front t rs
+          before_row : BeforeRow w ps e s f hash factor xs (end_of o) front t rs
           before_row = record { head = head; made = before; is = ap (λ (y : List ℕ). head ++ y) same_zeros }
 
           pub stopped_row : (o4 : Output) (err : WriteError F) → Told limit (RowNext f xs rs (end_of o3)) o3 o4 err → Stopped o4 err
@@ -141,7 +141,7 @@ module _ (F : Type 0) {P X : Type 0} (w : Width) (e : Encoding P) (hash : X → 
               (λ g step n. inr (inr (inr (front, t, rs, g, before_row, subst (λ k. RowNext f xs rs k g step) at3 n, refl))))
               h
 
-          pub index_wrote : (o4 : Output) → WroteRow f limit xs rs o3 o4 → Serialized limit (row_format w e s f hash factor) xs o o4 (record { table = t; entries = end_of o3 })
+          pub index_wrote : (o4 : Output) → WroteRow f limit xs rs o3 o4 → Serialized limit (row_format w ps e s f hash factor) xs o o4 (record { table = t; entries = end_of o3 })
           index_wrote o4 wr = (
             front ++ wr.0,
             appends_after o o3 o4 front wr.0 whole3 wr.1.0,

@@ -16,3 +16,4 @@ pub mod Repeats
 pub mod ReadPairs
 pub mod ValueWrites
 pub mod SealedIndex
+pub mod Headers

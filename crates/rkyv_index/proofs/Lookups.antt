@@ -1,4 +1,5 @@
 -- From a lookup in a table of indices to a lookup in an index map.
+use Rattle.rkyv_base.specs.declared.element.Shaped.{Ghosts as Shapes}
 use Rattle.rkyv_base.specs.declared.width.Word.{Ghosts as Words}
 use Rattle.std.proofs.Common.{◌≡◌, ℕ, ◌+◌, ◌<◌, ◌≤◌, ◌∙◌, refl, ap, sym, subst, arith, cond, Bool, true, false, length, map, List, [], ◌∷◌, Option, Some, slice_index}
 use Rattle.std.specs.Borrow.{Bor}
@@ -11,15 +12,17 @@ use Rattle.rkyv_scan.specs.Groups.{generic_kind}
 use Rattle.rkyv_base.specs.Bytes.{number_at}
 use Rattle.rkyv_base.specs.Entry.{entry_element, entry_shape}
 use Rattle.rkyv_base.specs.Layout.{IsPlace}
-use Rattle.rkyv_base.specs.Scalar.{Encoding, scalar_shape}
+use Rattle.rkyv_base.specs.Scalar.{Encoding, IsScalar}
 use Rattle.rkyv_base.specs.Shape.{IsElement, Shape}
-use Rattle.rkyv_base.specs.Text.{IsArchiveWord}
 use Rattle.rkyv_base.specs.View.{IsAt, bytes_of}
 use Rattle.rkyv_base.specs.declared.view.View.{View}
 use Rattle.rkyv_table.specs.Controls.Laws.{IsUnderHash}
-use Rattle.rkyv_table.specs.Table.Reading.{Answers, FindsFirst, FindsFound, IsItem, IsWalked, WrittenAt, home_positions, item_at, pos_found, pos_of_found, table_bytes, table_pos}
+use Rattle.rkyv_table.specs.Table.Positions.{IsWalked, WrittenAt, home_positions, item_at}
+use Rattle.rkyv_table.specs.Table.Positions.{pos_found}
+use Rattle.rkyv_table.specs.Table.Reading.{Answers, FindsFirst, FindsFound, IsItem, pos_of_found}
+use Rattle.rkyv_table.specs.Table.Reading.{table_bytes, table_pos}
 use Rattle.rkyv_table.specs.declared.table.ArchivedHashTable.{ArchivedHashTable}
-use Rattle.rkyv_index.specs.Index.{AnswersKeys, AreUnderHash, IsHeld, IsIndexMap, IsKeyOf, IsPlaceOf, IsWritten, index_archive, index_bytes, index_found, index_len, index_of, index_pos, key_pos}
+use Rattle.rkyv_index.specs.Index.{AnswersKeys, AreUnderHash, IsHeld, IsKeyOf, IsPlaceOf, IsWritten, index_archive, index_bytes, index_found, index_len, index_of, index_pos, key_pos}
 use Rattle.rkyv_index.specs.IndexFormat.{IndexWrittenAt}
 use Rattle.rkyv_index.specs.IndexLayout.{places_of}
 use Rattle.rkyv_index.specs.declared.map.ArchivedIndexMap.{ArchivedIndexMap}
@@ -39,91 +42,101 @@ find-map f accept (x ∷ xs) = find-step f accept x (find (λ y. accept (f y)) x
 place_read : (n i : ℕ) → i < n → slice_index (places_of n) i ≡ i
 place_read n i below = get_or-range_with_len 0 n i 0 below ∙ omega arith
 
-module _ {K V H W P N : Type 0} {wt : Words W} (w : Width) (kind : IsArchiveWord w) (k v : Shape) (kl : IsElement k) (vl : IsElement v) (m : ArchivedIndexMap K V H W wt) (is : IsIndexMap w k v m)
-    (e : Encoding N) (place : IsPlace w e) (t : ArchivedHashTable P W wt) (at : IsAt t.view (index_archive m) (index_pos m)) where
+module _ {K V H W P N : Type 0} {ks : Shapes K} {vs : Shapes V} {ts : Shapes P} {wt : Words W} (m : ArchivedIndexMap K V H W ks vs wt) (e : Encoding N) (pk : IsScalar ts.shape e) (place : IsPlace wt.word e)
+    (t : ArchivedHashTable P W ts wt) (at : IsAt t.view (index_archive m) (index_pos m)) where
+  abbrev w : Width
+  w = wt.word
+
+  abbrev s : Shape
+  s = entry_shape ks.shape vs.shape
+
+  abbrev law : IsElement s
+  law = entry_element ks.shape vs.shape ks.laws vs.laws
+
+  size_is : ts.shape.size ≡ byte_len w
+  size_is = pk.size ∙ ap byte_len place.word
+
   bytes_same : table_bytes t ≡ index_bytes m
   bytes_same = ap (λ (x : Bor (List ℕ)). x.now) at.0
 
-  found_is : (hash : ℕ) (accept : ℕ → Bool) → pos_found generic_kind w (scalar_shape e).size (table_bytes t) (table_pos t) hash accept
+  found_is : (hash : ℕ) (accept : ℕ → Bool) → pos_found generic_kind w ts.shape.size (table_bytes t) (table_pos t) hash accept
       ≡ pos_found generic_kind w (byte_len w) (index_bytes m) (index_pos m) hash accept
   found_is hash accept =
-      ap (λ n. pos_found generic_kind w n (table_bytes t) (table_pos t) hash accept) (ap byte_len place.word)
+      ap (λ n. pos_found generic_kind w n (table_bytes t) (table_pos t) hash accept) size_is
       ∙ ap (λ (x : List ℕ). pos_found generic_kind w (byte_len w) x (table_pos t) hash accept) bytes_same
       ∙ ap (λ q. pos_found generic_kind w (byte_len w) (index_bytes m) q hash accept) at.1
 
-  homes_are : (homes : List ℕ) → home_positions w (scalar_shape e).size (table_bytes t) (table_pos t) homes ≡ home_positions w (byte_len w) (index_bytes m) (index_pos m) homes
+  homes_are : (homes : List ℕ) → home_positions w ts.shape.size (table_bytes t) (table_pos t) homes ≡ home_positions w (byte_len w) (index_bytes m) (index_pos m) homes
   homes_are homes =
-      ap (λ n. home_positions w n (table_bytes t) (table_pos t) homes) (ap byte_len place.word)
+      ap (λ n. home_positions w n (table_bytes t) (table_pos t) homes) size_is
       ∙ ap (λ (x : List ℕ). home_positions w (byte_len w) x (table_pos t) homes) bytes_same
       ∙ ap (λ q. home_positions w (byte_len w) (index_bytes m) q homes) at.1
 
   -- an item of the table is in a full bucket of the map
-  item_there : (h : View P) → IsItem w (scalar_shape e) t h → (i : ℕ) × IsWalked w (index_bytes m) (index_pos m) i × (h.pos ≡ item_at w (byte_len w) (index_bytes m) (index_pos m) i)
+  item_there : (h : View P) → IsItem t h → (i : ℕ) × IsWalked w (index_bytes m) (index_pos m) i × (h.pos ≡ item_at w (byte_len w) (index_bytes m) (index_pos m) i)
   item_there h item =
       let walked = subst (λ q. IsWalked w (index_bytes m) q item.0) at.1 (subst (λ (x : List ℕ). IsWalked w x (table_pos t) item.0) bytes_same item.1.walked) in
-      let pos = item.1.place ∙ ap (λ n. item_at w n (table_bytes t) (table_pos t) item.0) (ap byte_len place.word)
+      let pos = item.1.place ∙ ap (λ n. item_at w n (table_bytes t) (table_pos t) item.0) size_is
       ∙ ap (λ (x : List ℕ). item_at w (byte_len w) x (table_pos t) item.0) bytes_same
       ∙ ap (λ q. item_at w (byte_len w) (index_bytes m) q item.0) at.1 in
       (item.0, walked, pos)
 
   -- an item of the table is read in the archive of the map
-  pub read_there : (h : View P) → IsItem w (scalar_shape e) t h → bytes_of h ≡ index_bytes m
+  pub read_there : (h : View P) → IsItem t h → bytes_of h ≡ index_bytes m
   read_there h item = ap (λ (x : Bor (List ℕ)). x.now) (item.1.archive ∙ at.0)
 
   -- the number in a full bucket is an index of the map
   place_at_bucket : (h : View P) (i : ℕ) → IsWalked w (index_bytes m) (index_pos m) i → h.pos ≡ item_at w (byte_len w) (index_bytes m) (index_pos m) i → bytes_of h ≡ index_bytes m → IsPlaceOf w m.view h
   place_at_bucket h i walked pos read =
-      let s = entry_shape k v in
-      let law = entry_element k v kl vl in
-      let inside = place_inside w kind s law (index_bytes m) (index_pos m) is i walked in
-      let below = place_below w kind s law (index_bytes m) (index_pos m) is i walked in (
+      let inside = place_inside w wt.kind s law (index_bytes m) (index_pos m) m.valid i walked in
+      let below = place_below w wt.kind s law (index_bytes m) (index_pos m) m.valid i walked in (
         subst (λ (x : List ℕ). h.pos + byte_len w ≤ length x) (sym read) (subst (λ q. q + byte_len w ≤ length (index_bytes m)) (sym pos) inside),
-        subst (λ (x : List ℕ). number_at w x h.pos < index_len w m) (sym read) (subst (λ q. number_at w (index_bytes m) q < index_len w m) (sym pos) below),
+        subst (λ (x : List ℕ). number_at w x h.pos < index_len m) (sym read) (subst (λ q. number_at w (index_bytes m) q < index_len m) (sym pos) below),
       )
 
-  pub item_place : (h : View P) → IsItem w (scalar_shape e) t h → IsPlaceOf w m.view h
+  pub item_place : (h : View P) → IsItem t h → IsPlaceOf w m.view h
   item_place h item =
       let there = item_there h item in
       place_at_bucket h there.0 there.1 there.2 (read_there h item)
 
   -- a full bucket of the map has that index
-  pub item_held : (h : View P) → IsItem w (scalar_shape e) t h → IsHeld w m (number_at w (bytes_of h) h.pos)
+  pub item_held : (h : View P) → IsItem t h → IsHeld m (number_at w (bytes_of h) h.pos)
   item_held h item =
       let there = item_there h item in
       (there.0, there.1, ap (number_at w (index_bytes m)) (sym there.2) ∙ ap (λ (x : List ℕ). number_at w x h.pos) (sym (read_there h item)))
 
   -- the index at the found position is the one that the map finds
   pub place_is : (result : Option (View P)) (hash : ℕ) (accept : ℕ → Bool)
-      → pos_of_found result ≡ pos_found generic_kind w (scalar_shape e).size (table_bytes t) (table_pos t) hash (λ q. accept (number_at w (index_bytes m) q))
+      → pos_of_found result ≡ pos_found generic_kind w ts.shape.size (table_bytes t) (table_pos t) hash (λ q. accept (number_at w (index_bytes m) q))
       → option_map (number_at w (index_bytes m)) (pos_of_found result)
       ≡ option_map (number_at w (index_bytes m)) (pos_found generic_kind w (byte_len w) (index_bytes m) (index_pos m) hash (λ q. accept (number_at w (index_bytes m) q)))
   place_is result hash accept found =
       ap (option_map (number_at w (index_bytes m))) (found ∙ found_is hash (λ q. accept (number_at w (index_bytes m) q)))
 
-  module _ (key_hash : List ℕ → ℕ → ℕ) (homes : List ℕ) (written : IndexWrittenAt w (entry_shape k v).size key_hash (index_bytes m) (index_pos m) homes) where
+  module _ (key_hash : List ℕ → ℕ → ℕ) (homes : List ℕ) (written : IndexWrittenAt w s.size key_hash (index_bytes m) (index_pos m) homes) where
     abbrev hashes : List ℕ
-    hashes = map (λ i. key_hash (index_bytes m) (key_pos w k v m i)) (places_of (index_len w m))
+    hashes = map (λ i. key_hash (index_bytes m) (key_pos m i)) (places_of (index_len m))
 
     pub written_there : WrittenAt w (table_bytes t) (table_pos t) hashes homes
     written_there = subst (λ q. WrittenAt w (table_bytes t) q hashes homes) (sym at.1) (subst (λ (x : List ℕ). WrittenAt w x (index_pos m) hashes homes) (sym bytes_same) written.table)
 
-    pub under_there : (hash : ℕ) (accept : ℕ → Bool) → AreUnderHash (index_of w k v m) hash key_hash accept
-        → IsUnderHash hash hashes (home_positions w (scalar_shape e).size (table_bytes t) (table_pos t) homes) (λ q. accept (number_at w (index_bytes m) q))
+    pub under_there : (hash : ℕ) (accept : ℕ → Bool) → AreUnderHash (index_of m) hash key_hash accept
+        → IsUnderHash hash hashes (home_positions w ts.shape.size (table_bytes t) (table_pos t) homes) (λ q. accept (number_at w (index_bytes m) q))
     under_there hash accept under i h accepted =
-        let n = index_len w m in
+        let n = index_len m in
         let items = home_positions w (byte_len w) (index_bytes m) (index_pos m) homes in
-        let count : length hashes ≡ n = length-map (places_of n) (λ j. key_hash (index_bytes m) (key_pos w k v m j)) ∙ length-range_with_len 0 n in
+        let count : length hashes ≡ n = length-map (places_of n) (λ j. key_hash (index_bytes m) (key_pos m j)) ∙ length-range_with_len 0 n in
         let below : i < n = omega (arith, h, count) in
         let many : length items ≡ n = sym (length-map items (number_at w (index_bytes m))) ∙ ap length written.places ∙ length-range_with_len 0 n in
         let read : number_at w (index_bytes m) (slice_index items i) ≡ i =
         sym (get_or-map (number_at w (index_bytes m)) items i 0 0 (omega (arith, below, many))) ∙ ap (λ (xs : List ℕ). slice_index xs i) written.places ∙ place_read n i below in
         let here : accept i ≡ true = sym (ap accept (ap (λ (xs : List ℕ). number_at w (index_bytes m) (slice_index xs i)) (homes_are homes) ∙ read)) ∙ accepted in
-        get_or-map (λ j. key_hash (index_bytes m) (key_pos w k v m j)) (places_of n) i 0 0 (omega (arith, below, length-range_with_len 0 n))
-        ∙ ap (λ j. key_hash (index_bytes m) (key_pos w k v m j)) (place_read n i below) ∙ under i below here
+        get_or-map (λ j. key_hash (index_bytes m) (key_pos m j)) (places_of n) i 0 0 (omega (arith, below, length-range_with_len 0 n))
+        ∙ ap (λ j. key_hash (index_bytes m) (key_pos m j)) (place_read n i below) ∙ under i below here
 
     pub first_is : (result : Option (View P)) (accept : ℕ → Bool)
-        → pos_of_found result ≡ find (λ q. accept (number_at w (index_bytes m) q)) (home_positions w (scalar_shape e).size (table_bytes t) (table_pos t) homes)
-        → option_map (number_at w (index_bytes m)) (pos_of_found result) ≡ find accept (places_of (index_len w m))
+        → pos_of_found result ≡ find (λ q. accept (number_at w (index_bytes m) q)) (home_positions w ts.shape.size (table_bytes t) (table_pos t) homes)
+        → option_map (number_at w (index_bytes m)) (pos_of_found result) ≡ find accept (places_of (index_len m))
     first_is result accept found =
         ap (option_map (number_at w (index_bytes m))) (found ∙ ap (find (λ q. accept (number_at w (index_bytes m) q))) (homes_are homes))
         ∙ find-map (number_at w (index_bytes m)) accept (home_positions w (byte_len w) (index_bytes m) (index_pos m) homes)
@@ -131,22 +144,22 @@ module _ {K V H W P N : Type 0} {wt : Words W} (w : Width) (kind : IsArchiveWord
 
   -- If the table compares each item by the key at its index, its lookup finds the same as one
   -- in the map that compares keys.
-  module _ (Post : View P → Bool → Type 0) (post : View K → Bool → Type 0) (asks : (h : View P) (r : Bool) → Post h r → (key : View K) × IsKeyOf w k v m (number_at w (bytes_of h) h.pos) key × post key r)
-      (result : Option (View P)) (accept : ℕ → Bool) (answers : AnswersKeys (index_of w k v m) post accept) (hash : ℕ) where
+  module _ (Post : View P → Bool → Type 0) (post : View K → Bool → Type 0) (asks : (h : View P) (r : Bool) → Post h r → (key : View K) × IsKeyOf m (number_at w (bytes_of h) h.pos) key × post key r)
+      (result : Option (View P)) (accept : ℕ → Bool) (answers : AnswersKeys (index_of m) post accept) (hash : ℕ) where
     abbrev accept_at : ℕ → Bool
     accept_at q = accept (number_at w (index_bytes m) q)
 
-    items_answer : Answers Post w (scalar_shape e) t accept_at
+    items_answer : Answers Post t accept_at
     items_answer h r item is =
         let x = asks h r is in
         answers (number_at w (bytes_of h) h.pos) x.0 r x.1 x.2 ∙ ap (λ (y : List ℕ). accept (number_at w y h.pos)) (read_there h item)
 
-    pub finds_place : FindsFound Post generic_kind w (scalar_shape e) t hash (pos_of_found result)
+    pub finds_place : FindsFound Post generic_kind t hash (pos_of_found result)
         → option_map (number_at w (index_bytes m)) (pos_of_found result) ≡ index_found w (index_bytes m) (index_pos m) hash accept
     finds_place found = place_is result hash accept (found accept_at items_answer)
 
-    pub finds_first_place : (key_hash : List ℕ → ℕ → ℕ) → AreUnderHash (index_of w k v m) hash key_hash accept → FindsFirst Post w (scalar_shape e) t hash (pos_of_found result)
-        → (homes : List ℕ) → IsWritten (index_of w k v m) key_hash homes → option_map (number_at w (index_bytes m)) (pos_of_found result) ≡ find accept (places_of (index_len w m))
+    pub finds_first_place : (key_hash : List ℕ → ℕ → ℕ) → AreUnderHash (index_of m) hash key_hash accept → FindsFirst Post t hash (pos_of_found result)
+        → (homes : List ℕ) → IsWritten (index_of m) key_hash homes → option_map (number_at w (index_bytes m)) (pos_of_found result) ≡ find accept (places_of (index_len m))
     finds_first_place key_hash under found homes written =
         first_is key_hash homes written result accept
         (found (hashes key_hash homes written) homes accept_at (written_there key_hash homes written) items_answer (under_there key_hash homes written hash accept under))

@@ -1,4 +1,5 @@
 -- A found item of a table of indices, and the index in it.
+use Rattle.rkyv_base.specs.declared.element.Shaped.{Ghosts as Shapes}
 use Rattle.rkyv_base.specs.declared.width.Word.{Ghosts as Words}
 use Rattle.std.proofs.Common.{◌≡◌, ℕ, ◌+◌, ◌/◌, ◌≤◌, ◌∙◌, ap, refl, subst, sym, true, Bool, List, None, Option, Some, length}
 use Rattle.std.specs.Borrow.{Bor}
@@ -7,12 +8,9 @@ use Rattle.std.specs.Option.{option_map}
 use Rattle.std.specs.Prelude.{IfSome}
 use Rattle.std.proofs.lemmas.Option.{IfSome_then}
 use Rattle.rkyv_scan.specs.Groups.{generic_kind}
-use Rattle.rkyv_scan.specs.Hash.{Hasher, HasherCall, hash_of_calls}
 use Rattle.rkyv_base.specs.Bytes.{number_at}
 use Rattle.rkyv_base.specs.Layout.{IsPlace}
-use Rattle.rkyv_base.specs.Scalar.{Encoding, scalar_shape}
-use Rattle.rkyv_base.specs.Shape.{IsElement, Shape}
-use Rattle.rkyv_base.specs.Text.{IsArchiveWord}
+use Rattle.rkyv_base.specs.Scalar.{Encoding, IsScalar}
 use Rattle.rkyv_base.specs.View.{IsAt, bytes_of, pos_of}
 use Rattle.rkyv_base.specs.declared.view.View.{View}
 use Rattle.rkyv_table.specs.Controls.Finding.{ReadsWithin}
@@ -20,56 +18,69 @@ use Rattle.rkyv_table.specs.Controls.Numbers.{probe_capacity}
 use Rattle.rkyv_table.specs.Table.Header.{cap_at, len_at}
 use Rattle.rkyv_table.specs.Table.Reading.{CountsWithin, FindsItem, IsItem, pos_of_found, table_pos}
 use Rattle.rkyv_table.specs.declared.table.ArchivedHashTable.{ArchivedHashTable}
-use Rattle.rkyv_index.specs.Index.{IsHeldPlace, IsIndexMap, IsKeyOf, ReadsFew, hash_at, index_archive, index_bytes, index_found, index_of, index_pos}
-use Rattle.rkyv_index.specs.Lookups.{GetsPlaceBy}
+use Rattle.rkyv_index.specs.Index.{IsAccepted, IsHeldPlace, IsKeyOf, ReadsFew, index_archive, index_bytes, index_found, index_pos}
+use Rattle.rkyv_index.specs.Lookups.{GetsBy, place_part}
 use Rattle.rkyv_index.specs.declared.map.ArchivedIndexMap.{ArchivedIndexMap}
 use Rattle.rkyv_index.proofs.Lookups.{finds_first_place, finds_place, item_held, item_place, read_there}
 
 -- a lookup by a comparison is one by each weaker condition on its results
-pub finds_as : {P W : Type 0} {wt : Words W} (A B : View P → Bool → Type 0) → ((h : View P) (r : Bool) → A h r → B h r) → (w : Width) (s : Shape) (t : ArchivedHashTable P W wt) (hash : ℕ) (held : Option (View P))
-    → FindsItem A generic_kind w s t hash held → FindsItem B generic_kind w s t hash held
-finds_as A B weaker w s t hash held got = record {
+pub finds_as : {P W : Type 0} {ts : Shapes P} {wt : Words W} (A B : View P → Bool → Type 0) → ((h : View P) (r : Bool) → A h r → B h r) → (t : ArchivedHashTable P W ts wt) (hash : ℕ) (held : Option (View P))
+    → FindsItem A generic_kind t hash held → FindsItem B generic_kind t hash held
+finds_as A B weaker t hash held got = record {
   walked = got.walked;
   accepted = IfSome_then held got.accepted (λ h a. weaker h true a);
   answer = λ accept answers. got.answer accept (λ h r item a. answers h r item (weaker h r a));
   first = λ hashes homes accept written answers under. got.first hashes homes accept written (λ h r item a. answers h r item (weaker h r a)) under;
 }
 
-module _ {K V H W P N : Type 0} {wt : Words W} (w : Width) (kind : IsArchiveWord w) (k v : Shape) (kl : IsElement k) (vl : IsElement v) (m : ArchivedIndexMap K V H W wt) (is : IsIndexMap w k v m)
-    (e : Encoding N) (place : IsPlace w e) (t : ArchivedHashTable P W wt) (at : IsAt t.view (index_archive m) (index_pos m)) where
+module _ {K V H W P N : Type 0} {ks : Shapes K} {vs : Shapes V} {ts : Shapes P} {wt : Words W} (m : ArchivedIndexMap K V H W ks vs wt) (e : Encoding N) (pk : IsScalar ts.shape e) (place : IsPlace wt.word e)
+    (t : ArchivedHashTable P W ts wt) (at : IsAt t.view (index_archive m) (index_pos m)) where
+  abbrev w : Width
+  w = wt.word
+
   abbrev pub place_of : View P → ℕ
   place_of item = number_at w (bytes_of item) (pos_of item)
 
   -- the index in a found item is the number at its position
-  pub place_found : (held : Option (View P)) → IfSome held (IsItem w (scalar_shape e) t)
+  pub place_found : (held : Option (View P)) → IfSome held (IsItem t)
       → option_map place_of held ≡ option_map (number_at w (index_bytes m)) (pos_of_found held)
   place_found None item = refl
-  place_found (Some h) item = ap Some (ap (λ (x : List ℕ). number_at w x h.pos) (read_there w kind k v kl vl m is e place t at h item))
+  place_found (Some h) item = ap Some (ap (λ (x : List ℕ). number_at w x h.pos) (read_there m e pk place t at h item))
 
   -- a found item is inside the archive
-  pub place_inside : (held : Option (View P)) → IfSome held (IsItem w (scalar_shape e) t) → IfSome held (λ item. pos_of item + byte_len w ≤ length (bytes_of item))
+  pub place_inside : (held : Option (View P)) → IfSome held (IsItem t) → IfSome held (λ item. pos_of item + byte_len w ≤ length (bytes_of item))
   place_inside None item = item
-  place_inside (Some h) item = (item_place w kind k v kl vl m is e place t at h item).0
+  place_inside (Some h) item = (item_place m e pk place t at h item).0
 
   -- a full bucket has the index, and it is below the length
-  pub place_kept : (held : Option (View P)) → IfSome held (IsItem w (scalar_shape e) t) → IfSome (option_map place_of held) (IsHeldPlace w m)
+  pub place_kept : (held : Option (View P)) → IfSome held (IsItem t) → IfSome (option_map place_of held) (IsHeldPlace m)
   place_kept None item = item
-  place_kept (Some h) item = (item_held w kind k v kl vl m is e place t at h item, (item_place w kind k v kl vl m is e place t at h item).1)
+  place_kept (Some h) item = (item_held m e pk place t at h item, (item_place m e pk place t at h item).1)
 
   -- the strides of a lookup in the table are those of a lookup in the map
-  pub reads_few : (before after : ℕ) → CountsWithin w t before after → ReadsFew w m before after
+  pub reads_few : (before after : ℕ) → CountsWithin t before after → ReadsFew m before after
   reads_few before after counts =
       subst (λ q. ReadsWithin (len_at w (index_bytes m) q) (probe_capacity (cap_at w (index_bytes m) q) / 16) before after) at.1
       (subst (λ (x : List ℕ). ReadsWithin (len_at w x (table_pos t)) (probe_capacity (cap_at w x (table_pos t)) / 16) before after) (ap (λ (x : Bor (List ℕ)). x.now) at.0) counts)
 
+  -- the comparison accepted the key at the index in a found item
+  pub place_accepted : (Post : View P → Bool → Type 0) (post' : View K → Bool → Type 0) (asks : (h : View P) (r : Bool) → Post h r → (key : View K) × IsKeyOf m (number_at w (bytes_of h) h.pos) key × post' key r)
+      (held : Option (View P)) → IfSome held (λ h. Post h true) → IfSome (option_map place_of held) (IsAccepted m post')
+  place_accepted Post post' asks None told = told
+  place_accepted Post post' asks (Some h) told = asks h true told
+
   -- the clauses of a lookup in the table are clauses on the index in its result
-  module _ {State : Type 0} (hasher : Hasher State) (calls : List HasherCall) (key_calls : List ℕ → ℕ → List HasherCall) (Post : View P → Bool → Type 0) (post : View K → Bool → Type 0)
-      (asks : (h : View P) (r : Bool) → Post h r → (key : View K) × IsKeyOf w k v m (number_at w (bytes_of h) h.pos) key × post key r) (hash : ℕ) (under : hash ≡ hash_of_calls hasher calls)
-      (held : Option (View P)) (got : FindsItem Post generic_kind w (scalar_shape e) t hash held) (result : Option ℕ) (read : result ≡ option_map (number_at w (index_bytes m)) (pos_of_found held)) where
-    pub gets_place : GetsPlaceBy (index_of w k v m) hasher calls key_calls post (IsHeldPlace w m) result result
+  module _ (key_hash : List ℕ → ℕ → ℕ) (Post : View P → Bool → Type 0) (post : View K → Bool → Type 0)
+      (asks : (h : View P) (r : Bool) → Post h r → (key : View K) × IsKeyOf m (number_at w (bytes_of h) h.pos) key × post key r) (hash asked : ℕ) (under : hash ≡ asked)
+      (held : Option (View P)) (got : FindsItem Post generic_kind t hash held) (result : Option ℕ) (read : result ≡ option_map (number_at w (index_bytes m)) (pos_of_found held)) where
+    found_there : result ≡ option_map place_of held
+    found_there = read ∙ sym (place_found held got.walked)
+
+    pub gets_place : GetsBy place_part m asked key_hash post result
     gets_place = record {
-      walked = subst (λ r. IfSome r (IsHeldPlace w m)) (sym (read ∙ sym (place_found held got.walked))) (place_kept held got.walked);
-      answer = λ accept answers. read ∙ finds_place w kind k v kl vl m is e place t at Post post asks held accept answers hash got.answer ∙ ap (λ n. index_found w (index_bytes m) (index_pos m) n accept) under;
+      walked = subst (λ r. IfSome r (IsHeldPlace m)) (sym found_there) (place_kept held got.walked);
+      accepted = (result, refl, subst (λ r. IfSome r (IsAccepted m post)) (sym found_there) (place_accepted Post post asks held got.accepted));
+      answer = λ accept answers. read ∙ finds_place m e pk place t at Post post asks held accept answers hash got.answer ∙ ap (λ n. index_found w (index_bytes m) (index_pos m) n accept) under;
       first = λ accept answers alone homes written.
-          read ∙ finds_first_place w kind k v kl vl m is e place t at Post post asks held accept answers hash (hash_at hasher key_calls) (λ i below accepted. alone i below accepted ∙ sym under) got.first homes written;
+          read ∙ finds_first_place m e pk place t at Post post asks held accept answers hash key_hash (λ i below accepted. alone i below accepted ∙ sym under) got.first homes written;
     }

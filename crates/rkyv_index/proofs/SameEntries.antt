@@ -1,10 +1,9 @@
 -- The entries at one index of two index maps, compared.
+use Rattle.rkyv_base.specs.declared.element.Shaped.{Ghosts as Shapes}
 use Rattle.rkyv_base.specs.declared.width.Word.{Ghosts as Words}
 use Rattle.std.proofs.Common.{◌≡◌, ◌∙◌, ap, subst, Bool, ℕ, List}
 use Rattle.std.specs.Borrow.{Bor}
-use Rattle.std.specs.Int.{Width}
 use Rattle.rkyv_base.specs.Entry.{entry_shape}
-use Rattle.rkyv_base.specs.Shape.{Shape}
 use Rattle.rkyv_base.specs.View.{bytes_of, pos_of}
 use Rattle.rkyv_base.specs.declared.entry.Entry.{Entry}
 use Rattle.rkyv_base.specs.declared.view.View.{View}
@@ -15,16 +14,16 @@ use Rattle.rkyv_index.specs.Index.{IsEntryOf, index_bytes, index_pos, key_pos}
 use Rattle.rkyv_index.specs.declared.map.ArchivedIndexMap.{ArchivedIndexMap}
 
 -- the entries at an index of two maps are the same
-abbrev pub same_in : {K V H W : Type 0} {wt : Words W} → Width → Shape → Shape → Comparison → Comparison → ArchivedIndexMap K V H W wt → ArchivedIndexMap K V H W wt → ℕ → Bool
-same_in w k v key value a o = same_at w (entry_shape k v) (entry_same k v key value) (index_bytes a) (index_pos a) (index_bytes o) (index_pos o)
+abbrev pub same_in : {K V H W : Type 0} {ks : Shapes K} {vs : Shapes V} {wt : Words W} → Comparison → Comparison → ArchivedIndexMap K V H W ks vs wt → ArchivedIndexMap K V H W ks vs wt → ℕ → Bool
+same_in {ks = ks} {vs} {wt} key value a o = same_at wt.word (entry_shape ks.shape vs.shape) (entry_same ks.shape vs.shape key value) (index_bytes a) (index_pos a) (index_bytes o) (index_pos o)
 
-module _ {K V H W : Type 0} {wt : Words W} (w : Width) (k v : Shape) (same : Comparison) where
-  pub same_there : (own other : View (Entry K V)) (x y a o : ArchivedIndexMap K V H W wt) (i : ℕ) → IsEntryOf w k v x i own → IsEntryOf w k v y i other → x ≡ a → y ≡ o
-      → same (bytes_of own) (pos_of own) (bytes_of other) (pos_of other) ≡ same_at w (entry_shape k v) same (index_bytes a) (index_pos a) (index_bytes o) (index_pos o) i
+module _ {K V H W : Type 0} {ks : Shapes K} {vs : Shapes V} {wt : Words W} (same : Comparison) where
+  pub same_there : (own other : View (Entry K V)) (x y a o : ArchivedIndexMap K V H W ks vs wt) (i : ℕ) → IsEntryOf x i own → IsEntryOf y i other → x ≡ a → y ≡ o
+      → same (bytes_of own) (pos_of own) (bytes_of other) (pos_of other) ≡ same_at wt.word (entry_shape ks.shape vs.shape) same (index_bytes a) (index_pos a) (index_bytes o) (index_pos o) i
   same_there own other x y a o i p q e f =
-      let p' : IsEntryOf w k v a i own = subst (λ z. IsEntryOf w k v z i own) e p in
-      let q' : IsEntryOf w k v o i other = subst (λ z. IsEntryOf w k v z i other) f q in
+      let p' : IsEntryOf a i own = subst (λ z. IsEntryOf z i own) e p in
+      let q' : IsEntryOf o i other = subst (λ z. IsEntryOf z i other) f q in
       ap (λ (z : Bor (List ℕ)). same z.now own.pos (bytes_of other) other.pos) p'.at.0
       ∙ ap (λ n. same (index_bytes a) n (bytes_of other) other.pos) p'.at.1
-      ∙ ap (λ (z : Bor (List ℕ)). same (index_bytes a) (key_pos w k v a i) z.now other.pos) q'.at.0
-      ∙ ap (λ n. same (index_bytes a) (key_pos w k v a i) (index_bytes o) n) q'.at.1
+      ∙ ap (λ (z : Bor (List ℕ)). same (index_bytes a) (key_pos a i) z.now other.pos) q'.at.0
+      ∙ ap (λ n. same (index_bytes a) (key_pos a i) (index_bytes o) n) q'.at.1

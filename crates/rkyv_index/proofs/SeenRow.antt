@@ -12,7 +12,7 @@ use Rattle.rkyv_base.specs.Adapter.{pair_of}
 use Rattle.rkyv_base.specs.Entry.{entry_shape}
 use Rattle.rkyv_base.specs.Format.{Format, GaveUp, Serialized}
 use Rattle.rkyv_base.specs.Pairs.{pair_format, written_as}
-use Rattle.rkyv_base.specs.Scalar.{Encoding, scalar_format, scalar_shape}
+use Rattle.rkyv_base.specs.Scalar.{Encoding, scalar_format}
 use Rattle.rkyv_base.specs.Shape.{Shape}
 use Rattle.rkyv_base.specs.Writing.{Output, Step, end_of}
 use Rattle.rkyv_base.proofs.GivingUp.{told_as}
@@ -59,7 +59,7 @@ module _ {X Y R : Type 0} (seen : X → Y) (f : Format Y R) where
       row_next : (front : List ℕ) (step : Step) → RowNext F xs rs p front step → RowNext f (map seen xs) rs p front step
       row_next front step h = (h.0, seen h.1, h.2, seen_before h.0 h.1 h.2 front h.3, h.4)
 
-  module _ {P : Type 0} (w : Width) (e : Encoding P) (s : Shape) (hash : Y → ℕ) (factor : ℕ × ℕ) where
+  module _ {P : Type 0} (w : Width) (ps : Shape) (e : Encoding P) (s : Shape) (hash : Y → ℕ) (factor : ℕ × ℕ) where
     abbrev own : X → ℕ
     own x = hash (seen x)
 
@@ -68,11 +68,11 @@ module _ {X Y R : Type 0} (seen : X → Y) (f : Format Y R) where
     seen_places i (x ∷ xs) = ap (λ (l : List (ℕ × P)). (hash (seen x), e.value i) ∷ l) (seen_places (i + 1) xs)
 
     module _ (xs : List X) (p : ℕ) where
-      seen_table : (part : List ℕ) (t : TableResolver) → TableParts w (scalar_shape e) (scalar_format e) factor (places_from own e.value 0 xs) p part t
-          → TableParts w (scalar_shape e) (scalar_format e) factor (places_from hash e.value 0 (map seen xs)) p part t
-      seen_table part t h = subst (λ (l : List (ℕ × P)). TableParts w (scalar_shape e) (scalar_format e) factor l p part t) (seen_places 0 xs) h
+      seen_table : (part : List ℕ) (t : TableResolver) → TableParts w ps (scalar_format e) factor (places_from own e.value 0 xs) p part t
+          → TableParts w ps (scalar_format e) factor (places_from hash e.value 0 (map seen xs)) p part t
+      seen_table part t h = subst (λ (l : List (ℕ × P)). TableParts w ps (scalar_format e) factor l p part t) (seen_places 0 xs) h
 
-      seen_zeros : (front : List ℕ) (t : TableResolver) (rs : List R) → BeforeZeros w e s F own factor xs p front t rs → BeforeZeros w e s f hash factor (map seen xs) p front t rs
+      seen_zeros : (front : List ℕ) (t : TableResolver) (rs : List R) → BeforeZeros w ps e s F own factor xs p front t rs → BeforeZeros w ps e s f hash factor (map seen xs) p front t rs
       seen_zeros front t rs h = record {
         table = h.table;
         row = h.row;
@@ -81,10 +81,10 @@ module _ {X Y R : Type 0} (seen : X → Y) (f : Format Y R) where
         is = h.is;
       }
 
-      seen_front : (front : List ℕ) (t : TableResolver) (rs : List R) → BeforeRow w e s F own factor xs p front t rs → BeforeRow w e s f hash factor (map seen xs) p front t rs
+      seen_front : (front : List ℕ) (t : TableResolver) (rs : List R) → BeforeRow w ps e s F own factor xs p front t rs → BeforeRow w ps e s f hash factor (map seen xs) p front t rs
       seen_front front t rs h = record { head = h.head; made = seen_zeros h.head t rs h.made; is = h.is }
 
-      seen_whole : (part : List ℕ) (r : IndexResolver) → IndexParts w e s F own factor xs p part r → IndexParts w e s f hash factor (map seen xs) p part r
+      seen_whole : (part : List ℕ) (r : IndexResolver) → IndexParts w ps e s F own factor xs p part r → IndexParts w ps e s f hash factor (map seen xs) p part r
       seen_whole part r h = record {
         front = h.front;
         resolvers = h.resolvers;
@@ -95,19 +95,19 @@ module _ {X Y R : Type 0} (seen : X → Y) (f : Format Y R) where
         is = h.is;
       }
 
-      seen_next : (front : List ℕ) (step : Step) → IndexNext w e s F own factor xs p front step → IndexNext w e s f hash factor (map seen xs) p front step
-      seen_next front step (inl h) = inl (subst (λ (l : List (ℕ × P)). PairsNext w (scalar_shape e) (scalar_format e) factor l p front step) (seen_places 0 xs) h)
+      seen_next : (front : List ℕ) (step : Step) → IndexNext w ps e s F own factor xs p front step → IndexNext w ps e s f hash factor (map seen xs) p front step
+      seen_next front step (inl h) = inl (subst (λ (l : List (ℕ × P)). PairsNext w ps (scalar_format e) factor l p front step) (seen_places 0 xs) h)
       seen_next front step (inr (inl h)) = inr (inl (h.0, h.1, h.2, seen_table h.0 h.1 h.3, parts_next xs (p + length h.0) h.2 step h.4, h.5))
       seen_next front step (inr (inr (inl h))) = inr (inr (inl (h.0, h.1, seen_zeros front h.0 h.1 h.2, h.3)))
       seen_next front step (inr (inr (inr h))) = inr (inr (inr (h.0, h.1, h.2, h.3, seen_front h.0 h.1 h.2 h.4, row_next xs (p + length h.0) h.2 h.3 step h.5, h.6)))
 
     module _ (xs : List X) (o o' : Output) (limit : ℕ) where
-      pub seen_serialized : (r : IndexResolver) → Serialized limit (row_format w e s F own factor) xs o o' r → Serialized limit (row_format w e s f hash factor) (map seen xs) o o' r
+      pub seen_serialized : (r : IndexResolver) → Serialized limit (row_format w ps e s F own factor) xs o o' r → Serialized limit (row_format w ps e s f hash factor) (map seen xs) o o' r
       seen_serialized r h = (h.0, h.1, seen_whole xs (end_of o) h.0 r h.2, h.3)
 
-      pub seen_gave_up : {G : Type 0} (err : WriteError G) → GaveUp limit (row_format w e s F own factor) xs o o' err → GaveUp limit (row_format w e s f hash factor) (map seen xs) o o' err
+      pub seen_gave_up : {G : Type 0} (err : WriteError G) → GaveUp limit (row_format w ps e s F own factor) xs o o' err → GaveUp limit (row_format w ps e s f hash factor) (map seen xs) o o' err
       seen_gave_up err h =
-          told_as limit (IndexNext w e s f hash factor (map seen xs) (end_of o)) (IndexNext w e s F own factor xs (end_of o)) o o' err
+          told_as limit (IndexNext w ps e s f hash factor (map seen xs) (end_of o)) (IndexNext w ps e s F own factor xs (end_of o)) o o' err
           (λ front step n. seen_next xs (end_of o) front step n) h
 
 -- the entries of borrowed pairs have the values of these pairs
@@ -115,13 +115,13 @@ made_lent : {BK BV A B : Type 0} (key : BK → A) (value : BV → B) (xs : List 
 made_lent key value [] = refl
 made_lent {A = A} {B = B} key value (x ∷ xs) = ap (λ (l : List (A × B)). (key x.key, value x.value) ∷ l) (made_lent key value xs)
 
-module _ (G : Type 0) {BK BV A B P R Q : Type 0} (key : BK → A) (value : BV → B) (w : Width) (e : Encoding P) (k v : Shape) (kf : Format A R) (vf : Format B Q) (hash : A → ℕ) (factor : ℕ × ℕ)
+module _ (G : Type 0) {BK BV A B P R Q : Type 0} (key : BK → A) (value : BV → B) (w : Width) (ps : Shape) (e : Encoding P) (k v : Shape) (kf : Format A R) (vf : Format B Q) (hash : A → ℕ) (factor : ℕ × ℕ)
     (gave : List (BK × BV) → Type 0) (other : ℕ → Type 0) (len max limit : ℕ) (has : HasCapacity len factor max) (entries : List (EntryAdapter BK BV A B)) (came : gave (made_of entries)) (count : length entries ≡ len) (o o' : Output) where
   abbrev Of : Format (List (A × B)) IndexResolver
-  Of = index_format w e k v kf vf hash factor
+  Of = index_format w ps e k v kf vf hash factor
 
   abbrev OfEntries : Format (List (EntryAdapter BK BV A B)) IndexResolver
-  OfEntries = row_format w e (entry_shape k v) (written_as (pair_of key value) (pair_format k v kf vf)) (λ entry. hash (key entry.key)) factor
+  OfEntries = row_format w ps e (entry_shape k v) (written_as (pair_of key value) (pair_format k v kf vf)) (λ entry. hash (key entry.key)) factor
 
   made_count : length (made_of entries) ≡ len
   made_count = length-map {B = BK × BV} entries (λ entry. (entry.key, entry.value)) ∙ count
@@ -133,12 +133,12 @@ module _ (G : Type 0) {BK BV A B P R Q : Type 0} (key : BK → A) (value : BV �
     has,
     made_of entries,
     (came, made_count),
-    subst (λ ps. Serialized limit Of ps o o' r) (made_lent key value entries) (seen_serialized (pair_of key value) (pair_format k v kf vf) w e (entry_shape k v) (λ pair. hash pair.0) factor entries o o' limit r h),
+    subst (λ l. Serialized limit Of l o o' r) (made_lent key value entries) (seen_serialized (pair_of key value) (pair_format k v kf vf) w ps e (entry_shape k v) (λ pair. hash pair.0) factor entries o o' limit r h),
   )
   answers_items (Err err) (inl h) = inl (own_counted len factor max NoOther other (λ n z. absurd z) err (subst (λ n. OwnCause n factor max NoOther err) count h.0), h.1)
   answers_items (Err err) (inr h) = inr (
     has,
     made_of entries,
     (came, made_count),
-    subst (λ ps. GaveUp limit Of ps o o' err) (made_lent key value entries) (seen_gave_up (pair_of key value) (pair_format k v kf vf) w e (entry_shape k v) (λ pair. hash pair.0) factor entries o o' limit err h),
+    subst (λ l. GaveUp limit Of l o o' err) (made_lent key value entries) (seen_gave_up (pair_of key value) (pair_format k v kf vf) w ps e (entry_shape k v) (λ pair. hash pair.0) factor entries o o' limit err h),
   )

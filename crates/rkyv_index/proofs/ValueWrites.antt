@@ -26,7 +26,7 @@ use Rattle.rkyv_table.specs.Lemmas.PlaceLaws.{AllBelow}
 use Rattle.rkyv_table.specs.Lemmas.SameHeader.{cap_same, len_same}
 use Rattle.rkyv_table.specs.Lemmas.TableLaws.{table_element}
 use Rattle.rkyv_table.specs.Table.Places.{AllHold}
-use Rattle.rkyv_table.specs.Table.Reading.{IsWalked, item_at, table_controls}
+use Rattle.rkyv_table.specs.Table.Positions.{IsWalked, item_at, table_controls}
 use Rattle.rkyv_table.specs.Table.SealedTable.{RestsOnKey, SameValue, WritesValue}
 use Rattle.rkyv_table.proofs.Lists.{set_each}
 use Rattle.rkyv_table.proofs.Items.{controls_accepted, some_cap}
@@ -42,7 +42,7 @@ use Rattle.rkyv_keys.specs.Equality.{Comparison}
 use Rattle.rkyv_keys.specs.Keys.{IsKey}
 use Rattle.rkyv_index.specs.Lemmas.IndexNear.{HashNear, written_again}
 use Rattle.rkyv_index.specs.SealedIndex.{IsPairPos}
-use Rattle.rkyv_index.specs.ValueWrites.{KeepsEntries, KeepsIndexMap, pair_at}
+use Rattle.rkyv_index.specs.ValueWrites.{KeepsEntries, KeepsIndexMap, index_kind, pair_at}
 use Rattle.rkyv_index.proofs.Held.{begin_is, entries_inside, entry_viewed, place_below, table_there}
 
 -- the hash of a valid key depends only on the bytes of the key and its parts
@@ -264,7 +264,7 @@ module _ (w : Width) (kind : IsArchiveWord w) (k v : Shape) (kl : IsElement k) (
       written_same = written_again w S.size key_hash b c p head controls_same read_same
           (λ j there. sym (hash_same j there) ∙ ap (key_hash c) (sym (places_same j)))
 
-      pub index_kept : KeepsIndexMap w k v key_hash b c p i
+      pub index_kept : KeepsIndexMap (index_kind w k v key_hash) b c p i
       index_kept = record {
         entries = entries_kept;
         stands = viewed_kept (index_shape w S) b c p writes.sealed.same_length index_holds view;

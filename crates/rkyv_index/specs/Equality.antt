@@ -1,4 +1,6 @@
 -- Equality of index maps, and the keys that a lookup of their own doesn't find.
+use Rattle.rkyv_base.specs.declared.element.Shaped.{Ghosts as Shapes}
+use Rattle.rkyv_base.specs.declared.width.Word.{Ghosts as Words}
 use Rattle.std.specs.Prelude.{◌≡◌, ℕ, List, Bool, Option, ◌&&◌, ◌==◌, not, length, filter}
 use Rattle.std.specs.Int.{Width}
 use Rattle.std.specs.List.{find, list_all}
@@ -9,9 +11,11 @@ use Rattle.rkyv_keys.specs.Equality.{Comparison}
 use Rattle.rkyv_keys.specs.OfEntries.{entry_same}
 use Rattle.rkyv_table.specs.Table.Header.{len_at}
 use Rattle.rkyv_table.specs.Table.Misplaced.{is_answer}
-use Rattle.rkyv_index.specs.Index.{Index, IsWritten, index_found, index_places, key_at}
+use Rattle.rkyv_index.specs.Index.{Index, IsWritten, index_bytes, index_found, index_places}
+use Rattle.rkyv_index.specs.Index.{index_pos, key_at}
 use Rattle.rkyv_index.specs.IndexLayout.{pair_pos}
 use Rattle.rkyv_index.specs.IndexLayout.{places_of}
+use Rattle.rkyv_index.specs.declared.map.ArchivedIndexMap.{ArchivedIndexMap}
 
 module _ (w : Width) (s : Shape) (same : Comparison) where
   -- the entries at index `i` of both maps are the same
@@ -27,6 +31,14 @@ module _ (w : Width) (s : Shape) (same : Comparison) where
 abbrev pub index_map_equal : Width → Shape → Shape → Comparison → Comparison → Comparison
 index_map_equal w k v same_key same_value =
     index_equal w (entry_shape k v) (entry_same k v same_key same_value)
+
+module _ {K V H W : Type 0} {ks : Shapes K} {vs : Shapes V} {wt : Words W} where
+  -- both maps have the same length, and the same pairs in order
+  abbrev pub index_maps_equal : Comparison → Comparison → ArchivedIndexMap K V H W ks vs wt
+      → ArchivedIndexMap K V H W ks vs wt → Bool
+  index_maps_equal same_key same_value m n =
+      index_map_equal wt.word ks.shape vs.shape same_key same_value (index_bytes m) (index_pos m)
+      (index_bytes n) (index_pos n)
 
 module _ {K : Type 0} (m : Index K) (key_hash : List ℕ → ℕ → ℕ) (same_key : Comparison) where
   -- the keys at the indices `i` and `j` are the same

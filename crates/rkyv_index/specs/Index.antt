@@ -1,4 +1,5 @@
 -- Index maps in an archive, and lookups in them.
+use Rattle.rkyv_base.specs.declared.element.Shaped.{Ghosts as Shapes}
 use Rattle.rkyv_base.specs.declared.width.Word.{Ghosts as Words}
 use Rattle.std.specs.Prelude.{◌≡◌, ℕ, suc, zero, ◌+◌, ◌/◌, ◌<◌, ◌≤◌, ◌↔◌, List, [], ◌∷◌, Bool, true}
 use Rattle.std.specs.Prelude.{Option, Some, None, IsSome, IsTrue, MatchOption, length}
@@ -17,10 +18,11 @@ use Rattle.rkyv_base.specs.declared.view.View.{View}
 use Rattle.rkyv_table.specs.Controls.Finding.{ReadsWithin}
 use Rattle.rkyv_table.specs.Table.Header.{cap_at, len_at}
 use Rattle.rkyv_table.specs.Controls.Numbers.{probe_capacity}
-use Rattle.rkyv_table.specs.Table.Reading.{FindsItem, IsItem, IsWalked, item_at, pos_found}
+use Rattle.rkyv_table.specs.Table.Positions.{IsWalked, item_at, pos_found}
+use Rattle.rkyv_table.specs.Table.Reading.{FindsItem, IsItem}
 use Rattle.rkyv_table.specs.declared.table.ArchivedHashTable.{ArchivedHashTable}
 use Rattle.rkyv_index.specs.IndexFormat.{IndexWrittenAt}
-use Rattle.rkyv_index.specs.IndexLayout.{entries_pos, index_shape, pair_pos, places_of}
+use Rattle.rkyv_index.specs.IndexLayout.{entries_pos, pair_pos, places_of}
 use Rattle.rkyv_index.specs.declared.map.ArchivedIndexMap.{ArchivedIndexMap}
 use Rattle.rkyv_index.specs.declared.map.entries.Entries.{Entries}
 
@@ -48,78 +50,78 @@ abbrev pub index_found : Width → List ℕ → ℕ → ℕ → (ℕ → Bool) �
 index_found w b p hash accept = option_map (number_at w b) (pos_found generic_kind w (byte_len w) b
     p hash (λ q. accept (number_at w b q)))
 
-module _ {K V H W : Type 0} {wt : Words W} where
-  -- `m` is a valid index map
-  abbrev pub IsIndexMap : Width → Shape → Shape → ArchivedIndexMap K V H W wt → Type 0
-  IsIndexMap w k v m = IsView (index_shape w (entry_shape k v)) m.view
-
+module _ {K V H W : Type 0} {ks : Shapes K} {vs : Shapes V} {wt : Words W} where
   -- the archive of the map
-  abbrev pub index_archive : ArchivedIndexMap K V H W wt → Bor (List ℕ)
+  abbrev pub index_archive : ArchivedIndexMap K V H W ks vs wt → Bor (List ℕ)
   index_archive m = archive_of m.view
 
   -- the bytes of the archive
-  abbrev pub index_bytes : ArchivedIndexMap K V H W wt → List ℕ
+  abbrev pub index_bytes : ArchivedIndexMap K V H W ks vs wt → List ℕ
   index_bytes m = bytes_of m.view
 
   -- the position of the header
-  abbrev pub index_pos : ArchivedIndexMap K V H W wt → ℕ
+  abbrev pub index_pos : ArchivedIndexMap K V H W ks vs wt → ℕ
   index_pos m = pos_of m.view
 
   -- the number of pairs
-  abbrev pub index_len : Width → ArchivedIndexMap K V H W wt → ℕ
-  index_len w m = len_at w (index_bytes m) (index_pos m)
+  abbrev pub index_len : ArchivedIndexMap K V H W ks vs wt → ℕ
+  index_len m = len_at wt.word (index_bytes m) (index_pos m)
 
   -- the position of the key at index `i`
-  abbrev pub key_pos : Width → Shape → Shape → ArchivedIndexMap K V H W wt → ℕ → ℕ
-  key_pos w k v m i = pair_pos w (entry_shape k v).size (index_bytes m) (index_pos m) i
+  abbrev pub key_pos : ArchivedIndexMap K V H W ks vs wt → ℕ → ℕ
+  key_pos m i = pair_pos wt.word (entry_shape ks.shape vs.shape).size (index_bytes m) (index_pos m)
+      i
 
   -- the positions of the keys, in order
-  abbrev pub key_positions : Width → Shape → Shape → ArchivedIndexMap K V H W wt → List ℕ
-  key_positions w k v m = pair_positions w (entry_shape k v).size (index_bytes m) (index_pos m)
+  abbrev pub key_positions : ArchivedIndexMap K V H W ks vs wt → List ℕ
+  key_positions m = pair_positions wt.word (entry_shape ks.shape vs.shape).size (index_bytes m)
+      (index_pos m)
 
   -- `key`: view of the key at index `i`
-  pub record IsKeyOf (w : Width) (k v : Shape) (m : ArchivedIndexMap K V H W wt) (i : ℕ)
-      (key : View K) : Type 0 where
-    pub below : i < index_len w m
-    pub at : IsAt key (index_archive m) (key_pos w k v m i)
-    pub viewed : IsView k key
+  pub record IsKeyOf (m : ArchivedIndexMap K V H W ks vs wt) (i : ℕ) (key : View K) : Type 0 where
+    pub below : i < index_len m
+    pub at : IsAt key (index_archive m) (key_pos m i)
+    pub viewed : IsView ks.shape key
 
   -- `value`: view of the value at index `i`
-  pub record IsValueOf (w : Width) (k v : Shape) (m : ArchivedIndexMap K V H W wt) (i : ℕ)
-      (value : View V) : Type 0 where
-    pub below : i < index_len w m
-    pub at : IsAt value (index_archive m) (key_pos w k v m i + value_offset k v)
-    pub viewed : IsView v value
+  pub record IsValueOf (m : ArchivedIndexMap K V H W ks vs wt) (i : ℕ) (value : View V) : Type 0
+    where
+      pub below : i < index_len m
+      pub at : IsAt value (index_archive m) (key_pos m i + value_offset ks.shape vs.shape)
+      pub viewed : IsView vs.shape value
 
   -- `entry`: view of the entry at index `i`
-  pub record IsEntryOf (w : Width) (k v : Shape) (m : ArchivedIndexMap K V H W wt) (i : ℕ)
-      (entry : View (Entry K V)) : Type 0 where
-    pub below : i < index_len w m
-    pub at : IsAt entry (index_archive m) (key_pos w k v m i)
-    pub viewed : IsView (entry_shape k v) entry
+  pub record IsEntryOf (m : ArchivedIndexMap K V H W ks vs wt) (i : ℕ) (entry : View (Entry K V))
+      : Type 0 where
+    pub below : i < index_len m
+    pub at : IsAt entry (index_archive m) (key_pos m i)
+    pub viewed : IsView (entry_shape ks.shape vs.shape) entry
 
   -- `pair`: views of the key and the value at index `i`
-  abbrev pub IsPairOf : Width → Shape → Shape → ArchivedIndexMap K V H W wt → ℕ → View K × View V
-      → Type 0
-  IsPairOf w k v m i pair = IsKeyOf w k v m i pair.0 × IsValueOf w k v m i pair.1
+  abbrev pub IsPairOf : ArchivedIndexMap K V H W ks vs wt → ℕ → View K × View V → Type 0
+  IsPairOf m i pair = IsKeyOf m i pair.0 × IsValueOf m i pair.1
 
   -- a full bucket of the map has the index `i`
-  abbrev pub IsHeld : Width → ArchivedIndexMap K V H W wt → ℕ → Type 0
-  IsHeld w m i = IsHeldAt w (index_bytes m) (index_pos m) i
+  abbrev pub IsHeld : ArchivedIndexMap K V H W ks vs wt → ℕ → Type 0
+  IsHeld m i = IsHeldAt wt.word (index_bytes m) (index_pos m) i
 
   -- a full bucket of the map has the index `i`, and it is below the length
-  abbrev pub IsHeldPlace : Width → ArchivedIndexMap K V H W wt → ℕ → Type 0
-  IsHeldPlace w m i = IsHeld w m i × (i < index_len w m)
+  abbrev pub IsHeldPlace : ArchivedIndexMap K V H W ks vs wt → ℕ → Type 0
+  IsHeldPlace m i = IsHeld m i × (i < index_len m)
 
   -- `full`: an index in a full bucket, and views of its key and its value
-  abbrev pub IsFullIn : Width → Shape → Shape → ArchivedIndexMap K V H W wt → ℕ × View K × View V
-      → Type 0
-  IsFullIn w k v m full = IsHeld w m full.0 × IsPairOf w k v m full.0 (full.1, full.2)
+  abbrev pub IsFullIn : ArchivedIndexMap K V H W ks vs wt → ℕ × View K × View V → Type 0
+  IsFullIn m full = IsHeld m full.0 × IsPairOf m full.0 (full.1, full.2)
+
+  -- `full`: an index in a full bucket, and a view of its key
+  abbrev pub IsFullKeyIn : ArchivedIndexMap K V H W ks vs wt → ℕ × View K → Type 0
+  IsFullKeyIn m full = IsHeld m full.0 × IsKeyOf m full.0 full.1
 
   -- the number of strides that a lookup reads: none in an empty map, else at least one
   -- and at most ceil(n / 16) for n buckets. `before`, `after`: counts of strides
-  abbrev pub ReadsFew : Width → ArchivedIndexMap K V H W wt → ℕ → ℕ → Type 0
-  ReadsFew w m before after = ReadsWithin (index_len w m) (probe_capacity (cap_at w (index_bytes m)
+  abbrev pub ReadsFew : ArchivedIndexMap K V H W ks vs wt → ℕ → ℕ → Type 0
+  ReadsFew m before after = ReadsWithin (index_len m) (probe_capacity (cap_at wt.word
+      (index_bytes m)
       (index_pos m)) / 16) before after
 
 -- `item`: a position inside its archive, with an index below the length of the map at `m`
@@ -137,20 +139,20 @@ MayAskPlace w pre item = (pos_of item + byte_len w ≤ length (bytes_of item))
     × ((i : ℕ) → i ≡ place_at w item → pre i)
 
 -- the condition `pre` is met for the index at each item of a table of indices
-abbrev pub MayAskPlaces : {P W : Type 0} {wt : Words W} → Width → (ℕ → Type 0) → Shape
-    → ArchivedHashTable P W wt → Type 0
-MayAskPlaces {P} w pre s t = (item : View P) → IsItem w s t item → MayAskPlace w pre item
+abbrev pub MayAskPlaces : {P W : Type 0} {ts : Shapes P} {wt : Words W} → (ℕ → Type 0)
+    → ArchivedHashTable P W ts wt → Type 0
+MayAskPlaces {P} {wt = wt} pre t = (item : View P) → IsItem t item → MayAskPlace wt.word pre item
 
 -- `post` is true of the index at `item` and of `r`
 abbrev pub AnswersPlace : {P : Type 0} → Width → (ℕ → Bool → Type 0) → View P → Bool → Type 0
 AnswersPlace w post item r = (i : ℕ) × (i ≡ place_at w item) × post i r
 
 -- `result`: the index at the item that a lookup by `post` finds in a table of indices
-pub record FindsHeld {P W : Type 0} {wt : Words W} (post : ℕ → Bool → Type 0) (w : Width)
-    (s : Shape) (t : ArchivedHashTable P W wt) (hash : ℕ) (result : Option ℕ) : Type 0 where
+pub record FindsHeld {P W : Type 0} {ts : Shapes P} {wt : Words W} (post : ℕ → Bool → Type 0)
+    (t : ArchivedHashTable P W ts wt) (hash : ℕ) (result : Option ℕ) : Type 0 where
   pub held : Option (View P)
-  pub found : FindsItem (AnswersPlace w post) generic_kind w s t hash held
-  pub is : result ≡ option_map (place_at w) held
+  pub found : FindsItem (AnswersPlace wt.word post) generic_kind t hash held
+  pub is : result ≡ option_map (place_at wt.word) held
 
 -- `key`: view of the key at index `i` of the map at `m`
 pub record IsKeyIn {M K : Type 0} (w : Width) (k v : Shape) (m : View M) (i : ℕ) (key : View K)
@@ -185,15 +187,15 @@ pub record Index (K : Type 0) : Type 1 where
   pub is_key : ℕ → View K → Type 0
 
 -- the index map `m` for lookups
-abbrev pub index_of : {K V H W : Type 0} {wt : Words W} → Width → Shape → Shape
-    → ArchivedIndexMap K V H W wt → Index K
-index_of w k v m = record {
-  word = w;
-  key = k;
-  value = v;
+abbrev pub index_of : {K V H W : Type 0} {ks : Shapes K} {vs : Shapes V} {wt : Words W}
+    → ArchivedIndexMap K V H W ks vs wt → Index K
+index_of {ks = ks} {vs} {wt} m = record {
+  word = wt.word;
+  key = ks.shape;
+  value = vs.shape;
   bytes = index_bytes m;
   pos = index_pos m;
-  is_key = IsKeyOf w k v m;
+  is_key = IsKeyOf m;
 }
 
 module _ {K : Type 0} (m : Index K) where
@@ -216,8 +218,8 @@ module _ {K : Type 0} (m : Index K) where
       IndexWrittenAt m.word (entry_shape m.key m.value).size key_hash m.bytes m.pos homes
 
   -- the condition `pre` is met for each key of the map
-  abbrev pub MayAskKeys : (View K → Type 0) → Type 0
-  MayAskKeys pre = (i : ℕ) (key : View K) → m.is_key i key → pre key
+  abbrev pub MayAskKeysOf : (View K → Type 0) → Type 0
+  MayAskKeysOf pre = (i : ℕ) (key : View K) → m.is_key i key → pre key
 
   -- a comparison with `post` returns `accept i` for each key at index `i`
   abbrev pub AnswersKeys : (View K → Bool → Type 0) → (ℕ → Bool) → Type 0
@@ -238,43 +240,45 @@ module _ {K : Type 0} (m : Index K) where
   FindsFirstPlace key_hash accept Told = (homes : List ℕ) → IsWritten key_hash homes
       → Told (find accept index_places)
 
-  module _ {State : Type 0} where
-    -- `Told` is a property of the index that a lookup by a comparison finds. `calls`: hasher calls
-    -- of the key to look up. `accept i`: result of the comparison for the key at index `i`
-    abbrev pub FindsBy : (View K → Bool → Type 0) → Hasher State → List HasherCall
-        → (Option ℕ → Type 0) → Type 0
-    FindsBy post hasher calls Told = (accept : ℕ → Bool) → AnswersKeys post accept
-        → FindsPlace (hash_of_calls hasher calls) accept Told
+  -- `Told` is a property of the index that a lookup by a comparison finds, under a hash.
+  -- `accept i`: result of the comparison for the key at index `i`
+  abbrev pub FindsBy : (View K → Bool → Type 0) → ℕ → (Option ℕ → Type 0) → Type 0
+  FindsBy post hash Told = (accept : ℕ → Bool) → AnswersKeys post accept
+      → FindsPlace hash accept Told
 
-    -- `Told` is a property of the first accepted index, in a written map whose accepted keys are
-    -- under the hash. `key_calls b q`: hasher calls of the key at `q`
-    abbrev pub FindsFirstBy : (View K → Bool → Type 0) → Hasher State → List HasherCall
-        → (List ℕ → ℕ → List HasherCall) → (Option ℕ → Type 0) → Type 0
-    FindsFirstBy post hasher calls key_calls Told = (accept : ℕ → Bool) → AnswersKeys post accept
-        → AreUnderHash (hash_of_calls hasher calls) (hash_at hasher key_calls) accept
-        → FindsFirstPlace (hash_at hasher key_calls) accept Told
+  -- `Told` is a property of the first accepted index, in a written map whose accepted keys are
+  -- under the hash. `key_hash b q`: hash of the key at `q`
+  abbrev pub FindsFirstBy : (View K → Bool → Type 0) → ℕ → (List ℕ → ℕ → ℕ) → (Option ℕ → Type 0)
+      → Type 0
+  FindsFirstBy post hash key_hash Told = (accept : ℕ → Bool) → AnswersKeys post accept
+      → AreUnderHash hash key_hash accept → FindsFirstPlace key_hash accept Told
 
-    -- `Told` is a property of the index that a lookup of a query finds. `calls`: hasher calls
-    -- of the query, `fits`: test of the keys
-    abbrev pub FindsKey : Hasher State → List HasherCall → (List ℕ → ℕ → Bool)
-        → (Option ℕ → Type 0) → Type 0
-    FindsKey hasher calls fits Told = FindsPlace (hash_of_calls hasher calls) (fits_at fits) Told
+  -- `Told` is a property of the index that a lookup of a query finds, under a hash.
+  -- `fits`: test of the keys
+  abbrev pub FindsKey : ℕ → (List ℕ → ℕ → Bool) → (Option ℕ → Type 0) → Type 0
+  FindsKey hash fits Told = FindsPlace hash (fits_at fits) Told
 
-    -- `Told` is a property of the first index whose key fits, in a written map
-    abbrev pub FindsFirstKey : Hasher State → (List ℕ → ℕ → List HasherCall)
-        → (List ℕ → ℕ → Bool) → (Option ℕ → Type 0) → Type 0
-    FindsFirstKey hasher key_calls fits Told =
-        FindsFirstPlace (hash_at hasher key_calls) (fits_at fits) Told
+  -- `Told` is a property of the first index whose key fits, in a written map
+  abbrev pub FindsFirstKey : (List ℕ → ℕ → ℕ) → (List ℕ → ℕ → Bool) → (Option ℕ → Type 0) → Type 0
+  FindsFirstKey key_hash fits Told = FindsFirstPlace key_hash (fits_at fits) Told
 
-module _ {K V H W : Type 0} {wt : Words W} (w : Width) (k v : Shape)
-    (m : ArchivedIndexMap K V H W wt) where
+module _ {K V H W : Type 0} {ks : Shapes K} {vs : Shapes V} {wt : Words W}
+    (m : ArchivedIndexMap K V H W ks vs wt) where
+  -- the condition `pre` is met for each key of the map
+  abbrev pub MayAskKeys : (View K → Type 0) → Type 0
+  MayAskKeys pre = MayAskKeysOf (index_of m) pre
+
+  -- the comparison with `post` accepts the key at index `i`
+  abbrev pub IsAccepted : (View K → Bool → Type 0) → ℕ → Type 0
+  IsAccepted post i = (key : View K) × IsKeyOf m i key × post key true
+
   -- `result`: the pair at the index `place`, or `None` if `place` is `None`
   abbrev pub IsPairAt : Option (View K × View V) → Option ℕ → Type 0
-  IsPairAt result place = IsThere (IsPairOf w k v m) result place
+  IsPairAt result place = IsThere (IsPairOf m) result place
 
   -- `result`: the value at the index `place`, or `None` if `place` is `None`
   abbrev pub IsValueAt : Option (View V) → Option ℕ → Type 0
-  IsValueAt result place = IsThere (IsValueOf w k v m) result place
+  IsValueAt result place = IsThere (IsValueOf m) result place
 
 -- `result` is the index `place`, or both are `None`
 abbrev pub IsPlace : Option ℕ → Option ℕ → Type 0
@@ -284,12 +288,15 @@ IsPlace result place = result ≡ place
 abbrev pub full_place : {K V : Type 0} → Option (ℕ × View K × View V) → Option ℕ
 full_place {K} {V} result = option_map (λ (full : ℕ × View K × View V). full.0) result
 
+-- the index in `result`
+abbrev pub full_key_place : {K : Type 0} → Option (ℕ × View K) → Option ℕ
+full_key_place {K} result = option_map (λ (full : ℕ × View K). full.0) result
+
 -- `result` is `true` if and only if `place` is `Some`
 abbrev pub IsFoundAt : Bool → Option ℕ → Type 0
 IsFoundAt result place = IsTrue result ↔ IsSome place
 
--- `entries`: a valid map, and the position of its first entry
-pub record AreEntries {K V H W : Type 0} {wt : Words W} (w : Width) (k v : Shape)
-    (entries : Entries K V H W wt) : Type 0 where
-  pub map : IsIndexMap w k v entries.map
-  pub begin : entries.begin ≡ entries_pos w (index_bytes entries.map) (index_pos entries.map)
+-- `entries`: a map, and the position of its first entry
+pub record AreEntries {K V H W : Type 0} {ks : Shapes K} {vs : Shapes V} {wt : Words W}
+    (entries : Entries K V H W ks vs wt) : Type 0 where
+  pub begin : entries.begin ≡ entries_pos wt.word (index_bytes entries.map) (index_pos entries.map)

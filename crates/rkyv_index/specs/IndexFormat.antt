@@ -5,13 +5,13 @@ use Rattle.rkyv_base.specs.Bytes.{number_at}
 use Rattle.rkyv_base.specs.Entry.{entry_shape}
 use Rattle.rkyv_base.specs.Format.{Format, IsFormat}
 use Rattle.rkyv_base.specs.Pairs.{PairStands, pair_format}
-use Rattle.rkyv_base.specs.Scalar.{Encoding, scalar_format, scalar_shape}
+use Rattle.rkyv_base.specs.Scalar.{Encoding, scalar_format}
 use Rattle.rkyv_base.specs.Shape.{Shape}
 use Rattle.rkyv_base.specs.Writing.{Step, padding, piece, zeros}
 use Rattle.rkyv_scan.specs.Hash.{Hasher, HasherCall, hash_of_calls}
 use Rattle.rkyv_table.specs.Table.Header.{cap_at, len_at}
 use Rattle.rkyv_table.specs.Controls.Numbers.{capacity}
-use Rattle.rkyv_table.specs.Table.Reading.{WrittenAt, home_positions}
+use Rattle.rkyv_table.specs.Table.Positions.{WrittenAt, home_positions}
 use Rattle.rkyv_table.specs.Table.TableFormat.{PairsNext, TableParts, TableResolver}
 use Rattle.rkyv_table.specs.Table.TableFormat.{resolved_capacity}
 use Rattle.rkyv_index.specs.IndexHeader.{IndexFar, IndexResolver, IsIndexHeader}
@@ -27,7 +27,8 @@ abbrev pub places_from : {X P : Type 0} → (X → ℕ) → (ℕ → P) → ℕ 
 places_from hash place i [] = []
 places_from hash place i (x ∷ xs) = (hash x, place i) ∷ places_from hash place (i + 1) xs
 
-module _ {P X R : Type 0} (w : Width) (e : Encoding P) (s : Shape) (f : Format X R) (hash : X → ℕ)
+module _ {P X R : Type 0} (w : Width) (ps : Shape) (e : Encoding P) (s : Shape) (f : Format X R)
+    (hash : X → ℕ)
     (load_factor : ℕ × ℕ) (xs : List X) (p : ℕ) where
   -- the indices of `xs`, each under the hash of its value
   abbrev pub places : List (ℕ × P)
@@ -35,7 +36,7 @@ module _ {P X R : Type 0} (w : Width) (e : Encoding P) (s : Shape) (f : Format X
 
   -- `part`: bytes of the table of indices, which are written first. `r`: its resolver
   abbrev pub PlaceTable : List ℕ → TableResolver → Type 0
-  PlaceTable part r = TableParts w (scalar_shape e) (scalar_format e) load_factor places p part r
+  PlaceTable part r = TableParts w ps (scalar_format e) load_factor places p part r
 
   -- `front`: bytes of the table of indices, and then the parts of the values
   pub record BeforeZeros (front : List ℕ) (t : TableResolver) (rs : List R) : Type 0 where
@@ -64,7 +65,7 @@ module _ {P X R : Type 0} (w : Width) (e : Encoding P) (s : Shape) (f : Format X
   -- `step`: next step after `front`. It is a step of the table, of the parts of a value,
   -- of the zeros, or of the own bytes of a value
   abbrev pub IndexNext : List ℕ → Step → Type 0
-  IndexNext front step = PairsNext w (scalar_shape e) (scalar_format e) load_factor places p front
+  IndexNext front step = PairsNext w ps (scalar_format e) load_factor places p front
       step
       ⊎ ((table : List ℕ) × (t : TableResolver) × (rest : List ℕ) × PlaceTable table t
       × RowPartsNext f xs (p + length table) rest step × (front ≡ table ++ rest))
@@ -74,12 +75,13 @@ module _ {P X R : Type 0} (w : Width) (e : Encoding P) (s : Shape) (f : Format X
       × RowNext f xs rs (p + length a) rest step × (front ≡ a ++ rest))
 
 -- the format of a list of values of shape `s` as an index map under a load factor.
--- Each value is under its hash
-abbrev pub row_format : {P X R : Type 0} → Width → Encoding P → Shape → Format X R → (X → ℕ) → ℕ × ℕ
+-- The indices have the shape `ps` and the encoding `e`. Each value is under its hash
+abbrev pub row_format : {P X R : Type 0} → Width → Shape → Encoding P → Shape → Format X R → (X
+    → ℕ) → ℕ × ℕ
     → Format (List X) IndexResolver
-row_format w e s f hash load_factor = record {
-  parts = IndexParts w e s f hash load_factor;
-  next = IndexNext w e s f hash load_factor;
+row_format w ps e s f hash load_factor = record {
+  parts = IndexParts w ps e s f hash load_factor;
+  next = IndexNext w ps e s f hash load_factor;
   image = λ xs r p out. IsIndexHeader w r.table.len (resolved_capacity r.table) r p out;
   far = λ xs r p. IndexFar w r.table.len r p;
 }
@@ -92,9 +94,10 @@ hash_of hasher calls value = hash_of_calls hasher (calls value)
 -- The format of a list of pairs, in insertion order, as an index map under a load factor.
 -- Its table has the index of each pair under the hash of its key. The parts of the entries follow,
 -- then zeros, and then the entries.
-abbrev pub index_format : {P A B R Q : Type 0} → Width → Encoding P → Shape → Shape → Format A R
+abbrev pub index_format : {P A B R Q : Type 0} → Width → Shape → Encoding P → Shape → Shape
+    → Format A R
     → Format B Q → (A → ℕ) → ℕ × ℕ → Format (List (A × B)) IndexResolver
-index_format w e k v key value hash load_factor = row_format w e (entry_shape k v)
+index_format w ps e k v key value hash load_factor = row_format w ps e (entry_shape k v)
     (pair_format k v key value) (λ pair. hash pair.0) load_factor
 
 -- the map at `p` was written: its table has the indices in order, each under the hash of its key
@@ -122,12 +125,33 @@ abbrev pub IndexStands : {A B : Type 0} → Width → Shape → Shape → (List 
 IndexStands w k v key value hash load_factor b p pairs = RowStands w (entry_shape k v).size
     (PairStands k v key value) hash load_factor b p pairs
 
+-- how indices are written: their shape and their encoding
+pub record PlacesAs (P : Type 0) : Type 1 where
+  pub shape : Shape
+  pub encoding : Encoding P
+
+-- indices of this shape and encoding
+abbrev pub indices : {P : Type 0} → Shape → Encoding P → PlacesAs P
+indices shape encoding = record { shape = shape; encoding = encoding }
+
+-- how values are archived by an element: its shape, the values that it represents,
+-- and their format
+pub record ArchivedAs (A R : Type 0) : Type 1 where
+  pub shape : Shape
+  pub stands : List ℕ → ℕ → A → Type 0
+  pub format : Format A R
+
+-- values that are archived by an element of this shape
+abbrev pub element : {A R : Type 0} → Shape → (List ℕ → ℕ → A → Type 0) → Format A R
+    → ArchivedAs A R
+element shape stands format = record { shape = shape; stands = stands; format = format }
+
 -- Under each load factor, written bytes of pairs and an aligned header behind them are a valid
 -- index map. It represents the pairs, in any archive that has these bytes.
-abbrev pub WrittenIndexMapsStand : {P A B R Q : Type 0} → Width → Encoding P → Shape → Shape
-    → (List ℕ → ℕ → A → Type 0) → (List ℕ → ℕ → B → Type 0) → Format A R → Format B Q
-    → (List ℕ → ℕ → ℕ) → (A → ℕ) → Type 0
-WrittenIndexMapsStand w e k v key_stands value_stands key value key_hash hash =
-    (load_factor : ℕ × ℕ) → IsFormat (index_shape w (entry_shape k v))
-    (IndexStands w k v key_stands value_stands key_hash load_factor)
-    (index_format w e k v key value hash load_factor)
+abbrev pub WrittenIndexMapsStand : {P A B R Q : Type 0} → Width → PlacesAs P
+    → ArchivedAs A R → ArchivedAs B Q → (List ℕ → ℕ → ℕ) → (A → ℕ) → Type 0
+WrittenIndexMapsStand w places k v key_hash hash =
+    (load_factor : ℕ × ℕ) → IsFormat (index_shape w (entry_shape k.shape v.shape))
+    (IndexStands w k.shape v.shape k.stands v.stands key_hash load_factor)
+    (index_format w places.shape places.encoding k.shape v.shape k.format v.format hash
+    load_factor)

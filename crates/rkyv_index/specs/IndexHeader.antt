@@ -27,10 +27,10 @@ abbrev pub IndexFar : Width → ℕ → IndexResolver → ℕ → Type 0
 IndexFar w len r p = HeaderFar w len r.table.pos p
     ⊎ (FitsSigned w (pos r.entries -ℤ pos (distance_pos w p)) → ⊥)
 
--- `after`: header at `p` of an index map with this length and load factor. With an error,
--- a distance doesn't fit in the width, and the bytes are unchanged
-abbrev pub WritesIndexHeader : {T E : Type 0} → Width → ℕ → ℕ × ℕ → IndexResolver → ℕ → List ℕ
-    → List ℕ → Result T E → Type 0
-WritesIndexHeader w len load_factor r p before after result = MatchResult result
-    (λ _. IsIndexHeader w len (capacity len load_factor) r p after)
-    (λ _. IndexFar w len r p × (after ≡ before))
+-- `after`: header at `p` of the index map of the resolver. With an error, a distance doesn't fit
+-- in the width, and the bytes are unchanged
+abbrev pub WritesIndexHeader : {T E : Type 0} → Width → IndexResolver → ℕ → List ℕ → List ℕ
+    → Result T E → Type 0
+WritesIndexHeader w r p before after result = MatchResult result
+    (λ _. IsIndexHeader w r.table.len (capacity r.table.len r.table.load_factor) r p after)
+    (λ _. IndexFar w r.table.len r p × (after ≡ before))

@@ -10,7 +10,7 @@ use Rattle.rkyv_base.specs.Parts.{PartFails, PartIn}
 use Rattle.rkyv_base.specs.Shape.{Shape}
 use Rattle.rkyv_table.specs.Table.Header.{len_at}
 use Rattle.rkyv_table.specs.Table.Places.{AllHold, FirstFails}
-use Rattle.rkyv_table.specs.Table.Reading.{item_positions}
+use Rattle.rkyv_table.specs.Table.Positions.{item_positions}
 use Rattle.rkyv_table.specs.Table.Layout.{TableFails, TableHolds}
 
 -- the shape of an index in a bucket: one word, which is always valid

@@ -6,3 +6,4 @@ pub mod RowSound
 pub mod IndexNear
 pub mod IndexSound
 pub mod SetSound
+pub mod ViewedEqual

@@ -1,52 +1,83 @@
--- The contract of a lookup.
-use Rattle.std.specs.Prelude.{ℕ, Bool, IfSome, List, Option}
-use Rattle.rkyv_scan.specs.Hash.{Hasher, HasherCall}
+-- The clauses of lookups on their results.
+use Rattle.rkyv_base.specs.declared.element.Shaped.{Ghosts as Shapes}
+use Rattle.rkyv_base.specs.declared.width.Word.{Ghosts as Words}
+use Rattle.std.specs.Prelude.{◌≡◌, ℕ, Bool, IfSome, List, Option}
 use Rattle.rkyv_base.specs.declared.view.View.{View}
-use Rattle.rkyv_keys.specs.Equality.{Comparison}
+use Rattle.rkyv_keys.specs.Asked.{Asked}
 use Rattle.rkyv_index.specs.Complete.{FindsOneKey}
-use Rattle.rkyv_index.specs.Index.{FindsBy, FindsFirstBy, FindsFirstKey, FindsKey, Index, IsHeldAt}
-use Rattle.rkyv_index.specs.Index.{IsPlace, IsThere}
+use Rattle.rkyv_index.specs.Index.{FindsBy, FindsFirstBy, FindsFirstKey, FindsKey, IsAccepted}
+use Rattle.rkyv_index.specs.Index.{IsFullIn, IsFullKeyIn, IsHeld, IsHeldPlace, IsKeyOf, IsPairOf}
+use Rattle.rkyv_index.specs.Index.{IsPlace, IsThere, IsValueOf, full_key_place, full_place}
+use Rattle.rkyv_index.specs.Index.{index_of}
+use Rattle.rkyv_index.specs.declared.map.ArchivedIndexMap.{ArchivedIndexMap}
 
-module _ {K State : Type 0} (m : Index K) (hasher : Hasher State) (calls : List HasherCall)
-    (key_calls : List ℕ → ℕ → List HasherCall) where
-  -- `result` is the result of a lookup of a query that finds the index `place`.
-  -- `calls`: hasher calls of the query. `key_calls b q`: hasher calls of the key at `q`.
-  -- `fits`: test of the keys. `answer`: index in any valid map, by the control bytes.
-  -- `first`: first index that fits, in a written map. `complete`: only index that fits,
-  -- if no key is misplaced
-  pub record GetsPlace {X : Type 0} (same : Comparison) (fits : List ℕ → ℕ → Bool) (In : X → Type 0)
-      (result : Option X) (place : Option ℕ) : Type 0 where
-    pub walked : IfSome result In
-    pub answer : FindsKey m hasher calls fits (IsPlace place)
-    pub first : FindsFirstKey m hasher key_calls fits (IsPlace place)
-    pub complete : FindsOneKey m hasher key_calls same fits place
+-- What a lookup in `M` returns of the pair that it finds. `In m x`: `x` is of a pair of `m`
+-- whose index a full bucket has, `At m result place`: the result is of the pair at the index,
+-- or there is neither
+pub record Part (M X : Type 0) : Type 1 where
+  pub In : M → X → Type 0
+  pub At : M → Option X → Option ℕ → Type 0
 
-  -- `result` is the result of a lookup by a comparison that finds the index `place`
-  pub record GetsPlaceBy {X : Type 0} (post : View K → Bool → Type 0) (In : X → Type 0)
-      (result : Option X) (place : Option ℕ) : Type 0 where
-    pub walked : IfSome result In
-    pub answer : FindsBy m post hasher calls (IsPlace place)
-    pub first : FindsFirstBy m post hasher calls key_calls (IsPlace place)
+module _ {K V H W : Type 0} {ks : Shapes K} {vs : Shapes V} {wt : Words W} where
+  -- the index
+  abbrev pub place_part : Part (ArchivedIndexMap K V H W ks vs wt) ℕ
+  place_part = record { In = IsHeldPlace; At = λ m. IsPlace }
 
-  -- `x` is at an index that a full bucket has
-  abbrev pub IsHeldThere : {X : Type 0} → (ℕ → X → Type 0) → X → Type 0
-  IsHeldThere Stands x = (i : ℕ) × IsHeldAt m.word m.bytes m.pos i × Stands i x
+  -- the index, the key and the value
+  abbrev pub full_part : Part (ArchivedIndexMap K V H W ks vs wt) (ℕ × View K × View V)
+  full_part = record { In = IsFullIn; At = λ m result place. full_place result ≡ place }
 
-  -- `result` is the result of a lookup of a query, without the index
-  pub record GetsKey {X : Type 0} (fits : List ℕ → ℕ → Bool) (Stands : ℕ → X → Type 0)
-      (result : Option X) : Type 0 where
-    pub walked : IfSome result (IsHeldThere Stands)
-    pub answer : FindsKey m hasher calls fits (IsThere Stands result)
-    pub first : FindsFirstKey m hasher key_calls fits (IsThere Stands result)
+  -- the index and the key
+  abbrev pub full_key_part : Part (ArchivedIndexMap K V H W ks vs wt) (ℕ × View K)
+  full_key_part = record {
+    In = IsFullKeyIn;
+    At = λ m result place. full_key_place result ≡ place;
+  }
 
-  -- `result` is the result of a lookup by a comparison, without the index
-  pub record GetsBy {X : Type 0} (post : View K → Bool → Type 0) (Stands : ℕ → X → Type 0)
-      (result : Option X) : Type 0 where
-    pub walked : IfSome result (IsHeldThere Stands)
-    pub answer : FindsBy m post hasher calls (IsThere Stands result)
-    pub first : FindsFirstBy m post hasher calls key_calls (IsThere Stands result)
+  -- what `Stands` describes, without the index
+  abbrev pub part_at : {X : Type 0} → (ArchivedIndexMap K V H W ks vs wt → ℕ → X → Type 0)
+      → Part (ArchivedIndexMap K V H W ks vs wt) X
+  part_at Stands = record {
+    In = λ m x. (i : ℕ) × IsHeld m i × Stands m i x;
+    At = λ m. IsThere (Stands m);
+  }
 
-  -- `Told` is a property of the index that a lookup of a query finds
-  pub record TellsKey (fits : List ℕ → ℕ → Bool) (Told : Option ℕ → Type 0) : Type 0 where
-    pub answer : FindsKey m hasher calls fits Told
-    pub first : FindsFirstKey m hasher key_calls fits Told
+  -- the key and the value
+  abbrev pub pair_part : Part (ArchivedIndexMap K V H W ks vs wt) (View K × View V)
+  pair_part = part_at IsPairOf
+
+  -- the key
+  abbrev pub key_part : Part (ArchivedIndexMap K V H W ks vs wt) (View K)
+  key_part = part_at IsKeyOf
+
+  -- the value
+  abbrev pub value_part : Part (ArchivedIndexMap K V H W ks vs wt) (View V)
+  value_part = part_at IsValueOf
+
+  module _ (m : ArchivedIndexMap K V H W ks vs wt) where
+    -- `Told` is a property of the index that a lookup finds: in any map, in a written map,
+    -- and if no key is misplaced
+    pub record TellsKey (a : Asked) (Told : Option ℕ → Type 0) : Type 0 where
+      pub answer : FindsKey (index_of m) a.hash a.fits Told
+      pub first : FindsFirstKey (index_of m) a.key_hash a.fits Told
+      pub complete : FindsOneKey (index_of m) a.key_hash a.same a.fits Told
+
+  module _ {X : Type 0} (part : Part (ArchivedIndexMap K V H W ks vs wt) X)
+      (m : ArchivedIndexMap K V H W ks vs wt) where
+    -- `result`: part of the pair that a lookup finds. `answer`: in any map, by the control bytes.
+    -- `first`: in a written map, of the first key that fits. `complete`: of the only key that fits,
+    -- if no key is misplaced
+    pub record GetsKey (a : Asked) (result : Option X) : Type 0 where
+      pub walked : IfSome result (part.In m)
+      pub answer : FindsKey (index_of m) a.hash a.fits (part.At m result)
+      pub first : FindsFirstKey (index_of m) a.key_hash a.fits (part.At m result)
+      pub complete : FindsOneKey (index_of m) a.key_hash a.same a.fits (part.At m result)
+
+    -- `result`: part of the pair that a lookup by a comparison finds, under the hash.
+    -- `accepted`: the comparison accepted the key of the pair
+    pub record GetsBy (hash : ℕ) (key_hash : List ℕ → ℕ → ℕ) (post : View K → Bool → Type 0)
+        (result : Option X) : Type 0 where
+      pub walked : IfSome result (part.In m)
+      pub accepted : (place : Option ℕ) × part.At m result place × IfSome place (IsAccepted m post)
+      pub answer : FindsBy (index_of m) post hash (part.At m result)
+      pub first : FindsFirstBy (index_of m) post hash key_hash (part.At m result)

@@ -1,6 +1,7 @@
 -- Lists that are deserialized from index maps and index sets.
+use Rattle.rkyv_base.specs.declared.element.Shaped.{Ghosts as Shapes}
 use Rattle.rkyv_base.specs.declared.width.Word.{Ghosts as Words}
-use Rattle.std.specs.Prelude.{◌≡◌, ℕ, ◌<◌, ◌⊎◌, ◌&&◌, List, Bool, true, MatchResult, Result, Some}
+use Rattle.std.specs.Prelude.{◌≡◌, ℕ, ◌<◌, ◌⊎◌, ◌&&◌, List, Bool, true, Some}
 use Rattle.std.specs.Prelude.{length, slice_get}
 use Rattle.std.specs.Cmp.Lexicographic.{pointwise}
 use Rattle.std.specs.Int.{Width}
@@ -22,14 +23,6 @@ use Rattle.rkyv_index.specs.ValueWrites.{pair_at}
 use Rattle.rkyv_index.specs.declared.map.ArchivedIndexMap.{ArchivedIndexMap}
 use Rattle.rkyv_index.specs.declared.set.ArchivedIndexSet.{ArchivedIndexSet}
 
--- `result`: the pair that the entry at `at` represents, or an error of its key or its value
-abbrev pub ReadsPair : {A B : Type 0} → Shape → Shape → (List ℕ → ℕ → A → Type 0)
-    → (List ℕ → ℕ → B → Type 0) → Refusals → Refusals → List ℕ → ℕ → Result (A × B) ReadError
-    → Type 0
-ReadsPair k v key value key_refuses value_refuses b at result =
-    MatchResult result (PairStands k v key value b at)
-    (entry_refuses k v key_refuses value_refuses b at)
-
 module _ {A B : Type 0} (w : Width) (k v : Shape) (key : List ℕ → ℕ → A → Type 0)
     (value : List ℕ → ℕ → B → Type 0) (b : List ℕ) (p : ℕ) where
   -- each of the first pairs, in order, is that of its place, in the index map at `p` of `b`
@@ -41,23 +34,36 @@ module _ {A B : Type 0} (w : Width) (k v : Shape) (key : List ℕ → ℕ → A 
   abbrev pub HasPairsAt : List (A × B) → Type 0
   HasPairsAt pairs = (length pairs ≡ len_at w b p) × ArePairsAt pairs
 
-module _ {K V H W A B : Type 0} {wt : Words W} (w : Width) (k v : Shape)
+module _ {K V H W A B : Type 0} {ks : Shapes K} {vs : Shapes V} {wt : Words W}
     (key : List ℕ → ℕ → A → Type 0) (value : List ℕ → ℕ → B → Type 0)
-    (m : ArchivedIndexMap K V H W wt) where
+    (m : ArchivedIndexMap K V H W ks vs wt) where
+  -- `pair`: represented by the entry at the index `place`
+  abbrev pub IsPairRead : ℕ → A × B → Type 0
+  IsPairRead place pair =
+      PairStands ks.shape vs.shape key value (index_bytes m) (key_pos m place) pair
+
   -- each of the pairs is represented by the entry at its index
   abbrev pub ArePairsRead : List (A × B) → Type 0
-  ArePairsRead pairs = ArePairsAt w k v key value (index_bytes m) (index_pos m) pairs
+  ArePairsRead pairs = ArePairsAt wt.word ks.shape vs.shape key value (index_bytes m) (index_pos m)
+      pairs
 
   -- the list has as many pairs as the map, and each is represented by the entry at its index
   abbrev pub ReadsPairs : List (A × B) → Type 0
-  ReadsPairs pairs = HasPairsAt w k v key value (index_bytes m) (index_pos m) pairs
+  ReadsPairs pairs = HasPairsAt wt.word ks.shape vs.shape key value (index_bytes m) (index_pos m)
+      pairs
+
+-- `e`: error of the key or the value at the index `place`
+abbrev pub pair_refuses : {K V H W : Type 0} {ks : Shapes K} {vs : Shapes V} {wt : Words W}
+    → Refusals → Refusals → ArchivedIndexMap K V H W ks vs wt → ℕ → ReadError → Type 0
+pair_refuses {ks = ks} {vs} key value m place e =
+    entry_refuses ks.shape vs.shape key value (index_bytes m) (key_pos m place) e
 
 -- `e`: error of deserializing the pairs. It is `Memory`, or an error of a key or a value
-abbrev pub pairs_refuse : {K V H W : Type 0} {wt : Words W} → Width → Shape → Shape → Refusals
-    → Refusals → ArchivedIndexMap K V H W wt → ReadError → Type 0
-pairs_refuse w k v key value m e = (e ≡ Memory)
-    ⊎ ((i : ℕ) × (i < index_len w m)
-    × entry_refuses k v key value (index_bytes m) (key_pos w k v m i) e)
+abbrev pub pairs_refuse : {K V H W : Type 0} {ks : Shapes K} {vs : Shapes V} {wt : Words W}
+    → Refusals → Refusals → ArchivedIndexMap K V H W ks vs wt → ReadError → Type 0
+pairs_refuse {ks = ks} {vs} key value m e = (e ≡ Memory)
+    ⊎ ((i : ℕ) × (i < index_len m)
+    × entry_refuses ks.shape vs.shape key value (index_bytes m) (key_pos m i) e)
 
 module _ {A : Type 0} (w : Width) (k : Shape) (key : List ℕ → ℕ → A → Type 0) (b : List ℕ)
     (p : ℕ) where
@@ -70,37 +76,48 @@ module _ {A : Type 0} (w : Width) (k : Shape) (key : List ℕ → ℕ → A → 
   abbrev pub HasItemsAt : List A → Type 0
   HasItemsAt items = (length items ≡ len_at w b p) × AreItemsAt items
 
-module _ {K H W A : Type 0} {wt : Words W} (w : Width) (k : Shape) (key : List ℕ → ℕ → A → Type 0)
-    (s : ArchivedIndexSet K H W wt) where
+module _ {K H W A : Type 0} {ks : Shapes K} {wt : Words W} (key : List ℕ → ℕ → A → Type 0)
+    (s : ArchivedIndexSet K H W ks wt) where
   -- each of the items is represented by the key at its index
   abbrev pub AreItemsRead : List A → Type 0
-  AreItemsRead items = AreItemsAt w k key (set_bytes s) (set_pos s) items
+  AreItemsRead items = AreItemsAt wt.word ks.shape key (set_bytes s) (set_pos s) items
 
   -- the list has as many items as the set, and each is represented by the key at its index
   abbrev pub ReadsItems : List A → Type 0
-  ReadsItems items = HasItemsAt w k key (set_bytes s) (set_pos s) items
+  ReadsItems items = HasItemsAt wt.word ks.shape key (set_bytes s) (set_pos s) items
 
 -- `e`: error of deserializing the items. It is `Memory`, or an error of a key
-abbrev pub items_refuse : {K H W : Type 0} {wt : Words W} → Width → Shape → Refusals
-    → ArchivedIndexSet K H W wt → ReadError → Type 0
-items_refuse w k key s e = (e ≡ Memory) ⊎ ((i : ℕ) × (i < index_len w (keys_of s))
-    × key (set_bytes s) (key_pos w k unit_shape (keys_of s) i) e)
+abbrev pub items_refuse : {K H W : Type 0} {ks : Shapes K} {wt : Words W} → Refusals
+    → ArchivedIndexSet K H W ks wt → ReadError → Type 0
+items_refuse key s e = (e ≡ Memory) ⊎ ((i : ℕ) × (i < index_len (keys_of s))
+    × key (set_bytes s) (key_pos (keys_of s) i) e)
 
 -- both parts are equal
 abbrev pub pairs_equal : {A B : Type 0} → (A → A → Bool) → (B → B → Bool) → A × B → A × B → Bool
 pairs_equal first second x y = first x.0 y.0 && second x.1 y.1
 
+-- how values are read from an element: its shape, the values that it represents,
+-- and their equality
+pub record ReadsAs (A : Type 0) : Type 1 where
+  pub shape : Shape
+  pub stands : List ℕ → ℕ → A → Type 0
+  pub equal : A → A → Bool
+
+-- values that are read from an element of this shape
+abbrev pub reads_as : {A : Type 0} → Shape → (List ℕ → ℕ → A → Type 0) → (A → A → Bool)
+    → ReadsAs A
+reads_as shape stands equal = record { shape = shape; stands = stands; equal = equal }
+
 -- If an index map represents the list `listed`, a list `read` that is deserialized from it
 -- is equal to `listed`.
-abbrev pub PairsReadBackAreListed : {A B : Type 0} → Width → Shape → Shape
-    → (List ℕ → ℕ → A → Type 0) → (List ℕ → ℕ → B → Type 0) → (List ℕ → ℕ → ℕ)
-    → (A → A → Bool) → (B → B → Bool) → Type 0
-PairsReadBackAreListed {A} {B} w k v key value hash key_equal value_equal =
+abbrev pub PairsReadBackAreListed : {A B : Type 0} → Width → ReadsAs A → ReadsAs B
+    → (List ℕ → ℕ → ℕ) → Type 0
+PairsReadBackAreListed {A} {B} w k v hash =
     (b : List ℕ) (p : ℕ) (factor : ℕ × ℕ) (listed read : List (A × B))
-    → Viewed (index_shape w (entry_shape k v)) b p
-    → IndexStands w k v key value hash factor b p listed
-    → HasPairsAt w k v key value b p read
-    → pointwise (pairs_equal key_equal value_equal) listed read ≡ true
+    → Viewed (index_shape w (entry_shape k.shape v.shape)) b p
+    → IndexStands w k.shape v.shape k.stands v.stands hash factor b p listed
+    → HasPairsAt w k.shape v.shape k.stands v.stands b p read
+    → pointwise (pairs_equal k.equal v.equal) listed read ≡ true
 
 -- If an index set represents the list `listed`, a list `read` that is deserialized from it
 -- is equal to `listed`.

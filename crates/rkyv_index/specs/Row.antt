@@ -44,23 +44,32 @@ module _ {X R : Type 0} (f : Format X R) where
     RowNext front step =
         (i : ℕ) × (x : X) × (r : R) × Before i x r front × ValueStep x r (p + length front) step
 
-  -- `result`: the parts of the values are appended, and `rs` are their resolvers; or the error
-  -- of serializing one of them
-  abbrev pub SerializesRow : {F : Type 0} → ℕ → List X → List R → Output → Output
-      → Result (Unit {0}) (WriteError F) → Type 0
-  SerializesRow limit xs rs o o' result = MatchResult result
-      (λ _. (part : List ℕ) × Appends o o' part × RowParts xs (end_of o) part rs
-      × Within limit o' part)
-      (Told limit (RowPartsNext xs (end_of o)) o o')
-
   -- the own bytes of the values are appended within the limit
   abbrev pub WroteRow : ℕ → List X → List R → Output → Output → Type 0
   WroteRow limit xs rs o o' =
       (out : List ℕ) × Appended limit out o o' × RowImages xs rs (end_of o) out
 
+-- values that are written in a row by a format, at positions up to a limit
+pub record RowInput (X R : Type 0) : Type 1 where
+  pub format : Format X R
+  pub limit : ℕ
+  pub values : List X
+
+-- the values, in order
+abbrev pub row_of : {X R : Type 0} → Format X R → ℕ → List X → RowInput X R
+row_of format limit values = record { format = format; limit = limit; values = values }
+
+module _ {F X R : Type 0} (row : RowInput X R) (rs : List R) (o o' : Output) where
+  -- `result`: the parts of the values are appended, and `rs` are their resolvers; or the error
+  -- of serializing one of them
+  abbrev pub SerializesRow : Result (Unit {0}) (WriteError F) → Type 0
+  SerializesRow result = MatchResult result
+      (λ _. (part : List ℕ) × Appends o o' part × RowParts row.format row.values (end_of o) part rs
+      × Within row.limit o' part)
+      (Told row.limit (RowPartsNext row.format row.values (end_of o)) o o')
+
   -- `result`: the own bytes of the values are appended within the limit, or the error
   -- of writing one of them
-  abbrev pub WritesRow : {F : Type 0} → ℕ → List X → List R → Output → Output
-      → Result (Unit {0}) (WriteError F) → Type 0
-  WritesRow limit xs rs o o' result = MatchResult result (λ _. WroteRow limit xs rs o o')
-      (Told limit (RowNext xs rs (end_of o)) o o')
+  abbrev pub WritesRow : Result (Unit {0}) (WriteError F) → Type 0
+  WritesRow result = MatchResult result (λ _. WroteRow row.format row.limit row.values rs o o')
+      (Told row.limit (RowNext row.format row.values rs (end_of o)) o o')

@@ -42,9 +42,9 @@ index_at w k v b p = record {
 }
 
 -- the index map at the seal `a`
-abbrev pub index_of_seal : {K V H W : Type 0} → Width → Shape → Shape
+abbrev pub index_in : {K V H W : Type 0} → Width → Shape → Shape
     → ArchiveSeal (IndexMapOf K V H W) → Index K
-index_of_seal w k v a = index_at w k v (archive_in a) (pos_in a)
+index_in w k v a = index_at w k v (archive_in a) (pos_in a)
 
 -- `q`: position of the pair at index `i` of the map at `p`, with a valid key and value.
 -- A write of the value alone that keeps it valid keeps the index map
@@ -76,13 +76,13 @@ module _ {K V H W : Type 0} (w : Width) (k v : Shape) (a : ArchiveSeal (IndexMap
       × LendsValue k v (archive_in a) (IsPairPlace i) value
 
   -- `result`: the pair at the index `place`, or `None` if `place` is `None`
-  abbrev pub IsPairSealAt : Option (View K × Seal V) → Option ℕ → Type 0
-  IsPairSealAt result place =
+  abbrev pub SealsPair : Option (View K × Seal V) → Option ℕ → Type 0
+  SealsPair result place =
       IsThere (λ i. LendsPair k v (archive_in a) (IsPairPlace i)) result place
 
   -- `result`: the value at the index `place`, or `None` if `place` is `None`
-  abbrev pub IsValueSealAt : Option (Seal V) → Option ℕ → Type 0
-  IsValueSealAt result place =
+  abbrev pub SealsValue : Option (Seal V) → Option ℕ → Type 0
+  SealsValue result place =
       IsThere (λ i. LendsValue k v (archive_in a) (IsPairPlace i)) result place
 
 -- the index in `result`

@@ -11,9 +11,11 @@ use Rattle.rkyv_index.specs.IndexFormat.{IndexStands, index_format}
 use Rattle.rkyv_index.specs.IndexHeader.{IndexResolver}
 
 -- the format of a list of keys, in insertion order, as an index set under a load factor
-abbrev pub index_set_format : {P A R : Type 0} → Width → Encoding P → Shape → Format A R → (A → ℕ)
+abbrev pub index_set_format : {P A R : Type 0} → Width → Shape → Encoding P → Shape
+    → Format A R → (A → ℕ)
     → ℕ × ℕ → Format (List A) IndexResolver
-index_set_format w e k key hash load_factor = written_as with_units (index_format w e k unit_shape
+index_set_format w ps e k key hash load_factor = written_as with_units (index_format w ps e k
+    unit_shape
     key unit_format hash load_factor)
 
 -- the index set at `p` represents the list `keys`

@@ -4,7 +4,6 @@ use Rattle.std.specs.Prelude.{slice_set}
 use Rattle.std.specs.Int.{Width, byte_len}
 use Rattle.rkyv_base.specs.Bytes.{Same}
 use Rattle.rkyv_base.specs.Entry.{entry_shape}
-use Rattle.rkyv_base.specs.Scalar.{Encoding, ScalarStands, scalar_shape}
 use Rattle.rkyv_base.specs.Sealing.{Keeps, value_pos}
 use Rattle.rkyv_base.specs.Shape.{Shape, Viewed}
 use Rattle.rkyv_table.specs.Table.Header.{len_at}
@@ -32,34 +31,50 @@ module _ (w : Width) (k v : Shape) where
   abbrev pub KeptByWrites : List ℕ → ℕ → ℕ → Type 0
   KeptByWrites b p i = (c : List ℕ) → WritesValue k v b c (pair_at b p i) → KeepsEntries b c p i
 
-  -- The map of `c` is valid, with the same length, the pairs at the same positions and under
-  -- the same hashes. Each lookup whose test depends only on the key finds the same index.
-  -- A written index map is still one.
-  pub record KeepsIndexMap (key_hash : List ℕ → ℕ → ℕ) (b c : List ℕ) (p i : ℕ) : Type 0 where
-    pub entries : KeepsEntries b c p i
-    pub stands : Viewed (index_shape w (entry_shape k v)) c p
-    pub len : len_at w c p ≡ len_at w b p
-    pub places : (j : ℕ) → pair_at c p j ≡ pair_at b p j
-    pub hashes : (j : ℕ) → j < len_at w b p
-        → key_hash c (pair_at b p j) ≡ key_hash b (pair_at b p j)
-    pub lookups : (hash : ℕ) (fits : List ℕ → ℕ → Bool) → hash < 2 ^ 64 → RestsOnKey k fits
-        → index_found w c p hash (fits_in w k v c p fits)
-        ≡ index_found w b p hash (fits_in w k v b p fits)
-    pub written : (homes : List ℕ) → IndexWrittenAt w (entry_shape k v).size key_hash b p homes
-        → IndexWrittenAt w (entry_shape k v).size key_hash c p homes
+-- index maps of a kind: their width, the shapes of their keys and values, and the hashes of keys
+-- by their bytes and position
+pub record IndexKind : Type 1 where
+  pub word : Width
+  pub key : Shape
+  pub value : Shape
+  pub key_hash : List ℕ → ℕ → ℕ
 
+-- the index maps of this width, of these keys and values
+abbrev pub index_kind : Width → Shape → Shape → (List ℕ → ℕ → ℕ) → IndexKind
+index_kind w k v key_hash = record { word = w; key = k; value = v; key_hash = key_hash }
+
+-- The map of `c` is valid, with the same length, the pairs at the same positions and under
+-- the same hashes. Each lookup whose test depends only on the key finds the same index.
+-- A written index map is still one.
+pub record KeepsIndexMap (m : IndexKind) (b c : List ℕ) (p i : ℕ) : Type 0 where
+  pub entries : KeepsEntries m.word m.key m.value b c p i
+  pub stands : Viewed (index_shape m.word (entry_shape m.key m.value)) c p
+  pub len : len_at m.word c p ≡ len_at m.word b p
+  pub places : (j : ℕ) → pair_at m.word m.key m.value c p j ≡ pair_at m.word m.key m.value b p j
+  pub hashes : (j : ℕ) → j < len_at m.word b p
+      → m.key_hash c (pair_at m.word m.key m.value b p j)
+      ≡ m.key_hash b (pair_at m.word m.key m.value b p j)
+  pub lookups : (hash : ℕ) (fits : List ℕ → ℕ → Bool) → hash < 2 ^ 64 → RestsOnKey m.key fits
+      → index_found m.word c p hash (fits_in m.word m.key m.value c p fits)
+      ≡ index_found m.word b p hash (fits_in m.word m.key m.value b p fits)
+  pub written : (homes : List ℕ)
+      → IndexWrittenAt m.word (entry_shape m.key m.value).size m.key_hash b p homes
+      → IndexWrittenAt m.word (entry_shape m.key m.value).size m.key_hash c p homes
+
+module _ (w : Width) (k v : Shape) where
   -- a write of one value in place keeps the index map
   abbrev pub ValueWritesKeepIndexMaps : (List ℕ → ℕ → ℕ) → Type 0
   ValueWritesKeepIndexMaps key_hash = (b c : List ℕ) (p i : ℕ)
       → Viewed (index_shape w (entry_shape k v)) b p → i < len_at w b p
-      → WritesValue k v b c (pair_at b p i) → KeepsIndexMap key_hash b c p i
+      → WritesValue k v b c (pair_at w k v b p i)
+      → KeepsIndexMap (index_kind w k v key_hash) b c p i
 
   -- after a write of one value in place, each query `q` finds the same index. `hash q`: its hash
   abbrev pub ValueWritesKeepAnswers : {Q : Type 0} → (Q → Type 0) → (Q → ℕ)
       → (Q → List ℕ → ℕ → Bool) → Type 0
   ValueWritesKeepAnswers {Q} can_read hash fits = (b c : List ℕ) (p i : ℕ)
       → Viewed (index_shape w (entry_shape k v)) b p → i < len_at w b p
-      → WritesValue k v b c (pair_at b p i) → (q : Q) → can_read q
+      → WritesValue k v b c (pair_at w k v b p i) → (q : Q) → can_read q
       → index_found w c p (hash q) (fits_in w k v c p (fits q))
       ≡ index_found w b p (hash q) (fits_in w k v b p (fits q))
 
@@ -70,16 +85,14 @@ module _ (w : Width) (k v : Shape) where
       (pairs : List (A × B)) (pair : A × B) (new : B)
       → Viewed (index_shape w (entry_shape k v)) b p
       → IndexStands w k v key value key_hash factor b p pairs → slice_get pairs n ≡ Some pair
-      → WritesValue k v b c (pair_at b p n) → value c (value_pos k v (pair_at b p n)) new
+      → WritesValue k v b c (pair_at w k v b p n)
+      → value c (value_pos k v (pair_at w k v b p n)) new
       → IndexStands w k v key value key_hash factor c p (slice_set pairs n (pair.0, new))
 
-module _ {A N : Type 0} (w : Width) (k : Shape) (e : Encoding N) where
-  -- after a write of the value at index `i`, the index map represents the list with the new value
-  abbrev pub SetsPlace : (List ℕ → ℕ → A → Type 0) → (List ℕ → ℕ → ℕ) → List ℕ → ℕ → ℕ → N
-      → List ℕ → Type 0
-  SetsPlace key key_hash b p i value c =
-      (factor : ℕ × ℕ) (pairs : List (A × N)) (pair : A × N)
-      → IndexStands w k (scalar_shape e) key (ScalarStands e) key_hash factor b p pairs
-      → slice_get pairs i ≡ Some pair
-      → IndexStands w k (scalar_shape e) key (ScalarStands e) key_hash factor c p
-      (slice_set pairs i (pair.0, value))
+-- After a write of the value at index `i` of the index map at `p` of `b`, it represents the list
+-- with the new value in `c`. `stands`: lists that index maps represent, by the load factor
+abbrev pub SetsPlace : {A N : Type 0} → (ℕ × ℕ → List ℕ → ℕ → List (A × N) → Type 0) → List ℕ
+    → List ℕ → ℕ → ℕ → N → Type 0
+SetsPlace {A} {N} stands b c p i value =
+    (factor : ℕ × ℕ) (pairs : List (A × N)) (pair : A × N) → stands factor b p pairs
+    → slice_get pairs i ≡ Some pair → stands factor c p (slice_set pairs i (pair.0, value))

@@ -15,7 +15,7 @@
 //! - To read by an index, `get_index` returns the pair or the key.
 //! - To walk over a map, `iter`, `keys` and `values` return iterators.
 //! - To write values in place, the module `map::in_place` has a table of the calls.
-//! - To compare, `eq_index` takes an archived map or set.
+//! - To compare, `==` and `eq_index` take an archived map or set.
 //! - To deserialize, `deserialize_pairs` and `deserialize_items` return lists.
 //! - To validate hashes, `misplaced` counts the keys that a lookup of their own doesn't find.
 //!

@@ -5,9 +5,8 @@
 ghost use Rattle.rkyv_base.specs.Entry.{entry_shape};
 ghost use Rattle.rkyv_base.specs.Pairs.{written_as, written_as-format};
 ghost use Rattle.rkyv_scan.specs.Hash.{fx_hasher, low_halves};
-ghost use Rattle.rkyv_index.specs.IndexFormat.{hash_of};
+ghost use Rattle.rkyv_index.specs.IndexFormat.{IndexStands, hash_of, index_format};
 ghost use Rattle.rkyv_index.specs.Index.{hash_at};
-ghost use Rattle.rkyv_index.specs.IndexFormat.{IndexStands, index_format};
 ghost use Rattle.rkyv_index.specs.IndexLayout.{index_shape};
 ghost use Rattle.rkyv_index.specs.Lemmas.IndexNear.{index_stands_near};
 ghost use Rattle.rkyv_index.specs.Lemmas.IndexSound.{index_sound};
@@ -59,7 +58,8 @@ where
     type Resolver = IndexMapResolver<W>;
 
     ghost format = { written_as (λ x. x.0.items) (listed W.MAX_CAPACITY (7, 8)
-        (index_format W.word W.Place.encoding A.Archived.shape B.Archived.shape A.format B.format
+        (index_format W.word W.Place.shape W.Place.encoding A.Archived.shape B.Archived.shape
+        A.format B.format
         (hash_of (fx_hasher low_halves) A.calls) (7, 8))) };
 
     fn resolve(&self, resolver: IndexMapResolver<W>, pos: u64, out: &mut [u8]) -> ResolveResult {
@@ -69,14 +69,15 @@ where
     ghost laws = { let stands = IndexStands W.word A.Archived.shape B.Archived.shape
         A.Archived.stands B.Archived.stands
         (hash_at (fx_hasher low_halves) A.Archived.key_calls) (7, 8) in
-        let format = index_format W.word W.Place.encoding A.Archived.shape B.Archived.shape A.format
+        let format = index_format W.word W.Place.shape W.Place.encoding A.Archived.shape
+        B.Archived.shape A.format
         B.format
         (hash_of (fx_hasher low_halves) A.calls) (7, 8) in
         let shape = index_shape W.word (entry_shape A.Archived.shape B.Archived.shape) in
         written_as-format (λ x. x.0.items) shape stands (listed W.MAX_CAPACITY (7, 8) format)
         (listed_format W.MAX_CAPACITY (7, 8) shape stands format
-        (index_sound (fx_hasher low_halves) W.word W.layout.kind W.Place.encoding
-        W.place W.reads_back W.Place.word
+        (index_sound (fx_hasher low_halves) W.word W.layout.kind W.Place.shape W.Place.encoding
+        W.Place.Shaped.laws W.Place.Scalar.laws W.place W.reads_back
         A.Archived.laws B.Archived.laws (7, 8) A.query A.native A.Eq.laws.refl A.reads
         A.Archive.laws B.laws)) };
 }
@@ -127,7 +128,7 @@ where
     type Resolver = IndexSetResolver<W>;
 
     ghost format = { written_as (λ x. x.0.items) (listed W.MAX_CAPACITY (7, 8)
-        (index_set_format W.word W.Place.encoding A.Archived.shape A.format
+        (index_set_format W.word W.Place.shape W.Place.encoding A.Archived.shape A.format
         (hash_of (fx_hasher low_halves) A.calls) (7, 8))) };
 
     fn resolve(&self, resolver: IndexSetResolver<W>, pos: u64, out: &mut [u8]) -> ResolveResult {
@@ -136,13 +137,15 @@ where
 
     ghost laws = { let stands = IndexSetStands W.word A.Archived.shape A.Archived.stands
         (hash_at (fx_hasher low_halves) A.Archived.key_calls) (7, 8) in
-        let format = index_set_format W.word W.Place.encoding A.Archived.shape A.format
+        let format = index_set_format W.word W.Place.shape W.Place.encoding A.Archived.shape
+        A.format
         (hash_of (fx_hasher low_halves) A.calls) (7, 8) in
         let shape = index_set_shape W.word A.Archived.shape in
         written_as-format (λ x. x.0.items) shape stands (listed W.MAX_CAPACITY (7, 8) format)
         (listed_format W.MAX_CAPACITY (7, 8) shape stands format
         (index_set_sound (fx_hasher low_halves) W.word W.layout.kind A.Archived.laws
-        (7, 8) W.Place.encoding W.place W.reads_back W.Place.word
+        (7, 8) W.Place.shape W.Place.encoding W.Place.Shaped.laws W.Place.Scalar.laws W.place
+        W.reads_back
         A.query A.native A.Eq.laws.refl A.reads A.Archive.laws)) };
 }
 

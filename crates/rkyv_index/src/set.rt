@@ -12,6 +12,7 @@ mod reading;
 pub mod writing;
 
 use crate::map::ArchivedIndexMap;
+use rkyv_base::element::Shaped;
 use rkyv_base::width::{Narrow, Word};
 use rkyv_scan::hash::FxHasher64;
 use std::alloc::AllocError;
@@ -24,16 +25,17 @@ pub struct IndexSetOf<K, H = FxHasher64, W = Narrow> {
 
 /// An index set of `K` under the hasher `H` that is read in an archive of the width `W`.
 ///
-/// It is the index map of its keys to the unit value, and holds its decoded header.
-pub struct ArchivedIndexSet<'a, K, H = FxHasher64, W: Word = Narrow> {
+/// Its bytes are valid. It is the index map of its keys to the unit value, and holds its decoded
+/// header.
+pub struct ArchivedIndexSet<'a, K: Shaped, H = FxHasher64, W: Word = Narrow> {
     pub(crate) map: ArchivedIndexMap<'a, K, (), H, W>,
 }
 
-impl<'a, K, H, W: Word> Clone for ArchivedIndexSet<'a, K, H, W> {
+impl<'a, K: Shaped, H, W: Word> Clone for ArchivedIndexSet<'a, K, H, W> {
     #[inline]
     fn clone(&self) -> Result<ArchivedIndexSet<'a, K, H, W>, AllocError> {
         Ok(*self)
     }
 }
 
-impl<'a, K, H, W: Word> Copy for ArchivedIndexSet<'a, K, H, W> {}
+impl<'a, K: Shaped, H, W: Word> Copy for ArchivedIndexSet<'a, K, H, W> {}

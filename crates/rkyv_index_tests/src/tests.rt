@@ -3,6 +3,7 @@
 mod archives;
 mod changes;
 mod checking;
+mod equality;
 mod forms;
 mod interning;
 mod lookups;

@@ -1,3 +1,4 @@
+pub mod Asked
 pub mod Asking
 pub mod Calls
 pub mod Equality
@@ -11,3 +12,4 @@ pub mod OfValues
 pub mod OfViews
 pub mod Places
 pub mod Reading
+pub mod Ready

@@ -3,7 +3,8 @@ use Rattle.std.specs.Prelude.{ℕ, Bool, List, [], ◌∷◌}
 use Rattle.rkyv_scan.specs.Hash.{HasherCall}
 use Rattle.rkyv_scan.specs.Laws.{IsFixed}
 use Rattle.rkyv_base.specs.Bytes.{number_at}
-use Rattle.rkyv_base.specs.Scalar.{Encoding, IsWord, ScalarStands, scalar_near, scalar_shape}
+use Rattle.rkyv_base.specs.Scalar.{Encoding, IsScalar, ScalarStands, scalar_near}
+use Rattle.rkyv_base.specs.Shape.{Shape}
 use Rattle.rkyv_keys.specs.Equality.{Comparison, IsEquivalence, TellsApart}
 use Rattle.rkyv_keys.specs.Keys.{FitsItsEqual, IsKey, IsQuery, ReadsAnywhere}
 use Rattle.rkyv_keys.specs.Fixed.{MakesFixedCalls, one_fixed}
@@ -38,26 +39,27 @@ module _ {V : Type 0} (e : Encoding V) where
   abbrev pub scalar_fits : (V → V → Bool) → V → List ℕ → ℕ → Bool
   scalar_fits equal = value_fits scalar_at equal (λ v. v)
 
+module _ {V : Type 0} (s : Shape) (e : Encoding V) where
   pub scalar_fixed : (call : V → HasherCall) → ((v : V) → IsFixed (call v))
-      → MakesFixedCalls (scalar_shape e) (scalar_calls call)
-  scalar_fixed call fixed b p h = one_fixed (call (scalar_at b p)) (fixed (scalar_at b p))
+      → MakesFixedCalls s (scalar_calls e call)
+  scalar_fixed call fixed b p h = one_fixed (call (scalar_at e b p)) (fixed (scalar_at e b p))
 
   module _ (equal : V → V → Bool) where
-    pub scalar_fits_its_equal : FitsItsEqual (scalar_shape e) (ScalarStands e) equal
-        (scalar_fits equal)
-    scalar_fits_its_equal = value_fits_its_equal (scalar_shape e) scalar_at equal (λ v. v)
+    pub scalar_fits_its_equal : FitsItsEqual s (ScalarStands e) equal
+        (scalar_fits e equal)
+    scalar_fits_its_equal = value_fits_its_equal s (scalar_at e) equal (λ v. v)
 
     module _ (tells : TellsApart equal) where
-      pub scalar_equivalence : IsEquivalence (scalar_shape e) (scalar_same equal)
-      scalar_equivalence = value_equivalence (scalar_shape e) scalar_at equal tells
+      pub scalar_equivalence : IsEquivalence s (scalar_same e equal)
+      scalar_equivalence = value_equivalence s (scalar_at e) equal tells
 
-      pub scalar_key : (call : V → HasherCall) → IsWord e.word
-          → IsKey (scalar_shape e) (scalar_same equal) (scalar_calls call)
-      scalar_key call word = value_key (scalar_shape e) scalar_at equal tells (one_call call)
-          (scalar_near e word)
+      pub scalar_key : (call : V → HasherCall) → IsScalar s e
+          → IsKey s (scalar_same e equal) (scalar_calls e call)
+      scalar_key call laws = value_key s (scalar_at e) equal tells (one_call call)
+          (scalar_near s e laws)
 
       pub scalar_query : (call : V → HasherCall)
-          → IsQuery (scalar_shape e) (scalar_same equal) (scalar_calls call) ReadsAnywhere
-          (one_call call) (scalar_fits equal)
-      scalar_query call = value_query (scalar_shape e) scalar_at equal tells (one_call call)
+          → IsQuery s (scalar_same e equal) (scalar_calls e call) ReadsAnywhere
+          (one_call call) (scalar_fits e equal)
+      scalar_query call = value_query s (scalar_at e) equal tells (one_call call)
           (λ v. v)

@@ -3,7 +3,6 @@
 ghost use Rattle.std.specs.Prelude.{◌≡◌, MatchOption};
 ghost use Rattle.rkyv_base.specs.Entry.{entry_shape};
 ghost use Rattle.rkyv_base.specs.Empty.{unit_shape};
-ghost use Rattle.rkyv_base.specs.Scalar.{scalar_shape};
 ghost use Rattle.rkyv_base.specs.Shape.{Viewed};
 ghost use Rattle.rkyv_base.specs.View.{IsAt, IsView};
 
@@ -74,7 +73,7 @@ impl<'a, T: ElementDebug> Debug for Shown<'a, T> {
 
 impl<N: ScalarKey + Debug> ElementDebug for N {
     fn debug<W: Write>(view: View<'_, N>, f: &mut Formatter<W>) -> fmt::Result
-        requires { IsView (scalar_shape N.encoding) view }
+        requires { IsView N.shape view }
     {
         view.to_native().fmt(f)
     }

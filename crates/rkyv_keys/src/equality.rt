@@ -5,7 +5,7 @@
 //!   `EqualsWritten` and `EqualsAlone` have its laws for written values.
 //! - `StandsAlone` states that the native values of one archived value are equal.
 
-ghost use Rattle.std.specs.Prelude.{◌≡◌, ℕ, Bool, List, IsTrue, ◌↔◌};
+ghost use Rattle.std.specs.Prelude.{◌≡◌, ℕ, List, IsTrue, ◌↔◌};
 ghost use Rattle.rkyv_base.specs.Format.{IsFormat};
 ghost use Rattle.rkyv_base.specs.View.{IsView, StandsAt};
 ghost use Rattle.rkyv_keys.specs.Places.{at_views};

@@ -1,7 +1,15 @@
-//! Laws of native keys and queries on written keys, proved from the laws of their traits.
+//! Laws of keys.
+//!
+//! The first three are of native keys and queries on written keys, proved from the laws of
+//! their traits. The others say by which calls values of the types of this crate are hashed.
 
+ghost use Rattle.std.specs.Prelude.{[], string_bytes, ◌++◌, ◌∷◌, ◌≡◌};
+ghost use Rattle.rkyv_scan.specs.Hash.{I8, I16, I32, I64, Isize, U8, U16, U32, U64, Usize};
 ghost use Rattle.rkyv_keys.specs.Asking.{AsksForValues, HashesAsWritten, RestsOnKeys};
+ghost use Rattle.rkyv_keys.specs.Calls.{bool_call, text_calls};
+ghost use Rattle.rkyv_keys.specs.Ready.{HashesBy};
 
+use crate::hash::KeyHash;
 use crate::keys::{KeyElement, NativeKey, Query};
 use rkyv_base::element::StandsFor;
 
@@ -18,4 +26,36 @@ pub fn queries_ask_for_values<K: KeyElement + StandsFor<V>, V: NativeKey<K>, Q: 
 /// The keys that a query fits depend only on the bytes of the keys and their parts.
 pub fn queries_rest_on_keys<K: KeyElement, Q: Query<K>>()
     ensures { RestsOnKeys K.shape Q.can_read Q.fits }
+{}
+
+/// A number is hashed by the call of its own type.
+pub fn numbers_hash_by_their_types()
+    ensures u8 { HashesBy ⟦<u8 as KeyHash>⟧ (λ n. U8 n ∷ []) }
+    ensures u16 { HashesBy ⟦<u16 as KeyHash>⟧ (λ n. U16 n ∷ []) }
+    ensures u32 { HashesBy ⟦<u32 as KeyHash>⟧ (λ n. U32 n ∷ []) }
+    ensures u64 { HashesBy ⟦<u64 as KeyHash>⟧ (λ n. U64 n ∷ []) }
+    ensures usize { HashesBy ⟦<usize as KeyHash>⟧ (λ n. Usize n ∷ []) }
+    ensures i8 { HashesBy ⟦<i8 as KeyHash>⟧ (λ z. I8 z ∷ []) }
+    ensures i16 { HashesBy ⟦<i16 as KeyHash>⟧ (λ z. I16 z ∷ []) }
+    ensures i32 { HashesBy ⟦<i32 as KeyHash>⟧ (λ z. I32 z ∷ []) }
+    ensures i64 { HashesBy ⟦<i64 as KeyHash>⟧ (λ z. I64 z ∷ []) }
+    ensures isize { HashesBy ⟦<isize as KeyHash>⟧ (λ z. Isize z ∷ []) }
+{}
+
+/// A `bool` is hashed as the byte 0 or 1, a `char` as its code in a `u32`, and `()` by no call.
+pub fn marks_hash_as_numbers()
+    ensures bool { HashesBy ⟦<bool as KeyHash>⟧ (λ b. bool_call b ∷ []) }
+    ensures char { HashesBy ⟦<char as KeyHash>⟧ (λ c. U32 c ∷ []) }
+    ensures unit { HashesBy ⟦<() as KeyHash>⟧ (λ _. []) }
+{}
+
+/// A text is hashed by its bytes, and then the byte 255.
+pub fn texts_hash_by_their_bytes<'a>()
+    ensures slice { HashesBy ⟦<&'a str as KeyHash>⟧ (λ s. text_calls s.now) }
+    ensures string { HashesBy ⟦<String as KeyHash>⟧ (λ s. text_calls (string_bytes s)) }
+{}
+
+/// A pair is hashed by the calls of its first value, and then those of its second.
+pub fn pairs_hash_in_order<A: KeyHash, B: KeyHash>()
+    ensures { (pair : _) → ⟦<(A, B) as KeyHash>⟧.calls pair ≡ A.calls pair.0 ++ B.calls pair.1 }
 {}

@@ -4,7 +4,7 @@ ghost use Rattle.std.specs.Prelude.{◌≡◌, IsTrue, ◌↔◌, MatchResult};
 ghost use Rattle.std.specs.Cmp.{booleans_Decides, signed_Decides, unsigned_Decides};
 ghost use Rattle.rkyv_scan.specs.Hash.{HasherCall, I8, I16, I32, I64, U8, U16, U32, U64};
 ghost use Rattle.rkyv_scan.specs.Laws.{IsFixed};
-ghost use Rattle.rkyv_base.specs.Scalar.{ScalarStands, scalar_is_format, scalar_shape};
+ghost use Rattle.rkyv_base.specs.Scalar.{ScalarStands, scalar_is_format};
 ghost use Rattle.rkyv_base.specs.View.{IsView, StandsAt};
 ghost use Rattle.rkyv_keys.specs.Places.{at_view, at_views};
 ghost use Rattle.rkyv_keys.specs.Calls.{after_calls, bool_call};
@@ -197,8 +197,8 @@ impl<N: ScalarKey> ElementEq for N {
 
     #[inline]
     fn same(a: View<'_, N>, b: View<'_, N>) -> bool
-        requires a { IsView (scalar_shape N.encoding) a }
-        requires b { IsView (scalar_shape N.encoding) b }
+        requires a { IsView N.shape a }
+        requires b { IsView N.shape b }
         ensures { result ≡ at_views (scalar_same N.encoding N.eq) a.entry b.entry }
     {
         a.to_native() == b.to_native()
@@ -206,7 +206,7 @@ impl<N: ScalarKey> ElementEq for N {
 }
 
 impl<N: ScalarKey> ElementEquiv for N {
-    ghost equivalence = { scalar_equivalence N.encoding N.eq N.tells };
+    ghost equivalence = { scalar_equivalence N.shape N.encoding N.eq N.tells };
 }
 
 impl<N: ScalarKey> KeyElement for N {
@@ -214,18 +214,18 @@ impl<N: ScalarKey> KeyElement for N {
 
     #[inline]
     fn hash_view<H: KeyHasher>(view: View<'_, N>, state: &mut H)
-        requires { IsView (scalar_shape N.encoding) view }
+        requires { IsView N.shape view }
         ensures { let calls = scalar_calls N.encoding N.call in
             state.new ≡ after_calls H.hasher state.old (at_view calls view.entry) }
     {
         view.to_native().feed(state);
     }
 
-    ghost key = { scalar_key N.encoding N.eq N.tells N.call N.word };
+    ghost key = { scalar_key N.shape N.encoding N.eq N.tells N.call N.Scalar.laws };
 }
 
 impl<N: ScalarKey> FixedKey for N {
-    ghost fixed = { scalar_fixed N.encoding N.call N.fixed };
+    ghost fixed = { scalar_fixed N.shape N.encoding N.call N.fixed };
 }
 
 impl<N: ScalarKey> Query<N> for N {
@@ -233,17 +233,17 @@ impl<N: ScalarKey> Query<N> for N {
 
     #[inline]
     fn same(&self, key: View<'_, N>) -> bool
-        requires { IsView (scalar_shape N.encoding) key }
+        requires { IsView N.shape key }
         ensures { result ≡ at_view (scalar_fits N.encoding N.eq self.now) key.entry }
     {
         *self == key.to_native()
     }
 
-    ghost query = { scalar_query N.encoding N.eq N.tells N.call };
+    ghost query = { scalar_query N.shape N.encoding N.eq N.tells N.call };
 }
 
 impl<N: ScalarKey> NativeKey<N> for N {
-    ghost native = { scalar_fits_its_equal N.encoding N.eq };
+    ghost native = { scalar_fits_its_equal N.shape N.encoding N.eq };
 
     ghost reads = { λ key. tt };
 }
@@ -253,7 +253,7 @@ impl<N: ScalarKey> MatchesNative<N> for N {
 
     #[inline]
     fn eq_native(view: View<'_, N>, value: &N) -> bool
-        requires { IsView (scalar_shape N.encoding) view }
+        requires { IsView N.shape view }
         ensures { IsTrue result ↔ StandsAt (ScalarStands N.encoding) view.entry value.now }
     {
         view.to_native() == *value
@@ -265,7 +265,7 @@ impl<N: ScalarKey> Deserialize<N> for N {
 
     #[inline]
     fn deserialize(_alloc: Global, view: View<'_, N>) -> Result<N, ReadError>
-        requires { IsView (scalar_shape N.encoding) view }
+        requires { IsView N.shape view }
         ensures { MatchResult result
             (StandsAt (ScalarStands N.encoding) view.entry)
             (StandsAt nothing_fails view.entry) }
@@ -275,15 +275,17 @@ impl<N: ScalarKey> Deserialize<N> for N {
 }
 
 impl<N: ScalarKey, W: Width> EqualsWritten<W> for N {
-    ghost equal = { scalar_is_format N.encoding N.word };
+    ghost equal = { scalar_is_format N.shape N.encoding N.Scalar.laws };
 }
 
 impl<N: ScalarKey> EqualsAlone<N> for N {
-    ghost exact = { native_alone (scalar_shape N.encoding) (ScalarStands N.encoding) N.eq
-        (scalar_fits N.encoding N.eq) (scalar_fits_its_equal N.encoding N.eq) N.Eq.laws.refl };
+    ghost exact = { native_alone N.shape (ScalarStands N.encoding) N.eq
+        (scalar_fits N.encoding N.eq) (scalar_fits_its_equal N.shape N.encoding N.eq)
+        N.Eq.laws.refl };
 }
 
 impl<N: ScalarKey> StandsAlone<N> for N {
-    ghost alone = { native_alone (scalar_shape N.encoding) (ScalarStands N.encoding) N.eq
-        (scalar_fits N.encoding N.eq) (scalar_fits_its_equal N.encoding N.eq) N.Eq.laws.refl };
+    ghost alone = { native_alone N.shape (ScalarStands N.encoding) N.eq
+        (scalar_fits N.encoding N.eq) (scalar_fits_its_equal N.shape N.encoding N.eq)
+        N.Eq.laws.refl };
 }

@@ -1,10 +1,9 @@
 //! The implementations for the unit value.
 
-ghost use Rattle.std.specs.Prelude.{◌≡◌, true, IsTrue, ◌↔◌, MatchResult};
+ghost use Rattle.std.specs.Prelude.{◌≡◌, true, MatchResult};
 ghost use Rattle.std.proofs.Common.{refl};
 ghost use Rattle.rkyv_base.specs.Empty.{unit_is_format, unit_shape, unit_stands};
 ghost use Rattle.rkyv_base.specs.View.{IsView, StandsAt};
-ghost use Rattle.rkyv_keys.specs.Calls.{after_calls};
 ghost use Rattle.rkyv_keys.specs.Reading.{nothing_fails};
 ghost use Rattle.rkyv_keys.specs.OfUnits.{
   no_calls,

@@ -6,8 +6,9 @@ use Rattle.std.proofs.Common.{inl, inr, refl, subst}
 use Rattle.rkyv_scan.specs.Hash.{HasherCall, U8}
 use Rattle.rkyv_base.specs.declared.errors.ReadError.TheVariants.{Refused}
 use Rattle.rkyv_base.specs.Bytes.{number_at}
-use Rattle.rkyv_base.specs.Numbers.{unsigned}
-use Rattle.rkyv_base.specs.Scalar.{ScalarStands, scalar_element, scalar_near, scalar_shape}
+use Rattle.rkyv_base.specs.Numbers.{unsigned, unsigned_codes}
+use Rattle.rkyv_base.specs.Scalar.{ScalarStands, scalar_element, scalar_laws, scalar_near}
+use Rattle.rkyv_base.specs.Scalar.{scalar_shape}
 use Rattle.rkyv_base.specs.Shape.{IsElement, Shape}
 use Rattle.rkyv_base.specs.Format.{StandsNear}
 use Rattle.rkyv_keys.specs.Equality.{Comparison, IsEquivalence}
@@ -44,10 +45,10 @@ abbrev pub low_refuses : Refusals
 low_refuses b p e = (e ≡ Refused 7) × (low_byte b p ≡ 0)
 
 pub low_element : IsElement low_shape
-low_element = scalar_element (unsigned w32) (inr (inr (inl refl)))
+low_element = scalar_element (unsigned w32) (inr (inr (inl refl))) (unsigned_codes w32)
 
 pub low_near : StandsNear low_shape low_stands
-low_near = scalar_near (unsigned w32) (inr (inr (inl refl)))
+low_near = scalar_near low_shape (unsigned w32) (scalar_laws (unsigned w32) (inr (inr (inl refl))))
 
 pub low_equivalence : IsEquivalence low_shape low_same
 low_equivalence = value_equivalence low_shape low_byte nat_eq unsigned_Decides

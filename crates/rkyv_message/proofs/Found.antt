@@ -9,7 +9,7 @@ use Rattle.rkyv_table.proofs.Moved.{moved}
 use Rattle.rkyv_collections.specs.InPlace.{SetsFound, with_first}
 use Rattle.rkyv_collections.specs.ListedLookups.{IsFoundValue, first_pair}
 use Rattle.rkyv_collections.specs.declared.lists.pairs.MapPairs.{MapPairs}
-use Rattle.rkyv_message.specs.Message.{FieldList, FieldsStand, PartStands, Parts, PartsStand, StandsIfFound, is_named, name_hash, name_shape, number_in, number_of_part, WritesIfFound, with_field, with_part}
+use Rattle.rkyv_message.specs.Message.{FieldList, FieldsStand, PartStands, Parts, PartsStand, StandsIfFound, is_named, name_hash, name_shape, number_in, number_of_part, number_shape, WritesIfFound, with_field, with_part}
 
 pub part_found : {V : Type 0} (b : List ℕ) (p : ℕ) (view : View V) (o : Option (MapPairs (Bor (List ℕ)) ℕ ℕ)) → view.archive.now ≡ b → view.pos ≡ p → IsFoundValue PartStands (Some view) o → StandsIfFound b o (Some p)
 part_found b p view None e f h = absurd h
@@ -50,7 +50,7 @@ none_set b part field number parts p None s stands = (refl, stands)
 none_set b part field number parts p (Some fields) s stands = absurd s
 
 -- a write at the position that a lookup finds
-pub only_written : (b c : List ℕ) (p n : ℕ) (found : Bool) (place : Option ℕ) → SetsFound w32 name_shape (unsigned w32) name_hash b p n found c place
+pub only_written : (b c : List ℕ) (p n : ℕ) (found : Bool) (place : Option ℕ) → SetsFound w32 name_shape number_shape (unsigned w32) name_hash b p n found c place
     → WritesIfFound place n b c found
 only_written b c p n found None h = h
 only_written b c p n found (Some q) h = (h.0, h.1)

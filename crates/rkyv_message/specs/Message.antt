@@ -22,11 +22,12 @@ use Rattle.rkyv_base.specs.declared.errors.WriteError.{WriteError}
 use Rattle.rkyv_keys.specs.Calls.{text_calls}
 use Rattle.rkyv_keys.specs.OfTexts.{IsTextOf, same_bytes, text_key_calls}
 use Rattle.rkyv_table.specs.Table.Listed.{listed, written_under}
-use Rattle.rkyv_table.specs.Table.Reading.{pos_found}
+use Rattle.rkyv_table.specs.Table.Positions.{pos_found}
 use Rattle.rkyv_table.specs.Table.TableFormat.{TableResolver}
 use Rattle.rkyv_collections.specs.InPlace.{with_first}
 use Rattle.rkyv_collections.specs.ListedLookups.{first_value}
-use Rattle.rkyv_collections.specs.Map.{FindsFirstKeyAt, IsKeyPosAt, hash_at, map_shape}
+use Rattle.rkyv_collections.specs.Map.{FindsFirstKeyAt, hash_at}
+use Rattle.rkyv_collections.specs.MapShape.{IsKeyPosAt, map_shape}
 use Rattle.rkyv_collections.specs.MapFormat.{MapStands, hash_of, map_format}
 use Rattle.rkyv_collections.specs.declared.lists.pairs.MapPairs.{MapPairs}
 

@@ -2,7 +2,7 @@
 ghost use Rattle.std.specs.Option.{option_map};
 ghost use Rattle.std.specs.Prelude.{IfOk, IfSome, IsOk, MatchResult, ℕ, ◌≡◌};
 ghost use Rattle.rkyv_base.specs.Bytes.{number_at};
-ghost use Rattle.rkyv_collections.specs.Map.{IsMap, map_bytes, map_pos};
+ghost use Rattle.rkyv_collections.specs.Map.{map_bytes, map_pos};
 ghost use Rattle.rkyv_message.specs.Message.{
   ArePartsFields,
   FieldList,
@@ -64,7 +64,6 @@ pub fn archive(alloc: Global, parts: &[(&str, Fields<'_>)]) -> Result<Vec<u8>, W
 
 /// Returns the number that a lookup of the field finds in a map of fields.
 fn field_number(fields: ArchivedHashMap<'_, Text, u32>, field: &str) -> Option<u32>
-    requires map { IsMap w32 name_shape number_shape fields }
     ensures found { result ≡ option_map (number_at w32 (map_bytes fields.entry))
         (value_found number_shape field.now (map_bytes fields.entry) (map_pos fields.entry)) }
     ensures listed { (factor : ℕ × ℕ) (list : FieldList)

@@ -1,7 +1,8 @@
 -- The encoding of colors: one byte below 3.
 use Rattle.std.specs.Prelude.{ℕ, zero, suc, ◌<◌}
 use Rattle.std.specs.Int.{w8}
-use Rattle.rkyv_base.specs.Scalar.{Encoding}
+use Rattle.std.proofs.Props.{props}
+use Rattle.rkyv_base.specs.Scalar.{AreProps, Encoding}
 use Rattle.rkyv_own_tests.specs.declared.color.Color.{Color}
 use Rattle.rkyv_own_tests.specs.declared.color.Color.TheVariants.{Red, Green, Blue}
 
@@ -20,3 +21,7 @@ color_of (suc (suc n)) = Blue
 -- the encoding of a color in one byte, whose number is below 3
 abbrev pub color_encoding : Encoding Color
 color_encoding = record { word = w8; code = code; value = color_of; IsCode = λ n. n < 3 }
+
+-- that a number is a color's is a proposition
+pub color_codes : AreProps color_encoding
+color_codes n = hlevel props

@@ -4,11 +4,11 @@ use Rattle.std.proofs.Common.{inl, inr, refl}
 use Rattle.std.specs.Int.{w32}
 use Rattle.rkyv_base.specs.Entry.{entry_element, entry_shape}
 use Rattle.rkyv_base.specs.Format.{Format, IsFormat, StandsNear}
-use Rattle.rkyv_base.specs.Numbers.{signed}
+use Rattle.rkyv_base.specs.Numbers.{signed, signed_codes}
 use Rattle.rkyv_base.specs.Pairs.{PairStands, pair_format, pair_is_format, pair_near, written_as}
 use Rattle.rkyv_base.specs.Pairs.{written_as-format}
-use Rattle.rkyv_base.specs.Scalar.{IsWord, ScalarStands, scalar_element, scalar_format}
-use Rattle.rkyv_base.specs.Scalar.{scalar_is_format, scalar_near, scalar_shape}
+use Rattle.rkyv_base.specs.Scalar.{IsScalar, IsWord, ScalarStands, scalar_element, scalar_format}
+use Rattle.rkyv_base.specs.Scalar.{scalar_is_format, scalar_laws, scalar_near, scalar_shape}
 use Rattle.rkyv_base.specs.Shape.{IsElement, Shape}
 use Rattle.rkyv_base.specs.declared.pairs.EntryResolver.{EntryResolver}
 use Rattle.rkyv_own_tests.specs.declared.spot.Spot.{Spot}
@@ -25,7 +25,10 @@ pub int_word : IsWord w32
 int_word = inr (inr (inl refl))
 
 pub int_element : IsElement int_shape
-int_element = scalar_element (signed w32) int_word
+int_element = scalar_element (signed w32) int_word (signed_codes w32)
+
+pub int_laws : IsScalar int_shape (signed w32)
+int_laws = scalar_laws (signed w32) int_word
 
 pub spot_element : IsElement spot_shape
 spot_element = entry_element int_shape int_shape int_element int_element
@@ -42,7 +45,8 @@ SpotStands b p spot = PairStands int_shape int_shape (ScalarStands (signed w32))
 pub spot_near : StandsNear spot_shape SpotStands
 spot_near spot = pair_near int_shape int_shape int_element int_element (ScalarStands (signed w32))
     (ScalarStands (signed w32))
-    (scalar_near (signed w32) int_word) (scalar_near (signed w32) int_word) (as_pair spot)
+    (scalar_near int_shape (signed w32) int_laws) (scalar_near int_shape (signed w32) int_laws)
+    (as_pair spot)
 
 -- the format of a spot: that of the pair of its coordinates
 abbrev pub spot_format : Format Spot (EntryResolver Unit Unit)
@@ -55,5 +59,5 @@ spot_is_format = written_as-format as_pair spot_shape (PairStands int_shape int_
     (pair_format int_shape int_shape (scalar_format (signed w32)) (scalar_format (signed w32)))
     (pair_is_format int_shape int_shape int_element int_element (ScalarStands (signed w32))
     (ScalarStands (signed w32))
-    (scalar_format (signed w32)) (scalar_format (signed w32)) (scalar_is_format (signed w32)
-    int_word) (scalar_is_format (signed w32) int_word))
+    (scalar_format (signed w32)) (scalar_format (signed w32)) (scalar_is_format int_shape (signed
+    w32) int_laws) (scalar_is_format int_shape (signed w32) int_laws))

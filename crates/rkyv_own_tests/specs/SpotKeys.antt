@@ -14,7 +14,7 @@ use Rattle.rkyv_keys.specs.OfEntries.{pair_calls}
 use Rattle.rkyv_keys.specs.OfScalars.{one_call, scalar_calls, scalar_equivalence, scalar_fits}
 use Rattle.rkyv_keys.specs.OfScalars.{scalar_fits_its_equal, scalar_key, scalar_query, scalar_same}
 use Rattle.rkyv_own_tests.specs.declared.spot.Spot.{Spot}
-use Rattle.rkyv_own_tests.specs.Spot.{SpotStands, as_pair, int_element, int_shape, int_word}
+use Rattle.rkyv_own_tests.specs.Spot.{SpotStands, as_pair, int_element, int_laws, int_shape}
 use Rattle.rkyv_own_tests.specs.Spot.{spot_shape}
 
 -- the equality of spots at two positions
@@ -23,8 +23,9 @@ spot_same = entry_same int_shape int_shape (scalar_same (signed w32) int_eq) (sc
     w32) int_eq)
 
 pub spot_equivalence : IsEquivalence spot_shape spot_same
-spot_equivalence = entry_equivalence int_element int_element (scalar_equivalence (signed w32)
-    int_eq signed_Decides) (scalar_equivalence (signed w32) int_eq signed_Decides)
+spot_equivalence = entry_equivalence int_element int_element
+    (scalar_equivalence int_shape (signed w32) int_eq signed_Decides)
+    (scalar_equivalence int_shape (signed w32) int_eq signed_Decides)
 
 -- the hasher calls of the spot at a position
 abbrev pub spot_key_calls : List ℕ → ℕ → List HasherCall
@@ -36,8 +37,9 @@ abbrev pub spot_calls : Spot → List HasherCall
 spot_calls spot = pair_calls (one_call I32) (one_call I32) (as_pair spot)
 
 pub spot_key : IsKey spot_shape spot_same spot_key_calls
-spot_key = entry_key int_element int_element (scalar_key (signed w32) int_eq signed_Decides I32
-    int_word) (scalar_key (signed w32) int_eq signed_Decides I32 int_word)
+spot_key = entry_key int_element int_element
+    (scalar_key int_shape (signed w32) int_eq signed_Decides I32 int_laws)
+    (scalar_key int_shape (signed w32) int_eq signed_Decides I32 int_laws)
 
 -- the spot equals the one at a position
 abbrev pub spot_fits : Spot → List ℕ → ℕ → Bool
@@ -46,8 +48,9 @@ spot_fits spot = entry_fits int_shape int_shape (scalar_fits (signed w32) int_eq
 
 pub spot_query : IsQuery spot_shape spot_same spot_key_calls ReadsAnywhere spot_calls spot_fits
 spot_query =
-    let q = entry_query int_element int_element (scalar_query (signed w32) int_eq signed_Decides
-    I32) (scalar_query (signed w32) int_eq signed_Decides I32) in
+    let q = entry_query int_element int_element
+    (scalar_query int_shape (signed w32) int_eq signed_Decides I32)
+    (scalar_query int_shape (signed w32) int_eq signed_Decides I32) in
     record {
       alike = λ spot b p r h f. q.alike (as_pair spot) b p (tt, tt) h f;
       class = λ spot b c p r can h g f. q.class (as_pair spot) b c p r (tt, tt) h g f;
@@ -61,5 +64,6 @@ pub spot_fits_its_equal : FitsItsEqual spot_shape SpotStands spot_eq spot_fits
 spot_fits_its_equal a b bytes p h st =
     entry_fits_its_equal int_element int_element (ScalarStands (signed w32)) (ScalarStands (signed
     w32)) int_eq int_eq (scalar_fits (signed w32) int_eq) (scalar_fits (signed w32) int_eq)
-    (scalar_fits_its_equal (signed w32) int_eq) (scalar_fits_its_equal (signed w32) int_eq)
+    (scalar_fits_its_equal int_shape (signed w32) int_eq)
+    (scalar_fits_its_equal int_shape (signed w32) int_eq)
     (as_pair a) (as_pair b) bytes p h st

@@ -3,11 +3,13 @@
 ghost use Rattle.std.specs.Prelude.{◌≡◌};
 ghost use Rattle.std.proofs.Common.{inl, refl};
 ghost use Rattle.rkyv_scan.specs.Hash.{U8};
+ghost use Rattle.rkyv_base.specs.Scalar.{scalar_element, scalar_laws, scalar_shape};
 ghost use Rattle.rkyv_own.specs.Variants.{variants_tell};
-ghost use Rattle.rkyv_own_tests.specs.Color.{code, color_encoding};
+ghost use Rattle.rkyv_own_tests.specs.Color.{code, color_codes, color_encoding};
 ghost use Rattle.rkyv_own_tests.specs.contracts.color.Color.{the_type};
 
 use crate::color::Color;
+use rkyv_base::element::Shaped;
 use rkyv_base::scalars::Scalar;
 use rkyv_keys::scalars::ScalarKey;
 use rkyv_scan::hash::KeyHasher;
@@ -21,6 +23,12 @@ fn number(color: Color) -> u8
         Color::Green => 1,
         Color::Blue => 2,
     }
+}
+
+impl Shaped for Color {
+    ghost shape = { scalar_shape color_encoding };
+
+    ghost laws = { scalar_element color_encoding (inl refl) color_codes };
 }
 
 impl Scalar for Color {
@@ -46,7 +54,7 @@ impl Scalar for Color {
         bytes[0] = number(self);
     }
 
-    ghost word = { inl refl };
+    ghost laws = { scalar_laws color_encoding (inl refl) };
 }
 
 impl ScalarKey for Color {

@@ -13,7 +13,7 @@ ghost use Rattle.rkyv_own_tests.specs.Spot.{
 
 use crate::spot::Spot;
 use rkyv_base::archive::{Archive, ResolveResult, Serialize, WriteResult};
-use rkyv_base::element::{Element, PartRange, StandsFor};
+use rkyv_base::element::{Element, PartRange, Shaped, StandsFor};
 use rkyv_base::entry::Entry;
 use rkyv_base::errors::VerifyError;
 use rkyv_base::pairs::EntryResolver;
@@ -25,9 +25,13 @@ use std::alloc::Global;
 /// A spot in an archive.
 pub struct ArchivedSpot;
 
-impl Element for ArchivedSpot {
+impl Shaped for ArchivedSpot {
     ghost shape = { spot_shape };
 
+    ghost laws = { spot_element };
+}
+
+impl Element for ArchivedSpot {
     fn size() -> usize {
         Entry::<i32, i32>::size()
     }
@@ -39,8 +43,6 @@ impl Element for ArchivedSpot {
     fn check(bytes: &[u8], pos: u64, range: PartRange) -> Result<PartRange, VerifyError> {
         Entry::<i32, i32>::check(bytes, pos, range)
     }
-
-    ghost laws = { spot_element };
 }
 
 impl StandsFor<Spot> for ArchivedSpot {

@@ -1,4 +1,5 @@
 -- Indexes of symbols: the symbols by ascending address, and their archive.
+use Rattle.rkyv_base.specs.declared.element.Shaped.{Ghosts as Shapes}
 use Rattle.rkyv_base.specs.declared.width.Word.{Ghosts as Words}
 use Rattle.std.specs.Prelude.{◌≡◌, ◌⊎◌, ◌-◌, ℕ, List, MatchResult, Result, length, map}
 use Rattle.std.specs.Borrow.{Bor}
@@ -62,17 +63,19 @@ IndexResult shape stands format symbols result =
     (NoIndexOf shape format symbols)
 
 -- `result` is the index map at the root of `index`, which is valid, or the first validation error
-abbrev pub OpensIndex : {K V H W : Type 0} {wt : Words W} → Shape → Bor (List ℕ)
-    → Result (ArchivedIndexMap K V H W wt) VerifyError → Type 0
+abbrev pub OpensIndex : {K V H W : Type 0} {ks : Shapes K} {vs : Shapes V} {wt : Words W}
+    → Shape → Bor (List ℕ)
+    → Result (ArchivedIndexMap K V H W ks vs wt) VerifyError → Type 0
 OpensIndex s index result = MatchResult result
     (λ map. Accepted 4_294_967_295 s index.now
     × IsAt map.view index (length index.now - s.size))
     (AccessFails 4_294_967_295 s index.now)
 
 -- `entry` is the address and the name at index `place` of an index map
-abbrev pub IsEntryOf : {K V H W : Type 0} {wt : Words W} → ArchivedIndexMap K V H W wt → ℕ
+abbrev pub IsEntryOf : {K V H W : Type 0} {ks : Shapes K} {vs : Shapes V} {wt : Words W}
+    → ArchivedIndexMap K V H W ks vs wt → ℕ
     → ℕ × Bor (List ℕ) → Type 0
 IsEntryOf {K} {V} index place entry = (pair : View K × View V)
-    × IsPairOf w32 address_shape name_shape index place pair
+    × IsPairOf index place pair
     × StandsAt (ScalarStands (unsigned w64)) pair.0 entry.0
     × (entry.1.now ≡ text_at w32 (bytes_of pair.1) (pos_of pair.1))

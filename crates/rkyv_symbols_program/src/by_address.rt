@@ -1,11 +1,7 @@
 //! Indexes of symbols: archived index maps of addresses to names, in ascending order of address.
-ghost use Rattle.std.specs.Int.{w32, w64};
 ghost use Rattle.std.specs.Prelude.{IfOk, IsOk, MatchOption, ◌≡◌, ◌≤◌};
 ghost use Rattle.rkyv_base.specs.Access.{Accepted};
-ghost use Rattle.rkyv_base.specs.Numbers.{unsigned};
-ghost use Rattle.rkyv_base.specs.Scalar.{scalar_shape};
-ghost use Rattle.rkyv_base.specs.Text.{text_shape};
-ghost use Rattle.rkyv_index.specs.Index.{IsIndexMap, index_len};
+ghost use Rattle.rkyv_index.specs.Index.{index_len};
 ghost use Rattle.rkyv_symbols_program.specs.ByAddress.{IndexResult, IsAscending, IsEntryOf};
 ghost use Rattle.rkyv_symbols_program.specs.ByAddress.{OpensIndex, turned};
 
@@ -79,7 +75,6 @@ pub fn archive(alloc: Global, symbols: &[(&str, u64)]) -> Result<Vec<u8>, WriteE
 /// The same as for `access`.
 pub fn open(index: &[u8]) -> Result<ArchivedIndexMap<'_, u64, Text>, VerifyError>
     ensures root { OpensIndex ⟦<Index as Element>⟧.shape index.entry result }
-    ensures map { IfOk result (IsIndexMap w32 (scalar_shape (unsigned w64)) (text_shape w32)) }
     ensures accepts { Accepted 4294967295 ⟦<Index as Element>⟧.shape index.now → IsOk result }
 {
     match access::<IndexMapOf<u64, Text>>(index) {
@@ -89,13 +84,8 @@ pub fn open(index: &[u8]) -> Result<ArchivedIndexMap<'_, u64, Text>, VerifyError
 }
 
 /// Returns the address and the name at index `place` of the map, or `None` from its length on.
-///
-/// # Requires
-///
-/// - The map is one in a valid index, as `open` returns it.
 pub fn entry<'a>(map: ArchivedIndexMap<'a, u64, Text>, place: usize) -> Option<(u64, &'a str)>
-    requires { IsIndexMap w32 (scalar_shape (unsigned w64)) (text_shape w32) map }
-    ensures { MatchOption result (index_len w32 map.entry ≤ place) (IsEntryOf map.entry place) }
+    ensures { MatchOption result (index_len map.entry ≤ place) (IsEntryOf map.entry place) }
 {
     match map.get_index(place) {
         Some((address, name)) => Some((address.to_native(), name.as_str())),

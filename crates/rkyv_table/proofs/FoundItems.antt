@@ -1,15 +1,18 @@
 -- The item that a lookup finds, by its bucket.
+use Rattle.rkyv_base.specs.declared.element.Shaped.{Ghosts as Shapes}
 use Rattle.rkyv_base.specs.declared.width.Word.{Ghosts as Words}
-use Rattle.std.proofs.Common.{◌≡◌, ℕ, ◌+◌, ◌%◌, ◌<◌, ◌^◌, ◌∙◌, Bool, List, None, Option, Some, ap, refl, subst, sym, true}
-use Rattle.std.specs.Int.{Width}
+use Rattle.std.proofs.Common.{◌≡◌, ℕ, ◌+◌, ◌%◌, ◌<◌, ◌^◌, ◌∙◌, Bool, None, Option, Some, ap, refl, subst, sym, true}
 use Rattle.std.specs.Option.{option_map}
 use Rattle.rkyv_scan.specs.Groups.{IsKind, Kind, generic_kind}
 use Rattle.rkyv_scan.specs.Halves.{halves_kind}
-use Rattle.rkyv_base.specs.Shape.{IsElement, Shape}
+use Rattle.rkyv_base.specs.Shape.{IsElement}
 use Rattle.rkyv_base.specs.declared.view.View.{View}
 use Rattle.rkyv_table.specs.Controls.Finding.{FindsBucket}
 use Rattle.rkyv_table.specs.Table.Header.{cap_at, len_at}
-use Rattle.rkyv_table.specs.Table.Reading.{Answers, AreItems, CountsStrides, FindsFirst, FindsFound, FindsItem, FindsItemPos, IsItemIn, bucket_found, item_at, pos_of_found, table_bytes, table_controls, table_pos}
+use Rattle.rkyv_table.specs.Table.Positions.{bucket_found, item_at, table_controls}
+use Rattle.rkyv_table.specs.Table.Reading.{Answers, AreItems, CountsStrides, FindsFirst, FindsFound}
+use Rattle.rkyv_table.specs.Table.Reading.{FindsItem, FindsItemPos, IsItemIn, pos_of_found}
+use Rattle.rkyv_table.specs.Table.Reading.{table_bytes, table_pos}
 use Rattle.rkyv_table.specs.declared.table.ArchivedHashTable.{ArchivedHashTable}
 use Rattle.rkyv_table.specs.declared.table.items.Items.{Items}
 use Rattle.rkyv_table.proofs.FirstFound.{first_found}
@@ -17,77 +20,77 @@ use Rattle.rkyv_table.proofs.HalvesFound.{end_halves, found_halves}
 use Rattle.rkyv_table.proofs.Items.{read_end, read_found, view_is}
 
 -- the start of the probe sequence in the table is that in its items
-pub start_read : {T W : Type 0} {wt : Words W} (s : Shape) (t : ArchivedHashTable T W wt) (items : Items T W wt) → AreItems wt.word s items → items.table ≡ t
+pub start_read : {T W : Type 0} {ts : Shapes T} {wt : Words W} (t : ArchivedHashTable T W ts wt) (items : Items T W ts wt) → AreItems items → items.table ≡ t
     → (hash start : ℕ) → (0 < t.header.cap → start ≡ hash % t.header.cap) → 0 < items.cap → start ≡ hash % items.cap
-start_read {wt = wt} s t items are same hash start begins =
+start_read {wt = wt} t items are same hash start begins =
     let e : items.cap ≡ t.header.cap = are.cap ∙ ap (λ x. cap_at wt.word (table_bytes x) (table_pos x)) same ∙ sym t.decoded.cap in
     subst (λ n. 0 < n → start ≡ hash % n) (sym e) begins
 
-module _ {T W : Type 0} {wt : Words W} (post : View T → Bool → Type 0) (w : Width) (s : Shape) (t : ArchivedHashTable T W wt) (hash : ℕ) where
+module _ {T W : Type 0} {ts : Shapes T} {wt : Words W} (post : View T → Bool → Type 0) (t : ArchivedHashTable T W ts wt) (hash : ℕ) where
   -- the control bytes lead to the first accepted item of a written table
-  pub finds_first : (kind : Kind) → IsKind kind → hash < 2 ^ 64 → (found : Option ℕ) → FindsFound post kind w s t hash found → FindsFirst post w s t hash found
+  pub finds_first : (kind : Kind) → IsKind kind → hash < 2 ^ 64 → (found : Option ℕ) → FindsFound post kind t hash found → FindsFirst post t hash found
   finds_first kind law fits found finds = λ hashes homes accept written alone under.
-      finds accept alone ∙ first_found kind law w s.size (table_bytes t) (table_pos t) hash fits hashes homes accept written under
+      finds accept alone ∙ first_found kind law wt.word ts.shape.size (table_bytes t) (table_pos t) hash fits hashes homes accept written under
 
   -- a lookup by groups of sixteen as two halves is one by groups of eight
-  pub found_by_halves : (result : Option (View T)) → FindsItem post halves_kind w s t hash result → FindsItem post generic_kind w s t hash result
+  pub found_by_halves : (result : Option (View T)) → FindsItem post halves_kind t hash result → FindsItem post generic_kind t hash result
   found_by_halves result h =
       let b = table_bytes t in
       let p = table_pos t in
-      let at : ℕ → ℕ = item_at w s.size b p in
+      let at : ℕ → ℕ = item_at wt.word ts.shape.size b p in
       record {
         walked = h.walked;
         accepted = h.accepted;
-        answer = λ accept alone. h.answer accept alone ∙ ap (option_map at) (found_halves (table_controls w b p) (cap_at w b p) (len_at w b p) hash (λ i. accept (at i)));
+        answer = λ accept alone. h.answer accept alone ∙ ap (option_map at) (found_halves (table_controls wt.word b p) (cap_at wt.word b p) (len_at wt.word b p) hash (λ i. accept (at i)));
         first = h.first;
       }
 
-  pub counted_by_halves : (before after : ℕ) → CountsStrides post halves_kind w s t hash before after → CountsStrides post generic_kind w s t hash before after
+  pub counted_by_halves : (before after : ℕ) → CountsStrides post halves_kind t hash before after → CountsStrides post generic_kind t hash before after
   counted_by_halves before after h =
       let b = table_bytes t in
       let p = table_pos t in
       record {
         bounded = h.bounded;
-        counted = λ accept alone. h.counted accept alone ∙ ap (λ n. before + n) (end_halves (table_controls w b p) (cap_at w b p) (len_at w b p) hash (λ i. accept (item_at w s.size b p i)));
+        counted = λ accept alone. h.counted accept alone ∙ ap (λ n. before + n) (end_halves (table_controls wt.word b p) (cap_at wt.word b p) (len_at wt.word b p) hash (λ i. accept (item_at wt.word ts.shape.size b p i)));
       }
 
   -- the position of a found item
-  pub pos_of_item : (kind : Kind) (result : Option (View T)) → FindsItem post kind w s t hash result → FindsItemPos post kind w s t hash (pos_of_found result)
+  pub pos_of_item : (kind : Kind) (result : Option (View T)) → FindsItem post kind t hash result → FindsItemPos post kind t hash (pos_of_found result)
   pos_of_item kind (Some v) h = record { walked = (h.walked.0, h.walked.1.walked, h.walked.1.place); accepted = (v, h.walked, refl, h.accepted); answer = h.answer; first = h.first }
   pos_of_item kind None h = record { walked = tt; accepted = tt; answer = h.answer; first = h.first }
 
 -- a lookup in the control bytes that were read, with the comparison called for items of buckets
-module _ {T W : Type 0} {wt : Words W} (post : View T → Bool → Type 0) (kind : Kind) (law : IsKind kind) (w : Width) (s : Shape) (element : IsElement s) (items : Items T W wt) (are : AreItems w s items)
+module _ {T W : Type 0} {ts : Shapes T} {wt : Words W} (post : View T → Bool → Type 0) (kind : Kind) (law : IsKind kind) (element : IsElement ts.shape) (items : Items T W ts wt) (are : AreItems items)
     (hash : ℕ) (fits : hash < 2 ^ 64) (before after : ℕ)
-    (asked : ℕ → Bool → Type 0) (meets : (i : ℕ) (r : Bool) → asked i r → (v : View T) × IsItemIn w s items.table i v × post v r) (found : Option ℕ)
+    (asked : ℕ → Bool → Type 0) (meets : (i : ℕ) (r : Bool) → asked i r → (v : View T) × IsItemIn items.table i v × post v r) (found : Option ℕ)
     (finds : FindsBucket kind asked items.controls.now items.cap items.len hash before after found) where
   abbrev place : ℕ → ℕ
-  place = item_at w s.size (table_bytes items.table) (table_pos items.table)
+  place = item_at wt.word ts.shape.size (table_bytes items.table) (table_pos items.table)
 
-  asks : (accept : ℕ → Bool) → Answers post w s items.table accept → (i : ℕ) (r : Bool) → asked i r → r ≡ accept (place i)
+  asks : (accept : ℕ → Bool) → Answers post items.table accept → (i : ℕ) (r : Bool) → asked i r → r ≡ accept (place i)
   asks accept alone i r told = let e = meets i r told in alone e.0 r (i, e.1) e.2 ∙ ap accept e.1.place
 
-  bucket_told : (accept : ℕ → Bool) → Answers post w s items.table accept → found ≡ bucket_found kind w s.size (table_bytes items.table) (table_pos items.table) hash accept
-  bucket_told accept alone = finds.answer (λ i. accept (place i)) (λ i r full. asks accept alone i r) ∙ read_found w s element items are kind hash (λ i. accept (place i))
+  bucket_told : (accept : ℕ → Bool) → Answers post items.table accept → found ≡ bucket_found kind wt.word ts.shape.size (table_bytes items.table) (table_pos items.table) hash accept
+  bucket_told accept alone = finds.answer (λ i. accept (place i)) (λ i r full. asks accept alone i r) ∙ read_found element items are kind hash (λ i. accept (place i))
 
-  pub strides_counted : CountsStrides post kind w s items.table hash before after
+  pub strides_counted : CountsStrides post kind items.table hash before after
   strides_counted = record {
     bounded = rw (are.len, are.cap) at finds.bounded;
-    counted = λ accept alone. finds.counted (λ i. accept (place i)) (λ i r full. asks accept alone i r) ∙ ap (λ n. before + n) (read_end w s element items are kind hash (λ i. accept (place i)));
+    counted = λ accept alone. finds.counted (λ i. accept (place i)) (λ i r full. asks accept alone i r) ∙ ap (λ n. before + n) (read_end element items are kind hash (λ i. accept (place i)));
   }
 
-  pub item_found : (i : ℕ) → found ≡ Some i → (v : View T) → IsItemIn w s items.table i v → FindsItem post kind w s items.table hash (Some v)
+  pub item_found : (i : ℕ) → found ≡ Some i → (v : View T) → IsItemIn items.table i v → FindsItem post kind items.table hash (Some v)
   item_found i is v here =
-      let answer : FindsFound post kind w s items.table hash (Some v.pos) = λ accept alone. ap Some here.place ∙ ap (option_map place) (sym is ∙ bucket_told accept alone) in
+      let answer : FindsFound post kind items.table hash (Some v.pos) = λ accept alone. ap Some here.place ∙ ap (option_map place) (sym is ∙ bucket_told accept alone) in
       let e = meets i true (rw is at finds.accepted) in
       record {
         walked = (i, here);
         accepted = subst (λ u. post u true) (view_is e.0 v (e.1.archive ∙ sym here.archive) (e.1.place ∙ sym here.place)) e.2;
         answer = answer;
-        first = finds_first post w s items.table hash kind law fits (Some v.pos) answer;
+        first = finds_first post items.table hash kind law fits (Some v.pos) answer;
       }
 
-  pub none_found : found ≡ None → FindsItem post kind w s items.table hash None
+  pub none_found : found ≡ None → FindsItem post kind items.table hash None
   none_found is =
-      let answer : FindsFound post kind w s items.table hash None = λ accept alone. ap (option_map place) (sym is ∙ bucket_told accept alone) in
-      record { walked = tt; accepted = tt; answer = answer; first = finds_first post w s items.table hash kind law fits None answer }
+      let answer : FindsFound post kind items.table hash None = λ accept alone. ap (option_map place) (sym is ∙ bucket_told accept alone) in
+      record { walked = tt; accepted = tt; answer = answer; first = finds_first post items.table hash kind law fits None answer }

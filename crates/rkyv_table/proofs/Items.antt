@@ -1,4 +1,5 @@
 -- The facts about a valid table that its readers need.
+use Rattle.rkyv_base.specs.declared.element.Shaped.{Ghosts as Shapes}
 use Rattle.rkyv_base.specs.declared.width.Word.{Ghosts as Words}
 use Rattle.std.proofs.Common.{◌≡◌, ℕ, ◌+◌, ◌*◌, ◌%◌, ◌<◌, ◌≤◌, inl, inr, refl, sym, ap, subst, ◌∙◌, arith, List, Bool, length, slice_range, pos, ◌+ℤ◌}
 use Rattle.std.specs.Int.{Width}
@@ -16,7 +17,8 @@ use Rattle.rkyv_table.specs.Table.Header.{cap_at, controls_pos, len_at}
 use Rattle.rkyv_table.specs.Lemmas.ItemPositions.{HeldPart, holds_at, item_holds, told_controls, told_item, told_pos}
 use Rattle.rkyv_table.specs.Controls.Numbers.{control_count}
 use Rattle.rkyv_table.specs.Controls.Placing.{Accepted}
-use Rattle.rkyv_table.specs.Table.Reading.{AreItems, IsWalked, item_at, table_bytes, table_controls, table_pos}
+use Rattle.rkyv_table.specs.Table.Positions.{IsWalked, item_at, table_controls}
+use Rattle.rkyv_table.specs.Table.Reading.{AreItems, table_bytes, table_pos}
 use Rattle.rkyv_table.specs.declared.table.items.Items.{Items}
 use Rattle.rkyv_table.specs.Table.Layout.{table_shape}
 use Rattle.rkyv_table.specs.Lemmas.TableLaws.{bucket_aligned}
@@ -46,12 +48,11 @@ module _ (w : Width) (s : Shape) (law : IsElement s) (b : List ℕ) (p : ℕ) (v
       (omega arith, omega (arith, ints, begins, e))
 
   -- a table with buckets has at least sixteen control bytes
+  pub controls_length : 0 < cap_at w b p → length (table_controls w b p) ≡ control_count (cap_at w b p)
+  controls_length h = range_count b (controls_pos w b p) (control_count (cap_at w b p)) (controls_inside h).0
+
   pub controls_count : 0 < cap_at w b p → 16 ≤ length (table_controls w b p)
-  controls_count h =
-      let u = controls_inside h in
-      let n = control_count (cap_at w b p) in
-      let e : length (table_controls w b p) ≡ n = range_count b (controls_pos w b p) n u.0 in
-      omega (arith, e)
+  controls_count h = let e = controls_length h in omega (arith, e)
 
   -- a bucket is before the control bytes
   pub item_before : (i : ℕ) → i < cap_at w b p → (i + 1) * s.size ≤ controls_pos w b p
@@ -91,34 +92,34 @@ module _ (w : Width) (s : Shape) (law : IsElement s) (b : List ℕ) (p : ℕ) (v
   ]
 
 -- the numbers that were read of a header are those of the header
-module _ {T W : Type 0} {wt : Words W} (w : Width) (s : Shape) (law : IsElement s) (items : Items T W wt) (are : AreItems w s items) where
+module _ {T W : Type 0} {ts : Shapes T} {wt : Words W} (law : IsElement ts.shape) (items : Items T W ts wt) (are : AreItems items) where
   pub read_accepted : 0 < items.len → Accepted items.cap items.len items.controls.now
   read_accepted some =
       let v = are.table in
-      let n = some_cap w s law (table_bytes items.table) (table_pos items.table) v (rw are.len at some) in
-      let a = controls_accepted w s law (table_bytes items.table) (table_pos items.table) v n in
+      let n = some_cap wt.word ts.shape law (table_bytes items.table) (table_pos items.table) v (rw are.len at some) in
+      let a = controls_accepted wt.word ts.shape law (table_bytes items.table) (table_pos items.table) v n in
       rw (are.controls (rw are.cap n), are.cap, are.len) a
 
-  pub read_walked : (i : ℕ) → IsFullBucket items.cap items.controls.now i → IsWalked w (table_bytes items.table) (table_pos items.table) i
+  pub read_walked : (i : ℕ) → IsFullBucket items.cap items.controls.now i → IsWalked wt.word (table_bytes items.table) (table_pos items.table) i
   read_walked i full = rw (are.controls (omega (arith, full.0)), are.cap) at full
 
   -- a function of the control bytes, the capacity and the length is the same of those that were
   -- read. Without items it doesn't depend on the first two
   read_same : {A : Type 0} (f : List ℕ → ℕ → ℕ → A) → ((c d : List ℕ) (m n : ℕ) → f c m 0 ≡ f d n 0) → f items.controls.now items.cap items.len
-      ≡ f (table_controls w (table_bytes items.table) (table_pos items.table)) (cap_at w (table_bytes items.table) (table_pos items.table)) (len_at w (table_bytes items.table) (table_pos items.table))
+      ≡ f (table_controls wt.word (table_bytes items.table) (table_pos items.table)) (cap_at wt.word (table_bytes items.table) (table_pos items.table)) (len_at wt.word (table_bytes items.table) (table_pos items.table))
   read_same f none_alike = elim (cases_eq items.cap 0) [
     | inl none ↦
-        let z = no_items w s law (table_bytes items.table) (table_pos items.table) are.table (sym are.cap ∙ none) in
+        let z = no_items wt.word ts.shape law (table_bytes items.table) (table_pos items.table) are.table (sym are.cap ∙ none) in
         rw (are.len, z) (none_alike items.controls.now _ items.cap _)
     | inr some ↦ rw (are.controls (omega arith), are.cap, are.len) refl
   ]
 
   pub read_found : (kind : Kind) (hash : ℕ) (accept : ℕ → Bool) → found kind items.controls.now items.cap items.len hash accept
-      ≡ found kind (table_controls w (table_bytes items.table) (table_pos items.table)) (cap_at w (table_bytes items.table) (table_pos items.table)) (len_at w (table_bytes items.table) (table_pos items.table)) hash accept
+      ≡ found kind (table_controls wt.word (table_bytes items.table) (table_pos items.table)) (cap_at wt.word (table_bytes items.table) (table_pos items.table)) (len_at wt.word (table_bytes items.table) (table_pos items.table)) hash accept
   read_found kind hash accept = read_same (λ controls cap len. found kind controls cap len hash accept) (λ c d m n. refl)
 
   pub read_end : (kind : Kind) (hash : ℕ) (accept : ℕ → Bool) → end kind items.controls.now items.cap items.len hash accept
-      ≡ end kind (table_controls w (table_bytes items.table) (table_pos items.table)) (cap_at w (table_bytes items.table) (table_pos items.table)) (len_at w (table_bytes items.table) (table_pos items.table)) hash accept
+      ≡ end kind (table_controls wt.word (table_bytes items.table) (table_pos items.table)) (cap_at wt.word (table_bytes items.table) (table_pos items.table)) (len_at wt.word (table_bytes items.table) (table_pos items.table)) hash accept
   read_end kind hash accept = read_same (λ controls cap len. end kind controls cap len hash accept) (λ c d m n. refl)
 
 -- views of one position of one archive are one view

@@ -1,13 +1,13 @@
 -- The steps of counting misplaced items.
+use Rattle.rkyv_base.specs.declared.element.Shaped.{Ghosts as Shapes}
 use Rattle.rkyv_base.specs.declared.width.Word.{Ghosts as Words}
 use Rattle.std.proofs.Common.{◌≡◌, ℕ, suc, ◌+◌, refl, sym, ap, subst, ◌∙◌, arith, List, ◌∷◌, Bool, true, false, not, length, filter, Option}
-use Rattle.std.specs.Int.{Width}
-use Rattle.rkyv_base.specs.Shape.{Shape}
 use Rattle.rkyv_base.specs.declared.view.View.{View}
 use Rattle.rkyv_scan.specs.Groups.{Kind}
 use Rattle.rkyv_table.specs.Table.Misplaced.{is_answer}
 use Rattle.rkyv_table.specs.Table.MisplacedIn.{ComparesAs, FindsOwn, HashesAs, bucket_misplaced, table_misplaced}
-use Rattle.rkyv_table.specs.Table.Reading.{IsItemIn, bucket_found, item_at, table_bytes, table_pos}
+use Rattle.rkyv_table.specs.Table.Positions.{bucket_found, item_at}
+use Rattle.rkyv_table.specs.Table.Reading.{IsItemIn, table_bytes, table_pos}
 use Rattle.rkyv_table.specs.declared.table.ArchivedHashTable.{ArchivedHashTable}
 
 pub count_taken : (P : ℕ → Bool) (x : ℕ) (xs rest : List ℕ) → xs ≡ x ∷ rest → P x ≡ true → length (filter P xs) ≡ suc (length (filter P rest))
@@ -17,37 +17,37 @@ pub count_passed : (P : ℕ → Bool) (x : ℕ) (xs rest : List ℕ) → xs ≡ 
 count_passed P x xs rest e f = ap (λ ys. length (filter P ys)) e ∙ rw f refl
 
 -- the result of one lookup of a bucket's own item
-module _ {T W : Type 0} {wt : Words W} (kind : Kind) (w : Width) (s : Shape) (read self : ArchivedHashTable T W wt) (one : read ≡ self) (hashes : View T → ℕ → Type 0) (compares : View T → View T → Bool → Type 0)
-    (bucket hash : ℕ) (item : View T) (is : IsItemIn w s read bucket item) (hashed : hashes item hash) (result : Option ℕ) (finds : FindsOwn compares kind w s read hash bucket result) where
-  pub bucket_told : (hash_of : ℕ → ℕ) (same : ℕ → ℕ → Bool) → HashesAs hashes w s self hash_of → ComparesAs compares w s self same
-      → not (is_answer bucket result) ≡ bucket_misplaced kind w s self hash_of same bucket
+module _ {T W : Type 0} {ts : Shapes T} {wt : Words W} (kind : Kind) (read self : ArchivedHashTable T W ts wt) (one : read ≡ self) (hashes : View T → ℕ → Type 0) (compares : View T → View T → Bool → Type 0)
+    (bucket hash : ℕ) (item : View T) (is : IsItemIn read bucket item) (hashed : hashes item hash) (result : Option ℕ) (finds : FindsOwn compares kind read hash bucket result) where
+  pub bucket_told : (hash_of : ℕ → ℕ) (same : ℕ → ℕ → Bool) → HashesAs hashes self hash_of → ComparesAs compares self same
+      → not (is_answer bucket result) ≡ bucket_misplaced kind self hash_of same bucket
   bucket_told hash_of same hash_as same_as =
-      let at : ℕ → ℕ = item_at w s.size (table_bytes self) (table_pos self) in
-      let here : IsItemIn w s self bucket item = subst (λ t. IsItemIn w s t bucket item) one is in
-      let found = subst (λ t. FindsOwn compares kind w s t hash bucket result) one finds same same_as in
+      let at : ℕ → ℕ = item_at wt.word ts.shape.size (table_bytes self) (table_pos self) in
+      let here : IsItemIn self bucket item = subst (λ t. IsItemIn t bucket item) one is in
+      let found = subst (λ t. FindsOwn compares kind t hash bucket result) one finds same same_as in
       let under : hash ≡ hash_of (at bucket) = hash_as item hash (bucket, here) hashed ∙ ap hash_of here.place in
-      ap (λ o. not (is_answer bucket o)) (found ∙ ap (λ z. bucket_found kind w s.size (table_bytes self) (table_pos self) z (same (at bucket))) under)
+      ap (λ o. not (is_answer bucket o)) (found ∙ ap (λ z. bucket_found kind wt.word ts.shape.size (table_bytes self) (table_pos self) z (same (at bucket))) under)
 
 -- the counted items and those of the remaining buckets are all misplaced items
-module _ {T W : Type 0} {wt : Words W} (kind : Kind) (w : Width) (s : Shape) (t : ArchivedHashTable T W wt) (hashes : View T → ℕ → Type 0) (compares : View T → View T → Bool → Type 0) where
+module _ {T W : Type 0} {ts : Shapes T} {wt : Words W} (kind : Kind) (t : ArchivedHashTable T W ts wt) (hashes : View T → ℕ → Type 0) (compares : View T → View T → Bool → Type 0) where
   abbrev pub Counting : ℕ → List ℕ → Type 0
-  Counting count left = (hash_of : ℕ → ℕ) (same : ℕ → ℕ → Bool) → HashesAs hashes w s t hash_of → ComparesAs compares w s t same
-      → count + length (filter (bucket_misplaced kind w s t hash_of same) left) ≡ table_misplaced kind w s t hash_of same
+  Counting count left = (hash_of : ℕ → ℕ) (same : ℕ → ℕ → Bool) → HashesAs hashes t hash_of → ComparesAs compares t same
+      → count + length (filter (bucket_misplaced kind t hash_of same) left) ≡ table_misplaced kind t hash_of same
 
   -- the result is `true` if and only if the item of the bucket is misplaced
   abbrev pub TellsMisplaced : ℕ → Bool → Type 0
-  TellsMisplaced bucket told = (hash_of : ℕ → ℕ) (same : ℕ → ℕ → Bool) → HashesAs hashes w s t hash_of → ComparesAs compares w s t same
-      → told ≡ bucket_misplaced kind w s t hash_of same bucket
+  TellsMisplaced bucket told = (hash_of : ℕ → ℕ) (same : ℕ → ℕ → Bool) → HashesAs hashes t hash_of → ComparesAs compares t same
+      → told ≡ bucket_misplaced kind t hash_of same bucket
 
   module _ (count bucket : ℕ) (buckets left : List ℕ) (steps : buckets ≡ bucket ∷ left) (told : Bool) (tells : TellsMisplaced bucket told) (before : Counting count buckets) where
     pub counted_one : told ≡ true → Counting (count + 1) left
     counted_one hit = λ hash_of same hash_as same_as.
-        let n = count_taken (bucket_misplaced kind w s t hash_of same) bucket buckets left steps (sym (tells hash_of same hash_as same_as) ∙ hit) in
+        let n = count_taken (bucket_misplaced kind t hash_of same) bucket buckets left steps (sym (tells hash_of same hash_as same_as) ∙ hit) in
         let e = before hash_of same hash_as same_as in
         omega (arith, n, e)
 
     pub counted_none : told ≡ false → Counting count left
     counted_none miss = λ hash_of same hash_as same_as.
-        let n = count_passed (bucket_misplaced kind w s t hash_of same) bucket buckets left steps (sym (tells hash_of same hash_as same_as) ∙ miss) in
+        let n = count_passed (bucket_misplaced kind t hash_of same) bucket buckets left steps (sym (tells hash_of same hash_as same_as) ∙ miss) in
         let e = before hash_of same hash_as same_as in
         omega (arith, n, e)

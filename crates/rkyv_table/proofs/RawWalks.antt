@@ -9,7 +9,7 @@ use Rattle.rkyv_base.specs.Shape.{IsElement, Shape, Viewed}
 use Rattle.rkyv_table.specs.Table.Header.{cap_at, controls_pos, len_at}
 use Rattle.rkyv_table.specs.Controls.Placing.{walk}
 use Rattle.rkyv_table.specs.Table.RawItems.{IsAhead, pos_before}
-use Rattle.rkyv_table.specs.Table.Reading.{IsWalked, item_at, item_positions, table_controls}
+use Rattle.rkyv_table.specs.Table.Positions.{IsWalked, item_at, item_positions, table_controls}
 use Rattle.rkyv_table.specs.Table.Layout.{table_shape}
 use Rattle.rkyv_table.proofs.Items.{controls_accepted, item_before, item_viewed, no_items}
 use Rattle.rkyv_table.proofs.Walks.{walk_none, walked_full}

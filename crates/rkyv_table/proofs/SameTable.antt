@@ -5,7 +5,7 @@ use Rattle.rkyv_base.specs.Bytes.{Same}
 use Rattle.rkyv_table.specs.Controls.Placing.{Written}
 use Rattle.rkyv_table.specs.Lemmas.SameHeader.{cap_same, len_same, pos_same}
 use Rattle.rkyv_table.specs.Table.Header.{cap_at}
-use Rattle.rkyv_table.specs.Table.Reading.{WrittenAt, home_positions, item_at, table_controls}
+use Rattle.rkyv_table.specs.Table.Positions.{WrittenAt, home_positions, item_at, table_controls}
 
 -- the positions of the items depend on the header alone
 module _ (w : Width) (size : ℕ) (b c : List ℕ) (p : ℕ) (fixed : Same b c p (p + 3 * byte_len w)) where

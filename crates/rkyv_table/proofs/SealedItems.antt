@@ -1,4 +1,5 @@
 -- The steps of a cursor that writes items in place.
+use Rattle.rkyv_base.specs.declared.element.Shaped.{Ghosts as Shapes}
 use Rattle.rkyv_base.specs.declared.width.Word.{Ghosts as Words}
 use Rattle.std.proofs.Common.{◌≡◌, ℕ, ◌+◌, ◌-◌, ◌*◌, ◌<◌, ◌≤◌, suc, inl, inr, refl, sym, ap, subst, ◌∙◌, arith, List, [], ◌∷◌, length, slice_index, slice_range, take, drop, get_or-take}
 use Rattle.std.specs.Int.{Width}
@@ -8,7 +9,8 @@ use Rattle.rkyv_scan.specs.Groups.{is_full}
 use Rattle.rkyv_table.specs.Table.Header.{cap_at, controls_pos, len_at}
 use Rattle.rkyv_table.specs.Controls.Numbers.{control_count}
 use Rattle.rkyv_table.specs.Table.RawItems.{pos_before}
-use Rattle.rkyv_table.specs.Table.Reading.{AreItems, IsWalked, item_at, table_bytes, table_controls, table_pos}
+use Rattle.rkyv_table.specs.Table.Positions.{IsWalked, item_at, table_controls}
+use Rattle.rkyv_table.specs.Table.Reading.{AreItems, table_bytes, table_pos}
 use Rattle.rkyv_table.specs.Table.SealedLookup.{IsReadAt, IsTableSeal}
 use Rattle.rkyv_table.specs.declared.table.TableOf.{TableOf}
 use Rattle.rkyv_table.specs.declared.table.items.Items.{Items}
@@ -141,20 +143,20 @@ module _ {T : Type 0} (w : Width) (s : Shape) (law : IsElement s) (p : ℕ) (r :
   begun left place = record { table = view; cap = cap; place = place; left = left ∙ sym (walk_count w s law r.archive.now p view) ∙ ap length (sym all_left) }
 
 -- a cursor with the numbers that were read of a header
-module _ {T W : Type 0} {wt : Words W} (w : Width) (s : Shape) (law : IsElement s) (a : ArchiveSeal (TableOf T W)) (stands : IsTableSeal w s a) (items : Items T W wt) (are : AreItems w s items)
+module _ {T W : Type 0} {ts : Shapes T} {wt : Words W} (law : IsElement ts.shape) (a : ArchiveSeal (TableOf T W)) (stands : IsTableSeal wt.word ts.shape a) (items : Items T W ts wt) (are : AreItems items)
     (read : IsReadAt a items.table) (r : RawIterSeal T) (bytes : r.archive.now ≡ archive_in a) (place : r.place ≡ items.place) (cap : r.cap ≡ items.cap) (left : r.left ≡ items.len) (next : r.next ≡ 0) where
   as_read : (F : List ℕ → ℕ → ℕ) → F (table_bytes items.table) (table_pos items.table) ≡ F r.archive.now (pos_in a)
   as_read F = ap (λ b. F b (table_pos items.table)) (read.0 ∙ sym bytes) ∙ ap (F r.archive.now) read.1
 
-  stands_there : Viewed (table_shape w s) r.archive.now (pos_in a)
-  stands_there = subst (λ b. Viewed (table_shape w s) b (pos_in a)) (sym bytes) stands
+  stands_there : Viewed (table_shape wt.word ts.shape) r.archive.now (pos_in a)
+  stands_there = subst (λ b. Viewed (table_shape wt.word ts.shape) b (pos_in a)) (sym bytes) stands
 
-  cap_there : r.cap ≡ cap_at w r.archive.now (pos_in a)
-  cap_there = cap ∙ are.cap ∙ as_read (cap_at w)
+  cap_there : r.cap ≡ cap_at wt.word r.archive.now (pos_in a)
+  cap_there = cap ∙ are.cap ∙ as_read (cap_at wt.word)
 
-  pub begun_at : IsSealIter w s (pos_in a) r
-  begun_at = begun w s law (pos_in a) r stands_there cap_there next (left ∙ are.len ∙ as_read (len_at w))
-      (λ h. place ∙ are.place (subst (λ n. 0 < n) cap h) ∙ as_read (controls_pos w))
+  pub begun_at : IsSealIter wt.word ts.shape (pos_in a) r
+  begun_at = begun wt.word ts.shape law (pos_in a) r stands_there cap_there next (left ∙ are.len ∙ as_read (len_at wt.word))
+      (λ h. place ∙ are.place (subst (λ n. 0 < n) cap h) ∙ as_read (controls_pos wt.word))
 
-  pub all_left_at : buckets_left w (pos_in a) r ≡ walk (table_controls w (archive_in a) (pos_in a)) (cap_at w (archive_in a) (pos_in a))
-  all_left_at = all_left w s law (pos_in a) r stands_there cap_there next ∙ ap (λ b. walk (table_controls w b (pos_in a)) (cap_at w b (pos_in a))) bytes
+  pub all_left_at : buckets_left wt.word (pos_in a) r ≡ walk (table_controls wt.word (archive_in a) (pos_in a)) (cap_at wt.word (archive_in a) (pos_in a))
+  all_left_at = all_left wt.word ts.shape law (pos_in a) r stands_there cap_there next ∙ ap (λ b. walk (table_controls wt.word b (pos_in a)) (cap_at wt.word b (pos_in a))) bytes

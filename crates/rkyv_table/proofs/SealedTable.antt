@@ -12,7 +12,8 @@ use Rattle.rkyv_base.specs.Shape.{IsElement, Shape, Viewed}
 use Rattle.rkyv_base.proofs.Sealing.{entry_kept, holds_elsewhere, same_outside, sealed_wider}
 use Rattle.rkyv_table.proofs.SameTable.{written_there}
 use Rattle.rkyv_table.proofs.Items.{item_viewed, part_of}
-use Rattle.rkyv_table.specs.Table.Reading.{IsWalked, WrittenAt, bucket_found, item_at, table_controls}
+use Rattle.rkyv_table.specs.Table.Positions.{IsWalked, WrittenAt, bucket_found, item_at}
+use Rattle.rkyv_table.specs.Table.Positions.{table_controls}
 use Rattle.rkyv_table.specs.Table.Header.{begin_told, cap_at, controls_pos, len_at}
 use Rattle.rkyv_table.specs.Table.SealedTable.{KeepsTable, SameValue}
 use Rattle.rkyv_scan.specs.Groups.{Kind, is_full}

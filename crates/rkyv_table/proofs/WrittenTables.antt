@@ -8,7 +8,8 @@ use Rattle.rkyv_table.specs.Table.Header.{begin_told, cap_at}
 use Rattle.rkyv_table.specs.Lemmas.ItemPositions.{told_controls, told_item}
 use Rattle.rkyv_table.specs.Controls.Numbers.{capacity}
 use Rattle.rkyv_table.specs.Controls.Placing.{Written}
-use Rattle.rkyv_table.specs.Table.Reading.{IsWalked, WrittenAt, home_positions, item_at, table_controls}
+use Rattle.rkyv_table.specs.Table.Positions.{IsWalked, WrittenAt, home_positions, item_at}
+use Rattle.rkyv_table.specs.Table.Positions.{table_controls}
 use Rattle.rkyv_table.specs.Table.Layout.{bucket_at, controls_at}
 use Rattle.rkyv_table.specs.Table.TableFormat.{BucketsStand, TableStands}
 use Rattle.rkyv_table.specs.Lemmas.TableSound.{capacity_above}

@@ -2,6 +2,7 @@
 pub mod Header
 pub mod Places
 pub mod Layout
+pub mod Positions
 pub mod Reading
 pub mod Decoded
 pub mod Lending

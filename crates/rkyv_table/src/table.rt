@@ -1,5 +1,9 @@
 //! Tables of items.
+ghost use Rattle.rkyv_base.specs.Shape.{viewed_prop};
+ghost use Rattle.rkyv_base.specs.View.{IsView};
 ghost use Rattle.rkyv_table.specs.Table.Decoded.{IsDecoded};
+ghost use Rattle.rkyv_table.specs.Table.Layout.{table_shape};
+ghost use Rattle.rkyv_table.specs.Lemmas.TableLaws.{table_element};
 
 mod buckets;
 mod bytes;
@@ -25,6 +29,7 @@ mod verify;
 pub mod written;
 
 use crate::table::decoded::Decoded;
+use rkyv_base::element::Shaped;
 use rkyv_base::view::View;
 use rkyv_base::width::{Narrow, Word};
 use std::alloc::AllocError;
@@ -38,18 +43,21 @@ pub struct TableOf<T, W = Narrow> {
 
 /// A table of T that is read in place, in an archive of the width W.
 ///
-/// It holds its decoded header.
-pub struct ArchivedHashTable<'a, T, W: Word = Narrow> {
+/// Its bytes are valid. It holds its decoded header.
+pub struct ArchivedHashTable<'a, T: Shaped, W: Word = Narrow> {
     view: View<'a, TableOf<T, W>>,
     header: Decoded,
+    ghost valid: { IsView (table_shape W.word T.shape) view } by { viewed_prop (table_shape
+        W.word T.shape)
+        (table_element W.word W.kind T.shape T.laws) view.archive.now view.pos },
     ghost decoded: { IsDecoded W.word view.archive.now view.pos header },
 }
 
-impl<'a, T, W: Word> Clone for ArchivedHashTable<'a, T, W> {
+impl<'a, T: Shaped, W: Word> Clone for ArchivedHashTable<'a, T, W> {
     #[inline]
     fn clone(&self) -> Result<ArchivedHashTable<'a, T, W>, AllocError> {
         Ok(*self)
     }
 }
 
-impl<'a, T, W: Word> Copy for ArchivedHashTable<'a, T, W> {}
+impl<'a, T: Shaped, W: Word> Copy for ArchivedHashTable<'a, T, W> {}

@@ -1,6 +1,7 @@
 -- Elements for which all bytes of their size are valid.
 use Rattle.std.specs.Prelude.{◌≡◌, ℕ, ◌%◌, ◌≤◌}
 use Rattle.std.proofs.Common.{refl, arith, sym, ◌∙◌}
+use Rattle.std.proofs.Props.{props}
 use Rattle.rkyv_base.specs.Shape.{Shape, IsAlign, IsElement}
 
 -- an element that is valid everywhere, without parts
@@ -18,6 +19,7 @@ any_bytes-element size align is_align whole small = record {
   align_is = is_align;
   size_whole = whole;
   size_small = small;
+  proper = λ b p lo hi l. hlevel props;
   between = λ b p lo hi l o h. (omega (arith, h), omega (arith, h));
   one = λ b p lo hi l l' h h'. h ∙ sym h';
   clear = λ b p lo hi l e h f. f;

@@ -1,9 +1,7 @@
 //! Tests of archives whose bytes are passed to a closure.
 
 ghost use Rattle.std.specs.Prelude.{◌≡◌, ◌+◌, ◌-◌, ◌≤◌, IsOk, MatchResult, length};
-ghost use Rattle.std.specs.Int.{byte_len};
 ghost use Rattle.rkyv_base.specs.Access.{Accepted};
-ghost use Rattle.rkyv_base.specs.Scalar.{scalar_shape};
 ghost use Rattle.rkyv_base.specs.Sealing.{with_value};
 
 use rkyv_base::{
@@ -15,14 +13,14 @@ use rkyv_base::{
 fn root_written<W: Width, N: Scalar>(bytes: &mut [u8], value: N) -> Result<(), VerifyError>
     ensures written { MatchResult result
         (λ _. bytes.new ≡ with_value N.encoding bytes.old
-        (length bytes.old - byte_len N.encoding.word) value)
+        (length bytes.old - N.shape.size) value)
         (λ _. bytes.new ≡ bytes.old) }
-    ensures accepts { Accepted W.LIMIT (scalar_shape N.encoding) bytes.old → IsOk result }
+    ensures accepts { Accepted W.LIMIT N.shape bytes.old → IsOk result }
 {
     access_mut_with_in::<W, N, (), _>(
         bytes,
         |archive: &mut [u8], pos: u64|
-            requires { pos + byte_len N.encoding.word ≤ length archive.old }
+            requires { pos + N.shape.size ≤ length archive.old }
             ensures { archive.new ≡ with_value N.encoding archive.old pos value }
         {
             set_at(archive, pos as usize, value);
@@ -32,13 +30,13 @@ fn root_written<W: Width, N: Scalar>(bytes: &mut [u8], value: N) -> Result<(), V
 
 // Writes the value at a position of some bytes.
 fn value_written<N: Scalar>(bytes: &mut [u8], pos: u64, value: N)
-    requires { pos + byte_len N.encoding.word ≤ length bytes.old }
+    requires { pos + N.shape.size ≤ length bytes.old }
     ensures { bytes.new ≡ with_value N.encoding bytes.old pos value }
 {
     let mut whole = ArchiveSeal::<N>::new(bytes, pos);
     whole.write_with(
         |archive: &mut [u8], pos: u64|
-            requires { pos + byte_len N.encoding.word ≤ length archive.old }
+            requires { pos + N.shape.size ≤ length archive.old }
             ensures { archive.new ≡ with_value N.encoding archive.old pos value }
         {
             set_at(archive, pos as usize, value);

@@ -4,9 +4,12 @@ ghost use Rattle.std.specs.Int.{w32};
 ghost use Rattle.std.proofs.Common.{inl, inr, lit≤, refl};
 ghost use Rattle.rkyv_base.specs.Lemmas.AnyBytes.{any_bytes, any_bytes-element};
 ghost use Rattle.rkyv_base.specs.Format.{nothing_far, nothing_next};
+ghost use Rattle.rkyv_base.specs.Numbers.{unsigned, unsigned_codes};
+ghost use Rattle.rkyv_base.specs.Scalar.{scalar_element, scalar_laws, scalar_shape};
 
 use crate::tests::refusals::{Refusal, refused};
 use rkyv_base::access::access;
+use rkyv_base::element::Shaped;
 use rkyv_base::{
     Archive, Element, Entry, Narrow, PartRange, ResolveResult, Scalar, Serialize, StandsFor,
     VecWriter, VerifyError, Width, WriteError, WriteResult, Writer, to_bytes, whole_size,
@@ -17,6 +20,12 @@ use std::alloc::Global;
 // A user's own scalar.
 #[derive(Clone, Copy, Debug, PartialEq, Eq)]
 struct Grams(u32);
+
+impl Shaped for Grams {
+    ghost shape = { scalar_shape (unsigned w32) };
+
+    ghost laws = { scalar_element (unsigned w32) (inr (inr (inl refl))) (unsigned_codes w32) };
+}
 
 impl Scalar for Grams {
     ghost encoding = { record {
@@ -43,15 +52,19 @@ impl Scalar for Grams {
         self.0.write(bytes);
     }
 
-    ghost word = { inr (inr (inl refl)) };
+    ghost laws = { scalar_laws _ (inr (inr (inl refl))) };
 }
 
 // A user's own element, of the greatest size. All bytes are valid for it.
 struct Huge;
 
-impl Element for Huge {
+impl Shaped for Huge {
     ghost shape = { any_bytes 1073741824 1 };
 
+    ghost laws = { any_bytes-element 1073741824 1 (inl refl) refl (lit≤ tt) };
+}
+
+impl Element for Huge {
     fn size() -> usize {
         1_073_741_824
     }
@@ -63,8 +76,6 @@ impl Element for Huge {
     fn check(_bytes: &[u8], _pos: u64, range: PartRange) -> Result<PartRange, VerifyError> {
         Ok(range)
     }
-
-    ghost laws = { any_bytes-element 1073741824 1 (inl refl) refl (lit≤ tt) };
 }
 
 impl StandsFor<Huge> for Huge {

@@ -9,7 +9,7 @@ use Rattle.rkyv_base.specs.Format.{Format, IsFormat}
 use Rattle.rkyv_base.specs.Shape.{IsElement, Shape, Viewed, standing}
 use Rattle.rkyv_base.specs.Text.{IsArchiveWord}
 use Rattle.rkyv_table.specs.Lemmas.TableLaws.{table_element}
-use Rattle.rkyv_collections.specs.Map.{map_shape}
+use Rattle.rkyv_collections.specs.MapShape.{map_shape}
 use Rattle.rkyv_collections.specs.MapFormat.{MapStands}
 use Rattle.rkyv_collections.specs.StdMap.{of_entries}
 

@@ -13,8 +13,8 @@ use Rattle.rkyv_base.specs.Text.{IsArchiveWord}
 use Rattle.rkyv_table.specs.Table.Header.{cap_at}
 use Rattle.rkyv_table.specs.Controls.Numbers.{capacity}
 use Rattle.rkyv_table.specs.Controls.Placing.{Written}
-use Rattle.rkyv_table.specs.Table.Reading.{WrittenAt, home_positions, item_at}
-use Rattle.rkyv_table.specs.Table.Reading.{table_controls}
+use Rattle.rkyv_table.specs.Table.Positions.{WrittenAt, home_positions, item_at}
+use Rattle.rkyv_table.specs.Table.Positions.{table_controls}
 use Rattle.rkyv_table.specs.Table.Layout.{TableHolds}
 use Rattle.rkyv_table.specs.Table.TableFormat.{TableStands}
 use Rattle.rkyv_table.specs.Lemmas.TableSound.{table_is_format}
@@ -23,7 +23,7 @@ use Rattle.rkyv_table.specs.Lemmas.ItemPositions.{HeldPart, HoldsWithin, holds_a
 use Rattle.rkyv_table.specs.Lemmas.SameHeader.{cap_same, len_same, pos_same}
 use Rattle.rkyv_table.specs.Table.WrittenTables.{IsWrittenOf}
 use Rattle.rkyv_table.proofs.WrittenTables.{home_count, home_pos, home_walked, table_written}
-use Rattle.rkyv_collections.specs.Map.{map_shape}
+use Rattle.rkyv_collections.specs.MapShape.{map_shape}
 use Rattle.rkyv_collections.specs.MapFormat.{MapStands, keyed, map_format}
 use Rattle.rkyv_table.specs.Lemmas.SameControls.{same_controls}
 

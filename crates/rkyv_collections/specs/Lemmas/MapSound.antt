@@ -9,7 +9,8 @@ use Rattle.rkyv_scan.specs.Hash.{Hasher, HasherCall, hash_of_calls}
 use Rattle.rkyv_keys.specs.Asking.{hashes_as_written}
 use Rattle.rkyv_keys.specs.Equality.{Comparison}
 use Rattle.rkyv_keys.specs.Keys.{FitsItsEqual, IsKey, IsQuery}
-use Rattle.rkyv_collections.specs.Map.{hash_at, map_shape}
+use Rattle.rkyv_collections.specs.Map.{hash_at}
+use Rattle.rkyv_collections.specs.MapShape.{map_shape}
 use Rattle.rkyv_collections.specs.MapFormat.{MapStands, hash_of, map_format}
 use Rattle.rkyv_collections.specs.Lemmas.MapLaws.{map_is_format, stands_again}
 use Rattle.rkyv_table.specs.Table.Listed.{listed, listed_format}

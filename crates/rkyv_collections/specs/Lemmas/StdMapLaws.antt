@@ -21,15 +21,15 @@ use Rattle.rkyv_base.specs.Text.{IsArchiveWord}
 use Rattle.rkyv_table.specs.Table.Header.{cap_at, len_at}
 use Rattle.rkyv_table.specs.Lemmas.ItemPositions.{holds_at, item_holds}
 use Rattle.rkyv_table.specs.Controls.Placing.{walk}
-use Rattle.rkyv_table.specs.Table.Reading.{IsWalked, home_positions, item_at}
-use Rattle.rkyv_table.specs.Table.Reading.{item_positions, table_controls}
+use Rattle.rkyv_table.specs.Table.Positions.{IsWalked, home_positions, item_at}
+use Rattle.rkyv_table.specs.Table.Positions.{item_positions, table_controls}
 use Rattle.rkyv_table.specs.Lemmas.SameHeader.{cap_same, pos_same}
 use Rattle.rkyv_table.specs.Table.Layout.{TableHolds}
 use Rattle.rkyv_table.proofs.RawWalks.{walk_count, walked_all}
 use Rattle.rkyv_table.proofs.WalkedHomes.{walked_homes}
 use Rattle.rkyv_table.proofs.Walks.{walk_none}
 use Rattle.rkyv_table.proofs.WrittenTables.{home_count, home_pos}
-use Rattle.rkyv_collections.specs.Map.{map_shape}
+use Rattle.rkyv_collections.specs.MapShape.{map_shape}
 use Rattle.rkyv_collections.specs.MapFormat.{MapStands}
 use Rattle.rkyv_collections.specs.Lemmas.EntriesTold.{entries_told}
 use Rattle.rkyv_table.specs.Lemmas.SameControls.{same_controls}

@@ -2,7 +2,8 @@
 
 ghost use Rattle.std.specs.Prelude.{◌≡◌};
 ghost use Rattle.rkyv_table.specs.Table.Listed.{listed, written_under, written_under-format};
-ghost use Rattle.rkyv_collections.specs.Map.{hash_at, map_shape};
+ghost use Rattle.rkyv_collections.specs.Map.{hash_at};
+ghost use Rattle.rkyv_collections.specs.MapShape.{map_shape};
 ghost use Rattle.rkyv_collections.specs.MapFormat.{MapStands, hash_of, map_format};
 ghost use Rattle.rkyv_collections.specs.Lemmas.MapSound.{listed_map_sound, map_near};
 

@@ -1,6 +1,6 @@
 //! Formatting of maps by `Debug`.
 ghost use Rattle.rkyv_base.specs.View.{IsView};
-ghost use Rattle.rkyv_collections.specs.Map.{map_shape};
+ghost use Rattle.rkyv_collections.specs.MapShape.{map_shape};
 
 use crate::map::{ArchivedHashMap, HashMapOf};
 use rkyv_base::view::View;

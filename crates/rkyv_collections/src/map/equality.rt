@@ -1,11 +1,11 @@
 //! Equality of maps.
 ghost use Rattle.std.specs.Prelude.{◌+◌, ◌≡◌};
 ghost use Rattle.rkyv_base.specs.Entry.{value_offset};
-ghost use Rattle.rkyv_base.specs.View.{IsAt, IsView, archive_of, bytes_of, pos_of};
+ghost use Rattle.rkyv_base.specs.View.{IsAt, IsView, archive_of, pos_of};
 ghost use Rattle.rkyv_keys.specs.Places.{at_views};
-ghost use Rattle.rkyv_collections.specs.Equality.{map_equal, pair_matches};
-ghost use Rattle.rkyv_collections.specs.Map.{IsMap, hash_at, map_bytes, map_pos, map_shape};
-ghost use Rattle.rkyv_collections.specs.Map.{map_view};
+ghost use Rattle.rkyv_collections.specs.Equality.{finds_same, map_equal};
+ghost use Rattle.rkyv_collections.specs.Map.{hash_at, map_view};
+ghost use Rattle.rkyv_collections.specs.MapShape.{map_shape};
 
 use crate::map::{ArchivedHashMap, HashMapOf};
 use rkyv_base::view::View;
@@ -18,13 +18,11 @@ impl<'a, K: KeyElement, V: ElementEq, H: KeyHasher, W: Width> ArchivedHashMap<'a
     /// Returns `true` if and only if a lookup of the key finds a value that is the same.
     #[inline]
     fn matches(self, key: View<'_, K>, value: View<'_, V>) -> bool
-        requires map { IsMap W.word K.shape V.shape self }
         requires key { IsView K.shape key }
         requires value { IsView V.shape value }
         requires pair { IsAt value (archive_of key) (pos_of key + value_offset K.shape V.shape) }
         ensures { let key_hash = hash_at H.hasher K.key_calls in
-            result ≡ pair_matches W.word K.shape V.shape key_hash K.same V.same (bytes_of key.entry)
-            (pos_of key.entry) (map_bytes self.entry) (map_pos self.entry) }
+            result ≡ finds_same self.entry key_hash K.same V.same key.entry }
     {
         match self.get(&key) {
             Some(found) => V::same(value, found),
@@ -39,14 +37,8 @@ impl<'a, K: KeyElement, V: ElementEq, H: KeyHasher, W: Width> ArchivedHashMap<'a
     ///
     /// Each pair costs a lookup in `other`. In an untrusted map, keys that share a hash make
     /// the cost quadratic in their number.
-    ///
-    /// # Requires
-    ///
-    /// - Both maps are valid.
     #[inline]
     pub fn eq_map(self, other: ArchivedHashMap<'_, K, V, H, W>) -> bool
-        requires own { IsMap W.word K.shape V.shape self }
-        requires other { IsMap W.word K.shape V.shape other }
         ensures { let key_hash = hash_at H.hasher K.key_calls in
             result ≡ at_views (map_equal W.word K.shape V.shape key_hash K.same V.same)
             (map_view self.entry) (map_view other.entry) }

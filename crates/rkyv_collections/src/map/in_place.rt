@@ -19,14 +19,13 @@
 //! `get_seal_with` and `get_key_value_seal_with` look up by a comparison.
 //! If the map is a value of another map, `map::nested` has the laws of the outer map.
 ghost use Rattle.std.specs.Prelude.{IfSome, length, ℕ, ◌+◌, ◌≡◌, ◌≤◌};
-ghost use Rattle.rkyv_base.specs.Scalar.{scalar_shape};
 ghost use Rattle.rkyv_base.specs.Sealing.{value_pos};
 ghost use Rattle.rkyv_base.specs.Shape.{Viewed};
-ghost use Rattle.rkyv_collections.specs.InPlace.{FindsFirstValueAt, FindsValueAt, MayWriteFound};
-ghost use Rattle.rkyv_collections.specs.InPlace.{SetsFirst, SetsValueAt, WritesFound};
-ghost use Rattle.rkyv_collections.specs.Map.{IsKeyPosAt, IsMap, hash_at, map_bytes, map_pos};
-ghost use Rattle.rkyv_collections.specs.Map.{map_shape};
-ghost use Rattle.rkyv_collections.specs.MapFormat.{hash_of};
+ghost use Rattle.rkyv_collections.specs.InPlace.{MayWriteFound, SetsFirst, SetsValue, WritesFound};
+ghost use Rattle.rkyv_collections.specs.Map.{map_bytes, map_pos};
+ghost use Rattle.rkyv_collections.specs.MapAt.{TellsValueAt, asked_value, map_at};
+ghost use Rattle.rkyv_collections.specs.MapShape.{IsKeyPosAt, map_shape};
+ghost use Rattle.rkyv_keys.specs.Asked.{asked};
 ghost use Rattle.rkyv_collections.specs.NestedWrites.{WritesParts};
 
 use crate::map::ArchivedHashMap;
@@ -46,7 +45,6 @@ fn map_over<K: Element, V: Element, H, W: Width>(
     root: u64,
 ) -> ArchivedHashMap<'_, K, V, H, W>
     requires { Viewed (map_shape W.word K.shape V.shape) archive.now root }
-    ensures map { IsMap W.word K.shape V.shape result }
     ensures bytes { map_bytes result ≡ archive.now }
     ensures pos { map_pos result ≡ root }
 {
@@ -63,11 +61,8 @@ impl<'a, K: KeyElement, V: Element, H: KeyHasher, W: Width> ArchivedHashMap<'a, 
             × IsKeyPosAt W.word K.shape V.shape archive.now root place
             × (pos ≡ value_pos K.shape V.shape place)) }
         ensures inside { IfSome result (λ pos. pos + V.shape.size ≤ length archive.now) }
-        ensures answer { FindsValueAt W.word K.shape V.shape archive.now root
-            (hash_of H.hasher Q.calls key.now) (Q.fits key.now archive.now)
-            (λ pos. result ≡ pos) }
-        ensures first { FindsFirstValueAt W.word K.shape V.shape archive.now root
-            (hash_at H.hasher K.key_calls) (Q.fits key.now archive.now)
+        ensures finds { TellsValueAt (map_at W.Word K.Shaped V.Shaped archive.now root)
+            (asked H.hasher K.key_calls K.same (Q.calls key.now) (Q.fits key.now))
             (λ pos. result ≡ pos) }
     {
         found_pos(map_over::<K, V, H, W>(archive, root).get(key))
@@ -95,11 +90,8 @@ impl<'a, K: KeyElement, V: Element, H: KeyHasher, W: Width> ArchivedHashMap<'a, 
         requires map { Viewed (map_shape W.word K.shape V.shape) archive.old root }
         requires query { Q.can_read key.now }
         requires callable { MayWriteFound V.shape F.pre archive.old write }
-        ensures answer { FindsValueAt W.word K.shape V.shape archive.old root
-            (hash_of H.hasher Q.calls key.now) (Q.fits key.now archive.old)
-            (WritesFound F.post write archive.old result archive.new) }
-        ensures first { FindsFirstValueAt W.word K.shape V.shape archive.old root
-            (hash_at H.hasher K.key_calls) (Q.fits key.now archive.old)
+        ensures { TellsValueAt (map_at W.Word K.Shaped V.Shaped archive.old root)
+            (asked H.hasher K.key_calls K.same (Q.calls key.now) (Q.fits key.now))
             (WritesFound F.post write archive.old result archive.new) }
     {
         match Self::value_pos_in(&*archive, root, key) {
@@ -128,15 +120,15 @@ pub fn set_value_of<
     H: KeyHasher,
     W: Width,
 >(archive: &mut [u8], root: u64, key: &A, value: N) -> bool
-    requires map { Viewed (map_shape W.word K.shape (scalar_shape N.encoding)) archive.old root }
+    requires map { Viewed (map_shape W.word K.shape N.shape) archive.old root }
     requires query { A.can_read key.now }
-    ensures answer { SetsValueAt W.word K.shape N.encoding (hash_at H.hasher K.key_calls)
-        archive.old root (hash_of H.hasher A.calls key.now) (A.fits key.now archive.old) value
-        result archive.new }
-    ensures listed { SetsFirst W.word K.shape N.encoding K.stands
-        (hash_at H.hasher K.key_calls) (A.eq key.now)
-        archive.old root value result archive.new }
-    ensures parts { WritesParts (map_shape W.word K.shape (scalar_shape N.encoding))
+    ensures answer { SetsValue (map_at W.Word K.Shaped N.Shaped archive.old root)
+        (asked H.hasher K.key_calls K.same (A.calls key.now) (A.fits key.now))
+        N.encoding value result archive.new }
+    ensures listed { SetsFirst (map_at W.Word K.Shaped N.Shaped archive.old root)
+        (asked_value H.hasher K.key_calls K.stands (A.eq key.now))
+        N.encoding value result archive.new }
+    ensures parts { WritesParts (map_shape W.word K.shape N.shape)
         archive.old archive.new root }
 {
     match ArchivedHashMap::<K, N, H, W>::value_pos_in(&*archive, root, key) {

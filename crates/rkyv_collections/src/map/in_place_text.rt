@@ -5,10 +5,11 @@ ghost use Rattle.std.specs.Prelude.{length, ◌+◌, ◌≤◌};
 ghost use Rattle.rkyv_base.specs.SealedText.{Raised};
 ghost use Rattle.rkyv_base.specs.Shape.{Viewed};
 ghost use Rattle.rkyv_base.specs.Text.{text_size};
-ghost use Rattle.rkyv_collections.specs.InPlaceText.{RaisesFirst, RaisesTextAt, text_map_shape};
-ghost use Rattle.rkyv_collections.specs.Map.{hash_at};
-ghost use Rattle.rkyv_collections.specs.MapFormat.{hash_of};
+ghost use Rattle.rkyv_collections.specs.InPlaceText.{RaisesFirst, RaisesText, text_map_at};
+ghost use Rattle.rkyv_collections.specs.InPlaceText.{text_map_shape};
+ghost use Rattle.rkyv_collections.specs.MapAt.{asked_value};
 ghost use Rattle.rkyv_collections.specs.NestedWrites.{WritesParts};
+ghost use Rattle.rkyv_keys.specs.Asked.{asked};
 
 use crate::map::ArchivedHashMap;
 use rkyv_base::element::StandsFor;
@@ -53,10 +54,11 @@ pub fn make_ascii_uppercase_of<
 >(archive: &mut [u8], root: u64, key: &A) -> Option<bool>
     requires map { Viewed (text_map_shape W.word K.shape) archive.old root }
     requires query { A.can_read key.now }
-    ensures answer { RaisesTextAt W.word K.shape (hash_at H.hasher K.key_calls) archive.old root
-        (hash_of H.hasher A.calls key.now) (A.fits key.now archive.old) result archive.new }
-    ensures listed { RaisesFirst W.word K.shape K.stands (hash_at H.hasher K.key_calls)
-        (A.eq key.now) archive.old root result archive.new }
+    ensures answer { RaisesText (text_map_at W.Word K.Shaped archive.old root)
+        (asked H.hasher K.key_calls K.same (A.calls key.now) (A.fits key.now))
+        result archive.new }
+    ensures listed { RaisesFirst (text_map_at W.Word K.Shaped archive.old root)
+        (asked_value H.hasher K.key_calls K.stands (A.eq key.now)) result archive.new }
     ensures parts { WritesParts (text_map_shape W.word K.shape) archive.old archive.new root }
 {
     match ArchivedHashMap::<K, Text<W>, H, W>::value_pos_in(&*archive, root, key) {

@@ -6,12 +6,11 @@ ghost use Rattle.std.specs.Prelude.{length, ◌≡◌};
 ghost use Rattle.std.specs.Iterator.{at_most};
 ghost use Rattle.rkyv_base.specs.Entry.{entry_shape};
 ghost use Rattle.rkyv_table.specs.Table.Hints.{HintsExactly};
-ghost use Rattle.rkyv_table.specs.Table.RawItems.{AllStand};
-ghost use Rattle.rkyv_collections.specs.Map.{IsMap, key_positions, map_archive, map_len};
+ghost use Rattle.rkyv_collections.specs.Map.{key_positions, map_archive, map_len};
 ghost use Rattle.rkyv_table.specs.Table.PairWalks.{TakesKey, TakesPair, TakesValue};
 
 use crate::map::ArchivedHashMap;
-use rkyv_base::element::Element;
+use rkyv_base::element::{Element, Shaped};
 use rkyv_base::entry::Entry;
 use rkyv_base::view::{PairView, View};
 use rkyv_base::width::{Narrow, Width};
@@ -21,24 +20,25 @@ use std::marker::{Model, PhantomData};
 
 /// The pairs of a map that remain, in bucket order.
 #[derive(Drop)]
-pub struct Iter<'a, K, V, H = FxHasher64, W = Narrow> {
+pub struct Iter<'a, K: Shaped, V: Shaped, H = FxHasher64, W = Narrow> {
     entries: RawIter<'a, Entry<K, V>>,
     hasher: PhantomData<H>,
     width: PhantomData<W>,
 }
 
-impl<'a, K, V, H, W> Model for Iter<'a, K, V, H, W> {
-    ghost use Rattle.rkyv_table.specs.Table.RawItems.{ItemsLeft};
+impl<'a, K: Shaped, V: Shaped, H, W> Model for Iter<'a, K, V, H, W> {
+    ghost use Rattle.rkyv_base.specs.Entry.{entry_shape};
+    ghost use Rattle.rkyv_table.specs.Table.RawItems.{AllStand, ItemsLeft};
 
     ghost Value = { ItemsLeft };
 
     ghost view = { λ i. i.entries };
+
+    ghost invariant = { λ i. AllStand (entry_shape K.shape V.shape) i.entries };
 }
 
 impl<'a, K: Element, V: Element, H, W> Iterator for Iter<'a, K, V, H, W> {
     type Item = PairView<'a, K, V>;
-
-    ghost can_next = { AllStand (entry_shape K.shape V.shape) };
 
     ghost next_gives = { TakesPair K.shape V.shape };
 
@@ -69,11 +69,11 @@ impl<'a, K: Element, V: Element, H, W> ExactSizeIterator for Iter<'a, K, V, H, W
 
 /// The keys of a map that remain, in bucket order.
 #[derive(Drop)]
-pub struct Keys<'a, K, V, H = FxHasher64, W = Narrow> {
+pub struct Keys<'a, K: Shaped, V: Shaped, H = FxHasher64, W = Narrow> {
     pairs: Iter<'a, K, V, H, W>,
 }
 
-impl<'a, K, V, H, W> Model for Keys<'a, K, V, H, W> {
+impl<'a, K: Shaped, V: Shaped, H, W> Model for Keys<'a, K, V, H, W> {
     ghost use Rattle.rkyv_table.specs.Table.RawItems.{ItemsLeft};
 
     ghost Value = { ItemsLeft };
@@ -83,8 +83,6 @@ impl<'a, K, V, H, W> Model for Keys<'a, K, V, H, W> {
 
 impl<'a, K: Element, V: Element, H, W> Iterator for Keys<'a, K, V, H, W> {
     type Item = View<'a, K>;
-
-    ghost can_next = { AllStand (entry_shape K.shape V.shape) };
 
     ghost next_gives = { TakesKey K.shape };
 
@@ -115,11 +113,11 @@ impl<'a, K: Element, V: Element, H, W> ExactSizeIterator for Keys<'a, K, V, H, W
 
 /// The values of a map that remain, in bucket order.
 #[derive(Drop)]
-pub struct Values<'a, K, V, H = FxHasher64, W = Narrow> {
+pub struct Values<'a, K: Shaped, V: Shaped, H = FxHasher64, W = Narrow> {
     rest: Iter<'a, K, V, H, W>,
 }
 
-impl<'a, K, V, H, W> Model for Values<'a, K, V, H, W> {
+impl<'a, K: Shaped, V: Shaped, H, W> Model for Values<'a, K, V, H, W> {
     ghost use Rattle.rkyv_table.specs.Table.RawItems.{ItemsLeft};
 
     ghost Value = { ItemsLeft };
@@ -129,8 +127,6 @@ impl<'a, K, V, H, W> Model for Values<'a, K, V, H, W> {
 
 impl<'a, K: Element, V: Element, H, W> Iterator for Values<'a, K, V, H, W> {
     type Item = View<'a, V>;
-
-    ghost can_next = { AllStand (entry_shape K.shape V.shape) };
 
     ghost next_gives = { TakesValue K.shape V.shape };
 
@@ -161,17 +157,11 @@ impl<'a, K: Element, V: Element, H, W> ExactSizeIterator for Values<'a, K, V, H,
 
 impl<'a, K: Element, V: Element, H, W: Width> ArchivedHashMap<'a, K, V, H, W> {
     /// Returns an iterator over the pairs, in bucket order.
-    ///
-    /// # Requires
-    ///
-    /// - The map is valid.
     #[inline]
     pub fn iter(self) -> Iter<'a, K, V, H, W>
-        requires { IsMap W.word K.shape V.shape self }
         ensures archive { result.archive ≡ map_archive self.entry }
-        ensures places { result.places ≡ key_positions W.word K.shape V.shape self.entry }
-        ensures count { length result.places ≡ map_len W.word self.entry }
-        ensures stand { AllStand (entry_shape K.shape V.shape) result }
+        ensures places { result.places ≡ key_positions self.entry }
+        ensures count { length result.places ≡ map_len self.entry }
     {
         Iter {
             entries: self.table().raw_iter(),
@@ -181,33 +171,21 @@ impl<'a, K: Element, V: Element, H, W: Width> ArchivedHashMap<'a, K, V, H, W> {
     }
 
     /// Returns an iterator over the keys, in bucket order.
-    ///
-    /// # Requires
-    ///
-    /// - The map is valid.
     #[inline]
     pub fn keys(self) -> Keys<'a, K, V, H, W>
-        requires { IsMap W.word K.shape V.shape self }
         ensures archive { result.archive ≡ map_archive self.entry }
-        ensures places { result.places ≡ key_positions W.word K.shape V.shape self.entry }
-        ensures count { length result.places ≡ map_len W.word self.entry }
-        ensures stand { AllStand (entry_shape K.shape V.shape) result }
+        ensures places { result.places ≡ key_positions self.entry }
+        ensures count { length result.places ≡ map_len self.entry }
     {
         Keys { pairs: self.iter() }
     }
 
     /// Returns an iterator over the values, in bucket order.
-    ///
-    /// # Requires
-    ///
-    /// - The map is valid.
     #[inline]
     pub fn values(self) -> Values<'a, K, V, H, W>
-        requires { IsMap W.word K.shape V.shape self }
         ensures archive { result.archive ≡ map_archive self.entry }
-        ensures places { result.places ≡ key_positions W.word K.shape V.shape self.entry }
-        ensures count { length result.places ≡ map_len W.word self.entry }
-        ensures stand { AllStand (entry_shape K.shape V.shape) result }
+        ensures places { result.places ≡ key_positions self.entry }
+        ensures count { length result.places ≡ map_len self.entry }
     {
         Values { rest: self.iter() }
     }

@@ -8,8 +8,6 @@
 //!
 //! `map::in_place` has a table of all calls that write values.
 ghost use Rattle.std.specs.Prelude.{IfSome, IsSome, IsTrue, drop, length, take, ◌+◌, ◌↔◌, ◌≡◌, ◌≤◌};
-ghost use Rattle.std.specs.Int.{byte_len};
-ghost use Rattle.rkyv_base.specs.Scalar.{scalar_shape};
 ghost use Rattle.rkyv_base.specs.Seal.{LiesIn, archive_in, bytes_in, seal_pos, pos_in};
 ghost use Rattle.rkyv_base.specs.Sealing.{value_pos, with_value};
 ghost use Rattle.rkyv_base.specs.Shape.{Viewed};
@@ -17,7 +15,7 @@ ghost use Rattle.rkyv_base.specs.View.{IsView, bytes_of, pos_of};
 ghost use Rattle.rkyv_table.specs.Table.SealedItems.{CountsDown, LendsArchive, SameArchive};
 ghost use Rattle.rkyv_table.specs.Table.SealedItems.{StaysThere, WrittenBy, cursor_bytes};
 ghost use Rattle.rkyv_table.specs.Table.SealedItems.{items_left};
-ghost use Rattle.rkyv_collections.specs.Map.{map_shape};
+ghost use Rattle.rkyv_collections.specs.MapShape.{map_shape};
 ghost use Rattle.rkyv_collections.specs.SealedMap.{IsMapSeal};
 ghost use Rattle.rkyv_collections.specs.SealedPairs.{HasAllPairs, KeepsPairs, KeepsValues};
 ghost use Rattle.rkyv_collections.specs.SealedPairs.{LendsFirstPair, LendsFirstValue, MayWritePair};
@@ -185,13 +183,13 @@ impl<'a, K: Element, N: Scalar, H, W> IterMut<'a, K, N, H, W> {
     /// - The value behind the key ends inside the archive.
     #[inline]
     pub fn set_at(&mut self, pos: u64, value: N)
-        requires { value_pos K.shape (scalar_shape N.encoding) pos + byte_len N.encoding.word
+        requires { value_pos K.shape N.shape pos + N.shape.size
             ≤ length (cursor_bytes (entries_in self.old)) }
         ensures stays { StaysThere (entries_in self.old) (entries_in self.new) }
         ensures written { cursor_bytes (entries_in self.new)
             ≡ with_value N.encoding (cursor_bytes (entries_in self.old))
-            (value_pos K.shape (scalar_shape N.encoding) pos) value }
-        ensures kept { KeepsPairs K.shape (scalar_shape N.encoding) (entries_in self.old) pos
+            (value_pos K.shape N.shape pos) value }
+        ensures kept { KeepsPairs K.shape N.shape (entries_in self.old) pos
             (entries_in self.new) }
     {
         self.entries.write_at(pos, value_offset::<K, N>(), value);
@@ -278,11 +276,11 @@ impl<'a, K: Element, N: Scalar, H, W> ValuesMut<'a, K, N, H, W> {
     /// - The value ends inside the archive.
     #[inline]
     pub fn set_at(&mut self, pos: u64, value: N)
-        requires { pos + byte_len N.encoding.word ≤ length (cursor_bytes (entries_of self.old)) }
+        requires { pos + N.shape.size ≤ length (cursor_bytes (entries_of self.old)) }
         ensures stays { StaysThere (entries_of self.old) (entries_of self.new) }
         ensures written { cursor_bytes (entries_of self.new)
             ≡ with_value N.encoding (cursor_bytes (entries_of self.old)) pos value }
-        ensures kept { KeepsValues K.shape (scalar_shape N.encoding) (entries_of self.old) pos
+        ensures kept { KeepsValues K.shape N.shape (entries_of self.old) pos
             (entries_of self.new) }
     {
         self.pairs.entries.write_at(pos, 0, value);

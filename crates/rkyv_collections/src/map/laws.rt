@@ -5,6 +5,7 @@ ghost use Rattle.rkyv_collections.specs.ListedLookups.{LookupsFindListed};
 ghost use Rattle.rkyv_collections.specs.ListedWalks.{WalksGiveListed, WalksVisitPairs};
 ghost use Rattle.rkyv_collections.specs.Map.{hash_at};
 ghost use Rattle.rkyv_collections.specs.Misplaced.{RepeatedKeysAreMisplaced};
+ghost use Rattle.rkyv_collections.specs.Natives.{native_pairs};
 
 use rkyv_base::element::{Element, StandsFor};
 use rkyv_base::width::Width;
@@ -42,8 +43,8 @@ pub fn lookups_find_listed<
     H: KeyHasher,
     W: Width,
 >()
-    ensures { LookupsFindListed K.shape V.shape K.stands V.stands K V H W W.Word
-        (hash_at H.hasher K.key_calls) }
+    ensures { LookupsFindListed H W.Word K.Shaped V.Shaped
+        (native_pairs K.stands V.stands H.hasher K.key_calls) }
 {}
 
 /// In a map that represents a list of pairs, `iter`, `keys` and `values` return each pair once.
@@ -77,5 +78,5 @@ pub fn walks_give_listed<
 pub fn both_hashers_look_up_alike<Q: Query<K>, K: FixedKey, V: Element, W: Width>()
     ensures written { WrittenAlike W.word K.shape V.shape K.key_calls }
     ensures compared { ComparedAlike W.word K.shape V.shape }
-    ensures queried { QueriedAlike W.word K.shape V.shape K.key_calls Q.can_read Q.calls Q.fits }
+    ensures queried { QueriedAlike W.word K.shape V.shape K.key_calls Q.KeyHash Q.fits }
 {}

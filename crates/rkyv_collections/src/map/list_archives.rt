@@ -1,6 +1,7 @@
 //! A law of maps that are the root of an archive.
 ghost use Rattle.rkyv_collections.specs.ListArchives.{ScalarsFoundAreListed};
 ghost use Rattle.rkyv_collections.specs.Map.{hash_at};
+ghost use Rattle.rkyv_collections.specs.Natives.{native_keys};
 
 use rkyv_base::element::StandsFor;
 use rkyv_base::scalars::Scalar;
@@ -19,6 +20,6 @@ pub fn scalars_found_are_listed<
     H: KeyHasher,
     W: Width,
 >()
-    ensures { ScalarsFoundAreListed K H W W.Word K.shape N.encoding K.stands
-        (hash_at H.hasher K.key_calls) A.fits A.eq }
+    ensures { ScalarsFoundAreListed H W.Word K.Shaped N.Shaped N.encoding
+        (native_keys K.stands (hash_at H.hasher K.key_calls) A.fits A.eq) }
 {}

@@ -12,9 +12,9 @@ ghost use Rattle.rkyv_base.specs.Entry.{entry_shape};
 ghost use Rattle.rkyv_base.specs.View.{IsAt, IsView, archive_of, pos_of};
 ghost use Rattle.rkyv_base.specs.declared.view.View.{View};
 ghost use Rattle.rkyv_collections.specs.Lookups.{GetsBy, GetsKey, IsPairOfEntry, IsValueOfEntry};
-ghost use Rattle.rkyv_collections.specs.Lookups.{TellsKey};
-ghost use Rattle.rkyv_collections.specs.Map.{FindsKey, IsEntryAt, IsEntryIn, IsFoundAt, IsMap};
-ghost use Rattle.rkyv_collections.specs.Map.{IsPairAt, IsPairIn, IsValueAt, IsValueIn, MayAskKeys};
+ghost use Rattle.rkyv_collections.specs.Lookups.{TellsKey, entry_part, pair_part, value_part};
+ghost use Rattle.rkyv_keys.specs.Asked.{asked};
+ghost use Rattle.rkyv_collections.specs.Map.{FindsKey, IsEntryAt, IsFoundAt, MayAskKeys, hash_at};
 ghost use Rattle.rkyv_collections.specs.Map.{map_bytes};
 ghost use Rattle.rkyv_collections.specs.MapFormat.{hash_of};
 
@@ -81,11 +81,10 @@ impl<'a, K: KeyElement, V: Element, H: KeyHasher, W: Width> ArchivedHashMap<'a, 
     pub(crate) fn find<Q: KeyHash, F>(self, key: &Q, cmp: F) -> Option<View<'a, Entry<K, V>>>
     where
         F: Fn(&Q, View<'a, K>) -> bool,
-        requires map { IsMap W.word K.shape V.shape self }
         requires query { Q.can_read key.now }
-        requires callable { MayAskKeys W.word K.shape V.shape self (F.pre cmp key) }
-        ensures found { GetsBy IsEntryIn IsEntryAt W.word K.shape V.shape self.entry H.hasher
-            (Q.calls key.now) K.key_calls (F.post cmp key.entry) result }
+        requires callable { MayAskKeys self (F.pre cmp key) }
+        ensures found { GetsBy entry_part self.entry (hash_of H.hasher Q.calls key.now)
+            (hash_at H.hasher K.key_calls) (F.post cmp key.entry) result }
         ensures hash { hash_of_calls H.hasher (Q.calls key.now) < 2 ^ 64 }
     {
         let hash = hash_value::<Q, H>(key);
@@ -114,18 +113,16 @@ impl<'a, K: KeyElement, V: Element, H: KeyHasher, W: Width> ArchivedHashMap<'a, 
     ///
     /// # Requires
     ///
-    /// - The map is valid.
     /// - `key` can be read.
     /// - The comparison can be called with `key` and each key of the map.
     #[inline]
     pub fn get_key_value_with<Q: KeyHash, F>(self, key: &Q, cmp: F) -> Option<PairView<'a, K, V>>
     where
         F: Fn(&Q, View<'a, K>) -> bool,
-        requires map { IsMap W.word K.shape V.shape self }
         requires query { Q.can_read key.now }
-        requires callable { MayAskKeys W.word K.shape V.shape self (F.pre cmp key) }
-        ensures { GetsBy IsPairIn IsPairAt W.word K.shape V.shape self.entry H.hasher
-            (Q.calls key.now) K.key_calls (F.post cmp key.entry) result }
+        requires callable { MayAskKeys self (F.pre cmp key) }
+        ensures { GetsBy pair_part self.entry (hash_of H.hasher Q.calls key.now)
+            (hash_at H.hasher K.key_calls) (F.post cmp key.entry) result }
     {
         found_pair(self.find(key, cmp))
     }
@@ -136,18 +133,16 @@ impl<'a, K: KeyElement, V: Element, H: KeyHasher, W: Width> ArchivedHashMap<'a, 
     ///
     /// # Requires
     ///
-    /// - The map is valid.
     /// - `key` can be read.
     /// - The comparison can be called with `key` and each key of the map.
     #[inline]
     pub fn get_with<Q: KeyHash, F>(self, key: &Q, cmp: F) -> Option<View<'a, V>>
     where
         F: Fn(&Q, View<'a, K>) -> bool,
-        requires map { IsMap W.word K.shape V.shape self }
         requires query { Q.can_read key.now }
-        requires callable { MayAskKeys W.word K.shape V.shape self (F.pre cmp key) }
-        ensures { GetsBy IsValueIn (IsValueAt K.shape V.shape) W.word K.shape V.shape self.entry
-            H.hasher (Q.calls key.now) K.key_calls (F.post cmp key.entry) result }
+        requires callable { MayAskKeys self (F.pre cmp key) }
+        ensures { GetsBy value_part self.entry (hash_of H.hasher Q.calls key.now)
+            (hash_at H.hasher K.key_calls) (F.post cmp key.entry) result }
     {
         found_value(self.find(key, cmp))
     }
@@ -155,10 +150,9 @@ impl<'a, K: KeyElement, V: Element, H: KeyHasher, W: Width> ArchivedHashMap<'a, 
     /// Returns the entry of the key that the query finds, or `None`.
     #[inline]
     pub(crate) fn find_key<Q: Query<K>>(self, key: &Q) -> Option<View<'a, Entry<K, V>>>
-        requires map { IsMap W.word K.shape V.shape self }
         requires query { Q.can_read key.now }
-        ensures { GetsKey IsEntryIn IsEntryAt W.word K.shape V.shape self.entry H.hasher
-            (Q.calls key.now) K.key_calls K.same (Q.fits key.now) result }
+        ensures { GetsKey entry_part self.entry
+            (asked H.hasher K.key_calls K.same (Q.calls key.now) (Q.fits key.now)) result }
     {
         self.find(
             key,
@@ -183,14 +177,12 @@ impl<'a, K: KeyElement, V: Element, H: KeyHasher, W: Width> ArchivedHashMap<'a, 
     ///
     /// # Requires
     ///
-    /// - The map is valid.
     /// - The query can be read.
     #[inline]
     pub fn get_key_value<Q: Query<K>>(self, key: &Q) -> Option<PairView<'a, K, V>>
-        requires map { IsMap W.word K.shape V.shape self }
         requires query { Q.can_read key.now }
-        ensures { GetsKey IsPairIn IsPairAt W.word K.shape V.shape self.entry H.hasher
-            (Q.calls key.now) K.key_calls K.same (Q.fits key.now) result }
+        ensures { GetsKey pair_part self.entry
+            (asked H.hasher K.key_calls K.same (Q.calls key.now) (Q.fits key.now)) result }
     {
         found_pair(self.find_key(key))
     }
@@ -201,14 +193,12 @@ impl<'a, K: KeyElement, V: Element, H: KeyHasher, W: Width> ArchivedHashMap<'a, 
     ///
     /// # Requires
     ///
-    /// - The map is valid.
     /// - The query can be read.
     #[inline]
     pub fn get<Q: Query<K>>(self, key: &Q) -> Option<View<'a, V>>
-        requires map { IsMap W.word K.shape V.shape self }
         requires query { Q.can_read key.now }
-        ensures { GetsKey IsValueIn (IsValueAt K.shape V.shape) W.word K.shape V.shape self.entry
-            H.hasher (Q.calls key.now) K.key_calls K.same (Q.fits key.now) result }
+        ensures { GetsKey value_part self.entry
+            (asked H.hasher K.key_calls K.same (Q.calls key.now) (Q.fits key.now)) result }
     {
         found_value(self.find_key(key))
     }
@@ -219,14 +209,13 @@ impl<'a, K: KeyElement, V: Element, H: KeyHasher, W: Width> ArchivedHashMap<'a, 
     ///
     /// # Requires
     ///
-    /// - The map is valid.
     /// - The query can be read.
     #[inline]
     pub fn contains_key<Q: Query<K>>(self, key: &Q) -> bool
-        requires map { IsMap W.word K.shape V.shape self }
         requires query { Q.can_read key.now }
-        ensures { TellsKey W.word K.shape V.shape self.entry H.hasher (Q.calls key.now)
-            K.key_calls K.same (Q.fits key.now) (IsFoundAt result) }
+        ensures { TellsKey self.entry
+            (asked H.hasher K.key_calls K.same (Q.calls key.now) (Q.fits key.now)) (IsFoundAt
+            result) }
     {
         is_found(self.find_key(key))
     }
@@ -237,18 +226,16 @@ impl<'a, K: KeyElement, V: Element, H: KeyHasher, W: Width> ArchivedHashMap<'a, 
     ///
     /// # Requires
     ///
-    /// - The map is valid.
     /// - The query can be read.
     /// - The query finds a key. `contains_key` then returns `true`.
     #[inline]
     pub fn index<Q: Query<K>>(self, key: &Q) -> View<'a, V>
-        requires map { IsMap W.word K.shape V.shape self }
         requires query { Q.can_read key.now }
-        requires found { FindsKey W.word K.shape V.shape self
+        requires found { FindsKey self
             (hash_of H.hasher Q.calls key.now)
             (Q.fits key.now (map_bytes self)) IsSome }
-        ensures { GetsKey IsValueIn (IsValueAt K.shape V.shape) W.word K.shape V.shape self.entry
-            H.hasher (Q.calls key.now) K.key_calls K.same (Q.fits key.now) (Some result) }
+        ensures { GetsKey value_part self.entry
+            (asked H.hasher K.key_calls K.same (Q.calls key.now) (Q.fits key.now)) (Some result) }
     {
         self.find_key(key).unwrap().value()
     }

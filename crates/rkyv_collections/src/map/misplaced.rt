@@ -2,8 +2,8 @@
 ghost use Rattle.std.specs.Prelude.{◌≡◌};
 ghost use Rattle.rkyv_base.specs.Entry.{entry_shape};
 ghost use Rattle.rkyv_base.specs.View.{IsView, bytes_of, pos_of};
-ghost use Rattle.rkyv_collections.specs.Map.{IsMap, hash_at, map_bytes, map_pos};
-ghost use Rattle.rkyv_collections.specs.Misplaced.{map_misplaced};
+ghost use Rattle.rkyv_collections.specs.Map.{hash_at};
+ghost use Rattle.rkyv_collections.specs.Misplaced.{misplaced_keys};
 
 use crate::map::ArchivedHashMap;
 use rkyv_base::element::Element;
@@ -25,15 +25,8 @@ impl<'a, K: KeyElement, V: Element, H: KeyHasher, W: Width> ArchivedHashMap<'a, 
     /// Each key is looked up once, and each lookup may read every group of the control bytes.
     /// Keys that share a hash cost a number of comparisons that is quadratic in their number.
     /// `FxHasher64` takes no secret key, so chosen keys can share one.
-    ///
-    /// # Requires
-    ///
-    /// - The map is valid.
     pub fn misplaced(self) -> usize
-        requires { IsMap W.word K.shape V.shape self }
-        ensures { let key_hash = hash_at H.hasher K.key_calls in
-            result ≡ map_misplaced W.word K.shape V.shape key_hash K.same (map_bytes self.entry)
-            (map_pos self.entry) }
+        ensures { result ≡ misplaced_keys self.entry (hash_at H.hasher K.key_calls) K.same }
     {
         self.table().misplaced_by(
             |entry|

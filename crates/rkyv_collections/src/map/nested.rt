@@ -1,5 +1,6 @@
 //! Laws of writes among the parts of a value, as to a map that is the value of another map.
 ghost use Rattle.rkyv_collections.specs.Map.{hash_at};
+ghost use Rattle.rkyv_collections.specs.Natives.{native_keys};
 ghost use Rattle.rkyv_collections.specs.NestedWrites.{
   NestedWritesKeepMaps,
   NestedWritesStand,
@@ -38,6 +39,6 @@ pub fn nested_writes_stand<
     H: KeyHasher,
     W: Width,
 >()
-    ensures { NestedWritesStand W.word K.shape V.shape K.stands V.stands
-        (hash_at H.hasher K.key_calls) A.fits A.eq }
+    ensures { NestedWritesStand W.word K.shape V.shape
+        (native_keys K.stands (hash_at H.hasher K.key_calls) A.fits A.eq) V.stands }
 {}

@@ -1,10 +1,8 @@
 //! Opening a map, and the numbers of its header.
 ghost use Rattle.std.specs.Prelude.{IsTrue, ◌↔◌, ◌≡◌};
-ghost use Rattle.rkyv_base.specs.Entry.{entry_shape};
 ghost use Rattle.rkyv_base.specs.View.{IsAt, IsView};
-ghost use Rattle.rkyv_table.specs.Table.Reading.{IsTable};
-ghost use Rattle.rkyv_collections.specs.Map.{IsMap, map_archive, map_cap, map_len, map_pos};
-ghost use Rattle.rkyv_collections.specs.Map.{map_shape};
+ghost use Rattle.rkyv_collections.specs.Map.{map_archive, map_cap, map_len, map_pos};
+ghost use Rattle.rkyv_collections.specs.MapShape.{map_shape};
 
 use crate::map::{ArchivedHashMap, HashMapOf};
 use rkyv_base::element::Element;
@@ -23,7 +21,6 @@ impl<'a, K: Element, V: Element, H, W: Width> ArchivedHashMap<'a, K, V, H, W> {
     pub fn of(view: View<'a, HashMapOf<K, V, H, W>>) -> ArchivedHashMap<'a, K, V, H, W>
         requires { IsView (map_shape W.word K.shape V.shape) view }
         ensures view { result.view ≡ view.entry }
-        ensures map { IsMap W.word K.shape V.shape result }
     {
         let table = ArchivedHashTable::of(view.at::<TableOf<Entry<K, V>, W>>(view.pos()));
         ArchivedHashMap {
@@ -35,9 +32,7 @@ impl<'a, K: Element, V: Element, H, W: Width> ArchivedHashMap<'a, K, V, H, W> {
     /// Returns the table of the entries.
     #[inline]
     pub(crate) fn table(self) -> ArchivedHashTable<'a, Entry<K, V>, W>
-        requires { IsMap W.word K.shape V.shape self }
         ensures at { IsAt result.view (map_archive self.entry) (map_pos self.entry) }
-        ensures table { IsTable W.word (entry_shape K.shape V.shape) result }
     {
         ArchivedHashTable::with_header(
             self.view.at::<TableOf<Entry<K, V>, W>>(self.view.pos()),
@@ -48,7 +43,7 @@ impl<'a, K: Element, V: Element, H, W: Width> ArchivedHashMap<'a, K, V, H, W> {
     /// Returns `true` if and only if the map has no pairs.
     #[inline]
     pub fn is_empty(self) -> bool
-        ensures { IsTrue result ↔ (map_len W.word self.entry ≡ 0) }
+        ensures { IsTrue result ↔ (map_len self.entry ≡ 0) }
     {
         self.len() == 0
     }
@@ -56,7 +51,7 @@ impl<'a, K: Element, V: Element, H, W: Width> ArchivedHashMap<'a, K, V, H, W> {
     /// Returns the number of pairs.
     #[inline]
     pub fn len(self) -> usize
-        ensures { result ≡ map_len W.word self.entry }
+        ensures { result ≡ map_len self.entry }
     {
         self.header.len()
     }
@@ -64,7 +59,7 @@ impl<'a, K: Element, V: Element, H, W: Width> ArchivedHashMap<'a, K, V, H, W> {
     /// Returns the number of buckets.
     #[inline]
     pub fn capacity(self) -> usize
-        ensures { result ≡ map_cap W.word self.entry }
+        ensures { result ≡ map_cap self.entry }
     {
         self.header.capacity()
     }

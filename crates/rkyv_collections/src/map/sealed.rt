@@ -12,14 +12,15 @@ ghost use Rattle.rkyv_base.specs.Seal.{LiesIn, SealAt, archive_in, bytes_in, pos
 ghost use Rattle.rkyv_base.specs.Sealing.{value_pos};
 ghost use Rattle.rkyv_base.specs.Shape.{Viewed};
 ghost use Rattle.rkyv_base.specs.View.{IsView};
-ghost use Rattle.rkyv_collections.specs.Map.{IsMap, hash_at, map_bytes, map_pos};
+ghost use Rattle.rkyv_collections.specs.Map.{hash_at, map_bytes, map_pos};
 ghost use Rattle.rkyv_collections.specs.MapFormat.{hash_of};
-ghost use Rattle.rkyv_collections.specs.SealedMap.{FindsByIn, FindsFirstByIn, FindsFirstKeyIn};
-ghost use Rattle.rkyv_collections.specs.SealedMap.{FindsKeyIn, IsKeyPosIn, IsMapSeal, IsPairSeal};
-ghost use Rattle.rkyv_collections.specs.SealedMap.{IsPairSealAt, IsValueSeal, IsValueSealAt};
-ghost use Rattle.rkyv_collections.specs.SealedMap.{MayAskKeysIn};
+ghost use Rattle.rkyv_collections.specs.MapAt.{TellsKeyAt};
+ghost use Rattle.rkyv_collections.specs.SealedMap.{IsKeyPosIn, IsMapSeal, IsPairSeal, IsPairSealAt};
+ghost use Rattle.rkyv_collections.specs.SealedMap.{IsValueSeal, IsValueSealAt, MayAskKeysIn};
+ghost use Rattle.rkyv_collections.specs.SealedMap.{TellsByAt, map_sealed};
 ghost use Rattle.rkyv_collections.specs.ValueWrites.{ValueWritesKeepAnswers, ValueWritesKeepMaps};
 ghost use Rattle.rkyv_collections.specs.ValueWrites.{ValuesWrittenStand};
+ghost use Rattle.rkyv_keys.specs.Asked.{asked};
 
 use crate::map::lookup::found_pos;
 use crate::map::{ArchivedHashMap, HashMapOf};
@@ -38,7 +39,6 @@ fn map_in<'s, K: Element, V: Element, H, W: Width>(
     this: &'s ArchiveSeal<'_, HashMapOf<K, V, H, W>>,
 ) -> ArchivedHashMap<'s, K, V, H, W>
     requires { IsMapSeal W.word K.shape V.shape this.now }
-    ensures map { IsMap W.word K.shape V.shape result }
     ensures bytes { map_bytes result ≡ archive_in this.now }
     ensures pos { map_pos result ≡ pos_in this.now }
 {
@@ -72,12 +72,9 @@ impl<'a, K: KeyElement, V: Element, H: KeyHasher, W: Width> ArchivedHashMap<'a, 
         requires query { Q.can_read key.now }
         requires callable { MayAskKeysIn W.word K.shape V.shape this.now (F.pre cmp key) }
         ensures walked { IfSome result (IsKeyPosIn W.word K.shape V.shape this.now) }
-        ensures answer { FindsByIn W.word K.shape V.shape this.now
-            (F.post cmp key.entry) (hash_of H.hasher Q.calls key.now)
-            (λ place. result ≡ place) }
-        ensures first { FindsFirstByIn W.word K.shape V.shape this.now
-            (F.post cmp key.entry) (hash_of H.hasher Q.calls key.now)
-            (hash_at H.hasher K.key_calls) (λ place. result ≡ place) }
+        ensures finds { TellsByAt (map_sealed W.Word K.Shaped V.Shaped this.now)
+            (hash_of H.hasher Q.calls key.now) (hash_at H.hasher K.key_calls)
+            (F.post cmp key.entry) (λ place. result ≡ place) }
     {
         found_pos(map_in(this).find(key, cmp))
     }
@@ -91,12 +88,9 @@ impl<'a, K: KeyElement, V: Element, H: KeyHasher, W: Width> ArchivedHashMap<'a, 
         requires map { IsMapSeal W.word K.shape V.shape this.now }
         requires query { Q.can_read key.now }
         ensures walked { IfSome result (IsKeyPosIn W.word K.shape V.shape this.now) }
-        ensures answer { FindsKeyIn W.word K.shape V.shape this.now
-            (hash_of H.hasher Q.calls key.now)
-            (Q.fits key.now (archive_in this.now)) (λ place. result ≡ place) }
-        ensures first { FindsFirstKeyIn W.word K.shape V.shape this.now
-            (hash_at H.hasher K.key_calls)
-            (Q.fits key.now (archive_in this.now)) (λ place. result ≡ place) }
+        ensures finds { TellsKeyAt (map_sealed W.Word K.Shaped V.Shaped this.now)
+            (asked H.hasher K.key_calls K.same (Q.calls key.now) (Q.fits key.now))
+            (λ place. result ≡ place) }
     {
         found_pos(map_in(this).find_key(key))
     }
@@ -163,12 +157,9 @@ impl<'a, K: KeyElement, V: Element, H: KeyHasher, W: Width> ArchivedHashMap<'a, 
         ensures inside { IfSome result (λ pair. LiesIn V.shape pair.1) }
         ensures viewed { IfSome result (λ pair. IsView K.shape pair.0) }
         ensures walked { IfSome result (IsPairSeal W.word K.shape V.shape this.entry) }
-        ensures answer { FindsByIn W.word K.shape V.shape this.entry
-            (F.post cmp key.entry) (hash_of H.hasher Q.calls key.now)
-            (IsPairSealAt result) }
-        ensures first { FindsFirstByIn W.word K.shape V.shape this.entry
-            (F.post cmp key.entry) (hash_of H.hasher Q.calls key.now)
-            (hash_at H.hasher K.key_calls) (IsPairSealAt result) }
+        ensures finds { TellsByAt (map_sealed W.Word K.Shaped V.Shaped this.entry)
+            (hash_of H.hasher Q.calls key.now) (hash_at H.hasher K.key_calls)
+            (F.post cmp key.entry) (IsPairSealAt result) }
     {
         let found = Self::find_pos(&this, key, cmp);
         Self::lend_pair(this, found)
@@ -193,12 +184,9 @@ impl<'a, K: KeyElement, V: Element, H: KeyHasher, W: Width> ArchivedHashMap<'a, 
         ensures inside { IfSome result (λ pair. LiesIn V.shape pair.1) }
         ensures viewed { IfSome result (λ pair. IsView K.shape pair.0) }
         ensures walked { IfSome result (IsPairSeal W.word K.shape V.shape this.entry) }
-        ensures answer { FindsKeyIn W.word K.shape V.shape this.entry
-            (hash_of H.hasher Q.calls key.now)
-            (Q.fits key.now (archive_in this.entry)) (IsPairSealAt result) }
-        ensures first { FindsFirstKeyIn W.word K.shape V.shape this.entry
-            (hash_at H.hasher K.key_calls)
-            (Q.fits key.now (archive_in this.entry)) (IsPairSealAt result) }
+        ensures finds { TellsKeyAt (map_sealed W.Word K.Shaped V.Shaped this.entry)
+            (asked H.hasher K.key_calls K.same (Q.calls key.now) (Q.fits key.now))
+            (IsPairSealAt result) }
     {
         let found = Self::find_key_pos(&this, key);
         Self::lend_pair(this, found)
@@ -225,12 +213,9 @@ impl<'a, K: KeyElement, V: Element, H: KeyHasher, W: Width> ArchivedHashMap<'a, 
         ensures inside { IfSome result (LiesIn V.shape) }
         ensures viewed { IfSome result (λ value. Viewed V.shape (bytes_in value) (seal_pos value)) }
         ensures walked { IfSome result (IsValueSeal W.word K.shape V.shape this.entry) }
-        ensures answer { FindsByIn W.word K.shape V.shape this.entry
-            (F.post cmp key.entry) (hash_of H.hasher Q.calls key.now)
-            (IsValueSealAt K.shape V.shape result) }
-        ensures first { FindsFirstByIn W.word K.shape V.shape this.entry
-            (F.post cmp key.entry) (hash_of H.hasher Q.calls key.now)
-            (hash_at H.hasher K.key_calls) (IsValueSealAt K.shape V.shape result) }
+        ensures finds { TellsByAt (map_sealed W.Word K.Shaped V.Shaped this.entry)
+            (hash_of H.hasher Q.calls key.now) (hash_at H.hasher K.key_calls)
+            (F.post cmp key.entry) (IsValueSealAt K.shape V.shape result) }
     {
         let found = Self::find_pos(&this, key, cmp);
         Self::lend_value(this, found)
@@ -254,12 +239,9 @@ impl<'a, K: KeyElement, V: Element, H: KeyHasher, W: Width> ArchivedHashMap<'a, 
         ensures inside { IfSome result (LiesIn V.shape) }
         ensures viewed { IfSome result (λ value. Viewed V.shape (bytes_in value) (seal_pos value)) }
         ensures walked { IfSome result (IsValueSeal W.word K.shape V.shape this.entry) }
-        ensures answer { FindsKeyIn W.word K.shape V.shape this.entry
-            (hash_of H.hasher Q.calls key.now)
-            (Q.fits key.now (archive_in this.entry)) (IsValueSealAt K.shape V.shape result) }
-        ensures first { FindsFirstKeyIn W.word K.shape V.shape this.entry
-            (hash_at H.hasher K.key_calls)
-            (Q.fits key.now (archive_in this.entry)) (IsValueSealAt K.shape V.shape result) }
+        ensures finds { TellsKeyAt (map_sealed W.Word K.Shaped V.Shaped this.entry)
+            (asked H.hasher K.key_calls K.same (Q.calls key.now) (Q.fits key.now))
+            (IsValueSealAt K.shape V.shape result) }
     {
         let found = Self::find_key_pos(&this, key);
         Self::lend_value(this, found)

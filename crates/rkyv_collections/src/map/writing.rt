@@ -4,15 +4,14 @@
 //! the header.
 
 ghost use Rattle.std.specs.Prelude.{◌≡◌, ◌+◌, ◌<◌, ◌^◌, length};
-ghost use Rattle.rkyv_table.specs.Table.Header.{WritesHeader};
-ghost use Rattle.rkyv_collections.specs.MapFormat.{hash_of};
-ghost use Rattle.rkyv_collections.specs.Writing.{WritesMap};
+ghost use Rattle.rkyv_collections.specs.Natives.{pair_format};
+ghost use Rattle.rkyv_collections.specs.Writing.{ResolvesMap, WritesMap, pairs_in, resolver_of};
 
 use crate::map::ArchivedHashMap;
 use crate::map::hashing::HashedEntries;
 use rkyv_base::adapter::EntryAdapter;
 use rkyv_base::archive::{ResolveResult, Serialize, WriteResult};
-use rkyv_base::element::StandsFor;
+use rkyv_base::element::{Shaped, StandsFor};
 use rkyv_base::entry::Entry;
 use rkyv_base::lend::Lend;
 use rkyv_base::width::{Narrow, Width};
@@ -27,7 +26,7 @@ use std::alloc::Global;
 /// The resolver of a written map: that of the table of its entries.
 pub type HashMapResolver<W = Narrow> = HashTableResolver<W>;
 
-impl<'a, K: KeyElement, V, H: KeyHasher, W: Width> ArchivedHashMap<'a, K, V, H, W> {
+impl<'a, K: KeyElement, V: Shaped, H: KeyHasher, W: Width> ArchivedHashMap<'a, K, V, H, W> {
     /// Writes a map of `len` pairs and returns its resolver.
     ///
     /// The pairs have their keys and values as themselves or by reference.
@@ -73,9 +72,10 @@ impl<'a, K: KeyElement, V, H: KeyHasher, W: Width> ArchivedHashMap<'a, K, V, H, 
         K: StandsFor<A>,
         V: StandsFor<B>,
         requires can { I.can_next iter }
-        ensures { WritesMap W.word W.MAX_CAPACITY W.LIMIT K.shape V.shape A.format B.format
-            (hash_of H.hasher A.calls) load_factor BK.lent BV.lent len I.next_gives iter
-            S.output serializer.old serializer.new result }
+        ensures { WritesMap W.Width
+            (pair_format K.shape V.shape A.format B.format H.hasher A.calls)
+            (pairs_in BK.Lend BV.Lend I.Iterator iter len load_factor)
+            (S.output serializer.old) (S.output serializer.new) result }
     {
         let entries = HashedEntries::new(iter);
         ArchivedHashTable::<Entry<K, V>, W>::serialize_by::<
@@ -109,7 +109,8 @@ impl<'a, K: KeyElement, V, H: KeyHasher, W: Width> ArchivedHashMap<'a, K, V, H, 
         requires same { (len ≡ resolver.len) × (load_factor ≡ resolver.load_factor) }
         requires room { length out.old ≡ W.TABLE_SIZE }
         requires fits { pos + W.TABLE_SIZE < 2 ^ 64 }
-        ensures { WritesHeader W.word len load_factor resolver.pos pos out.old out.new result }
+        ensures { ResolvesMap W.word (resolver_of len load_factor resolver.pos) pos
+            out.old out.new result }
     {
         ArchivedHashTable::<Entry<K, V>, W>::resolve_from_len(len, load_factor, resolver, pos, out)
     }

@@ -1,7 +1,7 @@
 //! The law of written maps, in any archive that contains their bytes.
 
-ghost use Rattle.rkyv_collections.specs.Map.{hash_at};
-ghost use Rattle.rkyv_collections.specs.MapFormat.{WrittenMapsStand, hash_of};
+ghost use Rattle.rkyv_collections.specs.MapFormat.{WrittenMapsStand};
+ghost use Rattle.rkyv_collections.specs.Natives.{native_pairs, pair_format};
 
 use rkyv_base::archive::Archive;
 use rkyv_base::element::StandsFor;
@@ -22,6 +22,7 @@ pub fn written_maps_stand<
     A: NativeKey<K> + Archive<W, Archived = K>,
     B: Archive<W, Archived = V>,
 >()
-    ensures { WrittenMapsStand W.word K.shape V.shape K.stands V.stands
-        (hash_at H.hasher K.key_calls) A.format B.format (hash_of H.hasher A.calls) }
+    ensures { WrittenMapsStand W.word
+        (pair_format K.shape V.shape A.format B.format H.hasher A.calls)
+        (native_pairs K.stands V.stands H.hasher K.key_calls) }
 {}

@@ -3,7 +3,7 @@ ghost use Rattle.std.specs.Prelude.{◌≡◌};
 ghost use Rattle.rkyv_base.specs.View.{IsView};
 ghost use Rattle.rkyv_keys.specs.Places.{at_views};
 ghost use Rattle.rkyv_collections.specs.Map.{hash_at};
-ghost use Rattle.rkyv_collections.specs.Set.{IsSet, set_bytes, set_equal, set_misplaced, set_pos};
+ghost use Rattle.rkyv_collections.specs.Set.{set_bytes, set_equal, set_misplaced, set_pos};
 ghost use Rattle.rkyv_collections.specs.Set.{set_shape, set_view};
 
 use crate::set::{ArchivedHashSet, HashSetOf};
@@ -21,14 +21,8 @@ impl<'a, K: KeyElement, H: KeyHasher, W: Width> ArchivedHashSet<'a, K, H, W> {
     ///
     /// Each key costs a lookup in `other`. In an untrusted set, keys that share a hash make
     /// the cost quadratic in their number.
-    ///
-    /// # Requires
-    ///
-    /// - Both sets are valid.
     #[inline]
     pub fn eq_set(self, other: ArchivedHashSet<'_, K, H, W>) -> bool
-        requires own { IsSet W.word K.shape self }
-        requires other { IsSet W.word K.shape other }
         ensures { let key_hash = hash_at H.hasher K.key_calls in
             result ≡ at_views (set_equal W.word K.shape key_hash K.same) (set_view self.entry)
             (set_view other.entry) }
@@ -47,13 +41,8 @@ impl<'a, K: KeyElement, H: KeyHasher, W: Width> ArchivedHashSet<'a, K, H, W> {
     /// Each key is looked up once, and each lookup may read every group of the control bytes.
     /// Keys that share a hash cost a number of comparisons that is quadratic in their number.
     /// `FxHasher64` takes no secret key, so chosen keys can share one.
-    ///
-    /// # Requires
-    ///
-    /// - The set is valid.
     #[inline]
     pub fn misplaced(self) -> usize
-        requires { IsSet W.word K.shape self }
         ensures { let key_hash = hash_at H.hasher K.key_calls in
             result ≡ set_misplaced W.word K.shape key_hash K.same (set_bytes self.entry)
             (set_pos self.entry) }

@@ -8,27 +8,30 @@
 
 ghost use Rattle.std.specs.Prelude.{IsTrue, length, ◌↔◌, ◌≡◌};
 ghost use Rattle.rkyv_base.specs.Empty.{unit_element, unit_shape};
-ghost use Rattle.rkyv_base.specs.Entry.{entry_element, entry_shape};
 ghost use Rattle.rkyv_base.specs.View.{IsView, archive_of, pos_of};
-ghost use Rattle.rkyv_table.specs.Table.RawItems.{AllStand};
-ghost use Rattle.rkyv_table.specs.Lemmas.TableLaws.{table_element};
+ghost use Rattle.rkyv_collections.specs.MapShape.{map_element};
+ghost use Rattle.rkyv_keys.specs.Asked.{asked};
 ghost use Rattle.rkyv_collections.specs.Map.{IsFoundAt};
-ghost use Rattle.rkyv_collections.specs.Set.{GetsMember, IsSet, IsSetAt, TellsMember};
+ghost use Rattle.rkyv_collections.specs.Set.{GetsMember, IsSetAt, TellsMember};
 ghost use Rattle.rkyv_collections.specs.Set.{member_positions, set_archive, set_len, set_shape};
 
 use crate::map::iter::Keys;
 use crate::map::{ArchivedHashMap, HashMapOf};
 use crate::set::{ArchivedHashSet, HashSetOf};
-use rkyv_base::element::{Element, PartRange};
+use rkyv_base::element::{Element, PartRange, Shaped};
 use rkyv_base::errors::VerifyError;
 use rkyv_base::view::View;
-use rkyv_base::width::Width;
+use rkyv_base::width::{Width, Word};
 use rkyv_keys::keys::{KeyElement, Query};
 use rkyv_scan::hash::KeyHasher;
 
-impl<K: Element, H, W: Width> Element for HashSetOf<K, H, W> {
+impl<K: Shaped, H, W: Word> Shaped for HashSetOf<K, H, W> {
     ghost shape = { set_shape W.word K.shape };
 
+    ghost laws = { map_element W.word W.kind K.shape unit_shape K.laws unit_element };
+}
+
+impl<K: Element, H, W: Width> Element for HashSetOf<K, H, W> {
     #[inline]
     fn size() -> usize {
         HashMapOf::<K, (), H, W>::size()
@@ -43,9 +46,6 @@ impl<K: Element, H, W: Width> Element for HashSetOf<K, H, W> {
     fn check(bytes: &[u8], pos: u64, range: PartRange) -> Result<PartRange, VerifyError> {
         HashMapOf::<K, (), H, W>::check(bytes, pos, range)
     }
-
-    ghost laws = { table_element W.word W.layout.kind (entry_shape K.shape unit_shape)
-        (entry_element K.shape unit_shape K.laws unit_element) };
 }
 
 impl<'a, K: Element, H, W: Width> ArchivedHashSet<'a, K, H, W> {
@@ -58,7 +58,6 @@ impl<'a, K: Element, H, W: Width> ArchivedHashSet<'a, K, H, W> {
     pub fn of(view: View<'a, HashSetOf<K, H, W>>) -> ArchivedHashSet<'a, K, H, W>
         requires { IsView (set_shape W.word K.shape) view }
         ensures at { IsSetAt result (archive_of view.entry) (pos_of view.entry) }
-        ensures set { IsSet W.word K.shape result }
     {
         ArchivedHashSet {
             map: ArchivedHashMap::of(view.at::<HashMapOf<K, (), H, W>>(view.pos())),
@@ -68,7 +67,7 @@ impl<'a, K: Element, H, W: Width> ArchivedHashSet<'a, K, H, W> {
     /// Returns `true` if and only if the set has no keys.
     #[inline]
     pub fn is_empty(self) -> bool
-        ensures { IsTrue result ↔ (set_len W.word self.entry ≡ 0) }
+        ensures { IsTrue result ↔ (set_len self.entry ≡ 0) }
     {
         self.map.is_empty()
     }
@@ -76,23 +75,17 @@ impl<'a, K: Element, H, W: Width> ArchivedHashSet<'a, K, H, W> {
     /// Returns the number of keys.
     #[inline]
     pub fn len(self) -> usize
-        ensures { result ≡ set_len W.word self.entry }
+        ensures { result ≡ set_len self.entry }
     {
         self.map.len()
     }
 
     /// Returns an iterator over the keys, in bucket order.
-    ///
-    /// # Requires
-    ///
-    /// - The set is valid.
     #[inline]
     pub fn iter(self) -> Keys<'a, K, (), H, W>
-        requires { IsSet W.word K.shape self }
         ensures archive { result.archive ≡ set_archive self.entry }
-        ensures places { result.places ≡ member_positions W.word K.shape self.entry }
-        ensures count { length result.places ≡ set_len W.word self.entry }
-        ensures stand { AllStand (entry_shape K.shape unit_shape) result }
+        ensures places { result.places ≡ member_positions self.entry }
+        ensures count { length result.places ≡ set_len self.entry }
     {
         self.map.keys()
     }
@@ -111,14 +104,12 @@ impl<'a, K: KeyElement, H: KeyHasher, W: Width> ArchivedHashSet<'a, K, H, W> {
     ///
     /// # Requires
     ///
-    /// - The set is valid.
     /// - The query can be read.
     #[inline]
     pub fn get<Q: Query<K>>(self, key: &Q) -> Option<View<'a, K>>
-        requires set { IsSet W.word K.shape self }
         requires query { Q.can_read key.now }
-        ensures { GetsMember W.word K.shape self.entry H.hasher (Q.calls key.now) K.key_calls K.same
-            (Q.fits key.now) result }
+        ensures { GetsMember self.entry
+            (asked H.hasher K.key_calls K.same (Q.calls key.now) (Q.fits key.now)) result }
     {
         match self.map.get_key_value(key) {
             Some((stored, _)) => Some(stored),
@@ -132,14 +123,13 @@ impl<'a, K: KeyElement, H: KeyHasher, W: Width> ArchivedHashSet<'a, K, H, W> {
     ///
     /// # Requires
     ///
-    /// - The set is valid.
     /// - The query can be read.
     #[inline]
     pub fn contains<Q: Query<K>>(self, key: &Q) -> bool
-        requires set { IsSet W.word K.shape self }
         requires query { Q.can_read key.now }
-        ensures { TellsMember W.word K.shape self.entry H.hasher (Q.calls key.now) K.key_calls
-            K.same (Q.fits key.now) (IsFoundAt result) }
+        ensures { TellsMember self.entry
+            (asked H.hasher K.key_calls K.same (Q.calls key.now) (Q.fits key.now)) (IsFoundAt
+            result) }
     {
         self.map.contains_key(key)
     }

@@ -4,9 +4,8 @@
 //! the header.
 
 ghost use Rattle.std.specs.Prelude.{◌≡◌, ◌+◌, ◌<◌, ◌^◌, length};
-ghost use Rattle.rkyv_table.specs.Table.Header.{WritesHeader};
-ghost use Rattle.rkyv_collections.specs.MapFormat.{hash_of};
-ghost use Rattle.rkyv_collections.specs.Writing.{WritesSet};
+ghost use Rattle.rkyv_collections.specs.Natives.{key_format};
+ghost use Rattle.rkyv_collections.specs.Writing.{ResolvesMap, WritesSet, keys_in, resolver_of};
 
 use crate::map::ArchivedHashMap;
 use crate::map::writing::HashMapResolver;
@@ -63,9 +62,9 @@ impl<'a, K: KeyElement, H: KeyHasher, W: Width> ArchivedHashSet<'a, K, H, W> {
     where
         K: StandsFor<A>,
         requires can { I.can_next iter }
-        ensures { WritesSet W.word W.MAX_CAPACITY W.LIMIT K.shape A.format
-            (hash_of H.hasher A.calls) load_factor BK.lent len I.next_gives iter S.output
-            serializer.old serializer.new result }
+        ensures { WritesSet W.Width (key_format K.shape A.format H.hasher A.calls)
+            (keys_in BK.Lend I.Iterator iter len load_factor)
+            (S.output serializer.old) (S.output serializer.new) result }
     {
         ArchivedHashMap::<K, (), H, W>::serialize_from_iter::<S, A, (), BK, (), WithUnits<I>>(
             alloc,
@@ -98,7 +97,8 @@ impl<'a, K: KeyElement, H: KeyHasher, W: Width> ArchivedHashSet<'a, K, H, W> {
         requires same { (len ≡ resolver.len) × (load_factor ≡ resolver.load_factor) }
         requires room { length out.old ≡ W.TABLE_SIZE }
         requires fits { pos + W.TABLE_SIZE < 2 ^ 64 }
-        ensures { WritesHeader W.word len load_factor resolver.pos pos out.old out.new result }
+        ensures { ResolvesMap W.word (resolver_of len load_factor resolver.pos) pos
+            out.old out.new result }
     {
         ArchivedHashMap::<K, (), H, W>::resolve_from_len(len, load_factor, resolver, pos, out)
     }

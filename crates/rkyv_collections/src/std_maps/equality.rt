@@ -4,19 +4,21 @@ ghost use Rattle.std.specs.Prelude.{IsTrue, ◌↔◌};
 ghost use Rattle.rkyv_base.specs.Pairs.{written_as-format};
 ghost use Rattle.rkyv_base.specs.View.{IsView, StandsAt};
 ghost use Rattle.rkyv_table.specs.Table.Listed.{listed};
-ghost use Rattle.rkyv_collections.specs.Map.{IsMap, map_bytes, map_pos, map_shape};
+ghost use Rattle.rkyv_collections.specs.MapShape.{map_shape};
 ghost use Rattle.rkyv_collections.specs.MapFormat.{hash_of, map_format};
 ghost use Rattle.rkyv_collections.specs.Lemmas.MapSound.{listed_map_sound};
 ghost use Rattle.rkyv_collections.specs.Lemmas.StdAlone.{std_map_alone};
 ghost use Rattle.rkyv_collections.specs.Lemmas.StdEqualLaws.{entries_equal};
-ghost use Rattle.rkyv_collections.specs.StdEquality.{EntriesEqual, FindsPair, StdMapEquals};
-ghost use Rattle.rkyv_collections.specs.StdLookups.{FindsAsked};
+ghost use Rattle.rkyv_collections.specs.Natives.{queried};
+ghost use Rattle.rkyv_collections.specs.StdEquality.{EntriesEqual, FindsPairIn, StdMapEquals};
+ghost use Rattle.rkyv_collections.specs.StdEquality.{StdMapEqualsIn};
+ghost use Rattle.rkyv_collections.specs.StdLookups.{FindsAskedIn};
 ghost use Rattle.rkyv_collections.specs.StdMap.{of_entries};
 
 use crate::map::{ArchivedHashMap, HashMapOf};
 use crate::std_maps::hashed::Hashed;
 use rkyv_base::archive::Archive;
-use rkyv_base::element::{Element, StandsFor};
+use rkyv_base::element::{Element, Shaped, StandsFor};
 use rkyv_base::view::View;
 use rkyv_base::width::Width;
 use rkyv_keys::equality::{EqualsWritten, MatchesNative, StandsAlone};
@@ -25,17 +27,15 @@ use rkyv_scan::hash::KeyHasher;
 use std::collections::HashMap;
 use std::hash::{BuildHasher, Hash};
 
-impl<'a, K: KeyElement, V, H: KeyHasher, W: Width> ArchivedHashMap<'a, K, V, H, W> {
+impl<'a, K: KeyElement, V: Shaped, H: KeyHasher, W: Width> ArchivedHashMap<'a, K, V, H, W> {
     /// Returns `true` if and only if a lookup of the key finds a value that equals `value`.
     #[inline]
     pub(crate) fn finds_equal<A: Query<K>, B>(self, key: &A, value: &B) -> bool
     where
         V: MatchesNative<B>,
-        requires map { IsMap W.word K.shape V.shape self }
         requires query { A.can_read key.now }
-        ensures { let hash = hash_of H.hasher A.calls in
-            IsTrue result ↔ FindsPair W.word K.shape V.shape hash A.fits V.equals
-            (map_bytes self.entry) (map_pos self.entry) (key.now, value.now) }
+        ensures { let asked = queried H.hasher A.calls A.fits in
+            IsTrue result ↔ FindsPairIn self.entry asked V.equals (key.now, value.now) }
     {
         match self.get(key) {
             Some(found) => V::eq_native(found, value),
@@ -55,10 +55,9 @@ impl<'a, K: KeyElement, V, H: KeyHasher, W: Width> ArchivedHashMap<'a, K, V, H, 
     where
         K: StandsFor<A>,
         V: MatchesNative<B>,
-        requires map { IsMap W.word K.shape V.shape self }
-        ensures { let hash = hash_of H.hasher A.calls in
-            IsTrue result ↔ FindsAsked W.word K.shape hash A.fits V.shape V.equals
-            (map_bytes self.entry) (map_pos self.entry) key.now (A.eq key.now) other.now.entries }
+        ensures { let asked = queried H.hasher A.calls A.fits in
+            IsTrue result ↔ FindsAskedIn self.entry asked V.equals key.now (A.eq key.now)
+            other.now.entries }
     {
         match other.get(key) {
             Some(value) => self.finds_equal(key, value),
@@ -73,19 +72,13 @@ impl<'a, K: KeyElement, V, H: KeyHasher, W: Width> ArchivedHashMap<'a, K, V, H, 
     ///
     /// Each pair of `other` costs a lookup. In an untrusted map, a lookup may read every group
     /// of control bytes once.
-    ///
-    /// # Requires
-    ///
-    /// - The map is valid.
     #[inline]
     pub fn eq_std<A: NativeKey<K> + Hash, B, T: BuildHasher>(self, other: &HashMap<A, B, T>) -> bool
     where
         K: StandsFor<A>,
         V: MatchesNative<B>,
-        requires map { IsMap W.word K.shape V.shape self }
-        ensures { let hash = hash_of H.hasher A.calls in
-            IsTrue result ↔ StdMapEquals W.word K.shape V.shape hash A.fits V.equals
-            (map_bytes self.entry) (map_pos self.entry) other.now }
+        ensures { let asked = queried H.hasher A.calls A.fits in
+            IsTrue result ↔ StdMapEqualsIn self.entry asked V.equals other.now }
     {
         if self.len() != other.len() {
             return false;
@@ -166,19 +159,11 @@ where
 
 /// A map or set of std that can be compared with an archived one of the type `C`.
 pub trait EqArchived<C> {
-    // The condition under which the archived map or set can be compared: it is valid.
-    ghost can_compare: { C → Type 0 };
-
     // The archived map or set equals the value.
     ghost equals_archived: { C → Self → Type 0 };
 
     /// Returns the result of `eq_std` of the archived map or set.
-    ///
-    /// # Requires
-    ///
-    /// - `other` is valid.
     fn eq_archived(&self, other: C) -> bool
-        requires { can_compare other }
         ensures { IsTrue result ↔ equals_archived other self.now };
 }
 
@@ -192,11 +177,8 @@ impl<
     B,
     T: BuildHasher,
 > EqArchived<ArchivedHashMap<'a, K, V, H, W>> for HashMap<A, B, T> {
-    ghost can_compare = { IsMap W.word K.shape V.shape };
-
     ghost equals_archived = { λ other m.
-        StdMapEquals W.word K.shape V.shape (hash_of H.hasher A.calls) A.fits V.equals
-        (map_bytes other) (map_pos other) m };
+        StdMapEqualsIn other (queried H.hasher A.calls A.fits) V.equals m };
 
     #[inline]
     fn eq_archived(&self, other: ArchivedHashMap<'a, K, V, H, W>) -> bool {

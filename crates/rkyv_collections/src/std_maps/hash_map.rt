@@ -2,7 +2,8 @@
 
 ghost use Rattle.rkyv_base.specs.Pairs.{written_as, written_as-format};
 ghost use Rattle.rkyv_table.specs.Table.Listed.{listed};
-ghost use Rattle.rkyv_collections.specs.Map.{hash_at, map_shape};
+ghost use Rattle.rkyv_collections.specs.Map.{hash_at};
+ghost use Rattle.rkyv_collections.specs.MapShape.{map_shape};
 ghost use Rattle.rkyv_collections.specs.MapFormat.{hash_of, map_format};
 ghost use Rattle.rkyv_collections.specs.Lemmas.MapSound.{listed_map_sound};
 ghost use Rattle.rkyv_collections.specs.StdMap.{EntriesStand, StdMapStands, of_entries};

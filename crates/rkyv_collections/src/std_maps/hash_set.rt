@@ -9,7 +9,8 @@ ghost use Rattle.rkyv_table.specs.Table.Listed.{listed};
 ghost use Rattle.rkyv_collections.specs.Map.{hash_at};
 ghost use Rattle.rkyv_collections.specs.MapFormat.{hash_of, map_format};
 ghost use Rattle.rkyv_collections.specs.Lemmas.MapSound.{listed_map_sound};
-ghost use Rattle.rkyv_collections.specs.Set.{IsSet, set_bytes, set_pos, set_shape, set_view};
+ghost use Rattle.rkyv_collections.specs.Natives.{queried};
+ghost use Rattle.rkyv_collections.specs.Set.{set_shape, set_view};
 ghost use Rattle.rkyv_table.specs.Table.Lent.{with_units};
 ghost use Rattle.rkyv_collections.specs.Lemmas.StdAlone.{std_set_alone};
 ghost use Rattle.rkyv_collections.specs.Lemmas.StdEqualLaws.{entries_equal};
@@ -17,8 +18,8 @@ ghost use Rattle.rkyv_collections.specs.StdEquality.{EntriesEqual};
 ghost use Rattle.rkyv_collections.specs.StdMap.{EntriesStand, of_entries};
 ghost use Rattle.rkyv_collections.specs.Lemmas.StdMapLaws.{entries_near, entries_sound};
 ghost use Rattle.rkyv_collections.specs.StdSet.{InsertsKey, ReadsStdSet, StdSetEquals};
-ghost use Rattle.rkyv_collections.specs.StdSet.{StdSetStands, key_refuses, set_equal_written};
-ghost use Rattle.rkyv_collections.specs.StdSet.{std_set_refuses};
+ghost use Rattle.rkyv_collections.specs.StdSet.{StdSetEqualsIn, StdSetStands, key_refuses};
+ghost use Rattle.rkyv_collections.specs.StdSet.{set_equal_written, std_set_refuses};
 
 use crate::set::writing::HashSetResolver;
 use crate::set::{ArchivedHashSet, HashSetOf};
@@ -130,9 +131,6 @@ impl<'a, K: Element, H, W: Width> ArchivedHashSet<'a, K, H, W> {
     ///
     /// The keys are inserted in bucket order.
     ///
-    /// # Requires
-    ///
-    /// - The set is valid.
     ///
     /// # Errors
     ///
@@ -145,7 +143,6 @@ impl<'a, K: Element, H, W: Width> ArchivedHashSet<'a, K, H, W> {
     ) -> Result<HashSet<A, T>, ReadError>
     where
         K: Deserialize<A>,
-        requires set { IsSet W.word K.shape self }
         ensures { ReadsStdSet (StdSetStands K.shape K.stands W.word A.eq)
             (std_set_refuses W.word K.shape K.refuses) (set_view self.entry) state result }
     {
@@ -168,18 +165,12 @@ impl<'a, K: KeyElement, H: KeyHasher, W: Width> ArchivedHashSet<'a, K, H, W> {
     ///
     /// Each key of `other` costs a lookup. In an untrusted set, a lookup may read every group
     /// of control bytes once.
-    ///
-    /// # Requires
-    ///
-    /// - The set is valid.
     #[inline]
     pub fn eq_std<A: NativeKey<K> + Hash, T: BuildHasher>(self, other: &HashSet<A, T>) -> bool
     where
         K: StandsFor<A>,
-        requires set { IsSet W.word K.shape self }
-        ensures { let hash = hash_of H.hasher A.calls in
-            IsTrue result ↔ StdSetEquals W.word K.shape hash A.fits (set_bytes self.entry)
-            (set_pos self.entry) other.now }
+        ensures { let asked = queried H.hasher A.calls A.fits in
+            IsTrue result ↔ StdSetEqualsIn self.entry asked other.now }
     {
         if self.len() != other.len() {
             return false;
@@ -237,11 +228,8 @@ impl<
     A: NativeKey<K> + Hash,
     T: BuildHasher,
 > EqArchived<ArchivedHashSet<'a, K, H, W>> for HashSet<A, T> {
-    ghost can_compare = { IsSet W.word K.shape };
-
     ghost equals_archived = { λ other s.
-        StdSetEquals W.word K.shape (hash_of H.hasher A.calls) A.fits (set_bytes other)
-        (set_pos other) s };
+        StdSetEqualsIn other (queried H.hasher A.calls A.fits) s };
 
     #[inline]
     fn eq_archived(&self, other: ArchivedHashSet<'a, K, H, W>) -> bool {

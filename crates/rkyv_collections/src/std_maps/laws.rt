@@ -1,6 +1,6 @@
 //! Laws of lookups in archives of maps and sets of std, over their definitions alone.
 
-ghost use Rattle.rkyv_collections.specs.MapFormat.{hash_of};
+ghost use Rattle.rkyv_collections.specs.Natives.{queried};
 ghost use Rattle.rkyv_collections.specs.StdLookups.{FindsInWrittenMap, FindsInWrittenSet};
 
 use crate::std_maps::hashed::Hashed;
@@ -29,9 +29,9 @@ pub fn written_maps_are_looked_up<
 where
     A::Archived: KeyElement,
     A: NativeKey<A::Archived>,
-    ensures { FindsInWrittenMap W.word A.Archived.shape (hash_of H.hasher Q.calls) Q.fits
-        A.Archived.stands Q.can_read B.Archived.shape B.Archived.stands
-        ⟦<Hashed<HashMap<A, B, T>, H> as Archive<W>>⟧.format }
+    ensures { let format = ⟦<Hashed<HashMap<A, B, T>, H> as Archive<W>>⟧.format in
+        FindsInWrittenMap W.word A.Archived.StandsFor B.Archived.StandsFor
+        (queried H.hasher Q.calls Q.fits) Q.can_read format }
 {}
 
 /// In an archive of a set of std, a lookup finds a key if and only if the set has an accepted key.
@@ -49,7 +49,7 @@ pub fn written_sets_are_looked_up<
 where
     A::Archived: KeyElement,
     A: NativeKey<A::Archived>,
-    ensures { let hash = hash_of H.hasher Q.calls in
-        FindsInWrittenSet W.word A.Archived.shape hash Q.fits A.Archived.stands Q.can_read
-        ⟦<Hashed<HashSet<A, T>, H> as Archive<W>>⟧.format }
+    ensures { let format = ⟦<Hashed<HashSet<A, T>, H> as Archive<W>>⟧.format in
+        FindsInWrittenSet W.word A.Archived.StandsFor (queried H.hasher Q.calls Q.fits) Q.can_read
+        format }
 {}

@@ -4,7 +4,8 @@ ghost use Rattle.std.specs.Prelude.{MatchResult, ◌+◌};
 ghost use Rattle.rkyv_base.specs.Entry.{value_offset};
 ghost use Rattle.rkyv_base.specs.Pairs.{PairStands};
 ghost use Rattle.rkyv_base.specs.View.{IsAt, IsView, StandsAt, archive_of, pos_of};
-ghost use Rattle.rkyv_collections.specs.Map.{IsMap, map_shape, map_view};
+ghost use Rattle.rkyv_collections.specs.Map.{map_view};
+ghost use Rattle.rkyv_collections.specs.MapShape.{map_shape};
 ghost use Rattle.rkyv_collections.specs.StdMap.{InsertsPair, ReadsStdMap, StdMapStands};
 ghost use Rattle.rkyv_collections.specs.StdMap.{insert_refuses, std_map_refuses};
 
@@ -49,9 +50,6 @@ impl<'a, K: Element, V: Element, H, W: Width> ArchivedHashMap<'a, K, V, H, W> {
     /// The pairs are inserted in bucket order. Of pairs with equal keys,
     /// the value of the last is kept.
     ///
-    /// # Requires
-    ///
-    /// - The map is valid.
     ///
     /// # Errors
     ///
@@ -65,7 +63,6 @@ impl<'a, K: Element, V: Element, H, W: Width> ArchivedHashMap<'a, K, V, H, W> {
     where
         K: Deserialize<A>,
         V: Deserialize<B>,
-        requires map { IsMap W.word K.shape V.shape self }
         ensures { ReadsStdMap (StdMapStands K.shape V.shape K.stands V.stands W.word A.eq)
             (std_map_refuses W.word K.shape V.shape K.refuses V.refuses) (map_view self.entry) state
             result }

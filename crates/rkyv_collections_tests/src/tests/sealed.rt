@@ -1,11 +1,11 @@
 //! Tests of values of maps that are written in place.
 ghost use Rattle.std.specs.Prelude.{IfOk, IfSome, ℕ, ◌≡◌};
 ghost use Rattle.std.specs.Option.{option_map};
-ghost use Rattle.rkyv_base.specs.Scalar.{scalar_shape};
 ghost use Rattle.rkyv_base.specs.Sealing.{value_at, value_pos};
 ghost use Rattle.rkyv_base.specs.Shape.{Viewed};
 ghost use Rattle.rkyv_scan.specs.Hash.{hash_of_calls};
-ghost use Rattle.rkyv_collections.specs.Map.{FindsKeyAt, IsKeyPosAt, hash_at, map_shape};
+ghost use Rattle.rkyv_collections.specs.Map.{FindsKeyAt, hash_at};
+ghost use Rattle.rkyv_collections.specs.MapShape.{IsKeyPosAt, map_shape};
 ghost use Rattle.rkyv_collections.specs.ValueWrites.{KeepsMap};
 
 use crate::tests::answers::number_of;
@@ -61,11 +61,11 @@ fn write_value<K: KeyElement, N: Scalar, H: KeyHasher, W: Width>(
     pos: u64,
     value: N,
 )
-    requires map { Viewed (map_shape W.word K.shape (scalar_shape N.encoding)) bytes.old root }
-    requires place { (place : ℕ) × IsKeyPosAt W.word K.shape (scalar_shape N.encoding) bytes.old
-        root place × (pos ≡ value_pos K.shape (scalar_shape N.encoding) place) }
+    requires map { Viewed (map_shape W.word K.shape N.shape) bytes.old root }
+    requires place { (place : ℕ) × IsKeyPosAt W.word K.shape N.shape bytes.old
+        root place × (pos ≡ value_pos K.shape N.shape place) }
     ensures kept { let key_hash = hash_at H.hasher K.key_calls in
-        (i : ℕ) × KeepsMap W.word K.shape (scalar_shape N.encoding) key_hash bytes.old bytes.new
+        (i : ℕ) × KeepsMap W.word K.shape N.shape key_hash bytes.old bytes.new
         root i }
     ensures reads { value_at N.encoding bytes.new pos ≡ value }
 {
@@ -80,10 +80,10 @@ fn stored<K: KeyElement, N: Scalar, H: KeyHasher, W: Width, Q: Query<K>>(
     key: &Q,
     value: N,
 ) -> Option<N>
-    requires map { Viewed (map_shape W.word K.shape (scalar_shape N.encoding)) bytes.old root }
+    requires map { Viewed (map_shape W.word K.shape N.shape) bytes.old root }
     requires query { Q.can_read key.now }
     ensures { let hash = hash_of_calls H.hasher (Q.calls key.now) in
-        FindsKeyAt W.word K.shape (scalar_shape N.encoding) bytes.old root hash
+        FindsKeyAt W.word K.shape N.shape bytes.old root hash
         (Q.fits key.now bytes.old) (λ at. result ≡ option_map (λ _. value) at) }
 {
     let pos = match value_found::<K, N, H, W, Q>(&*bytes, root, key) {

@@ -1,7 +1,4 @@
 //! Tests of walks over maps and sets: the items, their order, and the number left.
-ghost use Rattle.rkyv_base.specs.Entry.{entry_shape};
-ghost use Rattle.rkyv_table.specs.Table.RawItems.{AllStand};
-
 use rkyv_base::access::access;
 use rkyv_base::element::Element;
 use rkyv_base::errors::VerifyError;
@@ -11,11 +8,7 @@ use rkyv_collections::set::{ArchivedHashSet, HashSetOf};
 use rkyv_testing::archives::{four_pairs, no_items, one_unit, three_keys};
 
 // Returns the positions of the next key and its value.
-#[tactic(auto, using(crate::proofs::Steps::stand_after, crate::proofs::Steps::stand_at_end))]
-fn next_pair<K: Element, V: Element, H, W>(rest: &mut Iter<'_, K, V, H, W>) -> Option<(u64, u64)>
-    requires { AllStand (entry_shape K.shape V.shape) rest.old }
-    ensures { AllStand (entry_shape K.shape V.shape) rest.new }
-{
+fn next_pair<K: Element, V: Element, H, W>(rest: &mut Iter<'_, K, V, H, W>) -> Option<(u64, u64)> {
     match rest.next() {
         Some((key, value)) => Some((key.pos(), value.pos())),
         None => None,
@@ -23,11 +16,7 @@ fn next_pair<K: Element, V: Element, H, W>(rest: &mut Iter<'_, K, V, H, W>) -> O
 }
 
 // Returns the position of the next key.
-#[tactic(auto, using(crate::proofs::Steps::stand_after, crate::proofs::Steps::stand_at_end))]
-fn next_key<K: Element, V: Element, H, W>(rest: &mut Keys<'_, K, V, H, W>) -> Option<u64>
-    requires { AllStand (entry_shape K.shape V.shape) rest.old }
-    ensures { AllStand (entry_shape K.shape V.shape) rest.new }
-{
+fn next_key<K: Element, V: Element, H, W>(rest: &mut Keys<'_, K, V, H, W>) -> Option<u64> {
     match rest.next() {
         Some(key) => Some(key.pos()),
         None => None,
@@ -35,11 +24,7 @@ fn next_key<K: Element, V: Element, H, W>(rest: &mut Keys<'_, K, V, H, W>) -> Op
 }
 
 // Returns the position of the next value.
-#[tactic(auto, using(crate::proofs::Steps::stand_after, crate::proofs::Steps::stand_at_end))]
-fn next_value<K: Element, V: Element, H, W>(rest: &mut Values<'_, K, V, H, W>) -> Option<u64>
-    requires { AllStand (entry_shape K.shape V.shape) rest.old }
-    ensures { AllStand (entry_shape K.shape V.shape) rest.new }
-{
+fn next_value<K: Element, V: Element, H, W>(rest: &mut Values<'_, K, V, H, W>) -> Option<u64> {
     match rest.next() {
         Some(value) => Some(value.pos()),
         None => None,

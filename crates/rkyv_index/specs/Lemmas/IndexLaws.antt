@@ -6,10 +6,14 @@ use Rattle.std.specs.List.{All, range_with_len}
 use Rattle.std.proofs.lemmas.Bool.{cases_eq}
 use Rattle.std.proofs.Common.{get_or, refl, arith, subst, sym, ◌∙◌, ap, inl, inr}
 use Rattle.std.proofs.Math.Nat.{mul-le-mul_right}
+use Rattle.std.proofs.Props.{props}
+use Rattle.std.specs.Coded.{×_prop}
 use Rattle.std.proofs.lemmas.List.Elements.{All-cons, All-head, All-map, All-nil, All-tail}
 use Rattle.rkyv_base.specs.declared.errors.VerifyError.{VerifyError}
 use Rattle.rkyv_base.specs.Bytes.{Same, number_at, same_part}
-use Rattle.rkyv_base.specs.Parts.{part_clear, part_one, part_one_failure, part_wider}
+use Rattle.rkyv_base.specs.Lemmas.Props.{only_one, prop_by}
+use Rattle.rkyv_base.specs.Parts.{PartIn, part_clear, part_one, part_one_failure, part_prop}
+use Rattle.rkyv_base.specs.Parts.{part_wider}
 use Rattle.rkyv_base.specs.Shape.{Shape, IsElement, IsAlign}
 use Rattle.rkyv_base.specs.Text.{IsArchiveWord, by_archive_word}
 use Rattle.rkyv_table.specs.Table.Header.{cap_at, len_at}
@@ -17,17 +21,18 @@ use Rattle.rkyv_table.specs.Lemmas.ItemPositions.{HoldsWithin, holds_at, item_ho
 use Rattle.rkyv_table.specs.Lemmas.ItemPositions.{within_lower}
 use Rattle.rkyv_table.specs.Lemmas.SameControls.{same_controls}
 use Rattle.rkyv_table.specs.Lemmas.PlaceLaws.{AllBelow, all_between, all_clear, all_lower, all_near}
-use Rattle.rkyv_table.specs.Lemmas.PlaceLaws.{all_one_failure}
+use Rattle.rkyv_table.specs.Lemmas.PlaceLaws.{all_one, all_one_failure, all_prop}
 use Rattle.rkyv_table.specs.Table.Places.{AllHold, FirstFails}
 use Rattle.rkyv_table.specs.Controls.Placing.{walk}
-use Rattle.rkyv_table.specs.Table.Reading.{IsWalked, item_at, item_positions}
-use Rattle.rkyv_table.specs.Table.Reading.{table_controls}
+use Rattle.rkyv_table.specs.Table.Positions.{IsWalked, item_at, item_positions}
+use Rattle.rkyv_table.specs.Table.Positions.{table_controls}
 use Rattle.rkyv_table.specs.Lemmas.SameHeader.{cap_same, item_same, len_same}
 use Rattle.rkyv_table.specs.Table.Layout.{TableHolds, table_shape}
 use Rattle.rkyv_table.specs.Lemmas.TableLaws.{table_element}
 use Rattle.rkyv_table.proofs.RawWalks.{walked_all}
 use Rattle.rkyv_table.proofs.Walks.{walk_none}
-use Rattle.rkyv_index.specs.IndexLayout.{EntriesFail, EntriesIn, FirstNotBelow, IndexFails}
+use Rattle.rkyv_index.specs.IndexLayout.{EntriesFail, EntriesHold, EntriesIn, FirstNotBelow}
+use Rattle.rkyv_index.specs.IndexLayout.{IndexFails}
 use Rattle.rkyv_index.specs.IndexLayout.{IndexHolds, PlacesBelow, distance_pos, entries_told}
 use Rattle.rkyv_index.specs.IndexLayout.{entry_at, index_shape, place_shape, places_of}
 
@@ -38,6 +43,7 @@ place_element w kind = record {
       (inr (inr (inr refl))) w kind;
   size_whole = by_archive_word (λ v. byte_len v % byte_len v ≡ 0) refl refl w kind;
   size_small = by_archive_word (λ v. byte_len v ≤ 1073741824) (omega arith) (omega arith) w kind;
+  proper = λ b p lo hi l. hlevel props;
   between = λ b p lo hi l o h. (omega (arith, h), omega (arith, h));
   one = λ b p lo hi l l' h h'. h ∙ sym h';
   clear = λ b p lo hi l e h f. f;
@@ -299,6 +305,37 @@ module _ (w : Width) (kind : IsArchiveWord w) (s : Shape) (law : IsElement s) wh
       entries_one s law b (entries_told w b p) (len_at w b p) h.middle hi l l' h.entries
       (subst (λ x. EntriesIn s b (entries_told w b p) (len_at w b p) x hi l') same h'.entries)
 
+  -- that the entries are valid, and that the map is, are propositions
+  entries_prop : (b : List ℕ) (told : ℤ) (len lo hi l : ℕ) → IsProp (EntriesIn s b told len lo hi l)
+  entries_prop b told len lo hi l =
+      let P : ℕ → Type 0 = λ begin. PartIn told (len * s.size) s.align lo hi begin
+      × (((last : ℕ) × EntriesHold s b begin len lo last) × (l ≡ begin + len * s.size)) in
+      prop_by {B = (begin : ℕ) × P begin} (λ h. (h.begin, (h.part, ((h.last, h.hold), h.ends))))
+      (λ h. record {
+        begin = h.0;
+        part = h.1.0;
+        last = h.1.1.0.0;
+        hold = h.1.1.0.1;
+        ends =
+            h.1.1.1;
+      })
+      (λ _. refl) (only_one
+      (λ begin. ×_prop (part_prop told (len * s.size) s.align lo hi begin)
+      (×_prop (only_one (all_prop s law (entry_at s.size begin) b begin (places_of len) lo)
+      (all_one s law (entry_at s.size begin) b begin (places_of len) lo)) (hlevel props)))
+      (λ n n' h k. part_one told (len * s.size) s.align lo hi n n' h.0 k.0))
+
+  index_prop : (b : List ℕ) (p lo hi l : ℕ) → IsProp (IndexHolds w s b p lo hi l)
+  index_prop b p lo hi l =
+      let P : ℕ → Type 0 = λ m. TableHolds w (place_shape w) b p lo hi m
+      × (PlacesBelow w b (len_at w b p) (item_positions w (byte_len w) b p)
+      × EntriesIn s b (entries_told w b p) (len_at w b p) m hi l) in
+      prop_by {B = (m : ℕ) × P m} (λ h. (h.middle, (h.table, (h.below, h.entries))))
+      (λ h. record { middle = h.0; table = h.1.0; below = h.1.1.0; entries = h.1.1.1 }) (λ _. refl)
+      (only_one (λ m. ×_prop (T_law.proper b p lo hi m) (×_prop (hlevel props)
+      (entries_prop b (entries_told w b p) (len_at w b p) m hi l)))
+      (λ m m' h k. T_law.one b p lo hi m m' h.0 k.0))
+
   index_between : (b : List ℕ) (p lo hi l : ℕ) → lo ≤ hi → IndexHolds w s b p lo hi l → (lo ≤ l)
       × (l ≤ hi)
   index_between b p lo hi l o h =
@@ -359,6 +396,7 @@ module _ (w : Width) (kind : IsArchiveWord w) (s : Shape) (law : IsElement s) wh
     size_whole = by_archive_word (λ v. (4 * byte_len v) % byte_len v ≡ 0) refl refl w kind;
     size_small = by_archive_word (λ v. 4 * byte_len v ≤ 1073741824) (omega arith) (omega arith) w
         kind;
+    proper = index_prop;
     between = index_between;
     one = index_one;
     clear = index_clear;

@@ -16,8 +16,8 @@ use Rattle.rkyv_base.specs.Entry.{entry_element, entry_shape, round_up, round_up
 use Rattle.rkyv_base.specs.Format.{Format, IsFormat}
 use Rattle.rkyv_base.specs.Layout.{IsPlace}
 use Rattle.rkyv_base.specs.Pairs.{PairStands, pair_format, pair_is_format}
-use Rattle.rkyv_base.specs.Scalar.{Encoding, IsWord, ScalarStands, scalar_element, scalar_format}
-use Rattle.rkyv_base.specs.Scalar.{scalar_is_format, scalar_shape, word_bytes, word_reads_back}
+use Rattle.rkyv_base.specs.Scalar.{Encoding, IsScalar, IsWord, ScalarStands, scalar_format}
+use Rattle.rkyv_base.specs.Scalar.{scalar_is_format, word_bytes, word_reads_back}
 use Rattle.rkyv_base.specs.Shape.{IsElement, Shape, Standing}
 use Rattle.rkyv_base.specs.Text.{IsArchiveWord, by_archive_word}
 use Rattle.rkyv_base.specs.Writing.{padding, zeros}
@@ -33,8 +33,8 @@ use Rattle.rkyv_table.specs.Controls.Numbers.{capacity}
 use Rattle.rkyv_table.specs.Lemmas.PlaceLaws.{all_lower}
 use Rattle.rkyv_table.specs.Table.Places.{AllHold}
 use Rattle.rkyv_table.specs.Controls.Placing.{walk}
-use Rattle.rkyv_table.specs.Table.Reading.{IsWalked, WrittenAt, home_positions, item_at}
-use Rattle.rkyv_table.specs.Table.Reading.{item_positions, table_controls}
+use Rattle.rkyv_table.specs.Table.Positions.{IsWalked, WrittenAt, home_positions, item_at}
+use Rattle.rkyv_table.specs.Table.Positions.{item_positions, table_controls}
 use Rattle.rkyv_table.specs.Table.Layout.{TableHolds, table_shape}
 use Rattle.rkyv_table.specs.Table.TableFormat.{TableStands, resolved_capacity}
 use Rattle.rkyv_table.specs.Lemmas.TableLaws.{table_element}
@@ -90,9 +90,9 @@ distance_back w kind d c p fits s =
     (sym (word_bytes w word n)) ∙ s.there) ∙ word_reads_back w word n (Fits-of_z fits).fits in
     ap (cast_signed w) there ∙ to_z-of_z w d fits
 
-module _ {P X R : Type 0} (w : Width) (kind : IsArchiveWord w) (e : Encoding P)
-    (place : IsPlace w e) (back : CodesReadBack e) (word : IsWord e.word) (s : Shape)
-    (laws : IsElement s)
+module _ {P X R : Type 0} (w : Width) (kind : IsArchiveWord w) (ps : Shape) (e : Encoding P)
+    (pe : IsElement ps) (pk : IsScalar ps e) (place : IsPlace w e) (back : CodesReadBack e)
+    (s : Shape) (laws : IsElement s)
     (stands : List ℕ → ℕ → X → Type 0) (f : Format X R) (fl : IsFormat s stands f) (own : X → ℕ)
     (hash : List ℕ → ℕ → ℕ) (alike : (x : X) (b : List ℕ) (q : ℕ) → Standing s b q → stands b q
     x → own x ≡ hash b q)
@@ -104,10 +104,11 @@ module _ {P X R : Type 0} (w : Width) (kind : IsArchiveWord w) (e : Encoding P)
     count : length Places ≡ length xs
     count = places_count own e.value 0 xs
 
-    module _ (c : List ℕ) (p : ℕ) (stand : TableStands w (scalar_shape e) (ScalarStands e) factor
+    module _ (c : List ℕ) (p : ℕ) (stand : TableStands w ps (ScalarStands e) factor
         c p Places) where
       tw : IsWrittenOf w (byte_len e.word) (ScalarStands e) c p Places
-      tw = table_written w (scalar_shape e) (ScalarStands e) factor c p Places stand
+      tw = subst (λ n. IsWrittenOf w n (ScalarStands e) c p Places) pk.size
+          (table_written w ps (ScalarStands e) factor c p Places stand)
 
       hashes_count : length (hashes_of Places) ≡ length xs
       hashes_count = length-map Places (λ (y : ℕ × P). y.0) ∙ count
@@ -178,14 +179,14 @@ module _ {P X R : Type 0} (w : Width) (kind : IsArchiveWord w) (e : Encoding P)
           ∙ sym (get_or-range_with_len 0 (length xs) i 0 k ∙ omega arith))
 
     module _ (r : IndexResolver) (c : List ℕ) (p0 p : ℕ) (part out : List ℕ)
-        (t : IndexParts w e s f own factor xs p0 part r)
+        (t : IndexParts w ps e s f own factor xs p0 part r)
         (i : IsIndexHeader w r.table.len (resolved_capacity r.table) r p out)
         (sp : Sits c p0 part) (so : Sits c p out) (o : p0 + length part ≤ p)
         (al : p % byte_len w ≡ 0) where
       abbrev row : List ℕ
       row = t.row
 
-      abbrev zb : BeforeZeros w e s f own factor xs p0 t.before.head r.table t.resolvers
+      abbrev zb : BeforeZeros w ps e s f own factor xs p0 t.before.head r.table t.resolvers
       zb = t.before.made
 
       abbrev pad : List ℕ
@@ -247,11 +248,11 @@ module _ {P X R : Type 0} (w : Width) (kind : IsArchiveWord w) (e : Encoding P)
       place_told : entries_pos w c p ≡ begin
       place_told = ap unsigned_abs told
 
-      table : (l : ℕ) × TableHolds w (scalar_shape e) c p p0 (p0 + length zb.table) l
+      table : (l : ℕ) × TableHolds w ps c p p0 (p0 + length zb.table) l
           × TableStands w
-          (scalar_shape e) (ScalarStands e) factor c p Places
-      table = (table_is_format w kind (scalar_shape e) (scalar_element e word) (ScalarStands e)
-          (scalar_format e) (scalar_is_format e word) factor).sound Places r.table c p0 p zb.table
+          ps (ScalarStands e) factor c p Places
+      table = (table_is_format w kind ps pe (ScalarStands e)
+          (scalar_format e) (scalar_is_format ps e pk) factor).sound Places r.table c p0 p zb.table
           i.table
           zb.made i.header (sits_front c p0 zb.table zb.row head_sits) (sits_front c p i.table
           (to_le_bytes w (cast_unsigned w i.distance)) header_sits)
@@ -272,7 +273,7 @@ module _ {P X R : Type 0} (w : Width) (kind : IsArchiveWord w) (e : Encoding P)
           (omega (arith, t.at, front_length, head_length)) (subst (λ k. k % s.align ≡ 0)
           first_place begin_aligned)
 
-      stand : TableStands w (scalar_shape e) (ScalarStands e) factor c p Places
+      stand : TableStands w ps (ScalarStands e) factor c p Places
       stand = table.2
 
       len_told : len_at w c p ≡ length xs
@@ -309,8 +310,8 @@ module _ {P X R : Type 0} (w : Width) (kind : IsArchiveWord w) (e : Encoding P)
         at = λ j x there. subst (λ q. stands c q x) (at_told j) (rows.3 j x there).1;
       }
 
-      table_law : IsElement (table_shape w (scalar_shape e))
-      table_law = table_element w kind (scalar_shape e) (scalar_element e word)
+      table_law : IsElement (table_shape w ps)
+      table_law = table_element w kind ps pe
 
       holds : (l : ℕ) × IndexHolds w s c p p0 (p0 + length part) l
       holds =
@@ -326,7 +327,7 @@ module _ {P X R : Type 0} (w : Width) (kind : IsArchiveWord w) (e : Encoding P)
             begin + len_at w c p * s.size,
             record {
               middle = table.0;
-              table = words_hold w e place c p p0 (p0 + length part) table.0 up;
+              table = words_hold w ps e pk place c p p0 (p0 + length part) table.0 up;
               below = subst (λ n. PlacesBelow w c n (item_positions w (byte_len w) c p))
                   (sym len_told) (places_below c p stand);
               entries = record {
@@ -373,7 +374,7 @@ module _ {P X R : Type 0} (w : Width) (kind : IsArchiveWord w) (e : Encoding P)
   -- Written bytes of values and an aligned header behind them are a valid index map in any archive
   -- that has them. It represents the values.
   pub row_is_format : IsFormat (index_shape w s) (RowStands w s.size stands hash factor)
-      (row_format w e s f own factor)
+      (row_format w ps e s f own factor)
   row_is_format = record {
     whole = λ xs r p out i. header_whole r p out i;
     clear = λ xs r p out i far. header_clear r p out i far;
@@ -392,23 +393,24 @@ HashesAlike {A = A} k key hash own = (a : A) (b : List ℕ) (q : ℕ) → Standi
     → own a ≡ hash b q
 
 -- the same for the pairs of an index map
-pub index_is_format : {P A B R Q : Type 0} (w : Width) (kind : IsArchiveWord w) (e : Encoding P)
-    (place : IsPlace w e) (back : CodesReadBack e) (word : IsWord e.word) (k v : Shape)
+pub index_is_format : {P A B R Q : Type 0} (w : Width) (kind : IsArchiveWord w) (ps : Shape)
+    (e : Encoding P) (pe : IsElement ps) (pk : IsScalar ps e) (place : IsPlace w e)
+    (back : CodesReadBack e) (k v : Shape)
     (kl : IsElement k) (vl : IsElement v)
     (key : List ℕ → ℕ → A → Type 0) (value : List ℕ → ℕ → B → Type 0) (kf : Format A R)
     (vf : Format B Q) → IsFormat k key kf → IsFormat v value vf
     → (own : A → ℕ) (hash : List ℕ → ℕ → ℕ) → HashesAlike k key hash own → (factor : ℕ × ℕ)
     → IsFormat (index_shape w (entry_shape k v)) (IndexStands w k v key value hash factor)
-    (index_format w e k v kf vf own factor)
-index_is_format w kind e place back word k v kl vl key value kf vf kw vw own hash alike factor =
-    row_is_format w kind e place back word (entry_shape k v) (entry_element k v kl vl)
+    (index_format w ps e k v kf vf own factor)
+index_is_format w kind ps e pe pk place back k v kl vl key value kf vf kw vw own hash alike factor =
+    row_is_format w kind ps e pe pk place back (entry_shape k v) (entry_element k v kl vl)
     (PairStands k v key value) (pair_format k v kf vf) (pair_is_format k v kl vl key value kf vf
     kw vw)
     (λ pair. own pair.0) hash (λ pair b q h st. alike pair.0 b q (h.1.1, h.1.2) st.0) factor
 
 module _ {State : Type 0} (hasher : Hasher State)
-    (w : Width) (kind : IsArchiveWord w) {P : Type 0} (e : Encoding P) (place : IsPlace w e)
-    (back : CodesReadBack e) (word : IsWord e.word)
+    (w : Width) (kind : IsArchiveWord w) {P : Type 0} (ps : Shape) (e : Encoding P)
+    (pe : IsElement ps) (pk : IsScalar ps e) (place : IsPlace w e) (back : CodesReadBack e)
     {k v : Shape} (kl : IsElement k) (vl : IsElement v) {A B : Type 0} {key : List ℕ → ℕ → A
     → Type 0} {value : List ℕ → ℕ → B → Type 0} {same : Comparison} {key_calls : List ℕ → ℕ
     → List HasherCall} (factor : ℕ × ℕ) where
@@ -419,10 +421,10 @@ module _ {State : Type 0} (hasher : Hasher State)
       → ((a : A) → equal a a ≡ true) → ((a : A) → can_read a)
       → IsFormat k key kf → IsFormat v value vf
       → IsFormat (index_shape w (entry_shape k v)) (IndexStands w k v key value
-      (hash_at hasher key_calls) factor) (index_format w e k v kf vf
+      (hash_at hasher key_calls) factor) (index_format w ps e k v kf vf
       (hash_of hasher calls) factor)
   index_sound {can_read} {calls} {fits} {equal} {R} {Q} {kf} {vf} query native itself reads kw vw =
-      index_is_format w kind e place back word k v kl vl key value kf vf kw vw
+      index_is_format w kind ps e pe pk place back k v kl vl key value kf vf kw vw
       (hash_of hasher calls) (hash_at hasher key_calls)
       (λ a b q stands there. ap (hash_of_calls hasher) (hashes_as_written k same
       key_calls can_read calls fits key equal itself query native a b q (reads a) stands there))

@@ -4,7 +4,7 @@ use Rattle.std.specs.Int.{Width, byte_len}
 use Rattle.std.proofs.Common.{subst, sym, inl, inr}
 use Rattle.rkyv_base.specs.declared.errors.VerifyError.{VerifyError}
 use Rattle.rkyv_base.specs.Layout.{IsPlace}
-use Rattle.rkyv_base.specs.Scalar.{Encoding, ScalarFails, ScalarHolds, scalar_shape}
+use Rattle.rkyv_base.specs.Scalar.{Encoding, IsScalar}
 use Rattle.rkyv_base.specs.Shape.{Shape, Viewed}
 use Rattle.rkyv_table.specs.Table.Header.{begin_told, cap_at, len_at}
 use Rattle.rkyv_table.specs.Controls.Placing.{walk}
@@ -95,41 +95,58 @@ module _ (size align : ℕ) (holds holds' : List ℕ → ℕ → ℕ → ℕ →
         lo
         hi e f
 
-module _ {V : Type 0} (w : Width) (e : Encoding V) (is : IsPlace w e) where
-  abbrev S : Shape
-  S = scalar_shape e
-
+module _ {V : Type 0} (w : Width) (s : Shape) (e : Encoding V) (laws : IsScalar s e)
+    (is : IsPlace w e) where
   abbrev n : ℕ
   n = byte_len e.word
 
+  -- the shape of the numbers, with this size and alignment
+  abbrev sized : ℕ → ℕ → Shape
+  sized size align = record { size = size; align = align; holds = s.holds; fails = s.fails }
+
+  to_word : (b : List ℕ) (p lo hi l : ℕ) → s.holds b p lo hi l → l ≡ lo
+  to_word b p lo hi l h = ((laws.holds b p lo hi l).0 h).0
+
+  never : (b : List ℕ) (p lo hi : ℕ) (x : VerifyError) → s.fails b p lo hi x → ⊥
+  never b p lo hi x f = ((laws.fails b p lo hi x).0 f).1 (is.any _)
+
   -- a table of the width's numbers is valid if and only if it is as a table of words
-  pub words_hold : (b : List ℕ) (p lo hi l : ℕ) → TableHolds w S b p lo hi l → TableHolds w
+  pub words_hold : (b : List ℕ) (p lo hi l : ℕ) → TableHolds w s b p lo hi l → TableHolds w
       (place_shape w) b p lo hi l
   words_hold b p lo hi l h =
+      let there : TableHolds w (sized n n) b p lo hi l =
+      subst (λ a. TableHolds w (sized n a) b p lo hi l) laws.align
+      (subst (λ k. TableHolds w (sized k s.align) b p lo hi l) laws.size h) in
       subst (λ v. TableHolds w (place_shape v) b p lo hi l) is.word
-      (holds_as n n (ScalarHolds e) (λ b p lo hi l. l ≡ lo) (ScalarFails e) (λ b p lo hi e. ⊥)
-      (λ b p lo hi l h. h.0)
-      (λ b p lo hi x f. f.1 (is.any _)) w b p lo hi l h)
+      (holds_as n n s.holds (λ b p lo hi l. l
+      ≡ lo) s.fails (λ b p lo hi e. ⊥) to_word never w b p lo
+      hi l there)
 
-  pub words_fail : (b : List ℕ) (p lo hi : ℕ) (x : VerifyError) → TableFails w S b p lo hi x
+  pub words_fail : (b : List ℕ) (p lo hi : ℕ) (x : VerifyError) → TableFails w s b p lo hi x
       → TableFails w (place_shape w) b p lo hi x
   words_fail b p lo hi x f =
+      let there : TableFails w (sized n n) b p lo hi x =
+      subst (λ a. TableFails w (sized n a) b p lo hi x) laws.align
+      (subst (λ k. TableFails w (sized k s.align) b p lo hi x) laws.size f) in
       subst (λ v. TableFails w (place_shape v) b p lo hi x) is.word
-      (fails_as n n (ScalarHolds e) (λ b p lo hi l. l ≡ lo) (ScalarFails e) (λ b p lo hi e. ⊥)
-      (λ b p lo hi l h. h.0)
-      (λ b p lo hi x f. f.1 (is.any _)) w b p lo hi x f)
+      (fails_as n n s.holds (λ b p lo hi l. l
+      ≡ lo) s.fails (λ b p lo hi e. ⊥) to_word never w b p lo
+      hi x there)
 
   pub places_hold : (b : List ℕ) (p lo hi l : ℕ) → TableHolds w (place_shape w) b p lo hi l
-      → TableHolds w S b p lo hi l
+      → TableHolds w s b p lo hi l
   places_hold b p lo hi l h =
-      holds_as n n (λ b p lo hi l. l ≡ lo) (ScalarHolds e) (λ b p lo hi e. ⊥) (ScalarFails e)
-      (λ b p lo hi l h. (h, is.any _))
+      let there : TableHolds w (sized n n) b p lo hi l =
+      holds_as n n (λ b p lo hi l. l ≡ lo) s.holds (λ b p lo hi e. ⊥) s.fails
+      (λ b p lo hi l h. (laws.holds b p lo hi l).1 (h, is.any _))
       (λ b p lo hi x f. absurd f) w b p lo hi l
-      (subst (λ v. TableHolds w (place_shape v) b p lo hi l) (sym is.word) h)
+      (subst (λ v. TableHolds w (place_shape v) b p lo hi l) (sym is.word) h) in
+      subst (λ k. TableHolds w (sized k s.align) b p lo hi l) (sym laws.size)
+      (subst (λ a. TableHolds w (sized n a) b p lo hi l) (sym laws.align) there)
 
   -- a table of words at `p` is also a table of the width's numbers
   pub places_viewed : (b : List ℕ) (p : ℕ) → Viewed (table_shape w (place_shape w)) b p
-      → Viewed (table_shape w S) b p
+      → Viewed (table_shape w s) b p
   places_viewed b p v = record {
     inside = v.inside;
     aligned = v.aligned;

@@ -6,7 +6,7 @@ use Rattle.rkyv_base.specs.Empty.{unit_stands}
 use Rattle.rkyv_base.specs.Format.{Format, IsFormat, StandsNear}
 use Rattle.rkyv_base.specs.Layout.{IsPlace}
 use Rattle.rkyv_base.specs.Pairs.{written_as-format}
-use Rattle.rkyv_base.specs.Scalar.{Encoding, IsWord}
+use Rattle.rkyv_base.specs.Scalar.{Encoding, IsScalar}
 use Rattle.rkyv_base.specs.Shape.{IsElement, Shape}
 use Rattle.rkyv_base.specs.Text.{IsArchiveWord}
 use Rattle.rkyv_keys.specs.Equality.{Comparison}
@@ -33,17 +33,19 @@ module _ {State : Type 0} (hasher : Hasher State)
 
   -- written bytes of an index set and its header are a valid index set that represents the keys,
   -- in any archive that has them
-  pub index_set_sound : {P : Type 0} (e : Encoding P) → IsPlace w e → CodesReadBack e
-      → IsWord e.word → {can_read : A → Type 0} {calls : A → List HasherCall} {fits : A → List ℕ → ℕ
+  pub index_set_sound : {P : Type 0} (ps : Shape) (e : Encoding P) → IsElement ps → IsScalar ps e
+      → IsPlace w e → CodesReadBack e → {can_read : A → Type 0} {calls : A
+      → List HasherCall} {fits : A → List ℕ → ℕ
       → Bool} {equal : A → A → Bool} {R : Type 0} {kf : Format A R}
       → IsQuery k same key_calls can_read calls fits → FitsItsEqual k key equal fits
       → ((a : A) → equal a a ≡ true) → ((a : A) → can_read a) → IsFormat k key kf
       → IsFormat (index_set_shape w k) (IndexSetStands w k key (hash_at hasher
-      key_calls) factor) (index_set_format w e k kf (hash_of hasher calls) factor)
-  index_set_sound e place back word {can_read} {calls} {fits} {equal} {R} {kf} query native itself
+      key_calls) factor) (index_set_format w ps e k kf (hash_of hasher calls) factor)
+  index_set_sound ps e pe pk place back {can_read} {calls} {fits} {equal} {R} {kf} query native
+      itself
       reads kw =
       written_as-format with_units (index_set_shape w k) (IndexStands w k unit_shape key unit_stands
       (hash_at hasher key_calls) factor)
-      (index_format w e k unit_shape kf unit_format (hash_of hasher calls) factor)
-      (index_sound hasher w kind e place back word kl unit_element factor query native
+      (index_format w ps e k unit_shape kf unit_format (hash_of hasher calls) factor)
+      (index_sound hasher w kind ps e pe pk place back kl unit_element factor query native
       itself reads kw unit_is_format)

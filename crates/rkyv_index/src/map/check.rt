@@ -5,7 +5,7 @@ ghost use Rattle.std.specs.Int.{byte_len};
 ghost use Rattle.rkyv_base.specs.Shape.{Viewed};
 ghost use Rattle.rkyv_table.specs.Table.Header.{len_at};
 ghost use Rattle.rkyv_table.specs.Table.Places.{FirstFails, SomeHold};
-ghost use Rattle.rkyv_table.specs.Table.Reading.{item_positions};
+ghost use Rattle.rkyv_table.specs.Table.Positions.{item_positions};
 ghost use Rattle.rkyv_table.specs.Table.Layout.{table_shape};
 ghost use Rattle.rkyv_index.specs.IndexLayout.{
   EntriesFail,

@@ -1,7 +1,7 @@
 //! Deserializing an index map into a list of pairs.
 ghost use Rattle.std.specs.Prelude.{MatchResult, ◌<◌};
-ghost use Rattle.rkyv_index.specs.Index.{IsIndexMap, index_bytes, index_len, key_pos};
-ghost use Rattle.rkyv_index.specs.Reading.{ReadsPair, ReadsPairs, pairs_refuse};
+ghost use Rattle.rkyv_index.specs.Index.{index_len};
+ghost use Rattle.rkyv_index.specs.Reading.{IsPairRead, ReadsPairs, pair_refuses, pairs_refuse};
 
 use crate::map::ArchivedIndexMap;
 use rkyv_base::element::Element;
@@ -18,19 +18,15 @@ impl<'a, K: Element, V: Element, H, W: Width> ArchivedIndexMap<'a, K, V, H, W> {
     where
         K: Deserialize<A>,
         V: Deserialize<B>,
-        requires map { IsIndexMap W.word K.shape V.shape self }
-        requires below { place < index_len W.word self }
-        ensures { ReadsPair K.shape V.shape K.stands V.stands K.refuses V.refuses
-            (index_bytes self.entry) (key_pos W.word K.shape V.shape self.entry place) result }
+        requires below { place < index_len self }
+        ensures { MatchResult result
+            (IsPairRead K.stands V.stands self.entry place)
+            (pair_refuses K.refuses V.refuses self.entry place) }
     {
         Entry::<K, V>::deserialize(alloc, self.entries().entry(place))
     }
 
     /// Deserializes the pairs into a list, in order.
-    ///
-    /// # Requires
-    ///
-    /// - The map is valid.
     ///
     /// # Errors
     ///
@@ -43,10 +39,9 @@ impl<'a, K: Element, V: Element, H, W: Width> ArchivedIndexMap<'a, K, V, H, W> {
     where
         K: Deserialize<A>,
         V: Deserialize<B>,
-        requires { IsIndexMap W.word K.shape V.shape self }
         ensures { MatchResult result
-            (λ list. ReadsPairs W.word K.shape V.shape K.stands V.stands self.entry list.items)
-            (pairs_refuse W.word K.shape V.shape K.refuses V.refuses self.entry) }
+            (λ list. ReadsPairs K.stands V.stands self.entry list.items)
+            (pairs_refuse K.refuses V.refuses self.entry) }
     {
         let mut list = Vec::new(alloc);
         for place in 0..self.len() {

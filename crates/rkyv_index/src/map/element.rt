@@ -5,15 +5,20 @@ ghost use Rattle.rkyv_index.specs.Lemmas.IndexLaws.{index_element};
 
 use crate::map::IndexMapOf;
 use crate::map::check::{check_part, check_places};
-use rkyv_base::element::{Element, PartRange};
+use rkyv_base::element::{Element, PartRange, Shaped};
 use rkyv_base::entry::Entry;
 use rkyv_base::errors::VerifyError;
-use rkyv_base::width::Width;
+use rkyv_base::width::{Width, Word};
 use rkyv_table::table::ArchivedHashTable;
 
-impl<K: Element, V: Element, H, W: Width> Element for IndexMapOf<K, V, H, W> {
+impl<K: Shaped, V: Shaped, H, W: Word> Shaped for IndexMapOf<K, V, H, W> {
     ghost shape = { index_shape W.word (entry_shape K.shape V.shape) };
 
+    ghost laws = { index_element W.word W.kind (entry_shape K.shape V.shape)
+        (entry_element K.shape V.shape K.laws V.laws) };
+}
+
+impl<K: Element, V: Element, H, W: Width> Element for IndexMapOf<K, V, H, W> {
     #[inline]
     fn size() -> usize {
         W::INDEX_SIZE
@@ -41,7 +46,4 @@ impl<K: Element, V: Element, H, W: Width> Element for IndexMapOf<K, V, H, W> {
             Err(e) => Err(e),
         }
     }
-
-    ghost laws = { index_element W.word W.layout.kind (entry_shape K.shape V.shape)
-        (entry_element K.shape V.shape K.laws V.laws) };
 }

@@ -1,18 +1,17 @@
 //! The entries of an index map, and the indices in its table.
 ghost use Rattle.std.specs.Prelude.{length, ◌*◌, ◌+◌, ◌<◌, ◌^◌, ◌≡◌, ◌≤◌};
 ghost use Rattle.std.specs.Int.{byte_len};
-ghost use Rattle.rkyv_base.specs.Scalar.{scalar_shape};
 ghost use Rattle.rkyv_base.specs.Entry.{entry_shape};
 ghost use Rattle.rkyv_base.specs.View.{IsAt, IsView, bytes_of, pos_of};
 ghost use Rattle.rkyv_table.specs.Table.Header.{len_at};
-ghost use Rattle.rkyv_table.specs.Table.Reading.{CountsWithin, IsTable};
+ghost use Rattle.rkyv_table.specs.Table.Reading.{CountsWithin};
 ghost use Rattle.rkyv_index.specs.Index.{AnswersPlace, AreEntries, FindsHeld, IsEntryOf};
-ghost use Rattle.rkyv_index.specs.Index.{IsIndexMap, IsKeyIn, IsPairOf, MayAskPlace, MayAskPlaces};
+ghost use Rattle.rkyv_index.specs.Index.{IsKeyIn, IsPairOf, MayAskPlace, MayAskPlaces};
 ghost use Rattle.rkyv_index.specs.Index.{index_archive, index_len, index_pos, place_at};
 ghost use Rattle.rkyv_index.specs.IndexLayout.{entries_pos, entry_at, index_shape};
 
 use crate::map::{ArchivedIndexMap, IndexMapOf};
-use rkyv_base::element::Element;
+use rkyv_base::element::{Element, Shaped};
 use rkyv_base::entry::Entry;
 use rkyv_base::view::{PairView, View};
 use rkyv_base::width::{Width, Word};
@@ -21,19 +20,19 @@ use rkyv_table::table::{ArchivedHashTable, TableOf};
 use std::alloc::AllocError;
 
 /// An index map and the position of its first entry.
-pub(crate) struct Entries<'a, K, V, H, W: Word> {
+pub(crate) struct Entries<'a, K: Shaped, V: Shaped, H, W: Word> {
     pub(crate) map: ArchivedIndexMap<'a, K, V, H, W>,
     pub(crate) begin: u64,
 }
 
-impl<'a, K, V, H, W: Word> Clone for Entries<'a, K, V, H, W> {
+impl<'a, K: Shaped, V: Shaped, H, W: Word> Clone for Entries<'a, K, V, H, W> {
     #[inline]
     fn clone(&self) -> Result<Entries<'a, K, V, H, W>, AllocError> {
         Ok(*self)
     }
 }
 
-impl<'a, K, V, H, W: Word> Copy for Entries<'a, K, V, H, W> {}
+impl<'a, K: Shaped, V: Shaped, H, W: Word> Copy for Entries<'a, K, V, H, W> {}
 
 /// Returns the position of entry `i` of a row of entries from `begin` on.
 #[inline]
@@ -48,9 +47,7 @@ impl<'a, K: Element, V: Element, H, W: Width> ArchivedIndexMap<'a, K, V, H, W> {
     /// Returns the table of the indices.
     #[inline]
     pub(crate) fn table(self) -> ArchivedHashTable<'a, W::Place, W>
-        requires { IsIndexMap W.word K.shape V.shape self }
         ensures at { IsAt result.view (index_archive self.entry) (index_pos self.entry) }
-        ensures table { IsTable W.word (scalar_shape W.Place.encoding) result }
     {
         let view = self.view.at::<TableOf<W::Place, W>>(self.view.pos());
         ArchivedHashTable::with_header(view, self.header)
@@ -59,8 +56,7 @@ impl<'a, K: Element, V: Element, H, W: Width> ArchivedIndexMap<'a, K, V, H, W> {
     /// Returns the map and the position of its first entry.
     #[inline]
     pub(crate) fn entries(self) -> Entries<'a, K, V, H, W>
-        requires { IsIndexMap W.word K.shape V.shape self }
-        ensures entries { AreEntries W.word K.shape V.shape result }
+        ensures entries { AreEntries result }
         ensures map { result.map ≡ self.entry }
     {
         Entries {
@@ -74,9 +70,9 @@ impl<'a, K: Element, V: Element, H, W: Width> Entries<'a, K, V, H, W> {
     /// Returns a view of the entry at the index `place`.
     #[inline]
     pub(crate) fn entry(self, place: usize) -> View<'a, Entry<K, V>>
-        requires entries { AreEntries W.word K.shape V.shape self }
-        requires below { place < index_len W.word self.map }
-        ensures { IsEntryOf W.word K.shape V.shape self.entry.map place result }
+        requires entries { AreEntries self }
+        requires below { place < index_len self.map }
+        ensures { IsEntryOf self.entry.map place result }
     {
         let at = entry_pos(self.begin, place, Entry::<K, V>::size());
         self.map.view.at::<Entry<K, V>>(at)
@@ -85,9 +81,9 @@ impl<'a, K: Element, V: Element, H, W: Width> Entries<'a, K, V, H, W> {
     /// Returns views of the key and the value at the index `place`.
     #[inline]
     pub(crate) fn pair(self, place: usize) -> PairView<'a, K, V>
-        requires entries { AreEntries W.word K.shape V.shape self }
-        requires below { place < index_len W.word self.map }
-        ensures { IsPairOf W.word K.shape V.shape self.entry.map place result }
+        requires entries { AreEntries self }
+        requires below { place < index_len self.map }
+        ensures { IsPairOf self.entry.map place result }
     {
         let entry = self.entry(place);
         (entry.key(), entry.value())
@@ -129,12 +125,10 @@ pub(crate) fn find_place<W: Width, F: Fn(usize) -> bool>(
     accepts: F,
     strides: &mut Strides,
 ) -> Option<usize>
-    requires table { IsTable W.word (scalar_shape W.Place.encoding) table }
     requires room { strides.old ≤ 2 ^ 63 }
-    requires callable { MayAskPlaces W.word (F.pre accepts) (scalar_shape W.Place.encoding) table }
-    ensures found { FindsHeld (F.post accepts) W.word (scalar_shape W.Place.encoding) table.entry
-        hash result }
-    ensures bounded { CountsWithin W.word table.entry strides.old strides.new }
+    requires callable { MayAskPlaces (F.pre accepts) table }
+    ensures found { FindsHeld (F.post accepts) table.entry hash result }
+    ensures bounded { CountsWithin table.entry strides.old strides.new }
 {
     let held = table.get_counted(
         hash,

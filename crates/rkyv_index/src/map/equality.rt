@@ -1,12 +1,13 @@
 //! Equality of index maps.
+ghost use Rattle.std.specs.Cmp.{partial_equiv_from_equiv};
 ghost use Rattle.std.specs.Prelude.{◌<◌, ◌≡◌};
 ghost use Rattle.rkyv_base.specs.Entry.{entry_element, entry_shape};
 ghost use Rattle.rkyv_base.specs.View.{IsView};
 ghost use Rattle.rkyv_keys.specs.OfEntries.{entry_equivalence};
 ghost use Rattle.rkyv_keys.specs.Places.{at_views};
 ghost use Rattle.rkyv_index.specs.Lemmas.EqualLaws.{index_equivalence};
-ghost use Rattle.rkyv_index.specs.Equality.{index_map_equal};
-ghost use Rattle.rkyv_index.specs.Index.{IsIndexMap, index_bytes, index_pos};
+ghost use Rattle.rkyv_index.specs.Lemmas.ViewedEqual.{maps_equality};
+ghost use Rattle.rkyv_index.specs.Equality.{index_map_equal, index_maps_equal};
 ghost use Rattle.rkyv_index.specs.IndexLayout.{index_shape};
 
 use crate::map::{ArchivedIndexMap, IndexMapOf};
@@ -17,16 +18,8 @@ use rkyv_keys::equality::{ElementEq, ElementEquiv};
 
 impl<'a, K: ElementEq, V: ElementEq, H, W: Width> ArchivedIndexMap<'a, K, V, H, W> {
     /// Returns `true` if and only if both maps have the same length and the same pairs in order.
-    ///
-    /// # Requires
-    ///
-    /// - Both maps are valid.
     pub fn eq_index(self, other: ArchivedIndexMap<'_, K, V, H, W>) -> bool
-        requires own { IsIndexMap W.word K.shape V.shape self }
-        requires other { IsIndexMap W.word K.shape V.shape other }
-        ensures { result ≡ index_map_equal W.word K.shape V.shape K.same V.same
-            (index_bytes self.entry) (index_pos self.entry)
-            (index_bytes other.entry) (index_pos other.entry) }
+        ensures { result ≡ index_maps_equal K.same V.same self.entry other.entry }
     {
         let len = self.len();
         if len != other.len() {
@@ -41,6 +34,22 @@ impl<'a, K: ElementEq, V: ElementEq, H, W: Width> ArchivedIndexMap<'a, K, V, H, 
         }
         true
     }
+}
+
+/// Returns `true` if and only if both maps have the same length and the same pairs in order.
+impl<'a, K: ElementEquiv, V: ElementEquiv, H, W: Width> PartialEq
+    for ArchivedIndexMap<'a, K, V, H, W> {
+    ghost eq = { index_maps_equal K.same V.same };
+
+    ghost laws = { partial_equiv_from_equiv (maps_equality K.equivalence V.equivalence) };
+
+    fn eq(&self, other: &ArchivedIndexMap<'a, K, V, H, W>) -> bool {
+        self.eq_index(*other)
+    }
+}
+
+impl<'a, K: ElementEquiv, V: ElementEquiv, H, W: Width> Eq for ArchivedIndexMap<'a, K, V, H, W> {
+    ghost laws = { maps_equality K.equivalence V.equivalence };
 }
 
 impl<K: ElementEq, V: ElementEq, H, W: Width> ElementEq for IndexMapOf<K, V, H, W> {

@@ -13,13 +13,14 @@
 //! a comparison. `map::laws` has the laws of the map afterwards.
 ghost use Rattle.std.specs.Prelude.{length, ◌+◌, ◌<◌, ◌≡◌, ◌≤◌};
 ghost use Rattle.rkyv_base.specs.Entry.{entry_shape};
-ghost use Rattle.rkyv_base.specs.Scalar.{scalar_shape};
+ghost use Rattle.rkyv_base.specs.Scalar.{ScalarStands};
 ghost use Rattle.rkyv_base.specs.Sealing.{value_pos, with_value};
 ghost use Rattle.rkyv_base.specs.Shape.{Viewed};
 ghost use Rattle.rkyv_table.specs.Table.Header.{len_at};
 ghost use Rattle.rkyv_index.specs.Index.{hash_at};
+ghost use Rattle.rkyv_index.specs.IndexFormat.{IndexStands};
 ghost use Rattle.rkyv_index.specs.IndexLayout.{index_shape};
-ghost use Rattle.rkyv_index.specs.ValueWrites.{KeepsIndexMap, SetsPlace, pair_at};
+ghost use Rattle.rkyv_index.specs.ValueWrites.{KeepsIndexMap, SetsPlace, index_kind, pair_at};
 
 use crate::map::ArchivedIndexMap;
 use rkyv_base::element::{Element, StandsFor};
@@ -60,16 +61,18 @@ pub fn set_value_at<A, K: KeyElement + StandsFor<A>, N: Scalar, H: KeyHasher, W:
     place: usize,
     value: N,
 )
-    requires map { Viewed (index_shape W.word (entry_shape K.shape (scalar_shape N.encoding)))
+    requires map { Viewed (index_shape W.word (entry_shape K.shape N.shape))
         archive.old root }
     requires below { place < len_at W.word archive.old root }
     ensures written { archive.new ≡ with_value N.encoding archive.old
-        (value_pos K.shape (scalar_shape N.encoding)
-        (pair_at W.word K.shape (scalar_shape N.encoding) archive.old root place)) value }
-    ensures kept { KeepsIndexMap W.word K.shape (scalar_shape N.encoding)
-        (hash_at H.hasher K.key_calls) archive.old archive.new root place }
-    ensures listed { SetsPlace W.word K.shape N.encoding K.stands
-        (hash_at H.hasher K.key_calls) archive.old root place value archive.new }
+        (value_pos K.shape N.shape
+        (pair_at W.word K.shape N.shape archive.old root place)) value }
+    ensures kept { KeepsIndexMap
+        (index_kind W.word K.shape N.shape (hash_at H.hasher K.key_calls))
+        archive.old archive.new root place }
+    ensures listed { SetsPlace
+        (IndexStands W.word K.shape N.shape K.stands (ScalarStands N.encoding)
+        (hash_at H.hasher K.key_calls)) archive.old archive.new root place value }
 {
     let pos = value_pos_at::<K, N, H, W>(&*archive, root, place);
     set_at(archive, pos as usize, value);

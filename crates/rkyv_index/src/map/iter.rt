@@ -6,11 +6,11 @@ ghost use Rattle.std.specs.Iterator.{at_most};
 ghost use Rattle.rkyv_base.specs.Entry.{entry_shape};
 ghost use Rattle.rkyv_table.specs.Table.Hints.{HintsExactly};
 ghost use Rattle.rkyv_table.specs.Table.RawItems.{AllStand};
-ghost use Rattle.rkyv_index.specs.Index.{IsIndexMap, index_archive, index_len, key_positions};
+ghost use Rattle.rkyv_index.specs.Index.{index_archive, index_len, key_positions};
 ghost use Rattle.rkyv_table.specs.Table.PairWalks.{TakesKey, TakesPair, TakesValue};
 
 use crate::map::ArchivedIndexMap;
-use rkyv_base::element::Element;
+use rkyv_base::element::{Element, Shaped};
 use rkyv_base::entry::Entry;
 use rkyv_base::view::{PairView, View};
 use rkyv_base::width::Width;
@@ -18,7 +18,7 @@ use std::marker::{Model, PhantomData};
 
 /// The pairs of an index map that remain, in order.
 #[derive(Drop)]
-pub struct Iter<'a, K, V> {
+pub struct Iter<'a, K: Shaped, V: Shaped> {
     archive: &'a [u8],
     // The position of the next entry, if one remains.
     at: usize,
@@ -29,22 +29,22 @@ pub struct Iter<'a, K, V> {
     value: PhantomData<V>,
 }
 
-impl<'a, K, V> Model for Iter<'a, K, V> {
+impl<'a, K: Shaped, V: Shaped> Model for Iter<'a, K, V> {
+    ghost use Rattle.rkyv_base.specs.Entry.{entry_shape};
     ghost use Rattle.rkyv_index.specs.Index.{row};
-    ghost use Rattle.rkyv_index.specs.Walking.{IsRow};
+    ghost use Rattle.rkyv_index.specs.Walking.{IsWalk};
     ghost use Rattle.rkyv_table.specs.Table.RawItems.{ItemsLeft};
 
     ghost Value = { ItemsLeft };
 
     ghost view = { λ i. record { archive = i.archive; places = row i.size i.at i.left } };
 
-    ghost invariant = { λ i. IsRow i.at i.size i.left };
+    ghost invariant = { λ i. IsWalk (entry_shape K.shape V.shape) i.archive.now i.at i.size
+        i.left };
 }
 
 impl<'a, K: Element, V: Element> Iterator for Iter<'a, K, V> {
     type Item = PairView<'a, K, V>;
-
-    ghost can_next = { AllStand (entry_shape K.shape V.shape) };
 
     ghost next_gives = { TakesPair K.shape V.shape };
 
@@ -78,11 +78,11 @@ impl<'a, K: Element, V: Element> ExactSizeIterator for Iter<'a, K, V> {
 
 /// The keys of an index map that remain, in order.
 #[derive(Drop)]
-pub struct Keys<'a, K, V> {
+pub struct Keys<'a, K: Shaped, V: Shaped> {
     pairs: Iter<'a, K, V>,
 }
 
-impl<'a, K, V> Model for Keys<'a, K, V> {
+impl<'a, K: Shaped, V: Shaped> Model for Keys<'a, K, V> {
     ghost use Rattle.rkyv_table.specs.Table.RawItems.{ItemsLeft};
 
     ghost Value = { ItemsLeft };
@@ -92,8 +92,6 @@ impl<'a, K, V> Model for Keys<'a, K, V> {
 
 impl<'a, K: Element, V: Element> Iterator for Keys<'a, K, V> {
     type Item = View<'a, K>;
-
-    ghost can_next = { AllStand (entry_shape K.shape V.shape) };
 
     ghost next_gives = { TakesKey K.shape };
 
@@ -124,11 +122,11 @@ impl<'a, K: Element, V: Element> ExactSizeIterator for Keys<'a, K, V> {
 
 /// The values of an index map that remain, in order.
 #[derive(Drop)]
-pub struct Values<'a, K, V> {
+pub struct Values<'a, K: Shaped, V: Shaped> {
     rest: Iter<'a, K, V>,
 }
 
-impl<'a, K, V> Model for Values<'a, K, V> {
+impl<'a, K: Shaped, V: Shaped> Model for Values<'a, K, V> {
     ghost use Rattle.rkyv_table.specs.Table.RawItems.{ItemsLeft};
 
     ghost Value = { ItemsLeft };
@@ -138,8 +136,6 @@ impl<'a, K, V> Model for Values<'a, K, V> {
 
 impl<'a, K: Element, V: Element> Iterator for Values<'a, K, V> {
     type Item = View<'a, V>;
-
-    ghost can_next = { AllStand (entry_shape K.shape V.shape) };
 
     ghost next_gives = { TakesValue K.shape V.shape };
 
@@ -170,16 +166,11 @@ impl<'a, K: Element, V: Element> ExactSizeIterator for Values<'a, K, V> {
 
 impl<'a, K: Element, V: Element, H, W: Width> ArchivedIndexMap<'a, K, V, H, W> {
     /// Returns an iterator over the pairs, in order.
-    ///
-    /// # Requires
-    ///
-    /// - The map is valid.
     #[inline]
     pub fn iter(self) -> Iter<'a, K, V>
-        requires { IsIndexMap W.word K.shape V.shape self }
         ensures archive { result.archive ≡ index_archive self.entry }
-        ensures places { result.places ≡ key_positions W.word K.shape V.shape self.entry }
-        ensures count { length result.places ≡ index_len W.word self.entry }
+        ensures places { result.places ≡ key_positions self.entry }
+        ensures count { length result.places ≡ index_len self.entry }
         ensures stand { AllStand (entry_shape K.shape V.shape) result }
     {
         Iter {
@@ -193,32 +184,22 @@ impl<'a, K: Element, V: Element, H, W: Width> ArchivedIndexMap<'a, K, V, H, W> {
     }
 
     /// Returns an iterator over the keys, in order.
-    ///
-    /// # Requires
-    ///
-    /// - The map is valid.
     #[inline]
     pub fn keys(self) -> Keys<'a, K, V>
-        requires { IsIndexMap W.word K.shape V.shape self }
         ensures archive { result.archive ≡ index_archive self.entry }
-        ensures places { result.places ≡ key_positions W.word K.shape V.shape self.entry }
-        ensures count { length result.places ≡ index_len W.word self.entry }
+        ensures places { result.places ≡ key_positions self.entry }
+        ensures count { length result.places ≡ index_len self.entry }
         ensures stand { AllStand (entry_shape K.shape V.shape) result }
     {
         Keys { pairs: self.iter() }
     }
 
     /// Returns an iterator over the values, in order.
-    ///
-    /// # Requires
-    ///
-    /// - The map is valid.
     #[inline]
     pub fn values(self) -> Values<'a, K, V>
-        requires { IsIndexMap W.word K.shape V.shape self }
         ensures archive { result.archive ≡ index_archive self.entry }
-        ensures places { result.places ≡ key_positions W.word K.shape V.shape self.entry }
-        ensures count { length result.places ≡ index_len W.word self.entry }
+        ensures places { result.places ≡ key_positions self.entry }
+        ensures count { length result.places ≡ index_len self.entry }
         ensures stand { AllStand (entry_shape K.shape V.shape) result }
     {
         Values { rest: self.iter() }

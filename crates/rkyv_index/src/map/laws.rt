@@ -3,7 +3,7 @@
 //! They are about writes of one value in place, and about lists that are deserialized.
 ghost use Rattle.rkyv_index.specs.Index.{hash_at};
 ghost use Rattle.rkyv_index.specs.IndexFormat.{hash_of};
-ghost use Rattle.rkyv_index.specs.Reading.{PairsReadBackAreListed};
+ghost use Rattle.rkyv_index.specs.Reading.{PairsReadBackAreListed, reads_as};
 ghost use Rattle.rkyv_index.specs.ValueWrites.{ValueWritesKeepAnswers, ValuesWrittenStand};
 ghost use Rattle.rkyv_index.specs.ValueWrites.{ValueWritesKeepIndexMaps};
 
@@ -48,6 +48,6 @@ pub fn pairs_read_back_are_listed<
     H: KeyHasher,
     W: Width,
 >()
-    ensures { PairsReadBackAreListed W.word K.shape V.shape K.stands V.stands
-        (hash_at H.hasher K.key_calls) A.eq B.eq }
+    ensures { PairsReadBackAreListed W.word (reads_as K.shape K.stands A.eq)
+        (reads_as V.shape V.stands B.eq) (hash_at H.hasher K.key_calls) }
 {}

@@ -15,12 +15,13 @@ ghost use Rattle.rkyv_scan.specs.Hash.{hash_of_calls};
 ghost use Rattle.rkyv_base.specs.View.{IsView, bytes_of, pos_of};
 ghost use Rattle.rkyv_base.specs.declared.view.View.{View};
 ghost use Rattle.rkyv_table.specs.Table.Header.{len_at};
-ghost use Rattle.rkyv_index.specs.Index.{IsFoundAt, IsFullIn, IsHeldPlace, IsIndexMap};
-ghost use Rattle.rkyv_index.specs.Index.{IsKeyIn, IsPairAt, IsPairOf, IsValueAt};
-ghost use Rattle.rkyv_index.specs.Index.{IsValueOf, MayAskKeys, MayAskKeysIn, ReadsFew};
-ghost use Rattle.rkyv_index.specs.Index.{full_place, index_of};
+ghost use Rattle.rkyv_keys.specs.Asked.{asked};
+ghost use Rattle.rkyv_index.specs.Index.{IsFoundAt, IsHeldPlace, IsKeyIn, IsPairAt, IsValueAt};
+ghost use Rattle.rkyv_index.specs.Index.{MayAskKeys, MayAskKeysIn, ReadsFew, hash_at};
+ghost use Rattle.rkyv_index.specs.IndexFormat.{hash_of};
 ghost use Rattle.rkyv_index.specs.IndexLayout.{entries_pos, index_shape};
-ghost use Rattle.rkyv_index.specs.Lookups.{GetsBy, GetsKey, GetsPlace, GetsPlaceBy, TellsKey};
+ghost use Rattle.rkyv_index.specs.Lookups.{GetsBy, GetsKey, TellsKey, full_part, pair_part};
+ghost use Rattle.rkyv_index.specs.Lookups.{place_part, value_part};
 
 use crate::map::ArchivedIndexMap;
 use crate::map::entries::{find_place, key_in};
@@ -41,15 +42,13 @@ impl<'a, K: KeyElement, V: Element, H: KeyHasher, W: Width> ArchivedIndexMap<'a,
     pub(crate) fn find<Q: KeyHash, F>(self, key: &Q, cmp: F, strides: &mut Strides) -> Option<usize>
     where
         F: Fn(&Q, View<'a, K>) -> bool,
-        requires map { IsIndexMap W.word K.shape V.shape self }
         requires query { Q.can_read key.now }
         requires room { strides.old ≤ 2 ^ 63 }
-        requires callable { MayAskKeys (index_of W.word K.shape V.shape self) (F.pre cmp key) }
-        ensures found { GetsPlaceBy (index_of W.word K.shape V.shape self.entry) H.hasher
-            (Q.calls key.now) K.key_calls (F.post cmp key.entry) (IsHeldPlace W.word self.entry)
-            result result }
+        requires callable { MayAskKeys self (F.pre cmp key) }
+        ensures found { GetsBy place_part self.entry (hash_of H.hasher Q.calls key.now)
+            (hash_at H.hasher K.key_calls) (F.post cmp key.entry) result }
         ensures hash { hash_of_calls H.hasher (Q.calls key.now) < 2 ^ 64 }
-        ensures bounded { ReadsFew W.word self.entry strides.old strides.new }
+        ensures bounded { ReadsFew self.entry strides.old strides.new }
     {
         let hash = hash_value::<Q, H>(key);
         let table = self.table();
@@ -82,7 +81,6 @@ impl<'a, K: KeyElement, V: Element, H: KeyHasher, W: Width> ArchivedIndexMap<'a,
     ///
     /// # Requires
     ///
-    /// - The map is valid.
     /// - `key` can be read.
     /// - The comparison can be called with `key` and each key of the map.
     #[inline]
@@ -93,12 +91,10 @@ impl<'a, K: KeyElement, V: Element, H: KeyHasher, W: Width> ArchivedIndexMap<'a,
     ) -> Option<(usize, View<'a, K>, View<'a, V>)>
     where
         F: Fn(&Q, View<'a, K>) -> bool,
-        requires map { IsIndexMap W.word K.shape V.shape self }
         requires query { Q.can_read key.now }
-        requires callable { MayAskKeys (index_of W.word K.shape V.shape self) (F.pre cmp key) }
-        ensures { GetsPlaceBy (index_of W.word K.shape V.shape self.entry) H.hasher
-            (Q.calls key.now) K.key_calls (F.post cmp key.entry)
-            (IsFullIn W.word K.shape V.shape self.entry) result (full_place result) }
+        requires callable { MayAskKeys self (F.pre cmp key) }
+        ensures { GetsBy full_part self.entry (hash_of H.hasher Q.calls key.now)
+            (hash_at H.hasher K.key_calls) (F.post cmp key.entry) result }
     {
         match self.find(key, cmp, &mut Strides::new()) {
             Some(place) => {
@@ -112,11 +108,9 @@ impl<'a, K: KeyElement, V: Element, H: KeyHasher, W: Width> ArchivedIndexMap<'a,
     /// Returns the index of the key that the query finds, or `None`.
     #[inline]
     pub(crate) fn find_key<Q: Query<K>>(self, key: &Q) -> Option<usize>
-        requires map { IsIndexMap W.word K.shape V.shape self }
         requires query { Q.can_read key.now }
-        ensures { GetsPlace (index_of W.word K.shape V.shape self.entry) H.hasher
-            (Q.calls key.now) K.key_calls K.same (Q.fits key.now) (IsHeldPlace W.word self.entry)
-            result result }
+        ensures { GetsKey place_part self.entry
+            (asked H.hasher K.key_calls K.same (Q.calls key.now) (Q.fits key.now)) result }
     {
         self.find(
             key,
@@ -142,15 +136,12 @@ impl<'a, K: KeyElement, V: Element, H: KeyHasher, W: Width> ArchivedIndexMap<'a,
     ///
     /// # Requires
     ///
-    /// - The map is valid.
     /// - The query can be read.
     #[inline]
     pub fn get_full<Q: Query<K>>(self, key: &Q) -> Option<(usize, View<'a, K>, View<'a, V>)>
-        requires map { IsIndexMap W.word K.shape V.shape self }
         requires query { Q.can_read key.now }
-        ensures { GetsPlace (index_of W.word K.shape V.shape self.entry) H.hasher
-            (Q.calls key.now) K.key_calls K.same (Q.fits key.now)
-            (IsFullIn W.word K.shape V.shape self.entry) result (full_place result) }
+        ensures { GetsKey full_part self.entry
+            (asked H.hasher K.key_calls K.same (Q.calls key.now) (Q.fits key.now)) result }
     {
         match self.find_key(key) {
             Some(place) => {
@@ -164,9 +155,8 @@ impl<'a, K: KeyElement, V: Element, H: KeyHasher, W: Width> ArchivedIndexMap<'a,
     /// Returns the pair at a found index.
     #[inline]
     fn pair_of(self, place: Option<usize>) -> Option<PairView<'a, K, V>>
-        requires map { IsIndexMap W.word K.shape V.shape self }
-        requires held { IfSome place (IsHeldPlace W.word self) }
-        ensures { IsPairAt W.word K.shape V.shape self.entry result place }
+        requires held { IfSome place (IsHeldPlace self) }
+        ensures { IsPairAt self.entry result place }
     {
         match place {
             Some(place) => Some(self.entries().pair(place)),
@@ -177,9 +167,8 @@ impl<'a, K: KeyElement, V: Element, H: KeyHasher, W: Width> ArchivedIndexMap<'a,
     /// Returns the value at a found index.
     #[inline]
     fn value_of(self, place: Option<usize>) -> Option<View<'a, V>>
-        requires map { IsIndexMap W.word K.shape V.shape self }
-        requires held { IfSome place (IsHeldPlace W.word self) }
-        ensures { IsValueAt W.word K.shape V.shape self.entry result place }
+        requires held { IfSome place (IsHeldPlace self) }
+        ensures { IsValueAt self.entry result place }
     {
         match place {
             Some(place) => Some(self.entries().entry(place).value()),
@@ -193,18 +182,16 @@ impl<'a, K: KeyElement, V: Element, H: KeyHasher, W: Width> ArchivedIndexMap<'a,
     ///
     /// # Requires
     ///
-    /// - The map is valid.
     /// - `key` can be read.
     /// - The comparison can be called with `key` and each key of the map.
     #[inline]
     pub fn get_key_value_with<Q: KeyHash, F>(self, key: &Q, cmp: F) -> Option<PairView<'a, K, V>>
     where
         F: Fn(&Q, View<'a, K>) -> bool,
-        requires map { IsIndexMap W.word K.shape V.shape self }
         requires query { Q.can_read key.now }
-        requires callable { MayAskKeys (index_of W.word K.shape V.shape self) (F.pre cmp key) }
-        ensures { GetsBy (index_of W.word K.shape V.shape self.entry) H.hasher (Q.calls key.now)
-            K.key_calls (F.post cmp key.entry) (IsPairOf W.word K.shape V.shape self.entry) result }
+        requires callable { MayAskKeys self (F.pre cmp key) }
+        ensures { GetsBy pair_part self.entry (hash_of H.hasher Q.calls key.now)
+            (hash_at H.hasher K.key_calls) (F.post cmp key.entry) result }
     {
         self.pair_of(self.find(key, cmp, &mut Strides::new()))
     }
@@ -215,14 +202,12 @@ impl<'a, K: KeyElement, V: Element, H: KeyHasher, W: Width> ArchivedIndexMap<'a,
     ///
     /// # Requires
     ///
-    /// - The map is valid.
     /// - The query can be read.
     #[inline]
     pub fn get_key_value<Q: Query<K>>(self, key: &Q) -> Option<PairView<'a, K, V>>
-        requires map { IsIndexMap W.word K.shape V.shape self }
         requires query { Q.can_read key.now }
-        ensures { GetsKey (index_of W.word K.shape V.shape self.entry) H.hasher (Q.calls key.now)
-            K.key_calls (Q.fits key.now) (IsPairOf W.word K.shape V.shape self.entry) result }
+        ensures { GetsKey pair_part self.entry
+            (asked H.hasher K.key_calls K.same (Q.calls key.now) (Q.fits key.now)) result }
     {
         self.pair_of(self.find_key(key))
     }
@@ -233,19 +218,16 @@ impl<'a, K: KeyElement, V: Element, H: KeyHasher, W: Width> ArchivedIndexMap<'a,
     ///
     /// # Requires
     ///
-    /// - The map is valid.
     /// - `key` can be read.
     /// - The comparison can be called with `key` and each key of the map.
     #[inline]
     pub fn get_with<Q: KeyHash, F>(self, key: &Q, cmp: F) -> Option<View<'a, V>>
     where
         F: Fn(&Q, View<'a, K>) -> bool,
-        requires map { IsIndexMap W.word K.shape V.shape self }
         requires query { Q.can_read key.now }
-        requires callable { MayAskKeys (index_of W.word K.shape V.shape self) (F.pre cmp key) }
-        ensures { GetsBy (index_of W.word K.shape V.shape self.entry) H.hasher (Q.calls key.now)
-            K.key_calls (F.post cmp key.entry) (IsValueOf W.word K.shape V.shape self.entry)
-            result }
+        requires callable { MayAskKeys self (F.pre cmp key) }
+        ensures { GetsBy value_part self.entry (hash_of H.hasher Q.calls key.now)
+            (hash_at H.hasher K.key_calls) (F.post cmp key.entry) result }
     {
         self.value_of(self.find(key, cmp, &mut Strides::new()))
     }
@@ -256,14 +238,12 @@ impl<'a, K: KeyElement, V: Element, H: KeyHasher, W: Width> ArchivedIndexMap<'a,
     ///
     /// # Requires
     ///
-    /// - The map is valid.
     /// - The query can be read.
     #[inline]
     pub fn get<Q: Query<K>>(self, key: &Q) -> Option<View<'a, V>>
-        requires map { IsIndexMap W.word K.shape V.shape self }
         requires query { Q.can_read key.now }
-        ensures { GetsKey (index_of W.word K.shape V.shape self.entry) H.hasher (Q.calls key.now)
-            K.key_calls (Q.fits key.now) (IsValueOf W.word K.shape V.shape self.entry) result }
+        ensures { GetsKey value_part self.entry
+            (asked H.hasher K.key_calls K.same (Q.calls key.now) (Q.fits key.now)) result }
     {
         self.value_of(self.find_key(key))
     }
@@ -274,19 +254,16 @@ impl<'a, K: KeyElement, V: Element, H: KeyHasher, W: Width> ArchivedIndexMap<'a,
     ///
     /// # Requires
     ///
-    /// - The map is valid.
     /// - `key` can be read.
     /// - The comparison can be called with `key` and each key of the map.
     #[inline]
     pub fn get_index_of_with<Q: KeyHash, F>(self, key: &Q, cmp: F) -> Option<usize>
     where
         F: Fn(&Q, View<'a, K>) -> bool,
-        requires map { IsIndexMap W.word K.shape V.shape self }
         requires query { Q.can_read key.now }
-        requires callable { MayAskKeys (index_of W.word K.shape V.shape self) (F.pre cmp key) }
-        ensures { GetsPlaceBy (index_of W.word K.shape V.shape self.entry) H.hasher
-            (Q.calls key.now) K.key_calls (F.post cmp key.entry) (IsHeldPlace W.word self.entry)
-            result result }
+        requires callable { MayAskKeys self (F.pre cmp key) }
+        ensures { GetsBy place_part self.entry (hash_of H.hasher Q.calls key.now)
+            (hash_at H.hasher K.key_calls) (F.post cmp key.entry) result }
     {
         self.find(key, cmp, &mut Strides::new())
     }
@@ -298,7 +275,6 @@ impl<'a, K: KeyElement, V: Element, H: KeyHasher, W: Width> ArchivedIndexMap<'a,
     ///
     /// # Requires
     ///
-    /// - The map is valid.
     /// - `key` can be read.
     /// - `strides` has at most 9,223,372,036,854,775,808 strides.
     /// - The comparison can be called with `key` and each key of the map.
@@ -311,14 +287,12 @@ impl<'a, K: KeyElement, V: Element, H: KeyHasher, W: Width> ArchivedIndexMap<'a,
     ) -> Option<usize>
     where
         F: Fn(&Q, View<'a, K>) -> bool,
-        requires map { IsIndexMap W.word K.shape V.shape self }
         requires query { Q.can_read key.now }
         requires room { strides.old ≤ 2 ^ 63 }
-        requires callable { MayAskKeys (index_of W.word K.shape V.shape self) (F.pre cmp key) }
-        ensures found { GetsPlaceBy (index_of W.word K.shape V.shape self.entry) H.hasher
-            (Q.calls key.now) K.key_calls (F.post cmp key.entry) (IsHeldPlace W.word self.entry)
-            result result }
-        ensures bounded { ReadsFew W.word self.entry strides.old strides.new }
+        requires callable { MayAskKeys self (F.pre cmp key) }
+        ensures found { GetsBy place_part self.entry (hash_of H.hasher Q.calls key.now)
+            (hash_at H.hasher K.key_calls) (F.post cmp key.entry) result }
+        ensures bounded { ReadsFew self.entry strides.old strides.new }
     {
         self.find(key, cmp, strides)
     }
@@ -329,15 +303,12 @@ impl<'a, K: KeyElement, V: Element, H: KeyHasher, W: Width> ArchivedIndexMap<'a,
     ///
     /// # Requires
     ///
-    /// - The map is valid.
     /// - The query can be read.
     #[inline]
     pub fn get_index_of<Q: Query<K>>(self, key: &Q) -> Option<usize>
-        requires map { IsIndexMap W.word K.shape V.shape self }
         requires query { Q.can_read key.now }
-        ensures { GetsPlace (index_of W.word K.shape V.shape self.entry) H.hasher
-            (Q.calls key.now) K.key_calls K.same (Q.fits key.now) (IsHeldPlace W.word self.entry)
-            result result }
+        ensures { GetsKey place_part self.entry
+            (asked H.hasher K.key_calls K.same (Q.calls key.now) (Q.fits key.now)) result }
     {
         self.find_key(key)
     }
@@ -348,14 +319,13 @@ impl<'a, K: KeyElement, V: Element, H: KeyHasher, W: Width> ArchivedIndexMap<'a,
     ///
     /// # Requires
     ///
-    /// - The map is valid.
     /// - The query can be read.
     #[inline]
     pub fn contains_key<Q: Query<K>>(self, key: &Q) -> bool
-        requires map { IsIndexMap W.word K.shape V.shape self }
         requires query { Q.can_read key.now }
-        ensures { TellsKey (index_of W.word K.shape V.shape self.entry) H.hasher (Q.calls key.now)
-            K.key_calls (Q.fits key.now) (IsFoundAt result) }
+        ensures { TellsKey self.entry
+            (asked H.hasher K.key_calls K.same (Q.calls key.now) (Q.fits key.now))
+            (IsFoundAt result) }
     {
         self.find_key(key).is_some()
     }

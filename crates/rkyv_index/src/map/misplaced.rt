@@ -3,7 +3,7 @@ ghost use Rattle.std.specs.Prelude.{not, ◌<◌, ◌≡◌};
 ghost use Rattle.rkyv_table.specs.Table.Misplaced.{is_answer};
 ghost use Rattle.rkyv_index.specs.Equality.{CountsRepeated, TellsRepeated, index_misplaced};
 ghost use Rattle.rkyv_index.specs.Equality.{is_misplaced};
-ghost use Rattle.rkyv_index.specs.Index.{AreEntries, IsIndexMap, hash_at, index_len, index_of};
+ghost use Rattle.rkyv_index.specs.Index.{AreEntries, hash_at, index_len, index_of};
 
 use crate::map::ArchivedIndexMap;
 use crate::map::entries::Entries;
@@ -27,11 +27,11 @@ impl<'a, K: KeyElement, V: Element, H: KeyHasher, W: Width> Entries<'a, K, V, H,
     // Returns `true` if and only if a lookup of the key at `place` doesn't find `place`.
     #[inline]
     fn is_misplaced(self, place: usize) -> bool
-        requires entries { AreEntries W.word K.shape V.shape self }
-        requires below { place < index_len W.word self.map }
-        ensures told { result ≡ is_misplaced (index_of W.word K.shape V.shape self.entry.map)
+        requires entries { AreEntries self }
+        requires below { place < index_len self.map }
+        ensures told { result ≡ is_misplaced (index_of self.entry.map)
             (hash_at H.hasher K.key_calls) K.same place }
-        ensures repeated { TellsRepeated (index_of W.word K.shape V.shape self.entry.map)
+        ensures repeated { TellsRepeated (index_of self.entry.map)
             (hash_at H.hasher K.key_calls) K.same place result }
     {
         let key = self.entry(place).key();
@@ -51,15 +51,10 @@ impl<'a, K: KeyElement, V: Element, H: KeyHasher, W: Width> ArchivedIndexMap<'a,
     /// Each key is looked up once, and each lookup may read every group of the control bytes.
     /// Keys that share a hash cost a number of comparisons that is quadratic in their number.
     /// `FxHasher64` takes no secret key, so chosen keys can share one.
-    ///
-    /// # Requires
-    ///
-    /// - The map is valid.
     pub fn misplaced(self) -> usize
-        requires { IsIndexMap W.word K.shape V.shape self }
-        ensures told { result ≡ index_misplaced (index_of W.word K.shape V.shape self.entry)
+        ensures told { result ≡ index_misplaced (index_of self.entry)
             (hash_at H.hasher K.key_calls) K.same }
-        ensures repeated { CountsRepeated (index_of W.word K.shape V.shape self.entry)
+        ensures repeated { CountsRepeated (index_of self.entry)
             (hash_at H.hasher K.key_calls) K.same result }
     {
         let entries = self.entries();

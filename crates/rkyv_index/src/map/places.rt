@@ -3,8 +3,7 @@
 ghost use Rattle.std.specs.Prelude.{ℕ, ◌≡◌, ◌+◌, ◌≤◌, length};
 ghost use Rattle.std.specs.Iterator.{YieldsFirst, at_most};
 ghost use Rattle.std.specs.Slice.Iter.{iter_rest};
-ghost use Rattle.rkyv_index.specs.IndexFormat.{hash_of};
-ghost use Rattle.rkyv_index.specs.IndexFormat.{places_from};
+ghost use Rattle.rkyv_index.specs.IndexFormat.{hash_of, places_from};
 
 use crate::width::PlaceWidth;
 use rkyv_base::adapter::EntryAdapter;

@@ -4,7 +4,7 @@ ghost use Rattle.std.specs.Prelude.{◌↔◌, ◌≡◌, ◌≤◌};
 ghost use Rattle.rkyv_base.specs.Entry.{entry_shape};
 ghost use Rattle.rkyv_base.specs.View.{IsView, bytes_of, pos_of};
 ghost use Rattle.rkyv_table.specs.Table.Decoded.{IsDecoded};
-ghost use Rattle.rkyv_index.specs.Index.{IsIndexMap, IsPairOf, index_len};
+ghost use Rattle.rkyv_index.specs.Index.{IsPairOf, index_len};
 ghost use Rattle.rkyv_index.specs.IndexLayout.{entries_pos, index_shape};
 
 use crate::map::check::begin_told;
@@ -52,7 +52,6 @@ impl<'a, K: Element, V: Element, H, W: Width> ArchivedIndexMap<'a, K, V, H, W> {
     pub fn of(view: View<'a, IndexMapOf<K, V, H, W>>) -> ArchivedIndexMap<'a, K, V, H, W>
         requires { IsView (index_shape W.word (entry_shape K.shape V.shape)) view }
         ensures view { result.view ≡ view.entry }
-        ensures map { IsIndexMap W.word K.shape V.shape result }
     {
         ArchivedIndexMap {
             view,
@@ -64,7 +63,7 @@ impl<'a, K: Element, V: Element, H, W: Width> ArchivedIndexMap<'a, K, V, H, W> {
     /// Returns `true` if and only if the map has no pairs.
     #[inline]
     pub fn is_empty(self) -> bool
-        ensures { IsTrue result ↔ (index_len W.word self.entry ≡ 0) }
+        ensures { IsTrue result ↔ (index_len self.entry ≡ 0) }
     {
         self.len() == 0
     }
@@ -72,22 +71,17 @@ impl<'a, K: Element, V: Element, H, W: Width> ArchivedIndexMap<'a, K, V, H, W> {
     /// Returns the number of pairs.
     #[inline]
     pub fn len(self) -> usize
-        ensures { result ≡ index_len W.word self.entry }
+        ensures { result ≡ index_len self.entry }
     {
         self.header.len()
     }
 
     /// Returns the key and the value at an index, or `None` if the index isn't below the length.
-    ///
-    /// # Requires
-    ///
-    /// - The map is valid.
     #[inline]
     pub fn get_index(self, place: usize) -> Option<PairView<'a, K, V>>
-        requires { IsIndexMap W.word K.shape V.shape self }
         ensures { MatchOption result
-            (index_len W.word self.entry ≤ place)
-            (λ pair. IsPairOf W.word K.shape V.shape self.entry place pair) }
+            (index_len self.entry ≤ place)
+            (λ pair. IsPairOf self.entry place pair) }
     {
         if place >= self.len() {
             return None;

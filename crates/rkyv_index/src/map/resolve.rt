@@ -5,6 +5,7 @@ ghost use Rattle.rkyv_index.specs.IndexHeader.{IndexResolver, WritesIndexHeader}
 
 use crate::map::ArchivedIndexMap;
 use rkyv_base::archive::ResolveResult;
+use rkyv_base::element::Shaped;
 use rkyv_base::errors::DistanceTooLarge;
 use rkyv_base::width::{Narrow, Width};
 use rkyv_table::table::ArchivedHashTable;
@@ -57,15 +58,14 @@ impl<W: Width> IndexMapResolver<W> {
     pub fn resolve(self, pos: u64, out: &mut [u8]) -> ResolveResult
         requires room { length out.old ≡ W.INDEX_SIZE }
         requires fits { pos + W.INDEX_SIZE < 2 ^ 64 }
-        ensures { WritesIndexHeader W.word self.table.len self.table.load_factor self pos out.old
-            out.new result }
+        ensures { WritesIndexHeader W.word self pos out.old out.new result }
     {
         let (len, load_factor) = (self.len(), self.load_factor());
         ArchivedIndexMap::<'_, (), (), (), W>::resolve_from_len(len, load_factor, self, pos, out)
     }
 }
 
-impl<'a, K, V, H, W: Width> ArchivedIndexMap<'a, K, V, H, W> {
+impl<'a, K: Shaped, V: Shaped, H, W: Width> ArchivedIndexMap<'a, K, V, H, W> {
     /// Writes the header of a written map over the whole of `out`, for a header at `pos`.
     ///
     /// It is the header of the table of indices, and then the distance to the entries.
@@ -91,7 +91,7 @@ impl<'a, K, V, H, W: Width> ArchivedIndexMap<'a, K, V, H, W> {
         requires same { (len ≡ resolver.table.len) × (load_factor ≡ resolver.table.load_factor) }
         requires room { length out.old ≡ W.INDEX_SIZE }
         requires fits { pos + W.INDEX_SIZE < 2 ^ 64 }
-        ensures { WritesIndexHeader W.word len load_factor resolver pos out.old out.new result }
+        ensures { WritesIndexHeader W.word resolver pos out.old out.new result }
     {
         let distance = match W::distance(resolver.entries, pos + W::TABLE_SIZE as u64) {
             Some(distance) => distance,

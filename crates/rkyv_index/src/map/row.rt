@@ -2,7 +2,7 @@
 
 ghost use Rattle.std.specs.Prelude.{◌≡◌, ◌<◌, ◌≤◌, [], vec_capacity, length};
 ghost use Rattle.rkyv_base.specs.Writing.{end_of};
-ghost use Rattle.rkyv_index.specs.Row.{SerializesRow, WritesRow};
+ghost use Rattle.rkyv_index.specs.Row.{SerializesRow, WritesRow, row_of};
 
 use rkyv_base::archive::{Archive, Serialize, WriteResult};
 use rkyv_base::errors::WriteError;
@@ -19,7 +19,7 @@ pub(crate) fn serialize_row<W: Width, S: Writer, U: Serialize<S, W>>(
 ) -> WriteResult<(), S>
     requires empty { resolvers.old.items ≡ [] }
     requires room { length values.now ≤ vec_capacity resolvers.old }
-    ensures { SerializesRow U.format W.LIMIT values.now resolvers.new.items
+    ensures { SerializesRow (row_of U.format W.LIMIT values.now) resolvers.new.items
         (S.output serializer.old) (S.output serializer.new) result }
 {
     for value in values {
@@ -41,7 +41,7 @@ pub(crate) fn write_row<W: Width, S: Writer, U: Archive<W>>(
     requires count { length resolvers.items ≡ length values.now }
     requires room { 0 < length values.now → length scratch.old ≡ U.Archived.shape.size }
     requires within { end_of (S.output serializer.old) ≤ W.LIMIT }
-    ensures { WritesRow U.format W.LIMIT values.now resolvers.items
+    ensures { WritesRow (row_of U.format W.LIMIT values.now) resolvers.items
         (S.output serializer.old) (S.output serializer.new) result }
 {
     let mut rest = resolvers.into_iter();

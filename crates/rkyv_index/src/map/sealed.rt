@@ -16,20 +16,19 @@ ghost use Rattle.rkyv_base.specs.Shape.{Viewed};
 ghost use Rattle.rkyv_base.specs.View.{IsView};
 ghost use Rattle.rkyv_table.specs.Table.Header.{len_at};
 ghost use Rattle.rkyv_table.specs.Table.PairSeals.{LendsPair, LendsValue};
-ghost use Rattle.rkyv_index.specs.Index.{FindsBy, FindsFirstBy, FindsFirstKey, FindsKey};
-ghost use Rattle.rkyv_index.specs.Index.{IsHeldAt, IsIndexMap, IsPlace, MayAskKeys};
-ghost use Rattle.rkyv_index.specs.Index.{index_bytes, index_pos};
+ghost use Rattle.rkyv_index.specs.Index.{FindsBy, FindsFirstBy, FindsFirstKey, FindsKey, IsHeldAt};
+ghost use Rattle.rkyv_index.specs.Index.{IsPlace, MayAskKeysOf, hash_at, index_bytes, index_pos};
+ghost use Rattle.rkyv_index.specs.IndexFormat.{hash_of};
 ghost use Rattle.rkyv_index.specs.SealedIndex.{
   IsFullSeal,
   IsFullSealAt,
   IsIndexSeal,
   IsPairPlace,
-  IsPairPos,
   IsPairSeal,
-  IsPairSealAt,
+  SealsPair,
   IsValueSeal,
-  IsValueSealAt,
-  index_of_seal,
+  SealsValue,
+  index_in,
 };
 
 use crate::map::{ArchivedIndexMap, IndexMapOf};
@@ -65,7 +64,6 @@ impl<'a, K: KeyElement, V: Element, H: KeyHasher, W: Width> ArchivedIndexMap<'a,
         this: &'s ArchiveSeal<'_, IndexMapOf<K, V, H, W>>,
     ) -> ArchivedIndexMap<'s, K, V, H, W>
         requires { IsIndexSeal W.word K.shape V.shape this.now }
-        ensures map { IsIndexMap W.word K.shape V.shape result }
         ensures bytes { index_bytes result ≡ archive_in this.now }
         ensures pos { index_pos result ≡ pos_in this.now }
     {
@@ -81,15 +79,16 @@ impl<'a, K: KeyElement, V: Element, H: KeyHasher, W: Width> ArchivedIndexMap<'a,
     ) -> Option<usize>
         requires map { IsIndexSeal W.word K.shape V.shape this.now }
         requires query { Q.can_read key.now }
-        requires callable { MayAskKeys (index_of_seal W.word K.shape V.shape this.now)
+        requires callable { MayAskKeysOf (index_in W.word K.shape V.shape this.now)
             (F.pre cmp key) }
         ensures held { IfSome result (IsHeldAt W.word (archive_in this.now) (pos_in this.now)) }
         ensures below { IfSome result
             (λ i. i < len_at W.word (archive_in this.now) (pos_in this.now)) }
-        ensures answer { FindsBy (index_of_seal W.word K.shape V.shape this.now)
-            (F.post cmp key.entry) H.hasher (Q.calls key.now) (IsPlace result) }
-        ensures first { FindsFirstBy (index_of_seal W.word K.shape V.shape this.now)
-            (F.post cmp key.entry) H.hasher (Q.calls key.now) K.key_calls (IsPlace result) }
+        ensures answer { FindsBy (index_in W.word K.shape V.shape this.now)
+            (F.post cmp key.entry) (hash_of H.hasher Q.calls key.now) (IsPlace result) }
+        ensures first { FindsFirstBy (index_in W.word K.shape V.shape this.now)
+            (F.post cmp key.entry) (hash_of H.hasher Q.calls key.now)
+            (hash_at H.hasher K.key_calls) (IsPlace result) }
     {
         Self::read(this).find(key, cmp, &mut Strides::new())
     }
@@ -105,10 +104,10 @@ impl<'a, K: KeyElement, V: Element, H: KeyHasher, W: Width> ArchivedIndexMap<'a,
         ensures held { IfSome result (IsHeldAt W.word (archive_in this.now) (pos_in this.now)) }
         ensures below { IfSome result
             (λ i. i < len_at W.word (archive_in this.now) (pos_in this.now)) }
-        ensures answer { FindsKey (index_of_seal W.word K.shape V.shape this.now) H.hasher
-            (Q.calls key.now) (Q.fits key.now) (IsPlace result) }
-        ensures first { FindsFirstKey (index_of_seal W.word K.shape V.shape this.now) H.hasher
-            K.key_calls (Q.fits key.now) (IsPlace result) }
+        ensures answer { FindsKey (index_in W.word K.shape V.shape this.now)
+            (hash_of H.hasher Q.calls key.now) (Q.fits key.now) (IsPlace result) }
+        ensures first { FindsFirstKey (index_in W.word K.shape V.shape this.now)
+            (hash_at H.hasher K.key_calls) (Q.fits key.now) (IsPlace result) }
     {
         Self::read(this).find_key(key)
     }
@@ -118,8 +117,7 @@ impl<'a, K: KeyElement, V: Element, H: KeyHasher, W: Width> ArchivedIndexMap<'a,
     fn pair_pos_in(this: &ArchiveSeal<'_, IndexMapOf<K, V, H, W>>, place: usize) -> u64
         requires map { IsIndexSeal W.word K.shape V.shape this.now }
         requires below { place < len_at W.word (archive_in this.now) (pos_in this.now) }
-        ensures at { IsPairPos W.word K.shape V.shape (archive_in this.now) (pos_in this.now) place
-            result }
+        ensures at { IsPairPlace W.word K.shape V.shape this.now place result }
         ensures entry { Viewed (entry_shape K.shape V.shape) (archive_in this.now) result }
     {
         Self::read(this).entries().entry(place).pos()
@@ -192,7 +190,7 @@ impl<'a, K: KeyElement, V: Element, H: KeyHasher, W: Width> ArchivedIndexMap<'a,
         ensures inside { IfSome result (λ pair. LiesIn V.shape pair.1) }
         ensures viewed { IfSome result (λ pair. IsView K.shape pair.0) }
         ensures walked { IfSome result (IsPairSeal W.word K.shape V.shape this.entry) }
-        ensures at { IsPairSealAt W.word K.shape V.shape this.entry result place }
+        ensures at { SealsPair W.word K.shape V.shape this.entry result place }
     {
         match place {
             Some(place) => Some(Self::lend_pair(this, place)),
@@ -213,7 +211,7 @@ impl<'a, K: KeyElement, V: Element, H: KeyHasher, W: Width> ArchivedIndexMap<'a,
         ensures inside { IfSome result (LiesIn V.shape) }
         ensures viewed { IfSome result (λ value. Viewed V.shape (bytes_in value) (seal_pos value)) }
         ensures walked { IfSome result (IsValueSeal W.word K.shape V.shape this.entry) }
-        ensures at { IsValueSealAt W.word K.shape V.shape this.entry result place }
+        ensures at { SealsValue W.word K.shape V.shape this.entry result place }
     {
         match place {
             Some(place) => Some(Self::lend_value(this, place)),
@@ -243,14 +241,16 @@ impl<'a, K: KeyElement, V: Element, H: KeyHasher, W: Width> ArchivedIndexMap<'a,
     ) -> Option<(usize, View<'a, K>, Seal<'a, V>)>
         requires map { IsIndexSeal W.word K.shape V.shape this }
         requires query { Q.can_read key.now }
-        requires callable { MayAskKeys (index_of_seal W.word K.shape V.shape this) (F.pre cmp key) }
+        requires callable { MayAskKeysOf (index_in W.word K.shape V.shape this)
+            (F.pre cmp key) }
         ensures inside { IfSome result (λ full. LiesIn V.shape full.2) }
         ensures viewed { IfSome result (λ full. IsView K.shape full.1) }
         ensures walked { IfSome result (IsFullSeal W.word K.shape V.shape this.entry) }
-        ensures answer { FindsBy (index_of_seal W.word K.shape V.shape this.entry)
-            (F.post cmp key.entry) H.hasher (Q.calls key.now) (IsFullSealAt result) }
-        ensures first { FindsFirstBy (index_of_seal W.word K.shape V.shape this.entry)
-            (F.post cmp key.entry) H.hasher (Q.calls key.now) K.key_calls (IsFullSealAt result) }
+        ensures answer { FindsBy (index_in W.word K.shape V.shape this.entry)
+            (F.post cmp key.entry) (hash_of H.hasher Q.calls key.now) (IsFullSealAt result) }
+        ensures first { FindsFirstBy (index_in W.word K.shape V.shape this.entry)
+            (F.post cmp key.entry) (hash_of H.hasher Q.calls key.now)
+            (hash_at H.hasher K.key_calls) (IsFullSealAt result) }
     {
         let place = Self::find_in(&this, key, cmp);
         Self::full_seal_of(this, place)
@@ -277,10 +277,10 @@ impl<'a, K: KeyElement, V: Element, H: KeyHasher, W: Width> ArchivedIndexMap<'a,
         ensures inside { IfSome result (λ full. LiesIn V.shape full.2) }
         ensures viewed { IfSome result (λ full. IsView K.shape full.1) }
         ensures walked { IfSome result (IsFullSeal W.word K.shape V.shape this.entry) }
-        ensures answer { FindsKey (index_of_seal W.word K.shape V.shape this.entry) H.hasher
-            (Q.calls key.now) (Q.fits key.now) (IsFullSealAt result) }
-        ensures first { FindsFirstKey (index_of_seal W.word K.shape V.shape this.entry) H.hasher
-            K.key_calls (Q.fits key.now) (IsFullSealAt result) }
+        ensures answer { FindsKey (index_in W.word K.shape V.shape this.entry)
+            (hash_of H.hasher Q.calls key.now) (Q.fits key.now) (IsFullSealAt result) }
+        ensures first { FindsFirstKey (index_in W.word K.shape V.shape this.entry)
+            (hash_at H.hasher K.key_calls) (Q.fits key.now) (IsFullSealAt result) }
     {
         let place = Self::find_key_in(&this, key);
         Self::full_seal_of(this, place)
@@ -306,16 +306,18 @@ impl<'a, K: KeyElement, V: Element, H: KeyHasher, W: Width> ArchivedIndexMap<'a,
     ) -> Option<(View<'a, K>, Seal<'a, V>)>
         requires map { IsIndexSeal W.word K.shape V.shape this }
         requires query { Q.can_read key.now }
-        requires callable { MayAskKeys (index_of_seal W.word K.shape V.shape this) (F.pre cmp key) }
+        requires callable { MayAskKeysOf (index_in W.word K.shape V.shape this)
+            (F.pre cmp key) }
         ensures inside { IfSome result (λ pair. LiesIn V.shape pair.1) }
         ensures viewed { IfSome result (λ pair. IsView K.shape pair.0) }
         ensures walked { IfSome result (IsPairSeal W.word K.shape V.shape this.entry) }
-        ensures answer { FindsBy (index_of_seal W.word K.shape V.shape this.entry)
-            (F.post cmp key.entry) H.hasher (Q.calls key.now)
-            (IsPairSealAt W.word K.shape V.shape this.entry result) }
-        ensures first { FindsFirstBy (index_of_seal W.word K.shape V.shape this.entry)
-            (F.post cmp key.entry) H.hasher (Q.calls key.now) K.key_calls
-            (IsPairSealAt W.word K.shape V.shape this.entry result) }
+        ensures answer { FindsBy (index_in W.word K.shape V.shape this.entry)
+            (F.post cmp key.entry) (hash_of H.hasher Q.calls key.now)
+            (SealsPair W.word K.shape V.shape this.entry result) }
+        ensures first { FindsFirstBy (index_in W.word K.shape V.shape this.entry)
+            (F.post cmp key.entry) (hash_of H.hasher Q.calls key.now)
+            (hash_at H.hasher K.key_calls)
+            (SealsPair W.word K.shape V.shape this.entry result) }
     {
         let place = Self::find_in(&this, key, cmp);
         Self::pair_seal_of(this, place)
@@ -342,11 +344,12 @@ impl<'a, K: KeyElement, V: Element, H: KeyHasher, W: Width> ArchivedIndexMap<'a,
         ensures inside { IfSome result (λ pair. LiesIn V.shape pair.1) }
         ensures viewed { IfSome result (λ pair. IsView K.shape pair.0) }
         ensures walked { IfSome result (IsPairSeal W.word K.shape V.shape this.entry) }
-        ensures answer { FindsKey (index_of_seal W.word K.shape V.shape this.entry) H.hasher
-            (Q.calls key.now) (Q.fits key.now)
-            (IsPairSealAt W.word K.shape V.shape this.entry result) }
-        ensures first { FindsFirstKey (index_of_seal W.word K.shape V.shape this.entry) H.hasher
-            K.key_calls (Q.fits key.now) (IsPairSealAt W.word K.shape V.shape this.entry result) }
+        ensures answer { FindsKey (index_in W.word K.shape V.shape this.entry)
+            (hash_of H.hasher Q.calls key.now) (Q.fits key.now)
+            (SealsPair W.word K.shape V.shape this.entry result) }
+        ensures first { FindsFirstKey (index_in W.word K.shape V.shape this.entry)
+            (hash_at H.hasher K.key_calls) (Q.fits key.now)
+            (SealsPair W.word K.shape V.shape this.entry result) }
     {
         let place = Self::find_key_in(&this, key);
         Self::pair_seal_of(this, place)
@@ -369,16 +372,18 @@ impl<'a, K: KeyElement, V: Element, H: KeyHasher, W: Width> ArchivedIndexMap<'a,
     ) -> Option<Seal<'a, V>>
         requires map { IsIndexSeal W.word K.shape V.shape this }
         requires query { Q.can_read key.now }
-        requires callable { MayAskKeys (index_of_seal W.word K.shape V.shape this) (F.pre cmp key) }
+        requires callable { MayAskKeysOf (index_in W.word K.shape V.shape this)
+            (F.pre cmp key) }
         ensures inside { IfSome result (LiesIn V.shape) }
         ensures viewed { IfSome result (λ value. Viewed V.shape (bytes_in value) (seal_pos value)) }
         ensures walked { IfSome result (IsValueSeal W.word K.shape V.shape this.entry) }
-        ensures answer { FindsBy (index_of_seal W.word K.shape V.shape this.entry)
-            (F.post cmp key.entry) H.hasher (Q.calls key.now)
-            (IsValueSealAt W.word K.shape V.shape this.entry result) }
-        ensures first { FindsFirstBy (index_of_seal W.word K.shape V.shape this.entry)
-            (F.post cmp key.entry) H.hasher (Q.calls key.now) K.key_calls
-            (IsValueSealAt W.word K.shape V.shape this.entry result) }
+        ensures answer { FindsBy (index_in W.word K.shape V.shape this.entry)
+            (F.post cmp key.entry) (hash_of H.hasher Q.calls key.now)
+            (SealsValue W.word K.shape V.shape this.entry result) }
+        ensures first { FindsFirstBy (index_in W.word K.shape V.shape this.entry)
+            (F.post cmp key.entry) (hash_of H.hasher Q.calls key.now)
+            (hash_at H.hasher K.key_calls)
+            (SealsValue W.word K.shape V.shape this.entry result) }
     {
         let place = Self::find_in(&this, key, cmp);
         Self::value_seal_of(this, place)
@@ -402,11 +407,12 @@ impl<'a, K: KeyElement, V: Element, H: KeyHasher, W: Width> ArchivedIndexMap<'a,
         ensures inside { IfSome result (LiesIn V.shape) }
         ensures viewed { IfSome result (λ value. Viewed V.shape (bytes_in value) (seal_pos value)) }
         ensures walked { IfSome result (IsValueSeal W.word K.shape V.shape this.entry) }
-        ensures answer { FindsKey (index_of_seal W.word K.shape V.shape this.entry) H.hasher
-            (Q.calls key.now) (Q.fits key.now)
-            (IsValueSealAt W.word K.shape V.shape this.entry result) }
-        ensures first { FindsFirstKey (index_of_seal W.word K.shape V.shape this.entry) H.hasher
-            K.key_calls (Q.fits key.now) (IsValueSealAt W.word K.shape V.shape this.entry result) }
+        ensures answer { FindsKey (index_in W.word K.shape V.shape this.entry)
+            (hash_of H.hasher Q.calls key.now) (Q.fits key.now)
+            (SealsValue W.word K.shape V.shape this.entry result) }
+        ensures first { FindsFirstKey (index_in W.word K.shape V.shape this.entry)
+            (hash_at H.hasher K.key_calls) (Q.fits key.now)
+            (SealsValue W.word K.shape V.shape this.entry result) }
     {
         let place = Self::find_key_in(&this, key);
         Self::value_seal_of(this, place)

@@ -7,9 +7,8 @@ ghost use Rattle.std.specs.Prelude.{List, ℕ};
 ghost use Rattle.rkyv_base.specs.Format.{Format};
 ghost use Rattle.rkyv_base.specs.Pairs.{written_as};
 ghost use Rattle.rkyv_table.specs.Table.Lent.{lent_pairs};
-ghost use Rattle.rkyv_index.specs.Handing.{WritesUnder};
-ghost use Rattle.rkyv_index.specs.IndexFormat.{hash_of};
-ghost use Rattle.rkyv_index.specs.IndexFormat.{index_format};
+ghost use Rattle.rkyv_index.specs.Handing.{WritesUnder, input};
+ghost use Rattle.rkyv_index.specs.IndexFormat.{hash_of, index_format};
 ghost use Rattle.rkyv_index.specs.IndexHeader.{IndexResolver};
 
 use crate::map::resolve::IndexMapResolver;
@@ -48,11 +47,11 @@ impl<
     BV: Lend<B>,
 > ListFormat<(BK, BV), (A, B)> for IndexMapOf<K, V, H, W> {
     ghost format = { λ load_factor. written_as (lent_pairs BK.lent BV.lent)
-        (index_format W.word W.Place.encoding K.shape V.shape A.format B.format
+        (index_format W.word W.Place.shape W.Place.encoding K.shape V.shape A.format B.format
         (hash_of H.hasher A.calls) load_factor) };
 }
 
-impl<'a, K: KeyElement, V, H: KeyHasher, W: PlaceWidth> ArchivedIndexMap<'a, K, V, H, W> {
+impl<'a, K: KeyElement, V: Element, H: KeyHasher, W: PlaceWidth> ArchivedIndexMap<'a, K, V, H, W> {
     /// Writes an index map of `len` pairs and returns its resolver.
     ///
     /// The pairs have their keys and values as themselves or by reference.
@@ -105,8 +104,8 @@ impl<'a, K: KeyElement, V, H: KeyHasher, W: PlaceWidth> ArchivedIndexMap<'a, K, 
         K: StandsFor<A>,
         V: StandsFor<B>,
         requires can { I.can_next iter }
-        ensures { WritesUnder I.next_gives iter len load_factor W.MAX_CAPACITY W.LIMIT
-            ⟦<IndexMapOf<K, V, H, W> as ListFormat<(BK, BV), (A, B)>>⟧.format
+        ensures { let f = ⟦<IndexMapOf<K, V, H, W> as ListFormat<(BK, BV), (A, B)>>⟧.format in
+            WritesUnder W.Width (input I.next_gives iter len load_factor) f
             (S.output serializer.old) (S.output serializer.new) result }
     {
         match capacity(len, load_factor, W::MAX_CAPACITY) {

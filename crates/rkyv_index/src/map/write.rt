@@ -2,7 +2,8 @@
 
 ghost use Rattle.std.specs.Prelude.{◌≡◌, ◌<◌, ◌≤◌, [], length, vec_capacity};
 ghost use Rattle.rkyv_table.specs.Table.Serializing.{HasCapacity};
-ghost use Rattle.rkyv_index.specs.Handing.{WritesEntries, WritesPlaces};
+ghost use Rattle.rkyv_index.specs.Handing.{WritesEntries, WritesPlaces, hashed, hashed_row};
+ghost use Rattle.rkyv_index.specs.IndexFormat.{indices};
 
 use crate::map::places::{Hashed, HashedPlaces};
 use crate::map::resolve::IndexMapResolver;
@@ -25,8 +26,9 @@ fn write_places<W: PlaceWidth, H, S: Writer, U: Hashed<H>>(
 ) -> WriteResult<HashTableResolver<W>, S>
     requires capacity { HasCapacity (length entries.now) load_factor W.MAX_CAPACITY }
     requires hashes { (entry : U) → U.can_hash entry }
-    ensures { WritesPlaces W.word W.Place.encoding U.hash load_factor W.MAX_CAPACITY W.LIMIT
-        entries.now (S.output serializer.old) (S.output serializer.new) result }
+    ensures { WritesPlaces W.Width (indices W.Place.shape W.Place.encoding)
+        (hashed U.hash load_factor entries.now)
+        (S.output serializer.old) (S.output serializer.new) result }
 {
     let places = HashedPlaces::<'_, U, H, W>::new(entries);
     ArchivedHashTable::<W::Place, W>::serialize_by::<
@@ -54,9 +56,9 @@ pub(crate) fn write_index<W: PlaceWidth, H, S: Writer, U: Hashed<H> + Serialize<
     requires empty { resolvers.items ≡ [] }
     requires places { length entries.now ≤ vec_capacity resolvers }
     requires room { 0 < length entries.now → length scratch.old ≡ U.Archived.shape.size }
-    ensures { WritesEntries W.word W.Place.encoding U.Archived.shape U.format U.hash load_factor
-        W.MAX_CAPACITY W.LIMIT entries.now (S.output serializer.old) (S.output serializer.new)
-        result }
+    ensures { WritesEntries W.Width (indices W.Place.shape W.Place.encoding)
+        (hashed_row U.Archived.shape U.format U.hash load_factor entries.now)
+        (S.output serializer.old) (S.output serializer.new) result }
 {
     let table = match write_places::<W, H, S, U>(alloc, entries, load_factor, serializer) {
         Ok(table) => table,

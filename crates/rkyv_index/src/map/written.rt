@@ -1,7 +1,8 @@
 //! The law of written index maps, in any archive that contains their bytes.
 
 ghost use Rattle.rkyv_index.specs.Index.{hash_at};
-ghost use Rattle.rkyv_index.specs.IndexFormat.{WrittenIndexMapsStand, hash_of};
+ghost use Rattle.rkyv_index.specs.IndexFormat.{WrittenIndexMapsStand, element, hash_of};
+ghost use Rattle.rkyv_index.specs.IndexFormat.{indices};
 
 use crate::width::PlaceWidth;
 use rkyv_base::archive::Archive;
@@ -22,6 +23,7 @@ pub fn written_index_maps_stand<
     A: NativeKey<K> + Archive<W, Archived = K>,
     B: Archive<W, Archived = V>,
 >()
-    ensures { WrittenIndexMapsStand W.word W.Place.encoding K.shape V.shape K.stands V.stands
-        A.format B.format (hash_at H.hasher K.key_calls) (hash_of H.hasher A.calls) }
+    ensures { WrittenIndexMapsStand W.word (indices W.Place.shape W.Place.encoding)
+        (element K.shape K.stands A.format) (element V.shape V.stands B.format)
+        (hash_at H.hasher K.key_calls) (hash_of H.hasher A.calls) }
 {}

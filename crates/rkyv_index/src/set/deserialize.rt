@@ -1,8 +1,7 @@
 //! Deserializing an index set into a list of keys.
 ghost use Rattle.std.specs.Prelude.{MatchResult, ◌<◌};
-ghost use Rattle.rkyv_base.specs.Empty.{unit_shape};
 ghost use Rattle.rkyv_index.specs.Index.{index_len, key_pos};
-ghost use Rattle.rkyv_index.specs.IndexSet.{IsIndexSet, keys_of, set_bytes};
+ghost use Rattle.rkyv_index.specs.IndexSet.{keys_of, set_bytes};
 ghost use Rattle.rkyv_index.specs.Reading.{ReadsItems, items_refuse};
 
 use crate::set::ArchivedIndexSet;
@@ -18,9 +17,8 @@ impl<'a, K: Element, H, W: Width> ArchivedIndexSet<'a, K, H, W> {
     fn read_item<A>(self, alloc: Global, place: usize) -> Result<A, ReadError>
     where
         K: Deserialize<A>,
-        requires set { IsIndexSet W.word K.shape self }
-        requires below { place < index_len W.word (keys_of self) }
-        ensures { let at = key_pos W.word K.shape unit_shape (keys_of self.entry) place in
+        requires below { place < index_len (keys_of self) }
+        ensures { let at = key_pos (keys_of self.entry) place in
             MatchResult result (K.stands (set_bytes self.entry) at)
             (K.refuses (set_bytes self.entry) at) }
     {
@@ -29,10 +27,6 @@ impl<'a, K: Element, H, W: Width> ArchivedIndexSet<'a, K, H, W> {
 
     /// Deserializes the keys into a list, in order.
     ///
-    /// # Requires
-    ///
-    /// - The set is valid.
-    ///
     /// # Errors
     ///
     /// - `Memory`: the list could not be allocated.
@@ -40,10 +34,9 @@ impl<'a, K: Element, H, W: Width> ArchivedIndexSet<'a, K, H, W> {
     pub fn deserialize_items<A: Drop>(self, alloc: Global) -> Result<Vec<A>, ReadError>
     where
         K: Deserialize<A>,
-        requires { IsIndexSet W.word K.shape self }
         ensures { MatchResult result
-            (λ list. ReadsItems W.word K.shape K.stands self.entry list.items)
-            (items_refuse W.word K.shape K.refuses self.entry) }
+            (λ list. ReadsItems K.stands self.entry list.items)
+            (items_refuse K.refuses self.entry) }
     {
         let mut list = Vec::new(alloc);
         for place in 0..self.len() {

@@ -6,13 +6,18 @@ ghost use Rattle.rkyv_index.specs.IndexSet.{index_set_shape};
 
 use crate::map::IndexMapOf;
 use crate::set::IndexSetOf;
-use rkyv_base::element::{Element, PartRange};
+use rkyv_base::element::{Element, PartRange, Shaped};
 use rkyv_base::errors::VerifyError;
-use rkyv_base::width::Width;
+use rkyv_base::width::{Width, Word};
 
-impl<K: Element, H, W: Width> Element for IndexSetOf<K, H, W> {
+impl<K: Shaped, H, W: Word> Shaped for IndexSetOf<K, H, W> {
     ghost shape = { index_set_shape W.word K.shape };
 
+    ghost laws = { index_element W.word W.kind (entry_shape K.shape unit_shape)
+        (entry_element K.shape unit_shape K.laws unit_element) };
+}
+
+impl<K: Element, H, W: Width> Element for IndexSetOf<K, H, W> {
     #[inline]
     fn size() -> usize {
         IndexMapOf::<K, (), H, W>::size()
@@ -27,7 +32,4 @@ impl<K: Element, H, W: Width> Element for IndexSetOf<K, H, W> {
     fn check(bytes: &[u8], pos: u64, range: PartRange) -> Result<PartRange, VerifyError> {
         IndexMapOf::<K, (), H, W>::check(bytes, pos, range)
     }
-
-    ghost laws = { index_element W.word W.layout.kind (entry_shape K.shape unit_shape)
-        (entry_element K.shape unit_shape K.laws unit_element) };
 }

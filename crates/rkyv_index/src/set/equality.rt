@@ -1,4 +1,5 @@
 //! Equality of index sets, and counting the keys that a lookup of their own doesn't find.
+ghost use Rattle.std.specs.Cmp.{partial_equiv_from_equiv};
 ghost use Rattle.std.specs.Prelude.{◌≡◌};
 ghost use Rattle.rkyv_base.specs.Empty.{unit_element, unit_shape};
 ghost use Rattle.rkyv_base.specs.Entry.{entry_element, entry_shape};
@@ -9,8 +10,9 @@ ghost use Rattle.rkyv_keys.specs.Places.{at_views};
 ghost use Rattle.rkyv_index.specs.Lemmas.EqualLaws.{index_equivalence};
 ghost use Rattle.rkyv_index.specs.Equality.{CountsRepeated, index_misplaced};
 ghost use Rattle.rkyv_index.specs.Index.{hash_at};
-ghost use Rattle.rkyv_index.specs.IndexSet.{IsIndexSet, index_of_set, index_set_equal};
-ghost use Rattle.rkyv_index.specs.IndexSet.{index_set_shape, set_bytes, set_pos};
+ghost use Rattle.rkyv_index.specs.Lemmas.ViewedEqual.{sets_equality};
+ghost use Rattle.rkyv_index.specs.IndexSet.{index_of_set, index_set_equal, index_set_shape};
+ghost use Rattle.rkyv_index.specs.IndexSet.{index_sets_equal};
 
 use crate::set::{ArchivedIndexSet, IndexSetOf};
 use rkyv_base::view::View;
@@ -21,15 +23,8 @@ use rkyv_scan::hash::KeyHasher;
 
 impl<'a, K: ElementEq, H, W: Width> ArchivedIndexSet<'a, K, H, W> {
     /// Returns `true` if and only if both sets have the same length and the same keys in order.
-    ///
-    /// # Requires
-    ///
-    /// - Both sets are valid.
     pub fn eq_index(self, other: ArchivedIndexSet<'_, K, H, W>) -> bool
-        requires own { IsIndexSet W.word K.shape self }
-        requires other { IsIndexSet W.word K.shape other }
-        ensures { result ≡ index_set_equal W.word K.shape K.same (set_bytes self.entry)
-            (set_pos self.entry) (set_bytes other.entry) (set_pos other.entry) }
+        ensures { result ≡ index_sets_equal K.same self.entry other.entry }
     {
         self.map.eq_index(other.map)
     }
@@ -44,19 +39,29 @@ impl<'a, K: KeyElement, H: KeyHasher, W: Width> ArchivedIndexSet<'a, K, H, W> {
     /// Each key is looked up once, and each lookup may read every group of the control bytes.
     /// Keys that share a hash cost a number of comparisons that is quadratic in their number.
     /// `FxHasher64` takes no secret key, so chosen keys can share one.
-    ///
-    /// # Requires
-    ///
-    /// - The set is valid.
     pub fn misplaced(self) -> usize
-        requires { IsIndexSet W.word K.shape self }
-        ensures told { result ≡ index_misplaced (index_of_set W.word K.shape self.entry)
+        ensures told { result ≡ index_misplaced (index_of_set self.entry)
             (hash_at H.hasher K.key_calls) K.same }
-        ensures repeated { CountsRepeated (index_of_set W.word K.shape self.entry)
+        ensures repeated { CountsRepeated (index_of_set self.entry)
             (hash_at H.hasher K.key_calls) K.same result }
     {
         self.map.misplaced()
     }
+}
+
+/// Returns `true` if and only if both sets have the same length and the same keys in order.
+impl<'a, K: ElementEquiv, H, W: Width> PartialEq for ArchivedIndexSet<'a, K, H, W> {
+    ghost eq = { index_sets_equal K.same };
+
+    ghost laws = { partial_equiv_from_equiv (sets_equality K.equivalence) };
+
+    fn eq(&self, other: &ArchivedIndexSet<'a, K, H, W>) -> bool {
+        self.eq_index(*other)
+    }
+}
+
+impl<'a, K: ElementEquiv, H, W: Width> Eq for ArchivedIndexSet<'a, K, H, W> {
+    ghost laws = { sets_equality K.equivalence };
 }
 
 impl<K: ElementEq, H, W: Width> ElementEq for IndexSetOf<K, H, W> {

@@ -13,10 +13,10 @@ ghost use Rattle.rkyv_base.specs.View.{IsAt, IsView, archive_of, pos_of};
 ghost use Rattle.rkyv_table.specs.Table.RawItems.{AllStand};
 ghost use Rattle.rkyv_index.specs.Index.{IsFoundAt, IsHeldPlace, IsKeyOf, index_archive};
 ghost use Rattle.rkyv_index.specs.Index.{index_len, key_positions};
-ghost use Rattle.rkyv_index.specs.IndexSet.{IsFullMemberIn, IsIndexSet, IsMemberAt, IsMemberOf};
-ghost use Rattle.rkyv_index.specs.IndexSet.{full_member_place, index_of_set, index_set_shape};
-ghost use Rattle.rkyv_index.specs.IndexSet.{keys_of};
-ghost use Rattle.rkyv_index.specs.Lookups.{GetsKey, GetsPlace, TellsKey};
+ghost use Rattle.rkyv_index.specs.IndexSet.{IsMemberAt, index_set_shape, keys_of};
+ghost use Rattle.rkyv_index.specs.Lookups.{GetsKey, TellsKey, full_key_part, key_part};
+ghost use Rattle.rkyv_index.specs.Lookups.{place_part};
+ghost use Rattle.rkyv_keys.specs.Asked.{asked};
 
 use crate::map::iter::Keys;
 use crate::map::{ArchivedIndexMap, IndexMapOf};
@@ -37,7 +37,6 @@ impl<'a, K: Element, H, W: Width> ArchivedIndexSet<'a, K, H, W> {
     pub fn of(view: View<'a, IndexSetOf<K, H, W>>) -> ArchivedIndexSet<'a, K, H, W>
         requires { IsView (index_set_shape W.word K.shape) view }
         ensures at { IsAt (keys_of result).view (archive_of view.entry) (pos_of view.entry) }
-        ensures set { IsIndexSet W.word K.shape result }
     {
         ArchivedIndexSet {
             map: ArchivedIndexMap::of(view.at::<IndexMapOf<K, (), H, W>>(view.pos())),
@@ -47,7 +46,7 @@ impl<'a, K: Element, H, W: Width> ArchivedIndexSet<'a, K, H, W> {
     /// Returns `true` if and only if the set has no keys.
     #[inline]
     pub fn is_empty(self) -> bool
-        ensures { IsTrue result ↔ (index_len W.word (keys_of self.entry) ≡ 0) }
+        ensures { IsTrue result ↔ (index_len (keys_of self.entry) ≡ 0) }
     {
         self.map.is_empty()
     }
@@ -55,39 +54,29 @@ impl<'a, K: Element, H, W: Width> ArchivedIndexSet<'a, K, H, W> {
     /// Returns the number of keys.
     #[inline]
     pub fn len(self) -> usize
-        ensures { result ≡ index_len W.word (keys_of self.entry) }
+        ensures { result ≡ index_len (keys_of self.entry) }
     {
         self.map.len()
     }
 
     /// Returns an iterator over the keys, in order.
-    ///
-    /// # Requires
-    ///
-    /// - The set is valid.
     #[inline]
     pub fn iter(self) -> Keys<'a, K, ()>
-        requires { IsIndexSet W.word K.shape self }
         ensures archive { result.archive ≡ index_archive (keys_of self.entry) }
-        ensures places { result.places ≡ key_positions W.word K.shape unit_shape
+        ensures places { result.places ≡ key_positions
             (keys_of self.entry) }
-        ensures count { length result.places ≡ index_len W.word (keys_of self.entry) }
+        ensures count { length result.places ≡ index_len (keys_of self.entry) }
         ensures stand { AllStand (entry_shape K.shape unit_shape) result }
     {
         self.map.keys()
     }
 
     /// Returns the key at an index, or `None` if the index isn't below the length.
-    ///
-    /// # Requires
-    ///
-    /// - The set is valid.
     #[inline]
     pub fn get_index(self, place: usize) -> Option<View<'a, K>>
-        requires { IsIndexSet W.word K.shape self }
         ensures { MatchOption result
-            (index_len W.word (keys_of self.entry) ≤ place)
-            (λ key. IsKeyOf W.word K.shape unit_shape (keys_of self.entry) place key) }
+            (index_len (keys_of self.entry) ≤ place)
+            (λ key. IsKeyOf (keys_of self.entry) place key) }
     {
         match self.map.get_index(place) {
             Some((key, _)) => Some(key),
@@ -110,15 +99,12 @@ impl<'a, K: KeyElement, H: KeyHasher, W: Width> ArchivedIndexSet<'a, K, H, W> {
     ///
     /// # Requires
     ///
-    /// - The set is valid.
     /// - The query can be read.
     #[inline]
     pub fn get_full<Q: Query<K>>(self, key: &Q) -> Option<(usize, View<'a, K>)>
-        requires set { IsIndexSet W.word K.shape self }
         requires query { Q.can_read key.now }
-        ensures { GetsPlace (index_of_set W.word K.shape self.entry) H.hasher (Q.calls key.now)
-            K.key_calls K.same (Q.fits key.now)
-            (IsFullMemberIn W.word K.shape self.entry) result (full_member_place result) }
+        ensures { GetsKey full_key_part (keys_of self.entry)
+            (asked H.hasher K.key_calls K.same (Q.calls key.now) (Q.fits key.now)) result }
     {
         match self.map.get_full(key) {
             Some((place, stored, _)) => Some((place, stored)),
@@ -132,14 +118,12 @@ impl<'a, K: KeyElement, H: KeyHasher, W: Width> ArchivedIndexSet<'a, K, H, W> {
     ///
     /// # Requires
     ///
-    /// - The set is valid.
     /// - The query can be read.
     #[inline]
     pub fn get<Q: Query<K>>(self, key: &Q) -> Option<View<'a, K>>
-        requires set { IsIndexSet W.word K.shape self }
         requires query { Q.can_read key.now }
-        ensures { GetsKey (index_of_set W.word K.shape self.entry) H.hasher (Q.calls key.now)
-            K.key_calls (Q.fits key.now) (IsMemberOf W.word K.shape self.entry) result }
+        ensures { GetsKey key_part (keys_of self.entry)
+            (asked H.hasher K.key_calls K.same (Q.calls key.now) (Q.fits key.now)) result }
     {
         self.key_of(self.map.find_key(key))
     }
@@ -147,9 +131,8 @@ impl<'a, K: KeyElement, H: KeyHasher, W: Width> ArchivedIndexSet<'a, K, H, W> {
     /// Returns the key at a found index.
     #[inline]
     fn key_of(self, place: Option<usize>) -> Option<View<'a, K>>
-        requires set { IsIndexSet W.word K.shape self }
-        requires held { IfSome place (IsHeldPlace W.word (keys_of self)) }
-        ensures { IsMemberAt W.word K.shape self.entry result place }
+        requires held { IfSome place (IsHeldPlace (keys_of self)) }
+        ensures { IsMemberAt self.entry result place }
     {
         match place {
             Some(place) => Some(self.map.entries().entry(place).key()),
@@ -163,15 +146,12 @@ impl<'a, K: KeyElement, H: KeyHasher, W: Width> ArchivedIndexSet<'a, K, H, W> {
     ///
     /// # Requires
     ///
-    /// - The set is valid.
     /// - The query can be read.
     #[inline]
     pub fn get_index_of<Q: Query<K>>(self, key: &Q) -> Option<usize>
-        requires set { IsIndexSet W.word K.shape self }
         requires query { Q.can_read key.now }
-        ensures { GetsPlace (index_of_set W.word K.shape self.entry) H.hasher (Q.calls key.now)
-            K.key_calls K.same (Q.fits key.now) (IsHeldPlace W.word (keys_of self.entry)) result
-            result }
+        ensures { GetsKey place_part (keys_of self.entry)
+            (asked H.hasher K.key_calls K.same (Q.calls key.now) (Q.fits key.now)) result }
     {
         self.map.get_index_of(key)
     }
@@ -182,14 +162,13 @@ impl<'a, K: KeyElement, H: KeyHasher, W: Width> ArchivedIndexSet<'a, K, H, W> {
     ///
     /// # Requires
     ///
-    /// - The set is valid.
     /// - The query can be read.
     #[inline]
     pub fn contains<Q: Query<K>>(self, key: &Q) -> bool
-        requires set { IsIndexSet W.word K.shape self }
         requires query { Q.can_read key.now }
-        ensures { TellsKey (index_of_set W.word K.shape self.entry) H.hasher (Q.calls key.now)
-            K.key_calls (Q.fits key.now) (IsFoundAt result) }
+        ensures { TellsKey (keys_of self.entry)
+            (asked H.hasher K.key_calls K.same (Q.calls key.now) (Q.fits key.now))
+            (IsFoundAt result) }
     {
         self.map.contains_key(key)
     }

@@ -5,7 +5,7 @@
 
 ghost use Rattle.std.specs.Prelude.{◌≡◌, ◌+◌, ◌<◌, ◌^◌, length};
 ghost use Rattle.rkyv_base.specs.Pairs.{written_as};
-ghost use Rattle.rkyv_index.specs.Handing.{WritesUnder};
+ghost use Rattle.rkyv_index.specs.Handing.{WritesUnder, input};
 ghost use Rattle.rkyv_index.specs.IndexFormat.{hash_of};
 ghost use Rattle.rkyv_index.specs.IndexHeader.{WritesIndexHeader};
 ghost use Rattle.rkyv_index.specs.SetFormat.{index_set_format};
@@ -35,7 +35,8 @@ impl<K: Element, H: KeyHasher, W: PlaceWidth, A: KeyHash + Archive<W>, BK: Lend<
     A,
 > for IndexSetOf<K, H, W> {
     ghost format = { λ load_factor. written_as (lent_keys BK.lent)
-        (index_set_format W.word W.Place.encoding K.shape A.format (hash_of H.hasher A.calls)
+        (index_set_format W.word W.Place.shape W.Place.encoding K.shape A.format (hash_of
+        H.hasher A.calls)
         load_factor) };
 }
 
@@ -78,8 +79,8 @@ impl<'a, K: KeyElement, H: KeyHasher, W: PlaceWidth> ArchivedIndexSet<'a, K, H, 
     where
         K: StandsFor<A>,
         requires can { I.can_next iter }
-        ensures { WritesUnder I.next_gives iter len load_factor W.MAX_CAPACITY W.LIMIT
-            ⟦<IndexSetOf<K, H, W> as ListFormat<BK, A>>⟧.format
+        ensures { let f = ⟦<IndexSetOf<K, H, W> as ListFormat<BK, A>>⟧.format in
+            WritesUnder W.Width (input I.next_gives iter len load_factor) f
             (S.output serializer.old) (S.output serializer.new) result }
     {
         ArchivedIndexMap::<K, (), H, W>::serialize_from_iter::<S, A, (), BK, (), WithUnits<I>>(
@@ -114,7 +115,7 @@ impl<'a, K: KeyElement, H: KeyHasher, W: PlaceWidth> ArchivedIndexSet<'a, K, H, 
         requires same { (len ≡ resolver.table.len) × (load_factor ≡ resolver.table.load_factor) }
         requires room { length out.old ≡ W.INDEX_SIZE }
         requires fits { pos + W.INDEX_SIZE < 2 ^ 64 }
-        ensures { WritesIndexHeader W.word len load_factor resolver pos out.old out.new result }
+        ensures { WritesIndexHeader W.word resolver pos out.old out.new result }
     {
         ArchivedIndexMap::<K, (), H, W>::resolve_from_len(len, load_factor, resolver, pos, out)
     }

@@ -30,7 +30,7 @@ pub(crate) fn narrow(alloc: Global, pairs: &[(i8, i8)]) -> Result<Vec<u8>, Write
 }
 
 // Returns the archive of the pairs as a wide index map.
-fn wide(alloc: Global, pairs: &[(i8, i8)]) -> Result<Vec<u8>, WriteError<NoMemory>> {
+pub(crate) fn wide(alloc: Global, pairs: &[(i8, i8)]) -> Result<Vec<u8>, WriteError<NoMemory>> {
     match list_of(alloc, pairs) {
         Ok(list) => to_bytes_in::<Wide, _>(alloc, &list),
         Err(_) => Err(WriteError::Memory),

@@ -10,6 +10,7 @@ ghost use Rattle.rkyv_keys_tests.specs.LowByte.{low_fits, low_key, low_near, low
 ghost use Rattle.rkyv_keys_tests.specs.LowByte.{low_refuses, low_same, low_shape, low_stands};
 
 use rkyv_base::access::access;
+use rkyv_base::element::Shaped;
 use rkyv_base::{Element, PartRange, ReadError, StandsFor, VerifyError, View};
 use rkyv_keys::{Deserialize, ElementEq, ElementEquiv, KeyElement, KeyHash, Query, hash_value};
 use rkyv_scan::{FxHasher64, KeyHasher};
@@ -17,9 +18,13 @@ use std::alloc::Global;
 
 struct LowByte;
 
-impl Element for LowByte {
+impl Shaped for LowByte {
     ghost shape = { low_shape };
 
+    ghost laws = { low_element };
+}
+
+impl Element for LowByte {
     fn size() -> usize {
         4
     }
@@ -31,8 +36,6 @@ impl Element for LowByte {
     fn check(bytes: &[u8], pos: u64, range: PartRange) -> Result<PartRange, VerifyError> {
         u32::check(bytes, pos, range)
     }
-
-    ghost laws = { low_element };
 }
 
 fn number(view: View<'_, LowByte>) -> u32

@@ -17,7 +17,7 @@ use Rattle.rkyv_table.specs.Controls.Numbers.{control_count}
 use Rattle.rkyv_table.specs.Lemmas.PlaceLaws.{all_between}
 use Rattle.rkyv_table.specs.Table.Places.{AllHold}
 use Rattle.rkyv_table.specs.Controls.Placing.{walk}
-use Rattle.rkyv_table.specs.Table.Reading.{IsWalked, item_at, table_controls}
+use Rattle.rkyv_table.specs.Table.Positions.{IsWalked, item_at, table_controls}
 use Rattle.rkyv_table.specs.Table.Layout.{IsPart, ItemsHold, TableHolds, bucket_at, controls_at}
 use Rattle.rkyv_table.specs.Table.Layout.{part_size}
 use Rattle.rkyv_table.specs.Lemmas.TableLaws.{bucket_inside}

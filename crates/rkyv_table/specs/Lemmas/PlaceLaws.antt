@@ -1,10 +1,13 @@
 -- Laws of values at several positions, validated in order.
 use Rattle.std.specs.Prelude.{◌≡◌, ℕ, zero, suc, ◌+◌, ◌<◌, ◌≤◌, ⊤, Bool, List, [], ◌∷◌, filter}
 use Rattle.std.specs.List.{range_with_len}
-use Rattle.std.proofs.Common.{refl, arith, subst, inl, inr}
+use Rattle.std.specs.Coded.{×_prop}
+use Rattle.std.proofs.Common.{refl, arith, subst, sym, ◌∙◌, inl, inr}
+use Rattle.std.proofs.Props.{props}
 use Rattle.std.proofs.lemmas.Bool.{cases_Bool}
 use Rattle.rkyv_base.specs.declared.errors.VerifyError.{VerifyError}
 use Rattle.rkyv_base.specs.Bytes.{Same, same_part}
+use Rattle.rkyv_base.specs.Lemmas.Props.{only_one, prop_by}
 use Rattle.rkyv_base.specs.Shape.{Shape, IsElement}
 use Rattle.rkyv_table.specs.Table.Places.{AllHold, FirstFails}
 
@@ -31,6 +34,23 @@ module _ (s : Shape) (law : IsElement s) (at : ℕ → ℕ) where
       let k : (lo ≤ h.0) × (h.0 ≤ hi) = law.between b (at i) lo hi h.0 o h.1 in
       let r : (h.0 ≤ l) × (l ≤ hi) = all_between b hi is h.0 l k.1 h.2 in
       (omega arith, r.1)
+
+  -- the new lower end is unique, and that the values are valid is a proposition
+  pub all_one : (b : List ℕ) (hi : ℕ) (is : List ℕ) (lo l l' : ℕ) → AllHold s at b hi is lo l
+      → AllHold s at b hi is lo l' → l ≡ l'
+  all_one b hi [] lo l l' h h' = h ∙ sym h'
+  all_one b hi (i ∷ is) lo l l' h h' =
+      let q : h'.0 ≡ h.0 = law.one b (at i) lo hi h'.0 h.0 h'.1 h.1 in
+      all_one b hi is h.0 l l' h.2 (subst (λ m. AllHold s at b hi is m l') q h'.2)
+
+  pub all_prop : (b : List ℕ) (hi : ℕ) (is : List ℕ) (lo l : ℕ)
+      → IsProp (AllHold s at b hi is lo l)
+  all_prop b hi [] lo l = hlevel props
+  all_prop b hi (i ∷ is) lo l =
+      prop_by {B = (m : ℕ) × (s.holds b (at i) lo hi m × AllHold s at b hi is m l)}
+      (λ h. (h.0, (h.1, h.2))) (λ h. (h.0, h.1.0, h.1.1)) (λ _. refl)
+      (only_one (λ m. ×_prop (law.proper b (at i) lo hi m) (all_prop b hi is m l))
+      (λ m m' h h'. law.one b (at i) lo hi m m' h.0 h'.0))
 
   pub all_clear : (b : List ℕ) (hi : ℕ) (is : List ℕ) (lo l : ℕ) (e : VerifyError)
       → AllHold s at b hi is lo l → FirstFails s at b hi is lo e → ⊥

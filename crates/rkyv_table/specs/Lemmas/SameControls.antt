@@ -9,7 +9,7 @@ use Rattle.rkyv_table.specs.Lemmas.ItemPositions.{holds_at, told_pos}
 use Rattle.rkyv_table.specs.Lemmas.SameHeader.{cap_same, pos_same}
 use Rattle.rkyv_table.specs.Table.Header.{cap_at, controls_pos}
 use Rattle.rkyv_table.specs.Table.Layout.{TableHolds}
-use Rattle.rkyv_table.specs.Table.Reading.{table_controls}
+use Rattle.rkyv_table.specs.Table.Positions.{table_controls}
 
 pub same_controls : (w : Width) (s : Shape) → IsElement s → (b c : List ℕ) (p lo hi l : ℕ) → lo ≤ hi
     → TableHolds w s b p lo hi l → Same b c p (p + 3 * byte_len w) → Same b c lo l

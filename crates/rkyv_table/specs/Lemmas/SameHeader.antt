@@ -4,7 +4,7 @@ use Rattle.std.specs.Int.{Width, byte_len, cast_signed, from_le_bytes}
 use Rattle.std.proofs.Common.{arith, ap, subst, ◌∙◌}
 use Rattle.rkyv_base.specs.Bytes.{Same, number_at, same_part, signed_at}
 use Rattle.rkyv_table.specs.Table.Header.{begin_told, cap_at, controls_pos, len_at}
-use Rattle.rkyv_table.specs.Table.Reading.{item_at}
+use Rattle.rkyv_table.specs.Table.Positions.{item_at}
 
 module _ (w : Width) (b c : List ℕ) (p : ℕ) (same : Same b c p (p + 3 * byte_len w)) where
   number_same : (k : ℕ) → k + byte_len w ≤ 3 * byte_len w

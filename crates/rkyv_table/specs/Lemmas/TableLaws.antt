@@ -1,7 +1,9 @@
 -- A table is an element.
 use Rattle.std.specs.Prelude.{◌≡◌, ℕ, suc, ◌+◌, ◌-◌, ◌*◌, ◌%◌, ◌<◌, ◌≤◌, ℤ, List, slice_index}
 use Rattle.std.specs.Int.{Width, byte_len}
+use Rattle.std.specs.Coded.{×_prop}
 use Rattle.std.proofs.Common.{refl, arith, subst, sym, ◌∙◌, ap, inl, inr}
+use Rattle.std.proofs.Props.{props}
 use Rattle.std.proofs.lemmas.Bool.{cases_lt}
 use Rattle.std.proofs.Math.Nat.{mul-le-mul_right, mul-zero}
 use Rattle.std.proofs.lemmas.Nat.{mul-mod}
@@ -9,13 +11,16 @@ use Rattle.rkyv_scan.specs.Groups.{is_full}
 use Rattle.rkyv_base.specs.declared.errors.VerifyError.{VerifyError}
 use Rattle.rkyv_base.specs.declared.errors.VerifyError.TheVariants.{UnwrappedControlByte}
 use Rattle.rkyv_base.specs.Bytes.{Same, same_part}
-use Rattle.rkyv_base.specs.Parts.{part_clear, part_one, part_one_failure, part_wider}
+use Rattle.rkyv_base.specs.Lemmas.Props.{either_prop, only_one, prop_by}
+use Rattle.rkyv_base.specs.Parts.{PartIn, part_clear, part_one, part_one_failure, part_prop}
+use Rattle.rkyv_base.specs.Parts.{part_wider}
 use Rattle.rkyv_base.specs.Shape.{Shape, IsElement, IsAlign, by_align, sum_multiple}
 use Rattle.rkyv_base.specs.Text.{IsArchiveWord, by_archive_word}
 use Rattle.rkyv_table.specs.Table.Header.{begin_told, cap_at, len_at}
 use Rattle.rkyv_table.specs.Controls.Numbers.{control_count}
 use Rattle.rkyv_table.specs.Table.Places.{AllHold}
 use Rattle.rkyv_table.specs.Lemmas.PlaceLaws.{AllBelow, all_clear, all_lower, all_near}
+use Rattle.rkyv_table.specs.Lemmas.PlaceLaws.{all_one, all_prop}
 use Rattle.rkyv_table.specs.Lemmas.PlaceLaws.{all_one_failure, range_below}
 use Rattle.rkyv_table.specs.Controls.Placing.{Accepted, Repeats, walk}
 use Rattle.rkyv_table.specs.Controls.Repeating.{FirstUnlike}
@@ -99,6 +104,32 @@ module _ (s : Shape) (law : IsElement s) where
   at_one b told cap len lo hi l l' (inr (n, part, is, e)) (inr (n', part', is', e')) =
       let same : n ≡ n' = part_one told (part_size s.size cap) s.align lo hi n n' part part' in
       e ∙ ap (λ x. x + part_size s.size cap) same ∙ sym e'
+
+  part_proper : (b : List ℕ) (cap len lo begin : ℕ) → IsProp (IsPart s b cap len lo begin)
+  part_proper b cap len lo begin =
+      let at : ℕ → ℕ = bucket_at s.size begin cap in
+      let full : List ℕ = walk (controls_at s.size b begin cap) cap in
+      prop_by {B = Accepted cap len (controls_at s.size b begin cap)
+      × ((last : ℕ) × AllHold s at b begin full lo last)}
+      (λ h. (h.controls, (h.last, h.items)))
+      (λ h. record { controls = h.0; last = h.1.0; items = h.1.1 }) (λ _. refl)
+      (×_prop (hlevel props) (only_one (all_prop s law at b begin full lo)
+      (all_one s law at b begin full lo)))
+
+  at_proper : (b : List ℕ) (told : ℤ) (cap len lo hi l : ℕ)
+      → IsProp (TableAt s b told cap len lo hi l)
+  at_proper b told cap len lo hi l =
+      let P : ℕ → Type 0 = λ begin. PartIn told (part_size s.size cap) s.align lo hi begin
+      × (IsPart s b cap len lo begin × (l ≡ begin + part_size s.size cap)) in
+      either_prop
+      (prop_by {B = (len ≡ 0) × ((cap ≡ 0) × (l ≡ lo))} (λ h. (h.0, (h.1, h.2)))
+      (λ h. (h.0, h.1.0, h.1.1)) (λ _. refl) (hlevel props))
+      (prop_by {B = (begin : ℕ) × P begin} (λ h. (h.0, (h.1, (h.2, h.3))))
+      (λ h. (h.0, h.1.0, h.1.1.0, h.1.1.1)) (λ _. refl) (only_one
+      (λ begin. ×_prop (part_prop told (part_size s.size cap) s.align lo hi begin)
+      (×_prop (part_proper b cap len lo begin) (hlevel props)))
+      (λ n n' h k. part_one told (part_size s.size cap) s.align lo hi n n' h.0 k.0)))
+      (λ h k. omega (arith, h.1, k.2.controls.room))
 
   inside_clear : (b : List ℕ) (cap len lo begin : ℕ) (e : VerifyError) → IsPart s b cap len lo begin
       → FailsInside s b cap len lo begin e → ⊥
@@ -237,6 +268,8 @@ table_element w kind s law = record {
   size_whole = by_archive_word (λ v. (3 * byte_len v) % byte_len v ≡ 0) refl refl w kind;
   size_small = by_archive_word (λ v. 3 * byte_len v ≤ 1073741824) (omega arith) (omega arith) w
       kind;
+  proper = λ b p lo hi l. at_proper s law b (begin_told w s.size b p) (cap_at w b p)
+      (len_at w b p) lo hi l;
   between = λ b p lo hi l o h. at_between s law b (begin_told w s.size b p) (cap_at w b p)
       (len_at w b p) lo hi l o h;
   one = λ b p lo hi l l' h h'. at_one s law b (begin_told w s.size b p) (cap_at w b p)

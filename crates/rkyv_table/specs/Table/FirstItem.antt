@@ -5,7 +5,7 @@ use Rattle.std.specs.Int.{Width}
 use Rattle.std.specs.List.{All, find}
 use Rattle.rkyv_base.specs.Shape.{Shape}
 use Rattle.rkyv_scan.specs.Groups.{IsKind, Kind}
-use Rattle.rkyv_table.specs.Table.Reading.{pos_found}
+use Rattle.rkyv_table.specs.Table.Positions.{pos_found}
 use Rattle.rkyv_table.specs.Table.TableFormat.{TableStands}
 use Rattle.rkyv_table.specs.Table.Taking.{items_of}
 

@@ -6,7 +6,7 @@ use Rattle.rkyv_base.specs.Seal.{LiesIn, bytes_in, seal_pos}
 use Rattle.rkyv_base.specs.Shape.{Shape, Viewed}
 use Rattle.rkyv_base.specs.declared.seal.Seal.{Seal}
 use Rattle.rkyv_table.specs.Table.Header.{cap_at, controls_pos}
-use Rattle.rkyv_table.specs.Table.Reading.{IsWalked, item_at, table_controls}
+use Rattle.rkyv_table.specs.Table.Positions.{IsWalked, item_at, table_controls}
 use Rattle.rkyv_base.specs.declared.seal.ArchiveSeal.{ArchiveSeal}
 use Rattle.rkyv_table.specs.Table.SealedTable.{KeepsTable, KeptByWrites}
 use Rattle.rkyv_table.specs.Table.Layout.{table_shape}

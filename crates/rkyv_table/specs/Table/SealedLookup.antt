@@ -1,4 +1,5 @@
 -- The result of a lookup that returns a seal.
+use Rattle.rkyv_base.specs.declared.element.Shaped.{Ghosts as Shapes}
 use Rattle.rkyv_base.specs.declared.width.Word.{Ghosts as Words}
 use Rattle.std.specs.Prelude.{◌≡◌, ℕ, Bool, List, Option}
 use Rattle.std.specs.Int.{Width}
@@ -11,9 +12,10 @@ use Rattle.rkyv_base.specs.declared.seal.Seal.{Seal}
 use Rattle.rkyv_base.specs.declared.view.View.{View}
 use Rattle.rkyv_scan.specs.Groups.{Kind}
 use Rattle.rkyv_table.specs.Controls.Laws.{IsUnderHash}
-use Rattle.rkyv_table.specs.Table.Reading.{IsWalked, WrittenAt, home_positions}
+use Rattle.rkyv_table.specs.Table.Positions.{IsWalked, WrittenAt, home_positions}
 use Rattle.rkyv_table.specs.Table.Bare.{AnswersOf, MayAskOf}
-use Rattle.rkyv_table.specs.Table.Reading.{item_at, pos_found, table_bytes, table_pos}
+use Rattle.rkyv_table.specs.Table.Positions.{item_at, pos_found}
+use Rattle.rkyv_table.specs.Table.Reading.{table_bytes, table_pos}
 use Rattle.rkyv_table.specs.Table.SealedTable.{KeptByWrites}
 use Rattle.rkyv_table.specs.Table.Layout.{table_shape}
 use Rattle.rkyv_table.specs.declared.table.ArchivedHashTable.{ArchivedHashTable}
@@ -24,8 +26,8 @@ abbrev pub IsTableSeal : {T W : Type 0} → Width → Shape → ArchiveSeal (Tab
 IsTableSeal w s a = Viewed (table_shape w s) (archive_in a) (pos_in a)
 
 -- the table `t` is read at the seal `a`
-abbrev pub IsReadAt : {T W : Type 0} {wt : Words W} → ArchiveSeal (TableOf T W)
-    → ArchivedHashTable T W wt → Type 0
+abbrev pub IsReadAt : {T W : Type 0} {ts : Shapes T} {wt : Words W} → ArchiveSeal (TableOf T W)
+    → ArchivedHashTable T W ts wt → Type 0
 IsReadAt a t = (table_bytes t ≡ archive_in a) × (table_pos t ≡ pos_in a)
 
 -- the comparison can be called with each item

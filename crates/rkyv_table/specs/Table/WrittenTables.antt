@@ -1,7 +1,7 @@
 -- The list of pairs from which a table was written.
 use Rattle.std.specs.Prelude.{◌≡◌, ℕ, List, slice_get, slice_index, Some}
 use Rattle.std.specs.Int.{Width}
-use Rattle.rkyv_table.specs.Table.Reading.{WrittenAt, home_positions}
+use Rattle.rkyv_table.specs.Table.Positions.{WrittenAt, home_positions}
 use Rattle.rkyv_table.specs.Table.TableFormat.{TableStands}
 use Rattle.rkyv_base.specs.Shape.{Shape}
 use Rattle.rkyv_table.specs.Table.Taking.{hashes_of, items_of}

@@ -1,5 +1,5 @@
 //! Validating the control bytes after those of the buckets.
-ghost use Rattle.std.specs.Prelude.{IfErr, IfOk, IsTrue, length, ◌+◌, ◌<◌, ◌*◌, ◌≡◌, ◌≤◌, ◌↔◌};
+ghost use Rattle.std.specs.Prelude.{IfErr, IfOk, IsTrue, length, ◌<◌, ◌≡◌, ◌≤◌, ◌↔◌};
 ghost use Rattle.rkyv_table.specs.Controls.Numbers.{control_count};
 ghost use Rattle.rkyv_table.specs.Controls.Placing.{Repeats};
 ghost use Rattle.rkyv_table.specs.Controls.Repeating.{FirstUnlike, RepeatsAt};

@@ -1,5 +1,5 @@
 //! Walks over the full buckets, a group of control bytes at a time.
-ghost use Rattle.std.specs.Prelude.{List, MatchOption, [], length, slice_index, ℕ, ◌*◌, ◌+◌};
+ghost use Rattle.std.specs.Prelude.{List, MatchOption, [], length, slice_index, ℕ, ◌+◌};
 ghost use Rattle.std.specs.Prelude.{◌<◌, ◌∷◌, ◌≡◌, ◌≤◌};
 ghost use Rattle.std.specs.Iterator.{YieldsFirst, item_count};
 ghost use Rattle.rkyv_table.specs.Controls.Numbers.{control_count};

@@ -3,22 +3,22 @@ ghost use Rattle.std.specs.Prelude.{◌%◌, ◌<◌, ◌^◌, ◌≡◌, ◌≤
 ghost use Rattle.rkyv_table.specs.Table.Header.{cap_at};
 ghost use Rattle.rkyv_table.specs.Controls.Placing.{walk};
 ghost use Rattle.rkyv_table.specs.Table.Reading.{AreItems, CountsStrides, FindsItem, IsItemIn};
-ghost use Rattle.rkyv_table.specs.Table.Reading.{IsTable, IsWalked, MayAsk, table_bytes};
-ghost use Rattle.rkyv_table.specs.Table.Reading.{table_controls, table_pos};
+ghost use Rattle.rkyv_table.specs.Table.Reading.{MayAsk, table_bytes, table_pos};
+ghost use Rattle.rkyv_table.specs.Table.Positions.{IsWalked, table_controls};
 ghost use Rattle.rkyv_base.specs.declared.view.View.{View};
 
 use crate::controls::find::{Strides, find_from};
 use crate::controls::walk::Walk;
 use crate::table::ArchivedHashTable;
 use crate::table::header::controls_from;
-use rkyv_base::element::Element;
+use rkyv_base::element::{Element, Shaped};
 use rkyv_base::view::View;
 use rkyv_base::width::{Width, Word};
 use rkyv_scan::simd::GroupKind;
 use std::alloc::AllocError;
 
 /// A table with its control bytes.
-pub(crate) struct Items<'a, T, W: Word> {
+pub(crate) struct Items<'a, T: Shaped, W: Word> {
     pub(crate) table: ArchivedHashTable<'a, T, W>,
     /// The position of the first control byte. It has no meaning if there are no buckets.
     pub(crate) place: usize,
@@ -28,21 +28,20 @@ pub(crate) struct Items<'a, T, W: Word> {
     pub(crate) cap: usize,
 }
 
-impl<'a, T, W: Word> Clone for Items<'a, T, W> {
+impl<'a, T: Shaped, W: Word> Clone for Items<'a, T, W> {
     #[inline]
     fn clone(&self) -> Result<Items<'a, T, W>, AllocError> {
         Ok(*self)
     }
 }
 
-impl<'a, T, W: Word> Copy for Items<'a, T, W> {}
+impl<'a, T: Shaped, W: Word> Copy for Items<'a, T, W> {}
 
 impl<'a, T: Element, W: Width> Items<'a, T, W> {
     /// Returns a table with its control bytes.
     #[inline]
     pub(crate) fn of(table: ArchivedHashTable<'a, T, W>) -> Items<'a, T, W>
-        requires { IsTable W.word T.shape table }
-        ensures items { AreItems W.word T.shape result }
+        ensures items { AreItems result }
         ensures table { result.table ≡ table.entry }
     {
         let header = table.header;
@@ -67,9 +66,9 @@ impl<'a, T: Element, W: Width> Items<'a, T, W> {
     /// Returns a view of the item in a full bucket.
     #[inline]
     pub(crate) fn item(self, bucket: usize) -> View<'a, T>
-        requires items { AreItems W.word T.shape self }
+        requires items { AreItems self }
         requires walked { IsWalked W.word (table_bytes self.table) (table_pos self.table) bucket }
-        ensures { IsItemIn W.word T.shape self.entry.table bucket result }
+        ensures { IsItemIn self.entry.table bucket result }
     {
         let place = self.place - (bucket + 1) * T::size();
         View::new(self.table.view.bytes(), place as u64)
@@ -86,12 +85,12 @@ impl<'a, T: Element, W: Width> Items<'a, T, W> {
         cmp: F,
         strides: &mut Strides,
     ) -> Option<View<'a, T>>
-        requires items { AreItems W.word T.shape self }
+        requires items { AreItems self }
         requires start { 0 < self.cap → start ≡ hash % self.cap }
         requires room { strides.old ≤ 2 ^ 63 }
-        requires callable { MayAsk (F.pre cmp) W.word T.shape self.table }
-        ensures found { FindsItem (F.post cmp) G.kind W.word T.shape self.entry.table hash result }
-        ensures counts { CountsStrides (F.post cmp) G.kind W.word T.shape self.entry.table hash
+        requires callable { MayAsk (F.pre cmp) self.table }
+        ensures found { FindsItem (F.post cmp) G.kind self.entry.table hash result }
+        ensures counts { CountsStrides (F.post cmp) G.kind self.entry.table hash
             strides.old strides.new }
     {
         let bucket = find_from::<G, _>(
@@ -101,11 +100,11 @@ impl<'a, T: Element, W: Width> Items<'a, T, W> {
             hash,
             start,
             |bucket|
-                requires items { AreItems W.word T.shape self }
+                requires items { AreItems self }
                 requires walked { IsWalked W.word (table_bytes self.table) (table_pos self.table)
                     bucket }
-                requires callable { MayAsk (F.pre cmp) W.word T.shape self.table }
-                ensures { (v : View T) × IsItemIn W.word T.shape self.entry.table bucket v
+                requires callable { MayAsk (F.pre cmp) self.table }
+                ensures { (v : View T) × IsItemIn self.entry.table bucket v
                     × F.post cmp v result }
             { cmp(self.item(bucket)) },
             strides,
@@ -119,7 +118,7 @@ impl<'a, T: Element, W: Width> Items<'a, T, W> {
     /// Returns a walk over the full buckets.
     #[inline]
     pub(crate) fn walk<G: GroupKind>(self) -> Walk<'a, G>
-        requires { AreItems W.word T.shape self }
+        requires { AreItems self }
         ensures { result ≡ walk
             (table_controls W.word (table_bytes self.entry.table) (table_pos self.entry.table))
             (cap_at W.word (table_bytes self.entry.table) (table_pos self.entry.table)) }

@@ -8,7 +8,7 @@
 //! it reads at most ceil(capacity / 16) strides.
 ghost use Rattle.std.specs.Prelude.{◌^◌, ◌≡◌, ◌≤◌};
 ghost use Rattle.rkyv_scan.specs.Groups.{generic_kind};
-ghost use Rattle.rkyv_table.specs.Table.Reading.{CountsStrides, FindsItem, FindsItemPos, IsTable};
+ghost use Rattle.rkyv_table.specs.Table.Reading.{CountsStrides, FindsItem, FindsItemPos};
 ghost use Rattle.rkyv_table.specs.Table.Reading.{MayAsk, pos_of_found};
 
 use crate::controls::find::Strides;
@@ -49,34 +49,39 @@ impl<'a, T: Element, W: Width> ArchivedHashTable<'a, T, W> {
     /// - The comparison can be called with each item of the table.
     #[inline]
     pub fn get_with<F: Fn(View<'a, T>) -> bool>(self, hash: u64, cmp: F) -> Option<View<'a, T>>
-        requires table { IsTable W.word T.shape self }
-        requires callable { MayAsk (F.pre cmp) W.word T.shape self }
-        ensures { FindsItem (F.post cmp) generic_kind W.word T.shape self.entry hash result }
+        requires callable { MayAsk (F.pre cmp) self }
+        ensures { FindsItem (F.post cmp) generic_kind self.entry hash result }
     {
         self.get_by::<Group, F>(hash, cmp)
     }
 
     /// Looks up as `get_with` does, by groups of the kind `G`.
+    ///
+    /// # Requires
+    ///
+    /// - The comparison can be called with each item of the table.
     #[inline]
     pub fn get_by<G: GroupKind, F: Fn(View<'a, T>) -> bool>(
         self,
         hash: u64,
         cmp: F,
     ) -> Option<View<'a, T>>
-        requires table { IsTable W.word T.shape self }
-        requires callable { MayAsk (F.pre cmp) W.word T.shape self }
-        ensures { FindsItem (F.post cmp) G.kind W.word T.shape self.entry hash result }
+        requires callable { MayAsk (F.pre cmp) self }
+        ensures { FindsItem (F.post cmp) G.kind self.entry hash result }
     {
         let items = Items::of(self);
         items.find::<G, F>(self.start(hash), hash, cmp, &mut Strides::new())
     }
 
     /// Looks up as `get_with` does, and returns the position of the item.
+    ///
+    /// # Requires
+    ///
+    /// - The comparison can be called with each item of the table.
     #[inline]
     pub fn get_pos_with<F: Fn(View<'a, T>) -> bool>(self, hash: u64, cmp: F) -> Option<u64>
-        requires table { IsTable W.word T.shape self }
-        requires callable { MayAsk (F.pre cmp) W.word T.shape self }
-        ensures { FindsItemPos (F.post cmp) generic_kind W.word T.shape self.entry hash result }
+        requires callable { MayAsk (F.pre cmp) self }
+        ensures { FindsItemPos (F.post cmp) generic_kind self.entry hash result }
     {
         found_pos(self.get_with(hash, cmp))
     }
@@ -93,11 +98,10 @@ impl<'a, T: Element, W: Width> ArchivedHashTable<'a, T, W> {
     pub fn get_counted<F>(self, hash: u64, cmp: F, strides: &mut Strides) -> Option<View<'a, T>>
     where
         F: Fn(View<'a, T>) -> bool,
-        requires table { IsTable W.word T.shape self }
         requires room { strides.old ≤ 2 ^ 63 }
-        requires callable { MayAsk (F.pre cmp) W.word T.shape self }
-        ensures found { FindsItem (F.post cmp) generic_kind W.word T.shape self.entry hash result }
-        ensures counts { CountsStrides (F.post cmp) generic_kind W.word T.shape self.entry hash
+        requires callable { MayAsk (F.pre cmp) self }
+        ensures found { FindsItem (F.post cmp) generic_kind self.entry hash result }
+        ensures counts { CountsStrides (F.post cmp) generic_kind self.entry hash
             strides.old strides.new }
     {
         let items = Items::of(self);

@@ -5,8 +5,8 @@ ghost use Rattle.rkyv_table.specs.Table.Misplaced.{is_answer, NoneMisplacedIsCom
 ghost use Rattle.rkyv_table.specs.Table.Misplaced.{RepeatedAreMisplaced};
 ghost use Rattle.rkyv_table.specs.Table.MisplacedIn.{AnswersOf, CountsMisplaced, FindsOwn};
 ghost use Rattle.rkyv_table.specs.Table.MisplacedIn.{MayCompare};
-ghost use Rattle.rkyv_table.specs.Table.Reading.{AreItems, IsTable, IsWalked, MayAsk, table_bytes};
-ghost use Rattle.rkyv_table.specs.Table.Reading.{table_pos};
+ghost use Rattle.rkyv_table.specs.Table.Positions.{IsWalked};
+ghost use Rattle.rkyv_table.specs.Table.Reading.{AreItems, MayAsk, table_bytes, table_pos};
 
 use crate::controls::find::{Strides, find};
 use crate::table::ArchivedHashTable;
@@ -36,10 +36,10 @@ impl<'a, T: Element, W: Width> ArchivedHashTable<'a, T, W> {
         hash: u64,
         same: &S,
     ) -> Option<usize>
-        requires items { AreItems W.word T.shape items }
+        requires items { AreItems items }
         requires walked { IsWalked W.word (table_bytes items.table) (table_pos items.table) bucket }
-        requires comparable { MayCompare (S.pre same.now) W.word T.shape items.table }
-        ensures { FindsOwn (S.post same.now) generic_kind W.word T.shape items.entry.table hash
+        requires comparable { MayCompare (S.pre same.now) items.table }
+        ensures { FindsOwn (S.post same.now) generic_kind items.entry.table hash
             bucket result }
     {
         find::<Group, _>(
@@ -48,13 +48,13 @@ impl<'a, T: Element, W: Width> ArchivedHashTable<'a, T, W> {
             items.len,
             hash,
             |other|
-                requires items { AreItems W.word T.shape items }
+                requires items { AreItems items }
                 requires walked { IsWalked W.word (table_bytes items.table) (table_pos items.table)
                     bucket }
                 requires other { IsWalked W.word (table_bytes items.table) (table_pos items.table)
                     other }
-                requires comparable { MayCompare (S.pre same.now) W.word T.shape items.table }
-                ensures { AnswersOf (S.post same.entry.now) W.word T.shape items.entry.table bucket
+                requires comparable { MayCompare (S.pre same.now) items.table }
+                ensures { AnswersOf (S.post same.entry.now) items.entry.table bucket
                     other result }
             { same(items.item(bucket), items.item(other)) },
             &mut Strides::new(),
@@ -81,10 +81,9 @@ impl<'a, T: Element, W: Width> ArchivedHashTable<'a, T, W> {
         hash_of: H,
         same: S,
     ) -> usize
-        requires table { IsTable W.word T.shape self }
-        requires hashable { MayAsk (H.pre hash_of) W.word T.shape self }
-        requires comparable { MayCompare (S.pre same) W.word T.shape self }
-        ensures { CountsMisplaced (H.post hash_of) (S.post same) generic_kind W.word T.shape
+        requires hashable { MayAsk (H.pre hash_of) self }
+        requires comparable { MayCompare (S.pre same) self }
+        ensures { CountsMisplaced (H.post hash_of) (S.post same) generic_kind
             self.entry result }
     {
         let items = Items::of(self);

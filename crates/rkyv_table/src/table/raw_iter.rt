@@ -5,11 +5,12 @@ ghost use Rattle.std.specs.Prelude.{[], IfSome, MatchOption, length, slice_index
 ghost use Rattle.std.specs.Prelude.{◌≤◌, ◌∷◌, ◌≡◌};
 ghost use Rattle.rkyv_scan.specs.Groups.{is_full, mask_places, places_where};
 ghost use Rattle.std.specs.Iterator.{at_most};
-ghost use Rattle.rkyv_base.specs.View.{IsAt, IsView, archive_of, pos_of};
+ghost use Rattle.rkyv_base.specs.View.{IsView, archive_of, pos_of};
 ghost use Rattle.rkyv_table.specs.Table.Header.{len_at};
 ghost use Rattle.rkyv_table.specs.Table.Hints.{HintsExactly};
 ghost use Rattle.rkyv_table.specs.Table.RawItems.{AllStand, TakesPos};
-ghost use Rattle.rkyv_table.specs.Table.Reading.{IsTable, item_positions, table_bytes, table_pos};
+ghost use Rattle.rkyv_table.specs.Table.Positions.{item_positions};
+ghost use Rattle.rkyv_table.specs.Table.Reading.{table_bytes, table_pos};
 
 use crate::table::ArchivedHashTable;
 use crate::table::items::Items;
@@ -152,7 +153,6 @@ impl<'a, T: Element, W: Width> ArchivedHashTable<'a, T, W> {
     /// Returns a walk over the positions of the items, in bucket order.
     #[inline]
     pub fn raw_iter(self) -> RawIter<'a, T>
-        requires { IsTable W.word T.shape self }
         ensures archive { result.archive ≡ archive_of self.entry.view }
         ensures places { result.places
             ≡ item_positions W.word T.shape.size (table_bytes self.entry) (table_pos self.entry) }

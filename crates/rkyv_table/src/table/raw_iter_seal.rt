@@ -7,13 +7,11 @@
 //! - `next_seal` returns a seal of the next item, and leaves the cursor afterwards unspecified.
 ghost use Rattle.std.specs.Prelude.{IfSome, MatchOption, length, slice_range, ◌*◌, ◌+◌, ◌-◌, ◌<◌};
 ghost use Rattle.std.specs.Prelude.{◌≡◌, ◌≤◌};
-ghost use Rattle.std.specs.Int.{byte_len};
-ghost use Rattle.rkyv_base.specs.Scalar.{scalar_shape};
 ghost use Rattle.rkyv_base.specs.Seal.{LiesIn, archive_in, bytes_in, pos_in};
 ghost use Rattle.rkyv_base.specs.Sealing.{Keeps, Sealed, with_value};
 ghost use Rattle.rkyv_table.specs.Table.Header.{cap_at, len_at};
 ghost use Rattle.rkyv_table.specs.Controls.Placing.{walk};
-ghost use Rattle.rkyv_table.specs.Table.Reading.{table_controls};
+ghost use Rattle.rkyv_table.specs.Table.Positions.{table_controls};
 ghost use Rattle.rkyv_table.specs.Table.SealedItems.{
   CountsDown,
   FindsFirstLeft,
@@ -273,13 +271,13 @@ impl<'a, T> RawIterSeal<'a, T> {
     /// - The scalar fits in the archive at that position.
     #[inline]
     pub fn write_at<N: Scalar>(&mut self, pos: u64, offset: usize, value: N)
-        requires { pos + offset + byte_len N.encoding.word ≤ length (cursor_bytes self.old) }
+        requires { pos + offset + N.shape.size ≤ length (cursor_bytes self.old) }
         ensures stays { StaysThere self.old self.new }
         ensures written { cursor_bytes self.new
             ≡ with_value N.encoding (cursor_bytes self.old) (pos + offset) value }
-        ensures sealed { Sealed (cursor_bytes self.old) (pos + offset) (byte_len N.encoding.word)
+        ensures sealed { Sealed (cursor_bytes self.old) (pos + offset) (N.shape.size)
             (cursor_bytes self.new) }
-        ensures holds { Keeps (scalar_shape N.encoding) (cursor_bytes self.old)
+        ensures holds { Keeps N.shape (cursor_bytes self.old)
             (cursor_bytes self.new) (pos + offset) }
     {
         let bytes = &mut *self.archive;
@@ -295,11 +293,11 @@ impl<'a, N: Scalar> RawIterSeal<'a, N> {
     /// - The scalar fits in the archive at that position.
     #[inline]
     pub fn set_at(&mut self, pos: u64, value: N)
-        requires { pos + byte_len N.encoding.word ≤ length (cursor_bytes self.old) }
+        requires { pos + N.shape.size ≤ length (cursor_bytes self.old) }
         ensures stays { StaysThere self.old self.new }
         ensures written { cursor_bytes self.new
             ≡ with_value N.encoding (cursor_bytes self.old) pos value }
-        ensures kept { KeepsCursor (scalar_shape N.encoding) self.old pos self.new }
+        ensures kept { KeepsCursor N.shape self.old pos self.new }
     {
         let bytes = &mut *self.archive;
         set_at(bytes, pos as usize, value);

@@ -1,12 +1,11 @@
 //! Reading a table in place.
-ghost use Rattle.std.specs.Prelude.{IsTrue, MatchResult, length, ◌%◌, ◌*◌, ◌+◌, ◌<◌, ◌↔◌, ◌≡◌};
-ghost use Rattle.std.specs.Prelude.{◌≤◌};
+ghost use Rattle.std.specs.Prelude.{IsTrue, MatchResult, length, ◌%◌, ◌*◌, ◌+◌, ◌<◌, ◌↔◌, ◌≡◌, ◌≤◌};
 ghost use Rattle.std.specs.Int.{byte_len};
 ghost use Rattle.rkyv_base.specs.Checking.{Fails, Passes};
 ghost use Rattle.rkyv_base.specs.View.{IsView, bytes_of, pos_of};
 ghost use Rattle.rkyv_table.specs.Table.Decoded.{IsDecoded};
 ghost use Rattle.rkyv_table.specs.Table.Header.{cap_at, len_at};
-ghost use Rattle.rkyv_table.specs.Table.Reading.{IsTable, table_bytes, table_pos};
+ghost use Rattle.rkyv_table.specs.Table.Reading.{table_bytes, table_pos};
 ghost use Rattle.rkyv_table.specs.Table.Layout.{table_shape};
 
 use crate::controls::reciprocal::Reciprocal;
@@ -56,11 +55,14 @@ impl<'a, T: Element, W: Width> ArchivedHashTable<'a, T, W> {
     }
 
     /// Returns the table at a view of its header, which is decoded here, once.
+    ///
+    /// # Requires
+    ///
+    /// - The view is of a valid table.
     #[inline]
     pub fn of(view: View<'a, TableOf<T, W>>) -> ArchivedHashTable<'a, T, W>
         requires { IsView (table_shape W.word T.shape) view }
         ensures view { result.view ≡ view.entry }
-        ensures table { IsTable W.word T.shape result }
     {
         ArchivedHashTable {
             view,
@@ -69,6 +71,11 @@ impl<'a, T: Element, W: Width> ArchivedHashTable<'a, T, W> {
     }
 
     /// Returns the table at a view of its header, which was decoded before.
+    ///
+    /// # Requires
+    ///
+    /// - The view is of a valid table.
+    /// - `header` is what the view's header says.
     #[inline]
     pub fn with_header(
         view: View<'a, TableOf<T, W>>,
@@ -77,7 +84,6 @@ impl<'a, T: Element, W: Width> ArchivedHashTable<'a, T, W> {
         requires view { IsView (table_shape W.word T.shape) view }
         requires header { IsDecoded W.word (bytes_of view) (pos_of view) header }
         ensures view { result.view ≡ view.entry }
-        ensures table { IsTable W.word T.shape result }
     {
         ArchivedHashTable { view, header }
     }

@@ -3,7 +3,7 @@ ghost use Rattle.std.specs.Prelude.{IfSome, List, ℕ};
 ghost use Rattle.rkyv_base.specs.Entry.{entry_shape};
 ghost use Rattle.rkyv_base.specs.Seal.{LiesIn};
 ghost use Rattle.rkyv_base.specs.Shape.{Viewed};
-ghost use Rattle.rkyv_table.specs.Table.Reading.{IsWalked};
+ghost use Rattle.rkyv_table.specs.Table.Positions.{IsWalked};
 ghost use Rattle.rkyv_scan.specs.Groups.{generic_kind};
 ghost use Rattle.rkyv_table.specs.Table.SealedLookup.{IsItemSeal, IsTableSeal, MayAskAt};
 ghost use Rattle.rkyv_table.specs.Table.SealedLookup.{SealsFirst, SealsFound, pos_of_seal};

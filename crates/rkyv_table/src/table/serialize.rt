@@ -7,7 +7,7 @@
 //! The header is written later, by the `HashTableResolver`.
 
 ghost use Rattle.std.specs.Prelude.{◌≡◌, ◌+◌, ◌^◌, ◌<◌, ◌≤◌, [], IfOk, None};
-ghost use Rattle.std.specs.Prelude.{length, replicate, vec_capacity};
+ghost use Rattle.std.specs.Prelude.{replicate, vec_capacity};
 ghost use Rattle.rkyv_base.specs.Pairs.{written_as};
 ghost use Rattle.rkyv_table.specs.Controls.Numbers.{control_count};
 ghost use Rattle.rkyv_table.specs.Table.Input.{from_both, from_iter};
@@ -19,7 +19,7 @@ use crate::table::bytes::write_table;
 use crate::table::hands_in::{HandsIn, ItemsAndHashes, Pairs};
 use crate::table::resolve::HashTableResolver;
 use rkyv_base::archive::{Serialize, WriteResult};
-use rkyv_base::element::Element;
+use rkyv_base::element::{Element, Shaped};
 use rkyv_base::errors::{IteratorLengthMismatch, WriteError};
 use rkyv_base::lend::Lend;
 use rkyv_base::width::Width;
@@ -169,7 +169,7 @@ fn serialize_given<
     }
 }
 
-impl<'a, T, W: Width> ArchivedHashTable<'a, T, W> {
+impl<'a, T: Shaped, W: Width> ArchivedHashTable<'a, T, W> {
     /// Writes a table of `len` items, each under the next of the hashes, and returns its resolver.
     ///
     /// Each item goes into its home bucket: the first bucket that its hash shows

@@ -1,6 +1,6 @@
 //! Taking items from one iterator of pairs, each into its home bucket.
 
-ghost use Rattle.std.specs.Prelude.{◌≡◌, ℕ, ◌%◌, ◌+◌, ◌<◌, ◌≤◌, ◌^◌, ◌∷◌, ◌++◌, List, []};
+ghost use Rattle.std.specs.Prelude.{◌≡◌, ℕ, ◌%◌, ◌+◌, ◌<◌, ◌∷◌, ◌++◌, List, []};
 ghost use Rattle.std.specs.Prelude.{MatchResult, None, Some, replicate, IfSome, length, slice_set};
 ghost use Rattle.std.specs.Iterator.{Drains};
 ghost use Rattle.rkyv_table.specs.Controls.Shown.{fresh_controls};

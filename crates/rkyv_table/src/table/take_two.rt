@@ -1,7 +1,6 @@
 //! Taking items and their hashes from two iterators, each item into its home bucket.
 
-ghost use Rattle.std.specs.Prelude.{◌≡◌, ℕ, ◌+◌, ◌<◌, ◌≤◌, ◌^◌, List, MatchResult, None, replicate};
-ghost use Rattle.std.specs.Prelude.{length};
+ghost use Rattle.std.specs.Prelude.{◌≡◌, ◌+◌, ◌<◌, ◌≤◌, ◌^◌, None, replicate};
 ghost use Rattle.rkyv_table.specs.Controls.Shown.{fresh_controls};
 ghost use Rattle.rkyv_table.specs.Table.Counting.{CountedOn};
 ghost use Rattle.rkyv_table.specs.Table.Input.{TakesItems, from_both};

@@ -2,6 +2,7 @@
 ghost use Rattle.std.specs.Prelude.{◌+◌, ◌<◌, ◌^◌};
 
 use crate::tests::archives::hash_of_u32;
+use rkyv_base::entry::Entry;
 use rkyv_base::errors::WriteError;
 use rkyv_base::width::{Narrow, Wide};
 use rkyv_base::writer::{NoMemory, VecWriter};
@@ -29,7 +30,7 @@ fn header_at(alloc: Global, pos: u32) -> Result<([u8; 12], bool, u64), WriteErro
     let first_control = resolver.pos();
     let (len, load_factor) = (resolver.len(), resolver.load_factor());
     let mut header = [7u8; 12];
-    let fits = ArchivedHashTable::<(u32, u32), Narrow>::resolve_from_len(
+    let fits = ArchivedHashTable::<Entry<u32, u32>, Narrow>::resolve_from_len(
         len,
         load_factor,
         resolver,

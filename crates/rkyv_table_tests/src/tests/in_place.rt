@@ -1,13 +1,11 @@
 //! Writing each item of a table in place, by a cursor over the bare bytes.
 //!
 //! The calls are proved for every scalar and both widths, and run over numbers.
-ghost use Rattle.rkyv_base.specs.Scalar.{scalar_shape};
 ghost use Rattle.rkyv_base.specs.Seal.{LiesIn, SealStays, bytes_in, seal_pos};
 ghost use Rattle.rkyv_base.specs.Sealing.{Keeps, Sealed};
 ghost use Rattle.rkyv_base.specs.Shape.{Viewed};
 ghost use Rattle.rkyv_table.specs.Table.Bare.{MayAskOf};
 ghost use Rattle.rkyv_table.specs.Table.Layout.{table_shape};
-ghost use Rattle.std.specs.Int.{byte_len};
 
 use crate::tests::archives::two_archived;
 use rkyv_base::access::{access, access_mut};
@@ -20,8 +18,8 @@ use rkyv_table::table::{ArchivedHashTable, TableOf};
 
 // Sets each item of a table, which stays valid.
 fn set_all<N: Scalar, W: Width>(archive: &mut [u8], pos: u64, value: N)
-    requires { Viewed (table_shape W.word (scalar_shape N.encoding)) archive.old pos }
-    ensures { Viewed (table_shape W.word (scalar_shape N.encoding)) archive.new pos }
+    requires { Viewed (table_shape W.word N.shape) archive.old pos }
+    ensures { Viewed (table_shape W.word N.shape) archive.new pos }
 {
     let mut rest = ArchivedHashTable::<N, W>::raw_iter_over(archive, pos);
     while let Some(next) = rest.next_pos() {
@@ -31,18 +29,18 @@ fn set_all<N: Scalar, W: Width>(archive: &mut [u8], pos: u64, value: N)
 
 // Sets each item of a table by seals. The table stays valid.
 fn set_all_by_seals<N: Scalar, W: Width>(archive: &mut [u8], pos: u64, value: N)
-    requires { Viewed (table_shape W.word (scalar_shape N.encoding)) archive.old pos }
-    ensures { Viewed (table_shape W.word (scalar_shape N.encoding)) archive.new pos }
+    requires { Viewed (table_shape W.word N.shape) archive.old pos }
+    ensures { Viewed (table_shape W.word N.shape) archive.new pos }
 {
     let mut rest = ArchivedHashTable::<N, W>::raw_iter_over(archive, pos);
     for _ in 0..rest.len() {
         rest.next_seal_with(
             |seal: &mut Seal<'_, N>|
-                requires { LiesIn (scalar_shape N.encoding) seal.old }
+                requires { LiesIn N.shape seal.old }
                 ensures stays { SealStays seal.old seal.new }
                 ensures sealed { Sealed (bytes_in seal.old) (seal_pos seal.old)
-                    (byte_len N.encoding.word) (bytes_in seal.new) }
-                ensures holds { Keeps (scalar_shape N.encoding) (bytes_in seal.old)
+                    N.shape.size (bytes_in seal.new) }
+                ensures holds { Keeps N.shape (bytes_in seal.old)
                     (bytes_in seal.new) (seal_pos seal.old) }
             {
                 seal.set(value);
@@ -82,8 +80,8 @@ fn set_found<N: Scalar, W: Width, F: Fn(View<'_, N>) -> bool>(
     accepts: F,
     value: N,
 ) -> Option<N>
-    requires table { Viewed (table_shape W.word (scalar_shape N.encoding)) archive.old pos }
-    requires callable { MayAskOf (F.pre accepts) W.word (scalar_shape N.encoding) archive.old pos }
+    requires table { Viewed (table_shape W.word N.shape) archive.old pos }
+    requires callable { MayAskOf (F.pre accepts) W.word N.shape archive.old pos }
 {
     ArchivedHashTable::<N, W>::found_with(
         archive,
@@ -91,7 +89,7 @@ fn set_found<N: Scalar, W: Width, F: Fn(View<'_, N>) -> bool>(
         hash,
         accepts,
         |seal: &mut Seal<'_, N>|
-            requires { LiesIn (scalar_shape N.encoding) seal.old }
+            requires { LiesIn N.shape seal.old }
         {
             seal.set(value);
             seal.to_native()

@@ -4,7 +4,7 @@ use Rattle.rkyv_base.proofs.seal.set_value.Goals as goal
 
 pub returns-clause-holds : goal.returns-clause-holds
 returns-clause-holds g c =
-    entry_kept g.K.Element.shape (scalar_shape g.N.Scalar.encoding) g.met.K.Element.laws (scalar_element g.N.Scalar.encoding g.met.N.Scalar.word)
+    entry_kept g.K.Shaped.shape g.N.Shaped.shape g.K.Shaped.laws g.N.Shaped.laws
     c.args.archive.now _ c.args.entry_pos (rw c.value_offset.ensures.value at c.set_at.ensures.sealed) (rw c.value_offset.ensures.value at c.set_at.ensures.holds)
 
 pub returns-clause-viewed : goal.returns-clause-viewed

@@ -5,5 +5,5 @@ use Rattle.rkyv_base.proofs.writer.align_for_in.Goals as goal
 
 pub returns-in-Err : goal.returns-in-Err
 returns-in-Err g c =
-    told_of_zeros g.W.Width.LIMIT g.T.Element.shape.align (end_of (g.S.Writer.output c.args.serializer.now)) _ _ _ c.in-Err.e
-    g.met.T.Element.laws.align_is (rw (c.align-align.ensures, c.pos.ensures) refl) c.in-Err.ensures
+    told_of_zeros g.W.Width.LIMIT g.T.Shaped.shape.align (end_of (g.S.Writer.output c.args.serializer.now)) _ _ _ c.in-Err.e
+    g.T.Shaped.laws.align_is (rw (c.align-align.ensures, c.pos.ensures) refl) c.in-Err.ensures

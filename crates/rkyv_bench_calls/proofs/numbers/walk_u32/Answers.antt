@@ -1,6 +1,6 @@
 use Rattle.std.specs.Int.{w32}
 use Rattle.rkyv_base.specs.Entry.{entry_shape}
-use Rattle.rkyv_table.specs.Table.Reading.{item_positions}
+use Rattle.rkyv_table.specs.Table.Positions.{item_positions}
 use Rattle.rkyv_bench_calls.specs.Archives.{number_shape, root}
 use Rattle.rkyv_bench_calls.specs.Totals.{number_weight}
 use Rattle.rkyv_bench_calls.proofs.Walks.{walk_counted}

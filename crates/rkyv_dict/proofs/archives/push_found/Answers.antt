@@ -2,7 +2,7 @@ use Rattle.std.proofs.Common.{subst, ◌≡◌, ◌++◌, ℕ, Bool, List, Optio
 use Rattle.std.specs.List.{find}
 use Rattle.rkyv_scan.specs.Groups.{generic_kind}
 use Rattle.rkyv_base.specs.Entry.{entry_shape, value_offset}
-use Rattle.rkyv_table.specs.Table.Reading.{home_positions, pos_found}
+use Rattle.rkyv_table.specs.Table.Positions.{home_positions, pos_found}
 use Rattle.rkyv_collections.specs.Map.{MapWrittenAt, map_archive}
 use Rattle.rkyv_dict.specs.Archives.{hash, value_line, value_under}
 use Rattle.rkyv_dict.specs.First.{HasHomes, first_under}
@@ -12,7 +12,7 @@ use Rattle.rkyv_dict.proofs.archives.push_found.Goals as goal
 pub returns-clause-found : goal.returns-clause-found
 unfolding value_under
 returns-clause-found g c =
-    let s = g.P.Element.shape in
+    let s = g.P.Shaped.shape in
     let m = c.map_of.result in
     let fits : List ℕ → ℕ → Bool = g.Q.Query.fits c.args.key.now in
     let place : List ℕ → ℕ → Option ℕ = λ b p. pos_found generic_kind g.W.Word.word (entry_shape s s).size b p (hash (g.Q.KeyHash.calls c.args.key.now)) (fits b) in
@@ -23,7 +23,7 @@ returns-clause-found g c =
 pub returns-clause-first : goal.returns-clause-first
 unfolding HasHomes first_under
 returns-clause-first g c homes written =
-    let s = g.P.Element.shape in
+    let s = g.P.Shaped.shape in
     let w = g.W.Word.word in
     let m = c.map_of.result in
     let fits : List ℕ → ℕ → Bool = g.Q.Query.fits c.args.key.now in

@@ -1,26 +1,24 @@
-use Rattle.std.proofs.Common.{ap, subst, sym, ◌∙◌, ◌≡◌, ◌++◌, ℕ, List, string_bytes}
+use Rattle.std.proofs.Common.{ap, sym, ◌∙◌, ◌≡◌, ◌++◌, ℕ, List, string_bytes}
 use Rattle.std.specs.List.{flat_map}
-use Rattle.rkyv_base.specs.Entry.{entry_shape}
-use Rattle.rkyv_table.specs.Table.RawItems.{AllStand, ItemsLeft}
+use Rattle.rkyv_table.specs.Table.RawItems.{ItemsLeft}
 use Rattle.rkyv_collections.specs.Map.{key_positions, map_archive, map_bytes}
 use Rattle.rkyv_dict.specs.Archives.{line_at}
-use Rattle.rkyv_dict.proofs.Lines.{lines_after, stand_after}
+use Rattle.rkyv_dict.proofs.Lines.{lines_after}
 use Rattle.rkyv_dict.proofs.archives.push_lines.Goals as goal
 
 pub loop-key-init : goal.loop-key-init
 loop-key-init g c =
-    let s = g.P.Element.shape in
+    let s = g.P.Shaped.shape in
     let line : ℕ → List ℕ = line_at s g.P.Part.text (map_bytes c.args.map) in
     let walk : ItemsLeft = c.iter-key-items.result in
     let same : c.into_iter-key-iterator.result ≡ walk = cc in (
-      subst (AllStand (entry_shape s s)) (sym same) c.iter-key-items.ensures.stand,
       ap (λ (left : ItemsLeft). left.archive) same ∙ c.iter-key-items.ensures.archive,
       ap (λ places. string_bytes c.args.out.now ++ flat_map line places) (sym (ap (λ (left : ItemsLeft). left.places) same ∙ c.iter-key-items.ensures.places)),
     )
 
 pub loop-key-preserved : goal.loop-key-preserved
 loop-key-preserved g c =
-    let s = g.P.Element.shape in
+    let s = g.P.Shaped.shape in
     let text = g.P.Part.text in
     let archive = map_archive c.args.map in
     let before : ItemsLeft = c.loop-key.key-iterator in
@@ -29,8 +27,7 @@ loop-key-preserved g c =
     let value = c.in-Some.value in
     let steps = c.in-Some.ensures.steps in
     let left = c.loop-key.invariant in
-    let all : List ℕ = string_bytes c.args.out.now ++ flat_map (line_at s text archive.now) (key_positions g.W.Word.word s s c.args.map) in (
-      stand_after s text archive before after key value left.1 steps.0 steps.1 steps.2 left.0,
-      steps.0.archive ∙ left.1,
-      lines_after s text archive before after key value left.1 steps.0 steps.1 steps.2 all (string_bytes c.loop-key.out) (string_bytes c.push_pair.new.out) left.2 c.in_ok-push_pair.ensures,
+    let all : List ℕ = string_bytes c.args.out.now ++ flat_map (line_at s text archive.now) (key_positions c.args.map) in (
+      steps.0.archive ∙ left.0,
+      lines_after s text archive before after key value left.0 steps.0 steps.1 steps.2 all (string_bytes c.loop-key.out) (string_bytes c.push_pair.new.out) left.1 c.in_ok-push_pair.ensures,
     )

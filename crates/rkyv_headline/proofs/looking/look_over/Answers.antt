@@ -4,19 +4,19 @@ use Rattle.rkyv_headline.proofs.looking.look_over.Goals as goal
 
 pub walk-requires : goal.walk-requires
 walk-requires g c =
-    accepted_viewed g.W.Word.word g.met.W.Width.layout.kind g.T.Element.shape g.met.T.Element.laws c.args.bytes.now c.args.pos c.args.range c.in-Ok.field-0
+    accepted_viewed g.W.Word.word g.met.W.Width.layout.kind g.T.Shaped.shape g.T.Shaped.laws c.args.bytes.now c.args.pos c.args.range c.in-Ok.field-0
     c.requires.inside c.requires.aligned c.requires.ordered.0 c.requires.ordered.1 c.in-Ok.ensures
 
 pub look_up-answer-requires-clause-table : goal.look_up-answer-requires-clause-table
 look_up-answer-requires-clause-table g c =
-    accepted_viewed g.W.Word.word g.met.W.Width.layout.kind g.T.Element.shape g.met.T.Element.laws c.args.bytes.now c.args.pos c.args.range c.in-Ok.field-0
+    accepted_viewed g.W.Word.word g.met.W.Width.layout.kind g.T.Shaped.shape g.T.Shaped.laws c.args.bytes.now c.args.pos c.args.range c.in-Ok.field-0
     c.requires.inside c.requires.aligned c.requires.ordered.0 c.requires.ordered.1 c.in-Ok.ensures
 
 pub returns : goal.returns
 returns g c =
     let w = g.W.Word.word in
-    let s = g.T.Element.shape in
-    let law = g.met.T.Element.laws in
+    let s = g.T.Shaped.shape in
+    let law = g.T.Shaped.laws in
     let stands = accepted_viewed w g.met.W.Width.layout.kind s law c.args.bytes.now c.args.pos c.args.range c.in-Ok.field-0
     c.requires.inside c.requires.aligned c.requires.ordered.0 c.requires.ordered.1 c.in-Ok.ensures in
     let answer = c.look_up-answer in

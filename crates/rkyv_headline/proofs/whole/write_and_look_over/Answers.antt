@@ -8,7 +8,7 @@ use Rattle.rkyv_headline.proofs.whole.write_and_look_over.Goals as goal
 
 pub returns-in-Ok-look_over : goal.returns-in-Ok-look_over
 returns-in-Ok-look_over g c =
-    let items = encoding (element_members g.U.Archived.Element g.U.Archived.StandsFor) g.U.Archive g.X.Lend in
+    let items = encoding (element_members g.U.Archived.Shaped g.U.Archived.StandsFor) g.U.Archive g.X.Lend in
     let input = pairs_of g.I.Iterator g.J.Iterator c.args.items c.args.hashes in
     let list = list_of (width_members g.W.Word g.W.Width) items input c.args.len c.args.load_factor in
     let o = held c.args.serializer.now in
@@ -21,7 +21,7 @@ returns-in-Ok-look_over g c =
 
 pub returns-in-Err-look_over : goal.returns-in-Err-look_over
 returns-in-Err-look_over g c =
-    let items = encoding (element_members g.U.Archived.Element g.U.Archived.StandsFor) g.U.Archive g.X.Lend in
+    let items = encoding (element_members g.U.Archived.Shaped g.U.Archived.StandsFor) g.U.Archive g.X.Lend in
     let input = pairs_of g.I.Iterator g.J.Iterator c.args.items c.args.hashes in
     let list = list_of (width_members g.W.Word g.W.Width) items input c.args.len c.args.load_factor in
     let o = held c.args.serializer.now in
@@ -31,6 +31,6 @@ returns-in-Err-look_over g c =
     let sits = appended_sits o o' wrote.2 refl wrote.3.1.0 in
     let valid = c.written_lists_stand.ensures c.args.load_factor wrote.1 (end_of o) at.end at.pos wrote.2 o'.bytes wrote.3.2 sits in
     let range : PartRange = record { lo = c.pos-begin.result; hi = at.end } in
-    look_fails list o o' (table_in g.W.Word g.U.Archived.Element c.bytes.result.now at.pos) at.end at.pos range wrote
-    (not_refused g.W.Word.word g.met.W.Width.layout.kind g.U.Archived.Element.shape g.met.U.Archived.Element.laws o'.bytes c.bytes.result.now at.pos (end_of o) at.end valid.0.passes c.bytes.ensures range c.pos-begin.ensures refl)
+    look_fails list o o' (table_in g.W.Word g.U.Archived.Shaped c.bytes.result.now at.pos) at.end at.pos range wrote
+    (not_refused g.W.Word.word g.met.W.Width.layout.kind g.U.Archived.Shaped.shape g.U.Archived.Shaped.laws o'.bytes c.bytes.result.now at.pos (end_of o) at.end valid.0.passes c.bytes.ensures range c.pos-begin.ensures refl)
     c.in-Err-look_over.e c.in-Err-look_over.ensures

@@ -8,14 +8,14 @@ use Rattle.rkyv_headline.proofs.writing.write_list.Goals as goal
 
 pub returns-in-Err : goal.returns-in-Err
 returns-in-Err g c =
-    let items = encoding (element_members g.U.Archived.Element g.U.Archived.StandsFor) g.U.Archive g.X.Lend in
+    let items = encoding (element_members g.U.Archived.Shaped g.U.Archived.StandsFor) g.U.Archive g.X.Lend in
     let input = pairs_of g.I.Iterator g.J.Iterator c.args.items c.args.hashes in
     let list = list_of (width_members g.W.Word g.W.Width) items input c.args.len c.args.load_factor in
     no_list list (g.S.Writer.output c.args.serializer.now) (g.S.Writer.output c.serialize_from_iter.new.serializer) c.in-Err.e c.in-Err.ensures
 
 pub returns-in-Err-align_for_in : goal.returns-in-Err-align_for_in
 returns-in-Err-align_for_in g c =
-    let items = encoding (element_members g.U.Archived.Element g.U.Archived.StandsFor) g.U.Archive g.X.Lend in
+    let items = encoding (element_members g.U.Archived.Shaped g.U.Archived.StandsFor) g.U.Archive g.X.Lend in
     let input = pairs_of g.I.Iterator g.J.Iterator c.args.items c.args.hashes in
     let list = list_of (width_members g.W.Word g.W.Width) items input c.args.len c.args.load_factor in
     let f = list_format list in
@@ -31,7 +31,7 @@ resolve_from_len-requires-clause-room g c =
 
 pub returns-in-Err-resolve_from_len : goal.returns-in-Err-resolve_from_len
 returns-in-Err-resolve_from_len g c =
-    let items = encoding (element_members g.U.Archived.Element g.U.Archived.StandsFor) g.U.Archive g.X.Lend in
+    let items = encoding (element_members g.U.Archived.Shaped g.U.Archived.StandsFor) g.U.Archive g.X.Lend in
     let input = pairs_of g.I.Iterator g.J.Iterator c.args.items c.args.hashes in
     let list = list_of (width_members g.W.Word g.W.Width) items input c.args.len c.args.load_factor in
     let f = list_format list in
@@ -44,7 +44,7 @@ returns-in-Err-resolve_from_len g c =
 
 pub returns-in-Ok-append_in : goal.returns-in-Ok-append_in
 returns-in-Ok-append_in g c =
-    let items = encoding (element_members g.U.Archived.Element g.U.Archived.StandsFor) g.U.Archive g.X.Lend in
+    let items = encoding (element_members g.U.Archived.Shaped g.U.Archived.StandsFor) g.U.Archive g.X.Lend in
     let input = pairs_of g.I.Iterator g.J.Iterator c.args.items c.args.hashes in
     let list = list_of (width_members g.W.Word g.W.Width) items input c.args.len c.args.load_factor in
     let f = list_format list in
@@ -58,7 +58,7 @@ returns-in-Ok-append_in g c =
 
 pub returns-in-Err-append_in : goal.returns-in-Err-append_in
 returns-in-Err-append_in g c =
-    let items = encoding (element_members g.U.Archived.Element g.U.Archived.StandsFor) g.U.Archive g.X.Lend in
+    let items = encoding (element_members g.U.Archived.Shaped g.U.Archived.StandsFor) g.U.Archive g.X.Lend in
     let input = pairs_of g.I.Iterator g.J.Iterator c.args.items c.args.hashes in
     let list = list_of (width_members g.W.Word g.W.Width) items input c.args.len c.args.load_factor in
     let f = list_format list in

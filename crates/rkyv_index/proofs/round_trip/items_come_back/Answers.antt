@@ -9,7 +9,7 @@ use Rattle.rkyv_index.proofs.round_trip.items_come_back.Goals as goal
 pub returns-in-Ok-deserialize_items : goal.returns-in-Ok-deserialize_items
 returns-in-Ok-deserialize_items g c =
     let w = g.W.Word.word in
-    let k = g.A.Archived.Element.shape in
+    let k = g.A.Archived.Shaped.shape in
     let s = index_set_shape w k in
     let listed = c.args.items.now.0.items in
     let Told : List ℕ → ℕ → Type 0 = λ b p. IndexSetStands w k g.A.Archived.StandsFor.stands (hash_at (fx_hasher low_halves) g.A.Archived.KeyElement.key_calls) (7, 8) b p listed in
@@ -21,4 +21,4 @@ returns-in-Ok-deserialize_items g c =
     let at = c.of.ensures.at in
     let lent = subst (λ (a : Bor (List ℕ)). Told a.now c.in-Ok-access_in.root.pos) (sym at.0) viewed in
     let stands = subst (λ (q : ℕ). Told (keys_of c.of.result).view.archive.now q) (sym at.1) lent in
-    c.eq.ensures ∙ c.items_read_back_are_listed.ensures (set_bytes c.of.result) (set_pos c.of.result) (7, 8) listed c.in-Ok-deserialize_items.back.items c.of.ensures.set stands c.in-Ok-deserialize_items.ensures
+    c.eq.ensures ∙ c.items_read_back_are_listed.ensures (set_bytes c.of.result) (set_pos c.of.result) (7, 8) listed c.in-Ok-deserialize_items.back.items c.of.result.map.valid stands c.in-Ok-deserialize_items.ensures

@@ -11,8 +11,8 @@ use Rattle.rkyv_index.proofs.round_trip.pairs_come_back.Goals as goal
 pub returns-in-Ok-deserialize_pairs : goal.returns-in-Ok-deserialize_pairs
 returns-in-Ok-deserialize_pairs g c =
     let w = g.W.Word.word in
-    let k = g.A.Archived.Element.shape in
-    let v = g.B.Archived.Element.shape in
+    let k = g.A.Archived.Shaped.shape in
+    let v = g.B.Archived.Shaped.shape in
     let s = index_shape w (entry_shape k v) in
     let listed = c.args.pairs.now.0.items in
     let Told : List ℕ → ℕ → Type 0 = λ b p. IndexStands w k v g.A.Archived.StandsFor.stands g.B.Archived.StandsFor.stands (hash_at (fx_hasher low_halves) g.A.Archived.KeyElement.key_calls) (7, 8) b p listed in
@@ -22,4 +22,4 @@ returns-in-Ok-deserialize_pairs g c =
     let there = subst (λ (a : Bor (List ℕ)). Told a.now (length read.now - s.size)) (sym root.0) here in
     let viewed = subst (λ (q : ℕ). Told c.in-Ok-access_in.root.archive.now q) (sym root.1) there in
     let stands = subst (λ view. Told (bytes_of view) (pos_of view)) (sym c.of.ensures.view) viewed in
-    c.eq.ensures ∙ c.pairs_read_back_are_listed.ensures (index_bytes c.of.result) (index_pos c.of.result) (7, 8) listed c.in-Ok-deserialize_pairs.back.items c.of.ensures.map stands c.in-Ok-deserialize_pairs.ensures
+    c.eq.ensures ∙ c.pairs_read_back_are_listed.ensures (index_bytes c.of.result) (index_pos c.of.result) (7, 8) listed c.in-Ok-deserialize_pairs.back.items c.of.result.valid stands c.in-Ok-deserialize_pairs.ensures

@@ -3,7 +3,8 @@ use Rattle.std.specs.Int.{w32}
 use Rattle.std.specs.Option.{option_map}
 use Rattle.rkyv_base.specs.Sealing.{value_pos}
 use Rattle.rkyv_keys.specs.OfTexts.{same_bytes}
-use Rattle.rkyv_collections.specs.Map.{FindsFirstKeyAt, IsKeyPosAt}
+use Rattle.rkyv_collections.specs.Map.{FindsFirstKeyAt}
+use Rattle.rkyv_collections.specs.MapShape.{IsKeyPosAt}
 use Rattle.rkyv_message.specs.Message.{IsFields, IsMessage, IsRefused, PartsStand, StandsFor, fields_shape, is_named, is_named_at, name_hash, name_shape, value_found}
 use Rattle.rkyv_table.proofs.Moved.{moved}
 use Rattle.rkyv_collections.proofs.FoundValues.{read_at}
@@ -31,14 +32,14 @@ pub returns-in-Some-clause-listed : goal.returns-in-Some-clause-listed
 unfolding StandsFor
 returns-in-Some-clause-listed c = λ parts stands.
     let at = read_at c.of-map.result _ _ _ c.of-map.ensures.view c.in-Ok.ensures.root.1 in
-    let listed = c.lookups_find_listed.ensures c.of-map.result _ (is_named c.args.part.now) (7, 8) parts c.of-map.ensures.map (λ held q s there. ap (same_bytes c.args.part.now) there) (moved (λ b p. PartsStand (7, 8) b p parts) _ _ _ _ (sym at.0) (sym at.1) stands) in
+    let listed = c.lookups_find_listed.ensures c.of-map.result _ (is_named c.args.part.now) (7, 8) parts (λ held q s there. ap (same_bytes c.args.part.now) there) (moved (λ b p. PartsStand (7, 8) b p parts) _ _ _ _ (sym at.0) (sym at.1) stands) in
     part_found _ _ c.in-Some.fields _ (ap (λ a. a.now) c.in-Some.ensures.walked.at.0 ∙ at.0) (sym c.pos.ensures) (listed.gives_value (Some c.in-Some.fields) c.in-Some.ensures.walked c.in-Some.ensures.first)
 
 pub returns-in-None-clause-listed : goal.returns-in-None-clause-listed
 unfolding StandsFor
 returns-in-None-clause-listed c = λ parts stands.
     let at = read_at c.of-map.result _ _ _ c.of-map.ensures.view c.in-Ok.ensures.root.1 in
-    let listed = c.lookups_find_listed.ensures c.of-map.result _ (is_named c.args.part.now) (7, 8) parts c.of-map.ensures.map (λ held q s there. ap (same_bytes c.args.part.now) there) (moved (λ b p. PartsStand (7, 8) b p parts) _ _ _ _ (sym at.0) (sym at.1) stands) in
+    let listed = c.lookups_find_listed.ensures c.of-map.result _ (is_named c.args.part.now) (7, 8) parts (λ held q s there. ap (same_bytes c.args.part.now) there) (moved (λ b p. PartsStand (7, 8) b p parts) _ _ _ _ (sym at.0) (sym at.1) stands) in
     no_part_found _ _ (listed.gives_value None c.in-None.ensures.walked c.in-None.ensures.first)
 
 pub returns-in-Err-clause-accepts : goal.returns-in-Err-clause-accepts

@@ -12,7 +12,7 @@ returns-in-Ok-Some-clause-written c =
     let b = c.args.message.now in
     let d = c.set_value_of.new.archive in
     let found = c.set_value_of.result in
-    subst (λ p. WritesIfFound (number_in_fields c.args.field.now b p) c.args.number b d found) (sym same ∙ c.in-Ok-Some.ensures.found) (only_written _ _ _ _ _ _ c.set_value_of.ensures.answer)
+    subst (λ p. WritesIfFound (number_in_fields c.args.field.now b p) c.args.number b d found) (sym same ∙ c.in-Ok-Some.ensures.found) (only_written _ _ _ _ _ _ c.set_value_of.ensures.answer.answer)
 
 pub returns-in-Ok-None-clause-written : goal.returns-in-Ok-None-clause-written
 returns-in-Ok-None-clause-written c =

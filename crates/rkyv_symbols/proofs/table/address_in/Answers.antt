@@ -11,7 +11,7 @@ use Rattle.rkyv_base.specs.Scalar.{ScalarStands}
 use Rattle.rkyv_base.specs.Text.{text_at}
 use Rattle.rkyv_keys.specs.Calls.{text_calls}
 use Rattle.rkyv_keys.specs.OfTexts.{same_bytes}
-use Rattle.rkyv_table.specs.Table.Reading.{pos_found}
+use Rattle.rkyv_table.specs.Table.Positions.{pos_found}
 use Rattle.rkyv_table.proofs.Moved.{moved}
 use Rattle.rkyv_collections.specs.MapFormat.{hash_of}
 use Rattle.rkyv_collections.proofs.FoundValues.{none_listed, number_listed, read_at}
@@ -46,12 +46,12 @@ pub returns-in-Some-clause-listed : goal.returns-in-Some-clause-listed
 unfolding StandsFor
 returns-in-Some-clause-listed c = λ symbols stands.
     let at = read_at c.of-map.result _ _ _ c.of-map.ensures.view c.access_unchecked.ensures.at in
-    let listed = c.lookups_find_listed.ensures c.of-map.result _ (λ held. same_bytes c.args.name.now held.now) (7, 8) symbols c.of-map.ensures.map (λ held q s there. ap (same_bytes c.args.name.now) there) (moved (λ b p. SymbolsStand (7, 8) b p symbols) _ _ _ _ (sym at.0) (sym at.1) stands) in
+    let listed = c.lookups_find_listed.ensures c.of-map.result _ (λ held. same_bytes c.args.name.now held.now) (7, 8) symbols (λ held q s there. ap (same_bytes c.args.name.now) there) (moved (λ b p. SymbolsStand (7, 8) b p symbols) _ _ _ _ (sym at.0) (sym at.1) stands) in
     number_listed (number_at w64) c.in-Some.address _ _ c.to_native.ensures (listed.gives_value (Some c.in-Some.address) c.in-Some.ensures.walked c.in-Some.ensures.first)
 
 pub returns-in-None-clause-listed : goal.returns-in-None-clause-listed
 unfolding StandsFor
 returns-in-None-clause-listed c = λ symbols stands.
     let at = read_at c.of-map.result _ _ _ c.of-map.ensures.view c.access_unchecked.ensures.at in
-    let listed = c.lookups_find_listed.ensures c.of-map.result _ (λ held. same_bytes c.args.name.now held.now) (7, 8) symbols c.of-map.ensures.map (λ held q s there. ap (same_bytes c.args.name.now) there) (moved (λ b p. SymbolsStand (7, 8) b p symbols) _ _ _ _ (sym at.0) (sym at.1) stands) in
+    let listed = c.lookups_find_listed.ensures c.of-map.result _ (λ held. same_bytes c.args.name.now held.now) (7, 8) symbols (λ held q s there. ap (same_bytes c.args.name.now) there) (moved (λ b p. SymbolsStand (7, 8) b p symbols) _ _ _ _ (sym at.0) (sym at.1) stands) in
     none_listed (ScalarStands (unsigned w64)) _ (listed.gives_value None c.in-None.ensures.walked c.in-None.ensures.first)

@@ -1,21 +1,19 @@
-use Rattle.std.proofs.Common.{ap, subst, sym, ◌∙◌, ◌≡◌, Bool, ℕ}
+use Rattle.std.proofs.Common.{ap, sym, ◌∙◌, ◌≡◌, Bool, ℕ}
 use Rattle.std.specs.List.{list_all}
-use Rattle.rkyv_base.specs.Entry.{entry_shape}
-use Rattle.rkyv_table.specs.Table.RawItems.{AllStand, ItemsLeft}
+use Rattle.rkyv_table.specs.Table.RawItems.{ItemsLeft}
 use Rattle.rkyv_collections.specs.Equality.{pair_matches}
 use Rattle.rkyv_collections.specs.Map.{hash_at, map_bytes, map_pos}
 use Rattle.rkyv_collections.proofs.map.ArchivedHashMap.eq_map.Goals as goal
 
 pub loop-key-init : goal.loop-key-init
 loop-key-init g c =
-    let k = g.K.Element.shape in
-    let v = g.V.Element.shape in
+    let k = g.K.Shaped.shape in
+    let v = g.V.Shaped.shape in
     let other = c.args.other in
     let key_hash = hash_at g.H.KeyHasher.hasher g.K.KeyElement.key_calls in
     let matches : ℕ → Bool = λ q. pair_matches g.W.Word.word k v key_hash g.K.ElementEq.same g.V.ElementEq.same (map_bytes c.args.self) q (map_bytes other) (map_pos other) in
     let walk : ItemsLeft = c.iter-key-items.result in
     let same : c.into_iter-key-iterator.result ≡ walk = cc in (
-      subst (AllStand (entry_shape k v)) (sym same) c.iter-key-items.ensures.stand,
       ap (λ (left : ItemsLeft). left.archive) same ∙ c.iter-key-items.ensures.archive,
       ap (list_all matches) (sym (ap (λ (left : ItemsLeft). left.places) same ∙ c.iter-key-items.ensures.places)),
     )

@@ -1,7 +1,5 @@
 use Rattle.std.proofs.Common.{◌≡◌, ℕ, Bool}
 use Rattle.std.specs.List.{list_all}
-use Rattle.rkyv_base.specs.Entry.{entry_shape}
-use Rattle.rkyv_table.specs.Table.RawItems.{AllStand}
 use Rattle.rkyv_collections.specs.Equality.{pair_matches}
 use Rattle.rkyv_collections.specs.Map.{hash_at, key_positions, map_archive, map_bytes, map_pos}
 use Rattle.rkyv_collections.proofs.map.ArchivedHashMap.eq_map.Given as goal
@@ -10,10 +8,9 @@ use Rattle.rkyv_collections.proofs.map.ArchivedHashMap.eq_map.Given as goal
 abbrev pub invariant-loop-key : goal.invariant-loop-key
 invariant-loop-key g l =
     let w = g.W.Word.word in
-    let k = g.K.Element.shape in
-    let v = g.V.Element.shape in
+    let k = g.K.Shaped.shape in
+    let v = g.V.Shaped.shape in
     let key_hash = hash_at g.H.KeyHasher.hasher g.K.KeyElement.key_calls in
     let matches : ℕ → Bool = λ q. pair_matches w k v key_hash g.K.ElementEq.same g.V.ElementEq.same (map_bytes l.self) q (map_bytes l.other) (map_pos l.other) in
-    AllStand (entry_shape k v) l.key-iterator
-    × (l.key-iterator.archive ≡ map_archive l.self)
-    × (list_all matches (key_positions w k v l.self) ≡ list_all matches l.key-iterator.places)
+    (l.key-iterator.archive ≡ map_archive l.self)
+    × (list_all matches (key_positions l.self) ≡ list_all matches l.key-iterator.places)

@@ -6,14 +6,14 @@ pub returns-clause-found : goal.returns-clause-found
 returns-clause-found g c =
     let post = goal.F-post g c.args.cmp c.args.key in
     let w = g.W.Word.word in
-    let k = g.K.Element.shape in
-    let v = g.V.Element.shape in
+    let k = g.K.Shaped.shape in
+    let v = g.V.Shaped.shape in
     let t = c.table.result in
     let at = c.table.ensures.at in
     let result = c.get_with.result in
     let got = c.get_with.ensures in
     record {
-      walked = entry_found w k v c.args.self t at result got.walked;
-      answer = found_by_key w k v c.args.self t at _ post _ _ c.hash_value-hash.ensures result got.answer (λ entry r e. e.1);
-      first = first_by_key w k v c.args.self t at _ post _ _ c.hash_value-hash.ensures result got.first (λ entry r e. e.1) (hash_at g.H.KeyHasher.hasher g.K.KeyElement.key_calls);
+      walked = entry_found c.args.self t at result got.walked;
+      answer = found_by_key c.args.self t at _ post _ _ c.hash_value-hash.ensures result got.answer (λ entry r e. e.1);
+      first = first_by_key c.args.self t at _ post _ _ c.hash_value-hash.ensures result got.first (λ entry r e. e.1) (hash_at g.H.KeyHasher.hasher g.K.KeyElement.key_calls);
     }

@@ -1,4 +1,4 @@
-use Rattle.std.proofs.Common.{◌≡◌, sym, ◌∙◌}
+use Rattle.std.proofs.Common.{◌≡◌, ℕ, Option, sym, ◌∙◌}
 use Rattle.rkyv_base.specs.Seal.{archive_in, pos_in}
 use Rattle.rkyv_collections.specs.Map.{IsEntryAt, hash_at}
 use Rattle.rkyv_collections.specs.MapFormat.{hash_of}
@@ -7,12 +7,16 @@ use Rattle.rkyv_collections.proofs.map.ArchivedHashMap.find_pos.Goals as goal
 
 pub returns-clause-walked : goal.returns-clause-walked
 returns-clause-walked g c =
-    entry_read c.map_in.result (archive_in c.args.this.now) (pos_in c.args.this.now) c.map_in.ensures.bytes c.map_in.ensures.pos g.W.Word.word g.K.Element.shape g.V.Element.shape c.find.result c.found_pos.result c.found_pos.ensures c.find.ensures.found.walked
+    entry_read c.map_in.result (archive_in c.args.this.now) (pos_in c.args.this.now) c.map_in.ensures.bytes c.map_in.ensures.pos c.find.result c.found_pos.result c.found_pos.ensures c.find.ensures.found.walked
 
-pub returns-clause-answer : goal.returns-clause-answer
-returns-clause-answer g c =
-    by_read c.map_in.result (archive_in c.args.this.now) (pos_in c.args.this.now) c.map_in.ensures.bytes c.map_in.ensures.pos g.W.Word.word g.K.Element.shape g.V.Element.shape (IsEntryAt c.find.result) (λ place. c.found_pos.result ≡ place) (λ place at. sym c.found_pos.ensures ∙ at) _ (hash_of g.H.KeyHasher.hasher g.Q.KeyHash.calls c.args.key.now) c.find.ensures.found.answer
-
-pub returns-clause-first : goal.returns-clause-first
-returns-clause-first g c =
-    first_by_read c.map_in.result (archive_in c.args.this.now) (pos_in c.args.this.now) c.map_in.ensures.bytes c.map_in.ensures.pos g.W.Word.word g.K.Element.shape g.V.Element.shape (IsEntryAt c.find.result) (λ place. c.found_pos.result ≡ place) (λ place at. sym c.found_pos.ensures ∙ at) _ (hash_of g.H.KeyHasher.hasher g.Q.KeyHash.calls c.args.key.now) (hash_at g.H.KeyHasher.hasher g.K.KeyElement.key_calls) c.find.ensures.found.first
+pub returns-clause-finds : goal.returns-clause-finds
+returns-clause-finds g c =
+    let Told = IsEntryAt c.find.result in
+    let says : (place : Option ℕ) → Told place → c.found_pos.result ≡ place = λ place at. sym c.found_pos.ensures ∙ at in
+    let hash = hash_of g.H.KeyHasher.hasher g.Q.KeyHash.calls c.args.key.now in
+    let key_hash = hash_at g.H.KeyHasher.hasher g.K.KeyElement.key_calls in
+    let read = c.map_in.ensures in
+    record {
+      answer = by_read c.map_in.result (archive_in c.args.this.now) (pos_in c.args.this.now) read.bytes read.pos Told (λ place. c.found_pos.result ≡ place) says _ hash c.find.ensures.found.answer;
+      first = first_by_read c.map_in.result (archive_in c.args.this.now) (pos_in c.args.this.now) read.bytes read.pos Told (λ place. c.found_pos.result ≡ place) says _ hash key_hash c.find.ensures.found.first;
+    }

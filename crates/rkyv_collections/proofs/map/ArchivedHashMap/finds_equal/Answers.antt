@@ -3,7 +3,7 @@ use Rattle.std.specs.Borrow.{Bor}
 use Rattle.std.specs.Prelude.{IsTrue}
 use Rattle.rkyv_scan.specs.Groups.{generic_kind}
 use Rattle.rkyv_base.specs.Entry.{entry_shape, value_offset}
-use Rattle.rkyv_table.specs.Table.Reading.{pos_found}
+use Rattle.rkyv_table.specs.Table.Positions.{pos_found}
 use Rattle.rkyv_collections.specs.Map.{map_bytes, map_pos}
 use Rattle.rkyv_collections.specs.MapFormat.{hash_of}
 use Rattle.rkyv_collections.proofs.StdComparing.{of_found}
@@ -11,8 +11,8 @@ use Rattle.rkyv_collections.proofs.map.ArchivedHashMap.finds_equal.Goals as goal
 
 pub returns-in-Some : goal.returns-in-Some
 returns-in-Some g c =
-    let k = g.K.Element.shape in
-    let v = g.V.Element.shape in
+    let k = g.K.Shaped.shape in
+    let v = g.V.Shaped.shape in
     let found = c.in-Some.found in
     let value = c.args.value.now in
     let equals = g.V.MatchesNative.equals in

@@ -1,8 +1,6 @@
 use Rattle.std.proofs.Common.{◌∙◌}
+use Rattle.rkyv_collections.proofs.SealedMap.{tells_more}
 use Rattle.rkyv_collections.proofs.map.ArchivedHashMap.get_key_value_seal.Goals as goal
 
-pub returns-clause-answer : goal.returns-clause-answer
-returns-clause-answer g c = c.lend_pair.ensures.at ∙ c.find_key_pos-found.ensures.answer
-
-pub returns-clause-first : goal.returns-clause-first
-returns-clause-first g c = λ homes written. c.lend_pair.ensures.at ∙ c.find_key_pos-found.ensures.first homes written
+pub returns-clause-finds : goal.returns-clause-finds
+returns-clause-finds g c = tells_more _ _ _ _ (λ place at. c.lend_pair.ensures.at ∙ at) c.find_key_pos-found.ensures.finds

@@ -1,8 +1,6 @@
 use Rattle.std.proofs.Common.{◌∙◌}
+use Rattle.rkyv_collections.proofs.SealedMap.{tells_more_by}
 use Rattle.rkyv_collections.proofs.map.ArchivedHashMap.get_key_value_seal_with.Goals as goal
 
-pub returns-clause-answer : goal.returns-clause-answer
-returns-clause-answer g c = λ accept answers. c.lend_pair.ensures.at ∙ c.find_pos-found.ensures.answer accept answers
-
-pub returns-clause-first : goal.returns-clause-first
-returns-clause-first g c = λ accept answers under homes written. c.lend_pair.ensures.at ∙ c.find_pos-found.ensures.first accept answers under homes written
+pub returns-clause-finds : goal.returns-clause-finds
+returns-clause-finds g c = tells_more_by _ _ _ _ _ _ (λ place at. c.lend_pair.ensures.at ∙ at) c.find_pos-found.ensures.finds

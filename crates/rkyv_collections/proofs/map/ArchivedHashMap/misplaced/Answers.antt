@@ -7,14 +7,15 @@ use Rattle.rkyv_base.specs.declared.entry.Entry.{Entry}
 use Rattle.rkyv_base.specs.declared.view.View.{View}
 use Rattle.rkyv_table.specs.Table.Header.{cap_at, len_at}
 use Rattle.rkyv_table.specs.Table.Misplaced.{misplaced}
-use Rattle.rkyv_table.specs.Table.Reading.{IsItem, item_at, table_controls, table_pos}
+use Rattle.rkyv_table.specs.Table.Positions.{item_at, table_controls}
+use Rattle.rkyv_table.specs.Table.Reading.{IsItem, table_pos}
 use Rattle.rkyv_collections.specs.Map.{hash_at, map_bytes}
 use Rattle.rkyv_collections.proofs.map.ArchivedHashMap.misplaced.Goals as goal
 
 pub returns : goal.returns
 returns g c =
     let w = g.W.Word.word in
-    let s = entry_shape g.K.Element.shape g.V.Element.shape in
+    let s = entry_shape g.K.Shaped.shape g.V.Shaped.shape in
     let t = c.table.result in
     let b : List ℕ = map_bytes c.args.self in
     let key_hash = hash_at g.H.KeyHasher.hasher g.K.KeyElement.key_calls in
@@ -23,7 +24,7 @@ returns g c =
     let same : ℕ → ℕ → Bool = λ p q. same_key b p b q in
     let of : List ℕ → ℕ → ℕ = λ a p.
     misplaced generic_kind (table_controls w a p) (cap_at w a p) (len_at w a p) (λ i. hash_of (item_at w s.size a p i)) (λ i j. same (item_at w s.size a p i) (item_at w s.size a p j)) in
-    let here : (x : View (Entry g.row.K.Denot g.row.V.Denot)) → IsItem w s t x → bytes_of x ≡ b =
+    let here : (x : View (Entry g.row.K.Denot g.row.V.Denot)) → IsItem t x → bytes_of x ≡ b =
     λ x item. ap (λ (a : Bor (List ℕ)). a.now) (item.1.archive ∙ c.table.ensures.at.0) in
     c.misplaced_by.ensures hash_of same
     (λ x h item e. e.1 ∙ ap (λ a. key_hash a x.pos) (here x item))

@@ -9,10 +9,10 @@ use Rattle.rkyv_collections.proofs.map.iter_seal.pair_at.Goals as goal
 
 pub returns-then-not-stands-clause-found : goal.returns-then-not-stands-clause-found
 returns-then-not-stands-clause-found g c = λ there.
-    let k = g.K.Element.shape in
-    let v = g.V.Element.shape in
+    let k = g.K.Shaped.shape in
+    let v = g.V.Shaped.shape in
     let q = c.args.pos in
     let inside = parts_inside k v in
-    let front = front_viewed k g.met.K.Element.laws c.args.archive.now (value_pos k v q) q (omega (arith, inside.0)) (omega arith) there in
+    let front = front_viewed k g.K.Shaped.laws c.args.archive.now (value_pos k v q) q (omega (arith, inside.0)) (omega arith) there in
     let same : c.split_at_mut-front.result.0.now ≡ take (value_pos k v q) c.args.archive.now = rw (sym c.value_offset.ensures.value) c.split_at_mut-front.ensures.front in
     absurd (true≢false (sym (c.stands.ensures.1 (subst (λ b. Viewed k b q) (sym same) front)) ∙ c.if-not-stands.true))

@@ -9,10 +9,10 @@ use Rattle.rkyv_collections.proofs.map.sealed.value_writes_keep_answers.Goals as
 pub returns : goal.returns
 returns g c = λ b d p i view walked writes q can.
     let h = g.H.KeyHasher in
-    let s = g.K.Element.shape in
-    let kept = map_kept s g.V.Element.shape g.met.K.Element.laws g.met.V.Element.laws g.W.Word.word (hash_at h.hasher g.K.KeyElement.key_calls)
+    let s = g.K.Shaped.shape in
+    let kept = map_kept s g.V.Shaped.shape g.K.Shaped.laws g.V.Shaped.laws g.W.Word.word (hash_at h.hasher g.K.KeyElement.key_calls)
     (λ x y r lo hi l o holds fixed part. ap (hash_of_calls h.hasher) (g.met.K.KeyElement.key.near x y r lo hi l o holds fixed part))
     b d p i view walked writes in
-    let rests = rests_on_keys g.met.K.Element.laws g.met.K.ElementEquiv.equivalence g.met.K.KeyElement.key g.met.Q.Query.query in
+    let rests = rests_on_keys g.K.Shaped.laws g.met.K.ElementEquiv.equivalence g.met.K.KeyElement.key g.met.Q.Query.query in
     kept.lookups (hash_of h.hasher g.Q.KeyHash.calls q) (g.Q.Query.fits q) (g.met.H.KeyHasher.fits (g.Q.KeyHash.calls q))
     (rests_on_each s g.Q.KeyHash.can_read g.Q.Query.fits rests q can)

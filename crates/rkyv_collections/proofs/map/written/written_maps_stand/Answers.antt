@@ -5,5 +5,5 @@ pub returns : goal.returns
 returns g c = λ factor.
     let h = g.H.KeyHasher in
     let key = g.met.A in
-    map_sound h.hasher g.W.Word.word g.met.K.Element.laws g.met.V.Element.laws factor g.met.W.Width.layout.kind
+    map_sound h.hasher g.W.Word.word g.K.Shaped.laws g.V.Shaped.laws factor g.met.W.Width.layout.kind
     key.Query.query key.NativeKey.native key.Eq.laws.refl key.NativeKey.reads key.Archive.laws g.met.B.Archive.laws

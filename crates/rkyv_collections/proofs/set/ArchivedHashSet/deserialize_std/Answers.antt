@@ -10,8 +10,8 @@ use Rattle.rkyv_collections.proofs.set.ArchivedHashSet.deserialize_std.Goals as 
 pub loop-key-init : goal.loop-key-init
 loop-key-init g c =
     let keys = c.iter-key-items.ensures in (
-      walks_first g.W.Word.word g.K.Element.shape unit_shape g.K.StandsFor.stands unit_stands g.A.PartialEq.eq (set_archive c.args.self) (set_pos c.args.self) g.met.K.Element.laws unit_element
-          c.into_iter-key-iterator.result c.iter-key-items.result c.into_iter-key-iterator.ensures.into_iter_gives keys.stand keys.archive keys.places
+      walks_first g.W.Word.word g.K.Shaped.shape unit_shape g.K.StandsFor.stands unit_stands g.A.PartialEq.eq (set_archive c.args.self) (set_pos c.args.self) g.K.Shaped.laws unit_element
+          c.into_iter-key-iterator.result c.iter-key-items.result c.into_iter-key-iterator.ensures.into_iter_gives keys.archive keys.places
           (found_units g.A.PartialEq.eq c.with_hasher-set.result.keys) (λ q. ap (λ (xs : List g.row.A.Denot). found_units g.A.PartialEq.eq xs q) c.with_hasher-set.ensures.empty),
       c.with_hasher-set.ensures.unique,
       refl,
@@ -22,10 +22,10 @@ loop-key-preserved g c =
     let on = c.loop-key.invariant in
     let taken = c.in-Some.ensures.steps in
     let made = c.in-Ok.ensures in (
-      walks_next g.W.Word.word g.K.Element.shape unit_shape g.K.StandsFor.stands unit_stands g.A.PartialEq.eq (set_archive c.args.self) (set_pos c.args.self)
+      walks_next g.W.Word.word g.K.Shaped.shape unit_shape g.K.StandsFor.stands unit_stands g.A.PartialEq.eq (set_archive c.args.self) (set_pos c.args.self)
           c.loop-key.key-iterator c.next.new.self c.in-Some.key.pos (found_units g.A.PartialEq.eq c.loop-key.set.keys) taken.0 on.0
           (found_units g.A.PartialEq.eq c.insert_read.new.set.keys) made.0 tt
-          (subst (λ (a : Bor (List ℕ)). g.K.StandsFor.stands a.now c.in-Some.key.pos made.0) (taken.1.at.0 ∙ on.0.1) made.1, tt)
+          (subst (λ (a : Bor (List ℕ)). g.K.StandsFor.stands a.now c.in-Some.key.pos made.0) (taken.1.at.0 ∙ on.0.0) made.1, tt)
           (key_inserted g.A.PartialEq.eq c.loop-key.set c.insert_read.new.set made.0 made.2),
       made.3,
       made.4 ∙ on.2,
@@ -35,21 +35,21 @@ pub returns-in-Err : goal.returns-in-Err
 returns-in-Err g c =
     let on = c.loop-key.invariant in
     let taken = c.in-Some.ensures.steps in
-    let member = walks_key g.W.Word.word g.K.Element.shape unit_shape g.K.StandsFor.stands unit_stands g.A.PartialEq.eq (set_archive c.args.self) (set_pos c.args.self)
+    let member = walks_key g.W.Word.word g.K.Shaped.shape unit_shape g.K.StandsFor.stands unit_stands g.A.PartialEq.eq (set_archive c.args.self) (set_pos c.args.self)
     c.loop-key.key-iterator c.next.new.self c.in-Some.key.pos (found_units g.A.PartialEq.eq c.loop-key.set.keys) taken.0 on.0 in
     elim c.in-Err.ensures [
       | inl memory ↦ inl memory
       | inr part ↦ inr (
         c.in-Some.key.pos,
         member,
-        subst (λ (a : Bor (List ℕ)). g.K.Deserialize.refuses a.now c.in-Some.key.pos c.in-Err.e) (taken.1.at.0 ∙ on.0.1) part,
+        subst (λ (a : Bor (List ℕ)). g.K.Deserialize.refuses a.now c.in-Some.key.pos c.in-Err.e) (taken.1.at.0 ∙ on.0.0) part,
       )
     ]
 
 pub returns : goal.returns
 returns g c =
     let on = c.loop-key.invariant in
-    let last = walks_last g.W.Word.word g.K.Element.shape unit_shape g.K.StandsFor.stands unit_stands g.A.PartialEq.eq (set_archive c.args.self) (set_pos c.args.self)
+    let last = walks_last g.W.Word.word g.K.Shaped.shape unit_shape g.K.StandsFor.stands unit_stands g.A.PartialEq.eq (set_archive c.args.self) (set_pos c.args.self)
     c.loop-key.key-iterator (found_units g.A.PartialEq.eq c.loop-key.set.keys) on.0 c.in-None.ensures.steps.none in
     let unique = subst (λ (ks : List g.row.A.Denot). IsDistinct g.A.PartialEq.eq ks) (sym (keys_with_units c.loop-key.set.keys)) on.1 in
     (record { pairs = last.0; read = last.1; inserted = (last.2, unique) }, on.2 ∙ c.with_hasher-set.ensures.hasher)

@@ -9,4 +9,4 @@ use Rattle.rkyv_collections.proofs.set.ArchivedHashSet.eq_std.Given as goal
 abbrev pub invariant-loop-key : goal.invariant-loop-key
 invariant-loop-key g l =
     let hash = hash_of g.H.KeyHasher.hasher g.A.KeyHash.calls in
-    Decides (λ key. FindsPair g.W.Word.word g.K.Element.shape unit_shape hash g.A.Query.fits unit_stands (set_bytes l.self) (set_pos l.self) (key, tt)) l.other.keys l.key-iterator
+    Decides (λ key. FindsPair g.W.Word.word g.K.Shaped.shape unit_shape hash g.A.Query.fits unit_stands (set_bytes l.self) (set_pos l.self) (key, tt)) l.other.keys l.key-iterator

@@ -5,5 +5,5 @@ pub returns : goal.returns
 returns g c = λ factor.
     let h = g.H.KeyHasher in
     let key = g.met.A in
-    set_sound h.hasher g.W.Word.word g.met.K.Element.laws factor g.met.W.Width.layout.kind
+    set_sound h.hasher g.W.Word.word g.K.Shaped.laws factor g.met.W.Width.layout.kind
     key.Query.query key.NativeKey.native key.Eq.laws.refl key.NativeKey.reads key.Archive.laws

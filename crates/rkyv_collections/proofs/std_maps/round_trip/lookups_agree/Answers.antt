@@ -4,7 +4,7 @@ use Rattle.rkyv_base.specs.Access.{Accepted}
 use Rattle.rkyv_base.specs.Entry.{entry_element}
 use Rattle.rkyv_base.specs.View.{bytes_of, pos_of}
 use Rattle.rkyv_table.specs.Lemmas.TableLaws.{table_element}
-use Rattle.rkyv_collections.specs.Map.{map_shape}
+use Rattle.rkyv_collections.specs.MapShape.{map_shape}
 use Rattle.rkyv_collections.specs.MapFormat.{hash_of}
 use Rattle.rkyv_collections.specs.StdLookups.{FindsAsked}
 use Rattle.rkyv_collections.proofs.Headline.{root_keeps}
@@ -16,11 +16,11 @@ returns g c =
     let key = c.args.key.now in
     let met = g.met.A in
     let w = g.W.Word.word in
-    let s = map_shape w g.A.Archived.Element.shape g.B.Archived.Element.shape in
-    let kl = met.Archived.Element.laws in
-    let vl = g.met.B.Archived.Element.laws in
+    let s = map_shape w g.A.Archived.Shaped.shape g.B.Archived.Shaped.shape in
+    let kl = g.A.Archived.Shaped.laws in
+    let vl = g.B.Archived.Shaped.laws in
     let b : List ℕ = c.in-Ok.bytes.items in
-    let told : List ℕ → ℕ → Type 0 = λ b p. FindsAsked w g.A.Archived.Element.shape (hash_of g.H.KeyHasher.hasher g.A.KeyHash.calls) g.A.Query.fits g.B.Archived.Element.shape g.B.Archived.MatchesNative.equals b p key (g.A.PartialEq.eq key) c.args.map.now.map.entries in
+    let told : List ℕ → ℕ → Type 0 = λ b p. FindsAsked w g.A.Archived.Shaped.shape (hash_of g.H.KeyHasher.hasher g.A.KeyHash.calls) g.A.Query.fits g.B.Archived.Shaped.shape g.B.Archived.MatchesNative.equals b p key (g.A.PartialEq.eq key) c.args.map.now.map.entries in
     let at = root_keeps g.W.Width.LIMIT s (table_element w g.met.W.Width.layout.kind _ (entry_element _ _ kl vl)) _ _
     (seen_looked_up g.H.KeyHasher.hasher g.met.H.KeyHasher.fits w g.met.W.Width.layout.kind g.W.Width.MAX_CAPACITY kl vl met.Query.query met.Query.query met.NativeKey.native met.Eq.laws.refl met.NativeKey.reads
     met.Archive.laws g.met.B.EqualsWritten.equal (λ x. x.map.entries))
@@ -36,5 +36,5 @@ returns g c =
 -- the written archive is accepted
 pub returns-in-Err-access_in : goal.returns-in-Err-access_in
 returns-in-Err-access_in g c =
-    let s = map_shape g.W.Word.word g.A.Archived.Element.shape g.B.Archived.Element.shape in
+    let s = map_shape g.W.Word.word g.A.Archived.Shaped.shape g.B.Archived.Shaped.shape in
     c.in-Err-access_in.ensures.accepts (subst (Accepted g.W.Width.LIMIT s) (sym c.as_slice.ensures.value) c.in-Ok.ensures.0)

@@ -2,7 +2,7 @@ use Rattle.std.proofs.Common.{◌≡◌, ℕ, ◌∙◌, None, Option, Some, ap,
 use Rattle.std.specs.Option.{option_map}
 use Rattle.std.proofs.lemmas.Option.{none-some, same_Some}
 use Rattle.rkyv_scan.specs.Hash.{hash_of_calls}
-use Rattle.rkyv_base.specs.Scalar.{ScalarStands, scalar_element, scalar_shape}
+use Rattle.rkyv_base.specs.Scalar.{ScalarStands}
 use Rattle.rkyv_base.specs.Sealing.{value_pos}
 use Rattle.rkyv_base.specs.Shape.{Viewed}
 use Rattle.rkyv_keys.specs.Asking.{rests_on_keys}
@@ -20,27 +20,27 @@ value_found-requires-2 g c = record { map = c.write_value.ensures.kept.1.stands;
 
 pub new-requires : goal.new-requires
 new-requires g c =
-    let v = scalar_shape g.N.Scalar.encoding in
+    let v = g.N.Shaped.shape in
     let t = c.in-Some-value_found.ensures.walked in
-    let at = pair_place g.W.Word.word g.K.Element.shape v g.met.K.Element.laws (scalar_element g.N.Scalar.encoding g.met.N.Scalar.word) c.write_value.new.bytes c.args.root c.write_value.ensures.kept.1.stands t.0 t.1 in
+    let at = pair_place g.W.Word.word g.K.Shaped.shape v g.K.Shaped.laws g.N.Shaped.laws c.write_value.new.bytes c.args.root c.write_value.ensures.kept.1.stands t.0 t.1 in
     subst (Viewed v c.write_value.new.bytes) (sym t.2) at.value
 
 pub to_native-requires : goal.to_native-requires
 to_native-requires g c =
-    let v = scalar_shape g.N.Scalar.encoding in
+    let v = g.N.Shaped.shape in
     let t = c.in-Some-value_found.ensures.walked in
-    let at = pair_place g.W.Word.word g.K.Element.shape v g.met.K.Element.laws (scalar_element g.N.Scalar.encoding g.met.N.Scalar.word) c.write_value.new.bytes c.args.root c.write_value.ensures.kept.1.stands t.0 t.1 in
+    let at = pair_place g.W.Word.word g.K.Shaped.shape v g.K.Shaped.laws g.N.Shaped.laws c.write_value.new.bytes c.args.root c.write_value.ensures.kept.1.stands t.0 t.1 in
     rw (c.new.ensures.0, c.new.ensures.1) (subst (Viewed v c.write_value.new.bytes) (sym t.2) at.value)
 
 pub returns-in-Some-value_found : goal.returns-in-Some-value_found
 returns-in-Some-value_found g c =
     let e = g.N.Scalar.encoding in
     let h = g.H.KeyHasher in
-    let f : ℕ → ℕ = value_pos g.K.Element.shape (scalar_shape e) in
+    let f : ℕ → ℕ = value_pos g.K.Shaped.shape g.N.Shaped.shape in
     let d = c.write_value.new.bytes in
     let hash = hash_of_calls h.hasher (g.Q.KeyHash.calls c.args.key.now) in
     let one = c.write_value.ensures.kept.1.lookups hash (g.Q.Query.fits c.args.key.now) (g.met.H.KeyHasher.fits (g.Q.KeyHash.calls c.args.key.now))
-    (rests_on_each g.K.Element.shape g.Q.KeyHash.can_read g.Q.Query.fits (rests_on_keys g.met.K.Element.laws g.met.K.ElementEquiv.equivalence g.met.K.KeyElement.key g.met.Q.Query.query) c.args.key.now c.requires.query) in
+    (rests_on_each g.K.Shaped.shape g.Q.KeyHash.can_read g.Q.Query.fits (rests_on_keys g.K.Shaped.laws g.met.K.ElementEquiv.equivalence g.met.K.KeyElement.key g.met.Q.Query.query) c.args.key.now c.requires.query) in
     let first = c.in-Some.ensures.answer in
     let place : c.in-Some-value_found.found ≡ c.in-Some.pos = same_Some c.in-Some-value_found.found c.in-Some.pos (c.in-Some-value_found.ensures.answer ∙ ap (option_map f) one ∙ sym first) in
     let read : ScalarStands e d c.in-Some-value_found.found c.to_native.result = rw (c.new.ensures.0, c.new.ensures.1) at c.to_native.ensures in
@@ -50,8 +50,8 @@ returns-in-Some-value_found g c =
 pub returns-in-None-value_found : goal.returns-in-None-value_found
 returns-in-None-value_found g c =
     let h = g.H.KeyHasher in
-    let f : ℕ → ℕ = value_pos g.K.Element.shape (scalar_shape g.N.Scalar.encoding) in
+    let f : ℕ → ℕ = value_pos g.K.Shaped.shape g.N.Shaped.shape in
     let hash = hash_of_calls h.hasher (g.Q.KeyHash.calls c.args.key.now) in
     let one = c.write_value.ensures.kept.1.lookups hash (g.Q.Query.fits c.args.key.now) (g.met.H.KeyHasher.fits (g.Q.KeyHash.calls c.args.key.now))
-    (rests_on_each g.K.Element.shape g.Q.KeyHash.can_read g.Q.Query.fits (rests_on_keys g.met.K.Element.laws g.met.K.ElementEquiv.equivalence g.met.K.KeyElement.key g.met.Q.Query.query) c.args.key.now c.requires.query) in
+    (rests_on_each g.K.Shaped.shape g.Q.KeyHash.can_read g.Q.Query.fits (rests_on_keys g.K.Shaped.laws g.met.K.ElementEquiv.equivalence g.met.K.KeyElement.key g.met.Q.Query.query) c.args.key.now c.requires.query) in
     absurd (none-some c.in-Some.pos (c.in-None-value_found.ensures.answer ∙ ap (option_map f) one ∙ sym c.in-Some.ensures.answer))

@@ -1,9 +1,8 @@
 use Rattle.std.proofs.Common.{◌≡◌, ℕ, None, Option, Some, ap, refl, subst, sym}
 use Rattle.std.specs.Prelude.{IfSome}
 use Rattle.std.specs.Option.{option_map}
-use Rattle.rkyv_base.specs.Scalar.{scalar_shape}
 use Rattle.rkyv_base.specs.Shape.{Viewed}
-use Rattle.rkyv_collections.specs.Map.{map_shape}
+use Rattle.rkyv_collections.specs.MapShape.{map_shape}
 use Rattle.rkyv_collections_tests.proofs.tests.sealed.stored_in.Goals as goal
 
 -- the value in `result`, if there is one, is `y`
@@ -13,7 +12,7 @@ new_value (Some x) y result e = rw e refl
 
 pub stored-requires-clause-map : goal.stored-requires-clause-map
 stored-requires-clause-map g c =
-    let s = map_shape g.W.Word.word g.K.Element.shape (scalar_shape g.N.Scalar.encoding) in
+    let s = map_shape g.W.Word.word g.K.Shaped.shape g.N.Shaped.shape in
     let at = c.in-Ok.ensures.root.1 in
     subst (Viewed s c.args.bytes.now) (sym c.pos-root.ensures) (subst (λ b. Viewed s b c.in-Ok.map.pos) (ap (λ a. a.now) at.0) c.in-Ok.ensures.viewed)
 

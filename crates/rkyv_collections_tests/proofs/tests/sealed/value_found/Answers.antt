@@ -4,8 +4,8 @@ use Rattle.rkyv_scan.specs.Groups.{generic_kind}
 use Rattle.rkyv_scan.specs.Hash.{hash_of_calls}
 use Rattle.rkyv_base.specs.Entry.{entry_shape}
 use Rattle.rkyv_base.specs.Sealing.{value_pos}
-use Rattle.rkyv_table.specs.Table.Reading.{pos_found}
-use Rattle.rkyv_collections.specs.Map.{IsKeyPosAt}
+use Rattle.rkyv_table.specs.Table.Positions.{pos_found}
+use Rattle.rkyv_collections.specs.MapShape.{IsKeyPosAt}
 use Rattle.rkyv_collections_tests.proofs.Views.{told_of_view}
 use Rattle.rkyv_collections_tests.proofs.tests.sealed.value_found.Goals as goal
 
@@ -13,12 +13,12 @@ pub returns-in-Some-clause-walked : goal.returns-in-Some-clause-walked
 returns-in-Some-clause-walked g c =
     let is = c.in-Some.ensures.walked in
     let told = told_of_view c.of-map.result c.new.result c.args.bytes c.args.root c.of-map.ensures.view c.new.ensures.0 c.new.ensures.1 in
-    (is.key, told (λ d r. IsKeyPosAt g.W.Word.word g.K.Element.shape g.V.Element.shape d r is.key) is.walked, c.pos.ensures ∙ is.at.1)
+    (is.key, told (λ d r. IsKeyPosAt g.W.Word.word g.K.Shaped.shape g.V.Shaped.shape d r is.key) is.walked, c.pos.ensures ∙ is.at.1)
 
 pub returns-in-Some-clause-answer : goal.returns-in-Some-clause-answer
 returns-in-Some-clause-answer g c =
-    let k = g.K.Element.shape in
-    let v = g.V.Element.shape in
+    let k = g.K.Shaped.shape in
+    let v = g.V.Shaped.shape in
     let hash = hash_of_calls g.H.KeyHasher.hasher (g.Q.KeyHash.calls c.args.key.now) in
     ap Some c.pos.ensures
     ∙ told_of_view c.of-map.result c.new.result c.args.bytes c.args.root c.of-map.ensures.view c.new.ensures.0 c.new.ensures.1
@@ -26,8 +26,8 @@ returns-in-Some-clause-answer g c =
 
 pub returns-in-None-clause-answer : goal.returns-in-None-clause-answer
 returns-in-None-clause-answer g c =
-    let k = g.K.Element.shape in
-    let v = g.V.Element.shape in
+    let k = g.K.Shaped.shape in
+    let v = g.V.Shaped.shape in
     let hash = hash_of_calls g.H.KeyHasher.hasher (g.Q.KeyHash.calls c.args.key.now) in
     let none : Option ℕ = None in
     told_of_view c.of-map.result c.new.result c.args.bytes c.args.root c.of-map.ensures.view c.new.ensures.0 c.new.ensures.1

@@ -1,6 +1,5 @@
 use Rattle.std.proofs.Common.{ap, subst, sym}
 use Rattle.rkyv_scan.specs.Hash.{hash_of_calls}
-use Rattle.rkyv_base.specs.Scalar.{scalar_element, scalar_shape}
 use Rattle.rkyv_base.specs.Shape.{Viewed}
 use Rattle.rkyv_collections.specs.Map.{hash_at}
 use Rattle.rkyv_collections.proofs.SealedMap.{pair_place}
@@ -9,18 +8,17 @@ use Rattle.rkyv_collections_tests.proofs.tests.sealed.write_value.Goals as goal
 
 pub set_at-requires : goal.set_at-requires
 set_at-requires g c =
-    let v = scalar_shape g.N.Scalar.encoding in
+    let v = g.N.Shaped.shape in
     let t = c.requires.place in
-    let at = pair_place g.W.Word.word g.K.Element.shape v g.met.K.Element.laws (scalar_element g.N.Scalar.encoding g.met.N.Scalar.word) c.args.bytes.now c.args.root c.requires.map t.0 t.1 in
+    let at = pair_place g.W.Word.word g.K.Shaped.shape v g.K.Shaped.laws g.N.Shaped.laws c.args.bytes.now c.args.root c.requires.map t.0 t.1 in
     (subst (Viewed v c.args.bytes.now) (sym t.2) at.value).inside
 
 pub returns-clause-kept : goal.returns-clause-kept
 returns-clause-kept g c =
-    let e = g.N.Scalar.encoding in
     let h = g.H.KeyHasher in
     let t = c.requires.place in (
       t.1.0,
-      map_kept_at g.K.Element.shape (scalar_shape e) g.met.K.Element.laws (scalar_element e g.met.N.Scalar.word) g.W.Word.word (hash_at h.hasher g.K.KeyElement.key_calls)
+      map_kept_at g.K.Shaped.shape g.N.Shaped.shape g.K.Shaped.laws g.N.Shaped.laws g.W.Word.word (hash_at h.hasher g.K.KeyElement.key_calls)
           (λ x y q lo hi l o holds fixed part. ap (hash_of_calls h.hasher) (g.met.K.KeyElement.key.near x y q lo hi l o holds fixed part))
           c.args.bytes.now c.set_at.new.bytes c.args.root t.0 c.args.pos c.requires.map t.1 t.2 c.set_at.ensures.sealed c.set_at.ensures.holds,
     )

@@ -2,7 +2,7 @@ use Rattle.std.proofs.Common.{ap, subst, sym}
 use Rattle.std.specs.Int.{w32}
 use Rattle.rkyv_base.specs.Shape.{Viewed}
 use Rattle.rkyv_base.specs.Text.{text_shape}
-use Rattle.rkyv_collections.specs.Map.{map_shape}
+use Rattle.rkyv_collections.specs.MapShape.{map_shape}
 use Rattle.rkyv_collections_tests.proofs.tests.texts_by_key.raise.Goals as goal
 
 pub make_ascii_uppercase_of-requires-clause-map : goal.make_ascii_uppercase_of-requires-clause-map

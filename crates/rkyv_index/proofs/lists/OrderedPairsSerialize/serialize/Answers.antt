@@ -19,7 +19,7 @@ returns g c =
     let rest : Halves g.row.A.Denot g.row.B.Denot → List (g.row.A.Denot × g.row.B.Denot) = λ s. iter_rest s.pairs in
     let steps = YieldsFirstBy view rest in
     let hash = hash_of (fx_hasher low_halves) g.A.KeyHash.calls in
-    let f = index_format g.W.Word.word g.W.Place.Scalar.encoding g.A.Archived.Element.shape g.B.Archived.Element.shape g.A.Archive.format g.B.Archive.format hash (7, 8) in
+    let f = index_format g.W.Word.word g.W.Place.Shaped.shape g.W.Place.Scalar.encoding g.A.Archived.Shaped.shape g.B.Archived.Shaped.shape g.A.Archive.format g.B.Archive.format hash (7, 8) in
     let all : iter_rest halves.pairs ≡ values = search rules in
     let count : c.len.result ≡ length values = search rules in
     answers_listed (Drains steps halves) (GaveOther steps c.len.result halves) (lent_pairs (λ k. k.now) (λ k. k.now)) values

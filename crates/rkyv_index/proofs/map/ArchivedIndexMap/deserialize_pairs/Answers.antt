@@ -11,7 +11,7 @@ loop-place-preserved g c =
     let m = c.args.self in
     let read : List (g.row.A.Denot × g.row.B.Denot) = c.loop-place.list.items in
     let Stands : ℕ → g.row.A.Denot × g.row.B.Denot → Type 0 = λ i pair.
-    PairStands g.K.Element.shape g.V.Element.shape g.K.StandsFor.stands g.V.StandsFor.stands (index_bytes m) (key_pos g.W.Word.word g.K.Element.shape g.V.Element.shape m i) pair in
+    PairStands g.K.Shaped.shape g.V.Shaped.shape g.K.StandsFor.stands g.V.StandsFor.stands (index_bytes m) (key_pos m i) pair in
     let items : c.push.new.self.items ≡ read ++ c.in-Ok.pair ∷ [] = c.in-Ok-push.ensures.items in
     let inv = c.loop-place.invariant in
     let here = subst (λ n. Stands n c.in-Ok.pair) (sym inv.0) c.in-Ok.ensures in (

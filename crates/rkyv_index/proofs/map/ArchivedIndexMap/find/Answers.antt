@@ -1,29 +1,25 @@
 use Rattle.std.proofs.Common.{refl, subst, sym, ◌∙◌, ◌<◌}
-use Rattle.rkyv_index.specs.Index.{IsKeyIn, index_len}
+use Rattle.rkyv_index.specs.Index.{IsKeyIn, hash_at, index_len}
 use Rattle.rkyv_index.proofs.Lookups.{item_place}
 use Rattle.rkyv_index.proofs.PlacesFound.{gets_place, place_found, reads_few}
 use Rattle.rkyv_index.proofs.map.ArchivedIndexMap.find.Goals as goal
 
 pub find_place-requires : goal.find_place-requires
 find_place-requires g c κs =
-    let w = g.W.Word.word in
-    let k = g.K.Element.shape in
-    let v = g.V.Element.shape in
     let m = c.args.self in
     record {
-      table = c.table-table.ensures.table;
       room = c.requires.room;
       callable = λ item is_item.
-          let there = item_place w g.met.W.Width.layout.kind k v g.met.K.Element.laws g.met.V.Element.laws m c.requires.map g.W.Place.Scalar.encoding g.met.W.Width.place c.table-table.result c.table-table.ensures.at item is_item in (
+          let there = item_place m g.W.Place.Scalar.encoding g.met.W.Place.Scalar.laws g.met.W.Width.place c.table-table.result c.table-table.ensures.at item is_item in (
             there.0,
             λ i e. (
               (refl, tt),
               (
-                c.requires.map,
+                m.valid,
                 (
                   m.begins,
                   (
-                    subst (λ n. n < index_len w m) (sym e) there.1,
+                    subst (λ n. n < index_len m) (sym e) there.1,
                     λ j key is. c.requires.callable j key (record { below = is.below; at = is.at; viewed = is.viewed }),
                   ),
                 ),
@@ -35,19 +31,19 @@ find_place-requires g c κs =
 pub returns-clause-found : goal.returns-clause-found
 returns-clause-found g c =
     let w = g.W.Word.word in
-    let k = g.K.Element.shape in
-    let v = g.V.Element.shape in
+    let k = g.K.Shaped.shape in
+    let v = g.V.Shaped.shape in
     let m = c.args.self in
     let f = c.find_place.ensures.found in
-    gets_place w g.met.W.Width.layout.kind k v g.met.K.Element.laws g.met.V.Element.laws m c.requires.map g.W.Place.Scalar.encoding g.met.W.Width.place c.table-table.result c.table-table.ensures.at
-    g.H.KeyHasher.hasher (g.Q.KeyHash.calls c.args.key.now) g.K.KeyElement.key_calls _ (goal.F-post g c.args.cmp c.args.key)
+    gets_place m g.W.Place.Scalar.encoding g.met.W.Place.Scalar.laws g.met.W.Width.place c.table-table.result c.table-table.ensures.at
+    (hash_at g.H.KeyHasher.hasher g.K.KeyElement.key_calls) _ (goal.F-post g c.args.cmp c.args.key)
     (λ h r x.
     let there = subst (λ n. IsKeyIn w k v m.view n x.2.0) x.1 x.2.1 in
     (x.2.0, record { below = there.below; at = there.at; viewed = there.viewed }, x.2.2))
-    c.hash_value-hash.result c.hash_value-hash.ensures f.held f.found c.find_place.result
-    (f.is ∙ place_found w g.met.W.Width.layout.kind k v g.met.K.Element.laws g.met.V.Element.laws m c.requires.map g.W.Place.Scalar.encoding g.met.W.Width.place c.table-table.result c.table-table.ensures.at f.held f.found.walked)
+    c.hash_value-hash.result _ c.hash_value-hash.ensures f.held f.found c.find_place.result
+    (f.is ∙ place_found m g.W.Place.Scalar.encoding g.met.W.Place.Scalar.laws g.met.W.Width.place c.table-table.result c.table-table.ensures.at f.held f.found.walked)
 
 pub returns-clause-bounded : goal.returns-clause-bounded
 returns-clause-bounded g c =
-    reads_few g.W.Word.word g.met.W.Width.layout.kind g.K.Element.shape g.V.Element.shape g.met.K.Element.laws g.met.V.Element.laws c.args.self c.requires.map g.W.Place.Scalar.encoding g.met.W.Width.place
+    reads_few c.args.self g.W.Place.Scalar.encoding g.met.W.Place.Scalar.laws g.met.W.Width.place
     c.table-table.result c.table-table.ensures.at _ _ c.find_place.ensures.bounded

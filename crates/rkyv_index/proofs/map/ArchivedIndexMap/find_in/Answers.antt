@@ -16,21 +16,21 @@ returns-clause-below g c = as_read c.read.result _ _ c.read.ensures.bytes c.read
 pub returns-clause-answer : goal.returns-clause-answer
 returns-clause-answer g c = λ accept answers.
     let w = g.W.Word.word in
-    let k = g.K.Element.shape in
-    let v = g.V.Element.shape in
+    let k = g.K.Shaped.shape in
+    let v = g.V.Shaped.shape in
     let m = c.read.result in
     let e = c.read.ensures in
     let hash = hash_of_calls g.H.KeyHasher.hasher (g.Q.KeyHash.calls c.args.key.now) in
-    finds_read m _ _ e.bytes e.pos w k v hash accept (IsPlace c.find.result)
-    (c.find.ensures.found.answer accept (answers_read m _ _ e.bytes e.pos w k v _ accept answers))
+    finds_read m _ _ e.bytes e.pos hash accept (IsPlace c.find.result)
+    (c.find.ensures.found.answer accept (answers_read m _ _ e.bytes e.pos _ accept answers))
 
 pub returns-clause-first : goal.returns-clause-first
 returns-clause-first g c = λ accept answers under.
     let w = g.W.Word.word in
-    let k = g.K.Element.shape in
-    let v = g.V.Element.shape in
+    let k = g.K.Shaped.shape in
+    let v = g.V.Shaped.shape in
     let m = c.read.result in
     let e = c.read.ensures in
     let key_hash = hash_at g.H.KeyHasher.hasher g.K.KeyElement.key_calls in
-    finds_first_read m _ _ e.bytes e.pos w k v key_hash accept (IsPlace c.find.result)
-    (c.find.ensures.found.first accept (answers_read m _ _ e.bytes e.pos w k v _ accept answers) (under_read m _ _ e.bytes e.pos w k v _ key_hash accept under))
+    finds_first_read m _ _ e.bytes e.pos key_hash accept (IsPlace c.find.result)
+    (c.find.ensures.found.first accept (answers_read m _ _ e.bytes e.pos _ accept answers) (under_read m _ _ e.bytes e.pos _ key_hash accept under))

@@ -2,7 +2,8 @@ use Rattle.std.proofs.Common.{◌<◌}
 use Rattle.std.specs.Prelude.{IfSome}
 use Rattle.std.proofs.lemmas.Option.{IfSome_then}
 use Rattle.rkyv_table.specs.Table.Header.{len_at}
-use Rattle.rkyv_index.specs.Index.{IsHeldAt, IsPlace}
+use Rattle.rkyv_index.specs.Index.{IsHeldAt, IsPlace, hash_at}
+use Rattle.rkyv_index.specs.IndexFormat.{hash_of}
 use Rattle.rkyv_index.proofs.SealedIndex.{as_read, finds_first_key_read, finds_key_read}
 use Rattle.rkyv_index.proofs.map.ArchivedIndexMap.find_key_in.Goals as goal
 
@@ -14,10 +15,10 @@ returns-clause-below g c = as_read c.read.result _ _ c.read.ensures.bytes c.read
 
 pub returns-clause-answer : goal.returns-clause-answer
 returns-clause-answer g c =
-    finds_key_read c.read.result _ _ c.read.ensures.bytes c.read.ensures.pos g.W.Word.word g.K.Element.shape g.V.Element.shape
-    g.H.KeyHasher.hasher (g.Q.Query.fits c.args.key.now) (IsPlace c.find_key.result) (g.Q.KeyHash.calls c.args.key.now) c.find_key.ensures.answer
+    finds_key_read c.read.result _ _ c.read.ensures.bytes c.read.ensures.pos
+    (g.Q.Query.fits c.args.key.now) (IsPlace c.find_key.result) (hash_of g.H.KeyHasher.hasher g.Q.KeyHash.calls c.args.key.now) c.find_key.ensures.answer
 
 pub returns-clause-first : goal.returns-clause-first
 returns-clause-first g c =
-    finds_first_key_read c.read.result _ _ c.read.ensures.bytes c.read.ensures.pos g.W.Word.word g.K.Element.shape g.V.Element.shape
-    g.H.KeyHasher.hasher (g.Q.Query.fits c.args.key.now) (IsPlace c.find_key.result) g.K.KeyElement.key_calls c.find_key.ensures.first
+    finds_first_key_read c.read.result _ _ c.read.ensures.bytes c.read.ensures.pos
+    (g.Q.Query.fits c.args.key.now) (IsPlace c.find_key.result) (hash_at g.H.KeyHasher.hasher g.K.KeyElement.key_calls) c.find_key.ensures.first

@@ -24,8 +24,8 @@ module _ (P : ℕ → Bool) (count i n all : ℕ) (told : count + length (filter
 
 pub loop-place-init : goal.loop-place-init
 loop-place-init g c =
-    let m = index_of g.W.Word.word g.K.Element.shape g.V.Element.shape c.args.self in
-    let n : ℕ = index_len g.W.Word.word c.args.self in
+    let m = index_of c.args.self in
+    let n : ℕ = index_len c.args.self in
     let key_hash = hash_at g.H.KeyHasher.hasher g.K.KeyElement.key_calls in
     let e = left_first (is_misplaced m key_hash g.K.ElementEq.same) n in
     let f = left_first (is_repeated m key_hash g.K.ElementEq.same) n in
@@ -33,9 +33,9 @@ loop-place-init g c =
 
 pub loop-place-preserved : goal.loop-place-preserved
 loop-place-preserved g c =
-    let index : ArchivedIndexMap _ _ _ _ _ → _ = index_of g.W.Word.word g.K.Element.shape g.V.Element.shape in
+    let index : ArchivedIndexMap _ _ _ _ _ _ _ → _ = index_of in
     let m = index c.args.self in
-    let n : ℕ = index_len g.W.Word.word c.args.self in
+    let n : ℕ = index_len c.args.self in
     let key_hash = hash_at g.H.KeyHasher.hasher g.K.KeyElement.key_calls in
     let same = g.K.ElementEq.same in
     let P : ℕ → Bool = is_misplaced m key_hash same in
@@ -62,12 +62,12 @@ loop-place-preserved g c =
 
 pub returns-clause-told : goal.returns-clause-told
 returns-clause-told g c =
-    let end : c.len-place-end.result ≡ index_len g.W.Word.word c.args.self = c.len-place-end.ensures in
+    let end : c.len-place-end.result ≡ index_len c.args.self = c.len-place-end.ensures in
     let test = c.loop-place-test.false in
-    all_told _ _ c.loop-place.place (index_len g.W.Word.word c.args.self) _ c.loop-place.invariant.told (omega (arith, test, end))
+    all_told _ _ c.loop-place.place (index_len c.args.self) _ c.loop-place.invariant.told (omega (arith, test, end))
 
 pub returns-clause-repeated : goal.returns-clause-repeated
 returns-clause-repeated g c = λ homes written.
-    let end : c.len-place-end.result ≡ index_len g.W.Word.word c.args.self = c.len-place-end.ensures in
+    let end : c.len-place-end.result ≡ index_len c.args.self = c.len-place-end.ensures in
     let test = c.loop-place-test.false in
-    all_told _ _ c.loop-place.place (index_len g.W.Word.word c.args.self) _ (c.loop-place.invariant.repeated homes written) (omega (arith, test, end))
+    all_told _ _ c.loop-place.place (index_len c.args.self) _ (c.loop-place.invariant.repeated homes written) (omega (arith, test, end))

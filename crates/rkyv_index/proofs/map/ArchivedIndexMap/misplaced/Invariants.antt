@@ -7,8 +7,8 @@ use Rattle.rkyv_index.proofs.map.ArchivedIndexMap.misplaced.Given as goal
 -- the number of misplaced keys is the count and the number of those that remain
 abbrev pub invariant-loop-place : goal.invariant-loop-place
 invariant-loop-place g l =
-    let m = index_of g.W.Word.word g.K.Element.shape g.V.Element.shape l.fn.self in
-    let n : ℕ = index_len g.W.Word.word l.fn.self in
+    let m = index_of l.fn.self in
+    let n : ℕ = index_len l.fn.self in
     let key_hash = hash_at g.H.KeyHasher.hasher g.K.KeyElement.key_calls in
     let same = g.K.ElementEq.same in
     record {

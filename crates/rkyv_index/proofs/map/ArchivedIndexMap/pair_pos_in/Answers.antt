@@ -13,24 +13,24 @@ use Rattle.rkyv_index.proofs.map.ArchivedIndexMap.pair_pos_in.Goals as goal
 
 pub entry-requires-clause-below : goal.entry-requires-clause-below
 entry-requires-clause-below g c =
-    subst (λ m. c.args.place < index_len g.W.Word.word m) (sym c.entries.ensures.map)
+    subst (λ m. c.args.place < index_len m) (sym c.entries.ensures.map)
     (moved (λ d r. c.args.place < len_at g.W.Word.word d r) _ _ _ _ (sym c.read.ensures.bytes) (sym c.read.ensures.pos) c.requires.below)
 
 pub returns-clause-at : goal.returns-clause-at
 returns-clause-at g c =
     let w = g.W.Word.word in
-    let k = g.K.Element.shape in
-    let v = g.V.Element.shape in
+    let k = g.K.Shaped.shape in
+    let v = g.V.Shaped.shape in
     let there : (b : List ℕ) → ℕ → ℕ = λ b p. pair_at w k v b p c.args.place in
-    let is = c.pos.ensures ∙ c.entry.ensures.at.1 ∙ ap (λ m. key_pos w k v m c.args.place) c.entries.ensures.map
-    ∙ as_read c.read.result _ _ c.read.ensures.bytes c.read.ensures.pos (λ d r. key_pos w k v c.read.result c.args.place ≡ there d r) refl in
+    let is = c.pos.ensures ∙ c.entry.ensures.at.1 ∙ ap (λ m. key_pos m c.args.place) c.entries.ensures.map
+    ∙ as_read c.read.result _ _ c.read.ensures.bytes c.read.ensures.pos (λ d r. key_pos c.read.result c.args.place ≡ there d r) refl in
     subst (IsPairPos w k v _ _ c.args.place) (sym is)
-    (pair_place w g.met.W.Width.layout.kind k v g.met.K.Element.laws g.met.V.Element.laws _ _ c.requires.map c.args.place c.requires.below)
+    (pair_place w g.met.W.Width.layout.kind k v g.K.Shaped.laws g.V.Shaped.laws _ _ c.requires.map c.args.place c.requires.below)
 
 pub returns-clause-entry : goal.returns-clause-entry
 returns-clause-entry g c =
-    let k = g.K.Element.shape in
-    let v = g.V.Element.shape in
+    let k = g.K.Shaped.shape in
+    let v = g.V.Shaped.shape in
     let at = returns-clause-at g c in
     subst (Viewed (entry_shape k v) _) (sym at.place)
-    (entry_viewed g.W.Word.word g.met.W.Width.layout.kind (entry_shape k v) (entry_element k v g.met.K.Element.laws g.met.V.Element.laws) _ _ c.requires.map c.args.place c.requires.below)
+    (entry_viewed g.W.Word.word g.met.W.Width.layout.kind (entry_shape k v) (entry_element k v g.K.Shaped.laws g.V.Shaped.laws) _ _ c.requires.map c.args.place c.requires.below)

@@ -9,11 +9,11 @@ use Rattle.rkyv_index.proofs.map.ArchivedIndexMap.read_pair.Goals as goal
 pub returns : goal.returns
 returns g c =
     let w = g.W.Word.word in
-    let k = g.K.Element.shape in
-    let v = g.V.Element.shape in
+    let k = g.K.Shaped.shape in
+    let v = g.V.Shaped.shape in
     let i = c.args.place in
     let there = c.entries.result.map in
     let at = c.entry.ensures.at in
     let Read : List ℕ → ℕ → Type 0 = λ b p. MatchResult c.deserialize.result (PairStands k v g.K.StandsFor.stands g.V.StandsFor.stands b p) (entry_refuses k v g.K.Deserialize.refuses g.V.Deserialize.refuses b p) in
-    subst (λ m. Read (index_bytes m) (key_pos w k v m i)) c.entries.ensures.map
+    subst (λ m. Read (index_bytes m) (key_pos m i)) c.entries.ensures.map
     (subst (Read (index_bytes there)) at.1 (subst (λ (a : Bor (List ℕ)). Read a.now c.entry.result.pos) at.0 c.deserialize.ensures))

@@ -18,6 +18,6 @@ returns g c =
     let there = sym c.as_slice.ensures.value in
     let came : Drains steps c.args.iter (made_of entries) = subst (λ (xs : List (EntryAdapter g.row.BK.Denot g.row.BV.Denot g.row.A.Denot g.row.B.Denot)). Drains steps c.args.iter (made_of xs)) there c.in-Ok-take_entries.ensures.0 in
     let count : length entries ≡ c.args.len = ap length c.as_slice.ensures.value ∙ c.in-Ok-take_entries.ensures.1 in
-    answers_items g.row.S-Fault.Denot g.BK.Lend.lent g.BV.Lend.lent g.W.Word.word g.W.Place.Scalar.encoding g.K.Element.shape g.V.Element.shape g.A.Archive.format g.B.Archive.format hash c.args.load_factor
+    answers_items g.row.S-Fault.Denot g.BK.Lend.lent g.BV.Lend.lent g.W.Word.word g.W.Place.Shaped.shape g.W.Place.Scalar.encoding g.K.Shaped.shape g.V.Shaped.shape g.A.Archive.format g.B.Archive.format hash c.args.load_factor
     (Drains steps c.args.iter) (GaveOther steps c.args.len c.args.iter) c.args.len g.W.Width.MAX_CAPACITY g.W.Width.LIMIT has entries came count
     (g.S.Writer.output c.args.serializer.now) (g.S.Writer.output c.write_index.new.serializer) c.write_index.result c.write_index.ensures

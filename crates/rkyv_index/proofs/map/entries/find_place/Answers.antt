@@ -1,6 +1,5 @@
 use Rattle.std.proofs.Common.{Some, ap, sym, ◌∙◌}
 use Rattle.std.specs.Option.{option_map}
-use Rattle.rkyv_base.specs.Scalar.{scalar_shape}
 use Rattle.rkyv_index.specs.Index.{place_at}
 use Rattle.rkyv_index.proofs.PlacesFound.{finds_as}
 use Rattle.rkyv_index.proofs.map.entries.find_place.Goals as goal
@@ -11,7 +10,7 @@ returns-in-Some-clause-found g c =
     let held = c.get_counted-held.result in
     record {
       held = held;
-      found = finds_as _ _ (λ h r x. x.1) w (scalar_shape g.W.Place.Scalar.encoding) c.args.table c.args.hash held c.get_counted-held.ensures.found;
+      found = finds_as _ _ (λ h r x. x.1) c.args.table c.args.hash held c.get_counted-held.ensures.found;
       is = ap Some c.read_place.ensures ∙ ap (option_map (place_at w)) (sym c.in-Some.is);
     }
 
@@ -21,6 +20,6 @@ returns-clause-found g c =
     let held = c.get_counted-held.result in
     record {
       held = held;
-      found = finds_as _ _ (λ h r x. x.1) w (scalar_shape g.W.Place.Scalar.encoding) c.args.table c.args.hash held c.get_counted-held.ensures.found;
+      found = finds_as _ _ (λ h r x. x.1) c.args.table c.args.hash held c.get_counted-held.ensures.found;
       is = ap (option_map (place_at w)) (sym c.in-None.is);
     }

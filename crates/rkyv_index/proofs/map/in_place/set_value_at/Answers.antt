@@ -1,5 +1,5 @@
 use Rattle.std.proofs.Common.{◌∙◌, ap, subst}
-use Rattle.rkyv_base.specs.Scalar.{ScalarStands, scalar_element, scalar_near, scalar_shape}
+use Rattle.rkyv_base.specs.Scalar.{ScalarStands, scalar_near}
 use Rattle.rkyv_base.specs.Sealing.{with_value}
 use Rattle.rkyv_index.specs.Index.{hash_at}
 use Rattle.rkyv_index.proofs.ValueWrites.{hash_near, index_kept, value_written, written_value_stands}
@@ -11,18 +11,17 @@ returns-clause-written g c =
 
 pub returns-clause-kept : goal.returns-clause-kept
 returns-clause-kept g c =
-    let e = g.N.Scalar.encoding in
-    let v = scalar_shape e in
-    index_kept g.W.Word.word g.met.W.Width.layout.kind g.K.Element.shape v g.met.K.Element.laws (scalar_element e g.met.N.Scalar.word) c.args.archive.now c.args.root c.requires.map c.set_at.new.bytes c.args.place c.requires.below
-    (value_written g.W.Word.word g.K.Element.shape v _ _ _ _ c.value_pos_at-pos.ensures.at c.set_at.ensures.sealed c.set_at.ensures.holds)
+    let v = g.N.Shaped.shape in
+    index_kept g.W.Word.word g.met.W.Width.layout.kind g.K.Shaped.shape v g.K.Shaped.laws g.N.Shaped.laws c.args.archive.now c.args.root c.requires.map c.set_at.new.bytes c.args.place c.requires.below
+    (value_written g.W.Word.word g.K.Shaped.shape v _ _ _ _ c.value_pos_at-pos.ensures.at c.set_at.ensures.sealed c.set_at.ensures.holds)
     (hash_at g.H.KeyHasher.hasher g.K.KeyElement.key_calls) (hash_near g.H.KeyHasher.hasher g.met.K.KeyElement.key)
 
 pub returns-clause-listed : goal.returns-clause-listed
 returns-clause-listed g c = λ factor pairs pair st there.
     let e = g.N.Scalar.encoding in
-    let v = scalar_shape e in
-    written_value_stands g.W.Word.word g.met.W.Width.layout.kind g.K.Element.shape v g.met.K.Element.laws (scalar_element e g.met.N.Scalar.word) c.args.archive.now c.args.root c.requires.map c.set_at.new.bytes c.args.place c.requires.below
-    (value_written g.W.Word.word g.K.Element.shape v _ _ _ _ c.value_pos_at-pos.ensures.at c.set_at.ensures.sealed c.set_at.ensures.holds)
+    let v = g.N.Shaped.shape in
+    written_value_stands g.W.Word.word g.met.W.Width.layout.kind g.K.Shaped.shape v g.K.Shaped.laws g.N.Shaped.laws c.args.archive.now c.args.root c.requires.map c.set_at.new.bytes c.args.place c.requires.below
+    (value_written g.W.Word.word g.K.Shaped.shape v _ _ _ _ c.value_pos_at-pos.ensures.at c.set_at.ensures.sealed c.set_at.ensures.holds)
     (hash_at g.H.KeyHasher.hasher g.K.KeyElement.key_calls) (hash_near g.H.KeyHasher.hasher g.met.K.KeyElement.key)
-    g.K.StandsFor.stands (ScalarStands e) g.met.K.StandsFor.near (scalar_near e g.met.N.Scalar.word) factor pairs pair c.args.value st there
+    g.K.StandsFor.stands (ScalarStands e) g.met.K.StandsFor.near (scalar_near v e g.met.N.Scalar.laws) factor pairs pair c.args.value st there
     (subst (λ q. ScalarStands e c.set_at.new.bytes q c.args.value) c.value_pos_at-pos.ensures.at c.set_at.ensures.reads)

@@ -12,10 +12,10 @@ use Rattle.rkyv_index.proofs.map.laws.pairs_read_back_are_listed.Goals as goal
 pub returns : goal.returns
 returns g c = λ b p factor listed read view st reads.
     let w = g.W.Word.word in
-    let k = g.K.Element.shape in
-    let v = g.V.Element.shape in
-    let kl = g.met.K.Element.laws in
-    let vl = g.met.V.Element.laws in
+    let k = g.K.Shaped.shape in
+    let v = g.V.Shaped.shape in
+    let kl = g.K.Shaped.laws in
+    let vl = g.V.Shaped.laws in
     let alone = entry_alone kl vl g.K.StandsFor.stands g.V.StandsFor.stands g.A.PartialEq.eq g.B.PartialEq.eq g.met.K.StandsAlone.alone g.met.V.StandsAlone.alone in
     equal_lists (pairs_equal g.A.PartialEq.eq g.B.PartialEq.eq) listed read (sym st.len ∙ sym reads.0) (λ i x y e e'.
     let count = st.len in

@@ -7,10 +7,10 @@ use Rattle.rkyv_index.proofs.map.laws.value_writes_keep_answers.Goals as goal
 pub returns : goal.returns
 returns g c = λ b d p i view below writes q can.
     let h = g.H.KeyHasher in
-    let k = g.K.Element.shape in
-    let kept = index_kept g.W.Word.word g.met.W.Width.layout.kind k g.V.Element.shape g.met.K.Element.laws g.met.V.Element.laws b p view d i below writes
+    let k = g.K.Shaped.shape in
+    let kept = index_kept g.W.Word.word g.met.W.Width.layout.kind k g.V.Shaped.shape g.K.Shaped.laws g.V.Shaped.laws b p view d i below writes
     (hash_at h.hasher g.K.KeyElement.key_calls)
     (hash_near h.hasher g.met.K.KeyElement.key) in
-    let rests = rests_on_keys g.met.K.Element.laws g.met.K.ElementEquiv.equivalence g.met.K.KeyElement.key g.met.Q.Query.query in
+    let rests = rests_on_keys g.K.Shaped.laws g.met.K.ElementEquiv.equivalence g.met.K.KeyElement.key g.met.Q.Query.query in
     kept.lookups (hash_of h.hasher g.Q.KeyHash.calls q) (g.Q.Query.fits q) (g.met.H.KeyHasher.fits (g.Q.KeyHash.calls q))
     (rests_on_each k g.Q.KeyHash.can_read g.Q.Query.fits rests q can)

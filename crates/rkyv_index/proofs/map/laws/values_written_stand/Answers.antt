@@ -12,7 +12,7 @@ returns g c = λ b d p n factor pairs pair new view st there writes stands.
     let count = st.len in
     let within = slice_get_within pairs n pair there in
     let below : n < len_at w b p = omega (arith, count, within) in
-    written_value_stands w g.met.W.Width.layout.kind g.K.Element.shape g.V.Element.shape g.met.K.Element.laws g.met.V.Element.laws b p view d n below writes
+    written_value_stands w g.met.W.Width.layout.kind g.K.Shaped.shape g.V.Shaped.shape g.K.Shaped.laws g.V.Shaped.laws b p view d n below writes
     (hash_at h.hasher g.K.KeyElement.key_calls)
     (hash_near h.hasher g.met.K.KeyElement.key)
     g.K.StandsFor.stands g.V.StandsFor.stands g.met.K.StandsFor.near g.met.V.StandsFor.near factor pairs pair new st there stands

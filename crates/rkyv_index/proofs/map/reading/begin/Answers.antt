@@ -20,8 +20,8 @@ pos_told-requires g c =
     let w = g.W.Word.word in
     let b = bytes_of c.args.view in
     let p = pos_of c.args.view in
-    let s = entry_shape g.K.Element.shape g.V.Element.shape in
-    let law = entry_element g.K.Element.shape g.V.Element.shape g.met.K.Element.laws g.met.V.Element.laws in
+    let s = entry_shape g.K.Shaped.shape g.V.Shaped.shape in
+    let law = entry_element g.K.Shaped.shape g.V.Shaped.shape g.K.Shaped.laws g.V.Shaped.laws in
     let fits : FitsSigned w128 c.begin_told.result = search rules in
     let told = told_is c.begin_told.result (entries_told w b p) fits
     (c.begin_told.ensures.told ∙ ap (λ (x : Bor (List ℕ)). entries_told w x.now c.pos.result) c.bytes.ensures ∙ ap (entries_told w b) c.pos.ensures) in

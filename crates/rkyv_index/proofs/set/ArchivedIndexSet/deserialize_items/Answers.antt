@@ -1,7 +1,6 @@
 use Rattle.std.proofs.Common.{◌≡◌, ◌+◌, ◌++◌, ◌∷◌, ◌∙◌, [], List, ap, arith, inr, length, subst, sym, ℕ}
 use Rattle.std.proofs.lemmas.List.{length_push}
 use Rattle.std.specs.List.{slice_get}
-use Rattle.rkyv_base.specs.Empty.{unit_shape}
 use Rattle.rkyv_index.specs.Index.{key_pos}
 use Rattle.rkyv_index.specs.IndexSet.{keys_of, set_bytes}
 use Rattle.rkyv_index.proofs.ReadPairs.{pushed_too}
@@ -12,7 +11,7 @@ loop-place-preserved g c =
     let s = c.args.self in
     let read : List g.row.A.Denot = c.loop-place.list.items in
     let Stands : ℕ → g.row.A.Denot → Type 0 = λ i item.
-    g.K.StandsFor.stands (set_bytes s) (key_pos g.W.Word.word g.K.Element.shape unit_shape (keys_of s) i) item in
+    g.K.StandsFor.stands (set_bytes s) (key_pos (keys_of s) i) item in
     let items : c.push.new.self.items ≡ read ++ c.in-Ok.item ∷ [] = c.in-Ok-push.ensures.items in
     let inv = c.loop-place.invariant in
     let here = subst (λ n. Stands n c.in-Ok.item) (sym inv.0) c.in-Ok.ensures in (

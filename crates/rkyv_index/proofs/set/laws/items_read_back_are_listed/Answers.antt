@@ -16,8 +16,8 @@ use Rattle.rkyv_index.proofs.set.laws.items_read_back_are_listed.Goals as goal
 pub returns : goal.returns
 returns g c = λ b p factor listed read view st reads.
     let w = g.W.Word.word in
-    let k = g.K.Element.shape in
-    let kl = g.met.K.Element.laws in
+    let k = g.K.Shaped.shape in
+    let kl = g.K.Shaped.laws in
     let paired : g.row.A.Denot → g.row.A.Denot × Unit {0} = λ x. (x, tt) in
     let count = st.len ∙ length-map listed paired in
     equal_lists g.A.PartialEq.eq listed read (sym count ∙ sym reads.0) (λ i x y e e'.

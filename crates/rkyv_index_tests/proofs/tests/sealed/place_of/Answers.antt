@@ -16,4 +16,4 @@ returns g c =
     let place = ap (λ v. v.pos) c.of.ensures.view ∙ c.new.ensures.1 in
     let w = g.W.Word.word in
     as_read c.of.result c.args.bytes.now c.args.root bytes place (λ d r. IfSome c.get_index_of.result (λ i. i < len_at w d r))
-    (second (IsHeld w c.of.result) (λ i. i < index_len w c.of.result) c.get_index_of.result c.get_index_of.ensures.walked)
+    (second (IsHeld c.of.result) (λ i. i < index_len c.of.result) c.get_index_of.result c.get_index_of.ensures.walked)

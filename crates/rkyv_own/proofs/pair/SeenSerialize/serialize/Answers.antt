@@ -8,7 +8,7 @@ same_pair a b pair e d = ap (λ x. (x, b)) e ∙ ap (λ y. (pair.0, y)) d
 
 pub returns : goal.returns
 returns g c =
-    let f = pair_format g.A.Archived.Element.shape g.B.Archived.Element.shape g.A.Archive.format
+    let f = pair_format g.A.Archived.Shaped.shape g.B.Archived.Shaped.shape g.A.Archive.format
     g.B.Archive.format in
     let first = ap (λ a. a.now) c.new-adapter.ensures.key ∙ c.first.ensures in
     let second = ap (λ a. a.now) c.new-adapter.ensures.value ∙ c.second.ensures in

@@ -1,6 +1,6 @@
 use Rattle.std.proofs.Common.{◌∙◌, refl, ap, arith, length, Some, None}
 use Rattle.rkyv_scan.specs.Groups.{generic_kind}
-use Rattle.rkyv_table.proofs.Bare.{item_at_found, looks_up_none, looks_up_some, may_ask, table_of}
+use Rattle.rkyv_table.proofs.Bare.{item_at_found, looks_up_none, looks_up_some, may_ask}
 use Rattle.rkyv_table.proofs.table.ArchivedHashTable.found_with.Goals as goal
 
 pub get_pos_with-requires : goal.get_pos_with-requires
@@ -8,17 +8,14 @@ get_pos_with-requires g c κs =
     let bytes = ap (λ v. v.archive.now) c.of-table.ensures.view ∙ ap (λ v. v.now) c.new.ensures.0 in
     let place = ap (λ v. v.pos) c.of-table.ensures.view ∙ c.new.ensures.1 in (
       (refl, tt),
-      (
-        table_of g.W.Word.word g.T.Element.shape c.args.archive.now c.args.pos c.of-table.result bytes place c.requires.table,
-        may_ask g.W.Word.word g.T.Element.shape c.args.archive.now c.args.pos c.of-table.result bytes place _ c.requires.callable,
-      ),
+      may_ask c.args.archive.now c.args.pos c.of-table.result bytes place _ c.requires.callable,
     )
 
 pub lend_seal-requires : goal.lend_seal-requires
 lend_seal-requires g c =
     let bytes = ap (λ v. v.archive.now) c.of-table.ensures.view ∙ ap (λ v. v.now) c.new.ensures.0 in
     let place = ap (λ v. v.pos) c.of-table.ensures.view ∙ c.new.ensures.1 in
-    let item = item_at_found g.W.Word.word g.T.Element.shape c.args.archive.now c.args.pos c.of-table.result bytes place g.met.T.Element.laws c.requires.table c.in-Some.place c.in-Some.ensures.walked in
+    let item = item_at_found c.args.archive.now c.args.pos c.of-table.result bytes place g.T.Shaped.laws c.requires.table c.in-Some.place c.in-Some.ensures.walked in
     λ x same at. c.requires.writable x same (omega (arith, item.1.viewed.inside, at, ap length same))
 
 pub returns-in-Some : goal.returns-in-Some
@@ -28,8 +25,8 @@ returns-in-Some g c =
     let e = c.in-Some.ensures in
     record {
       found = Some c.in-Some.place;
-      looks = looks_up_some g.W.Word.word g.T.Element.shape c.args.archive.now c.args.pos c.of-table.result bytes place _ generic_kind c.args.hash c.in-Some.place e.answer e.first e.accepted;
-      item = item_at_found g.W.Word.word g.T.Element.shape c.args.archive.now c.args.pos c.of-table.result bytes place g.met.T.Element.laws c.requires.table c.in-Some.place e.walked;
+      looks = looks_up_some c.args.archive.now c.args.pos c.of-table.result bytes place _ generic_kind c.args.hash c.in-Some.place e.answer e.first e.accepted;
+      item = item_at_found c.args.archive.now c.args.pos c.of-table.result bytes place g.T.Shaped.laws c.requires.table c.in-Some.place e.walked;
       writes = (c.lend_seal.result, refl, c.lend_seal.ensures);
     }
 
@@ -39,7 +36,7 @@ returns-in-None g c =
     let place = ap (λ v. v.pos) c.of-table.ensures.view ∙ c.new.ensures.1 in
     record {
       found = None;
-      looks = looks_up_none g.W.Word.word g.T.Element.shape c.args.archive.now c.args.pos c.of-table.result bytes place _ generic_kind c.args.hash c.in-None.ensures.answer c.in-None.ensures.first;
+      looks = looks_up_none c.args.archive.now c.args.pos c.of-table.result bytes place _ generic_kind c.args.hash c.in-None.ensures.answer c.in-None.ensures.first;
       item = tt;
       writes = (refl, refl);
     }

@@ -5,7 +5,8 @@ use Rattle.rkyv_scan.specs.Groups.{generic_kind}
 use Rattle.rkyv_table.specs.Table.Header.{cap_at}
 use Rattle.rkyv_table.specs.Table.MisplacedIn.{bucket_misplaced}
 use Rattle.rkyv_table.specs.Controls.Placing.{walk}
-use Rattle.rkyv_table.specs.Table.Reading.{IsItem, IsWalked, table_bytes, table_controls, table_pos}
+use Rattle.rkyv_table.specs.Table.Positions.{IsWalked, table_controls}
+use Rattle.rkyv_table.specs.Table.Reading.{IsItem, table_bytes, table_pos}
 use Rattle.rkyv_table.proofs.MisplacedIn.{TellsMisplaced, bucket_told, counted_none, counted_one}
 use Rattle.rkyv_table.proofs.RawWalks.{walked_all}
 use Rattle.rkyv_table.proofs.Walks.{walk_small}
@@ -15,7 +16,7 @@ use Rattle.rkyv_table.proofs.table.ArchivedHashTable.misplaced_by.Goals.{After-i
 pub loop-bucket-init : goal.loop-bucket-init
 loop-bucket-init g c =
     let w = g.W.Word.word in
-    let s = g.T.Element.shape in
+    let s = g.T.Shaped.shape in
     let b = table_bytes c.args.self in
     let p = table_pos c.args.self in
     let e : c.into_iter-bucket-iterator.result ≡ walk (table_controls w b p) (cap_at w b p) =
@@ -24,10 +25,10 @@ loop-bucket-init g c =
     let l = ap length e in
     let small = walk_small (table_controls w b p) (cap_at w b p) in
     record {
-      walked = subst (All (IsWalked w b p)) (sym e) (walked_all w s g.met.T.Element.laws b p);
+      walked = subst (All (IsWalked w b p)) (sym e) (walked_all w s g.T.Shaped.laws b p);
       counted = omega arith;
       told = λ hash_of same hash_as same_as.
-          zero-add _ ∙ ap (λ xs. length (filter (bucket_misplaced generic_kind w s c.args.self hash_of same) xs)) e;
+          zero-add _ ∙ ap (λ xs. length (filter (bucket_misplaced generic_kind c.args.self hash_of same) xs)) e;
     }
 
 -- the current bucket and the remaining ones are full
@@ -44,9 +45,9 @@ module _ (g : _) (c : In-Some g) where
 
 -- the lookup decides if the item is misplaced
 module _ (g : _) (c : After-is_elsewhere g) where
-  tells : TellsMisplaced generic_kind g.W.Word.word g.T.Element.shape c.args.self (goal.H-post g c.args.hash_of) (goal.S-post g c.args.same) c.in-Some.bucket c.is_elsewhere.result
+  tells : TellsMisplaced generic_kind c.args.self (goal.H-post g c.args.hash_of) (goal.S-post g c.args.same) c.in-Some.bucket c.is_elsewhere.result
   tells = λ hash_of same hash_as same_as.
-      c.is_elsewhere.ensures ∙ bucket_told generic_kind g.W.Word.word g.T.Element.shape c.of-items.result.table c.args.self c.of-items.ensures.table _ _ c.in-Some.bucket c.hash_of-hash.result c.item.result c.item.ensures c.hash_of-hash.ensures
+      c.is_elsewhere.ensures ∙ bucket_told generic_kind c.of-items.result.table c.args.self c.of-items.ensures.table _ _ c.in-Some.bucket c.hash_of-hash.result c.item.result c.item.ensures c.hash_of-hash.ensures
       c.own_lookup.result c.own_lookup.ensures hash_of same hash_as same_as
 
 pub item-requires-clause-walked : goal.item-requires-clause-walked
@@ -60,7 +61,7 @@ own_lookup-requires g c κs =
         c.of-items.ensures.items,
         (
           here g (goal.at.own_lookup-requires g c).In-Some,
-          λ x y hx hy. c.requires.comparable x y (subst (λ t. IsItem g.W.Word.word g.T.Element.shape t x) same hx) (subst (λ t. IsItem g.W.Word.word g.T.Element.shape t y) same hy),
+          λ x y hx hy. c.requires.comparable x y (subst (λ t. IsItem t x) same hx) (subst (λ t. IsItem t y) same hy),
         ),
       ),
     )
@@ -73,7 +74,7 @@ loop-bucket-preserved-then-is_elsewhere g c =
     record {
       walked = rest g at.In-Some;
       counted = omega arith;
-      told = counted_one generic_kind g.W.Word.word g.T.Element.shape c.args.self _ _ c.loop-bucket.count c.in-Some.bucket c.loop-bucket.bucket-iterator c.next.new.self c.in-Some.ensures.steps c.is_elsewhere.result
+      told = counted_one generic_kind c.args.self _ _ c.loop-bucket.count c.in-Some.bucket c.loop-bucket.bucket-iterator c.next.new.self c.in-Some.ensures.steps c.is_elsewhere.result
           (tells g at.After-is_elsewhere) c.loop-bucket.invariant.told c.if-is_elsewhere.true;
     }
 
@@ -85,13 +86,13 @@ loop-bucket-preserved g c =
     record {
       walked = rest g at.In-Some;
       counted = omega arith;
-      told = counted_none generic_kind g.W.Word.word g.T.Element.shape c.args.self _ _ c.loop-bucket.count c.in-Some.bucket c.loop-bucket.bucket-iterator c.next.new.self c.in-Some.ensures.steps c.is_elsewhere.result
+      told = counted_none generic_kind c.args.self _ _ c.loop-bucket.count c.in-Some.bucket c.loop-bucket.bucket-iterator c.next.new.self c.in-Some.ensures.steps c.is_elsewhere.result
           (tells g at.After-is_elsewhere) c.loop-bucket.invariant.told c.if-is_elsewhere.false;
     }
 
 pub returns : goal.returns
 returns g c = λ hash_of same hash_as same_as.
-    let Q = bucket_misplaced generic_kind g.W.Word.word g.T.Element.shape c.args.self hash_of same in
+    let Q = bucket_misplaced generic_kind c.args.self hash_of same in
     let n = ap (λ xs. length (filter Q xs)) c.in-None.ensures.steps.0 in
     let told = c.loop-bucket.invariant.told hash_of same hash_as same_as in
     omega (arith, n, told)

@@ -4,4 +4,4 @@ use Rattle.rkyv_table.proofs.table.laws.lookups_answer_the_first.Goals as goal
 
 pub returns : goal.returns
 returns g c = λ load_factor.
-    answers_first g.W.Word.word g.U.Archived.Element.shape (lent_stands g.X.Lend.lent g.U.Archived.StandsFor.stands) load_factor
+    answers_first g.W.Word.word g.U.Archived.Shaped.shape (lent_stands g.X.Lend.lent g.U.Archived.StandsFor.stands) load_factor

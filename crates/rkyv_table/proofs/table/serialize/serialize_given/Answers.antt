@@ -10,17 +10,17 @@ returns-in-Ok-take_none g c =
     let has : HasCapacity c.args.len c.args.load_factor g.W.Width.MAX_CAPACITY = (cap.0, rw (cap.1, c.MAX_CAPACITY.ensures) at cap.2) in
     let fits = capacity_fits c.args.len c.args.load_factor g.W.Width.MAX_CAPACITY g.met.W.Width.layout has in
     let o = g.S.Writer.output c.args.serializer.now in
-    wrote_none (g.H.HandsIn.input c.args.given).gave c.args.len c.args.load_factor g.W.Width.MAX_CAPACITY g.W.Word.word g.U.Archived.Element.shape (written_as g.X.Lend.lent g.U.Archive.format) o o g.W.Width.LIMIT has c.if-len-eq0.true c.in-Ok-take_none.ensures refl fits
+    wrote_none (g.H.HandsIn.input c.args.given).gave c.args.len c.args.load_factor g.W.Width.MAX_CAPACITY g.W.Word.word g.U.Archived.Shaped.shape (written_as g.X.Lend.lent g.U.Archive.format) o o g.W.Width.LIMIT has c.if-len-eq0.true c.in-Ok-take_none.ensures refl fits
 
 pub returns-in-Ok-serialize_filled : goal.returns-in-Ok-serialize_filled
 returns-in-Ok-serialize_filled g c =
     let cap = c.in-Ok.ensures in
     let has : HasCapacity c.args.len c.args.load_factor g.W.Width.MAX_CAPACITY = (cap.0, rw (cap.1, c.MAX_CAPACITY.ensures) at cap.2) in
     let fits = capacity_fits c.args.len c.args.load_factor g.W.Width.MAX_CAPACITY g.met.W.Width.layout has in
-    wrote_some (g.H.HandsIn.input c.args.given).gave c.args.len c.args.load_factor g.W.Width.MAX_CAPACITY g.W.Word.word g.U.Archived.Element.shape (written_as g.X.Lend.lent g.U.Archive.format) (g.S.Writer.output c.args.serializer.now) (g.S.Writer.output c.serialize_filled.new.serializer) g.W.Width.LIMIT has (omega (arith, c.if-len-eq0.false)) c.in-Ok-serialize_filled.pos fits (rw cap.1 at c.in-Ok-serialize_filled.ensures)
+    wrote_some (g.H.HandsIn.input c.args.given).gave c.args.len c.args.load_factor g.W.Width.MAX_CAPACITY g.W.Word.word g.U.Archived.Shaped.shape (written_as g.X.Lend.lent g.U.Archive.format) (g.S.Writer.output c.args.serializer.now) (g.S.Writer.output c.serialize_filled.new.serializer) g.W.Width.LIMIT has (omega (arith, c.if-len-eq0.false)) c.in-Ok-serialize_filled.pos fits (rw cap.1 at c.in-Ok-serialize_filled.ensures)
 
 pub returns-in-Err-serialize_filled : goal.returns-in-Err-serialize_filled
 returns-in-Err-serialize_filled g c =
     let cap = c.in-Ok.ensures in
     let has : HasCapacity c.args.len c.args.load_factor g.W.Width.MAX_CAPACITY = (cap.0, rw (cap.1, c.MAX_CAPACITY.ensures) at cap.2) in
-    gave_up_some (g.H.HandsIn.input c.args.given).gave c.args.len c.args.load_factor g.W.Width.MAX_CAPACITY g.W.Word.word g.U.Archived.Element.shape (written_as g.X.Lend.lent g.U.Archive.format) (g.S.Writer.output c.args.serializer.now) (g.S.Writer.output c.serialize_filled.new.serializer) g.W.Width.LIMIT has (omega (arith, c.if-len-eq0.false)) ((g.H.HandsIn.input c.args.given).gave_other c.args.len) c.in-Err-serialize_filled.e (rw cap.1 at c.in-Err-serialize_filled.ensures)
+    gave_up_some (g.H.HandsIn.input c.args.given).gave c.args.len c.args.load_factor g.W.Width.MAX_CAPACITY g.W.Word.word g.U.Archived.Shaped.shape (written_as g.X.Lend.lent g.U.Archive.format) (g.S.Writer.output c.args.serializer.now) (g.S.Writer.output c.serialize_filled.new.serializer) g.W.Width.LIMIT has (omega (arith, c.if-len-eq0.false)) ((g.H.HandsIn.input c.args.given).gave_other c.args.len) c.in-Err-serialize_filled.e (rw cap.1 at c.in-Err-serialize_filled.ensures)

@@ -7,7 +7,7 @@ use Rattle.rkyv_table.proofs.table.verify.verify_by.Goals as goal
 pub returns-in-Err : goal.returns-in-Err
 returns-in-Err g c =
     let w = g.W.Word.word in
-    let s = g.T.Element.shape in
+    let s = g.T.Shaped.shape in
     let b = c.args.bytes.now in
     let h = c.read_header-header.ensures in
     let fits : FitsSigned w128 c.begin_told-told.result = search rules in
@@ -18,7 +18,7 @@ returns-in-Err g c =
 
 pub returns-in-Err-check_part : goal.returns-in-Err-check_part
 returns-in-Err-check_part g c =
-    let s = g.T.Element.shape in
+    let s = g.T.Shaped.shape in
     let b = c.args.bytes.now in
     let h = c.read_header-header.ensures in
     let told = begin_is g.W.Word.word s.size b c.args.pos c.read_header-header.result.distance c.begin_told-told.result c.read_header-header.result.cap c.size-size.result (search rules)

@@ -4,4 +4,4 @@ use Rattle.rkyv_table.proofs.table.written.standing_tables_were_written.Goals as
 
 pub returns : goal.returns
 returns g c = λ load_factor.
-    table_written g.W.Word.word g.U.Archived.Element.shape (lent_stands g.X.Lend.lent g.U.Archived.StandsFor.stands) load_factor
+    table_written g.W.Word.word g.U.Archived.Shaped.shape (lent_stands g.X.Lend.lent g.U.Archived.StandsFor.stands) load_factor

@@ -5,6 +5,6 @@ use Rattle.rkyv_table.proofs.table.written.written_tables_pass.Goals as goal
 
 pub returns : goal.returns
 returns g c = λ load_factor.
-    let s = g.U.Archived.Element.shape in
-    tables_pass g.W.Word.word g.met.W.Width.layout.kind s g.met.U.Archived.Element.laws (lent_stands g.X.Lend.lent g.U.Archived.StandsFor.stands) (written_as g.X.Lend.lent g.U.Archive.format)
+    let s = g.U.Archived.Shaped.shape in
+    tables_pass g.W.Word.word g.met.W.Width.layout.kind s g.U.Archived.Shaped.laws (lent_stands g.X.Lend.lent g.U.Archived.StandsFor.stands) (written_as g.X.Lend.lent g.U.Archive.format)
     (written_as-format g.X.Lend.lent s g.U.Archived.StandsFor.stands g.U.Archive.format g.met.U.Archive.laws) load_factor

@@ -1,5 +1,4 @@
 use Rattle.std.proofs.Common.{rules, ◌≡◌, ◌∙◌, sym, subst, List, ℕ}
-use Rattle.rkyv_base.specs.Scalar.{scalar_shape}
 use Rattle.rkyv_base.specs.Shape.{Viewed}
 use Rattle.rkyv_table.specs.Table.SealedItems.{IsItemAt}
 use Rattle.rkyv_table.specs.Table.Layout.{table_shape}
@@ -8,7 +7,7 @@ use Rattle.rkyv_table_tests.proofs.tests.in_place.set_all.Goals as goal
 pub loop-next-preserved : goal.loop-next-preserved
 loop-next-preserved g c =
     let w = g.W.Word.word in
-    let s = scalar_shape g.N.Scalar.encoding in
+    let s = g.N.Shaped.shape in
     let t = c.in-Some.ensures.takes w c.args.pos c.loop-next.invariant.1 in
     let item : IsItemAt w s c.next_pos.new.self.archive.now c.args.pos t.bucket c.in-Some.next =
     subst (λ (b : List ℕ). IsItemAt w s b c.args.pos t.bucket c.in-Some.next) (sym c.in-Some.ensures.archive.bytes) t.item in (
@@ -19,4 +18,4 @@ loop-next-preserved g c =
 pub returns : goal.returns
 returns g c =
     let same : c.loop-next.rest.archive.now ≡ c.archive-1.given.0 = search rules in
-    subst (λ (b : List ℕ). Viewed (table_shape g.W.Word.word (scalar_shape g.N.Scalar.encoding)) b c.args.pos) same c.loop-next.invariant.1.table
+    subst (λ (b : List ℕ). Viewed (table_shape g.W.Word.word g.N.Shaped.shape) b c.args.pos) same c.loop-next.invariant.1.table

@@ -1,6 +1,5 @@
 use Rattle.std.proofs.Common.{rules, ◌≡◌, ◌∙◌, sym, subst, List, ℕ, Option, None, Some}
 use Rattle.std.specs.Int.{Width}
-use Rattle.rkyv_base.specs.Scalar.{scalar_shape}
 use Rattle.rkyv_base.specs.Sealing.{Sealed, Keeps}
 use Rattle.rkyv_base.specs.Shape.{Shape, Viewed}
 use Rattle.rkyv_table.specs.Table.SealedItems.{IsItemAt, IsSealIter, StepsAndWrites}
@@ -26,10 +25,10 @@ step_keeps w s p before after result h is good = step_kept w s p _ good before a
 pub loop-preserved : goal.loop-preserved
 loop-preserved g c = (
   c.next_seal_with.ensures.reference ∙ c.loop.invariant.0,
-  step_keeps g.W.Word.word (scalar_shape g.N.Scalar.encoding) c.args.pos _ _ _ c.next_seal_with.ensures.steps c.loop.invariant.1 (λ b d q h. rw (sym h.bytes, sym h.place, sym (h.leaves h.met.0.same_reference)) h.met.1),
+  step_keeps g.W.Word.word g.N.Shaped.shape c.args.pos _ _ _ c.next_seal_with.ensures.steps c.loop.invariant.1 (λ b d q h. rw (sym h.bytes, sym h.place, sym (h.leaves h.met.0.same_reference)) h.met.1),
 )
 
 pub returns : goal.returns
 returns g c =
     let same : c.loop.rest.archive.now ≡ c.archive-1.given.0 = search rules in
-    subst (λ (b : List ℕ). Viewed (table_shape g.W.Word.word (scalar_shape g.N.Scalar.encoding)) b c.args.pos) same c.loop.invariant.1.table
+    subst (λ (b : List ℕ). Viewed (table_shape g.W.Word.word g.N.Shaped.shape) b c.args.pos) same c.loop.invariant.1.table

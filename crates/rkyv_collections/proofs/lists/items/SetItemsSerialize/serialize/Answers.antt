@@ -19,7 +19,7 @@ returns g c =
     let steps = YieldsFirstBy view rest in
     let factor = c.args.self.now.load_factor in
     let hash = hash_of g.H.KeyHasher.hasher g.A.KeyHash.calls in
-    let f = set_format g.W.Word.word g.A.Archived.Element.shape g.A.Archive.format hash factor in
+    let f = set_format g.W.Word.word g.A.Archived.Shaped.shape g.A.Archive.format hash factor in
     let all : iter_rest left.items ≡ values = search rules in
     let count : length values ≡ length values = refl in
     answers_listed (Drains steps left) (GaveOther steps (length values) left) (lent_keys (λ k. k.now)) values

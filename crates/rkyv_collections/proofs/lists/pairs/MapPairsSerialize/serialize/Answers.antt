@@ -18,7 +18,7 @@ returns g c =
     let steps = YieldsFirstBy view rest in
     let factor = c.args.self.now.load_factor in
     let hash = hash_of g.H.KeyHasher.hasher g.A.KeyHash.calls in
-    let f = map_format g.W.Word.word g.A.Archived.Element.shape g.B.Archived.Element.shape g.A.Archive.format g.B.Archive.format hash factor in
+    let f = map_format g.W.Word.word g.A.Archived.Shaped.shape g.B.Archived.Shaped.shape g.A.Archive.format g.B.Archive.format hash factor in
     let all : iter_rest halves.pairs ≡ values = search rules in
     let count : length values ≡ length values = refl in
     answers_listed (Drains steps halves) (GaveOther steps (length values) halves) (lent_pairs (λ k. k.now) (λ k. k.now)) values

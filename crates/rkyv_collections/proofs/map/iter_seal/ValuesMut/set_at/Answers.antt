@@ -1,16 +1,13 @@
 use Rattle.std.proofs.Common.{◌≡◌, ◌∙◌, ◌+◌, arith, subst}
-use Rattle.std.specs.Int.{byte_len}
-use Rattle.rkyv_base.specs.Scalar.{scalar_element, scalar_shape}
 use Rattle.rkyv_base.specs.Sealing.{Keeps, Sealed}
 use Rattle.rkyv_collections.proofs.SealedPairs.{pairs_kept}
 use Rattle.rkyv_collections.proofs.map.iter_seal.ValuesMut.set_at.Goals as goal
 
 pub returns-clause-kept : goal.returns-clause-kept
 returns-clause-kept g c = λ key at.
-    let e = g.N.Scalar.encoding in
     let before = c.args.self.now.pairs.entries in
     let after = c.write_at.new.self in
     let zero : c.args.pos + 0 ≡ c.args.pos = omega arith in
-    pairs_kept g.K.Element.shape (scalar_shape e) g.met.K.Element.laws (scalar_element e g.met.N.Scalar.word) before after key c.write_at.ensures.stays
-    (subst (λ n. Sealed before.archive.now n (byte_len e.word) after.archive.now) (zero ∙ at) c.write_at.ensures.sealed)
-    (subst (λ n. Keeps (scalar_shape e) before.archive.now after.archive.now n) (zero ∙ at) c.write_at.ensures.holds)
+    pairs_kept g.K.Shaped.shape g.N.Shaped.shape g.K.Shaped.laws g.N.Shaped.laws before after key c.write_at.ensures.stays
+    (subst (λ n. Sealed before.archive.now n g.N.Shaped.shape.size after.archive.now) (zero ∙ at) c.write_at.ensures.sealed)
+    (subst (λ n. Keeps g.N.Shaped.shape before.archive.now after.archive.now n) (zero ∙ at) c.write_at.ensures.holds)

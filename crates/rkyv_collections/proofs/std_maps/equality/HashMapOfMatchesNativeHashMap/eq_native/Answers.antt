@@ -8,5 +8,5 @@ use Rattle.rkyv_collections.proofs.std_maps.equality.HashMapOfMatchesNativeHashM
 pub returns : goal.returns
 returns g c =
     let hash = hash_of g.H.KeyHasher.hasher g.A.KeyHash.calls in
-    subst (λ view. IsTrue c.eq_std.result ↔ StandsAt (StdMapEquals g.W.Word.word g.K.Element.shape g.V.Element.shape hash g.A.Query.fits g.V.MatchesNative.equals {S = g.row.T.Denot}) view c.args.value.now)
+    subst (λ view. IsTrue c.eq_std.result ↔ StandsAt (StdMapEquals g.W.Word.word g.K.Shaped.shape g.V.Shaped.shape hash g.A.Query.fits g.V.MatchesNative.equals {S = g.row.T.Denot}) view c.args.value.now)
     c.of.ensures.view c.eq_std.ensures

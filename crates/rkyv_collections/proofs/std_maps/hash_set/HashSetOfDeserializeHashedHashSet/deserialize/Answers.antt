@@ -7,5 +7,5 @@ use Rattle.rkyv_collections.proofs.std_maps.hash_set.HashSetOfDeserializeHashedH
 pub returns-in-Err : goal.returns-in-Err
 returns-in-Err g c =
     let at = c.of.ensures.at in
-    let told : List ℕ → ℕ → Type 0 = λ b p. std_set_refuses g.W.Word.word g.K.Element.shape g.K.Deserialize.refuses b p c.in-Err.e in
+    let told : List ℕ → ℕ → Type 0 = λ b p. std_set_refuses g.W.Word.word g.K.Shaped.shape g.K.Deserialize.refuses b p c.in-Err.e in
     subst (λ (q : ℕ). told c.args.view.archive.now q) at.1 (subst (λ (a : Bor (List ℕ)). told a.now (set_pos c.of.result)) at.0 c.in-Err.ensures)

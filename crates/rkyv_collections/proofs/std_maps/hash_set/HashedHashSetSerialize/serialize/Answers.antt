@@ -12,7 +12,7 @@ pub returns : goal.returns
 returns g c =
     let keys = c.args.self.now.map.keys in
     let hash = hash_of g.H.KeyHasher.hasher g.A.KeyHash.calls in
-    let f = map_format g.W.Word.word g.A.Archived.Element.shape unit_shape g.A.Archive.format unit_format hash (7, 8) in
+    let f = map_format g.W.Word.word g.A.Archived.Shaped.shape unit_shape g.A.Archive.format unit_format hash (7, 8) in
     let o = g.S.Writer.output c.args.serializer.now in
     let o' = g.S.Writer.output c.serialize_from_iter.new.serializer in
     let unique = subst (λ (ks : List g.row.A.Denot). IsDistinct g.A.PartialEq.eq ks) (sym (keys_with_units keys)) c.iter.ensures.unique in

@@ -5,4 +5,4 @@ use Rattle.rkyv_collections.proofs.std_maps.reading.HashMapOfDeserializeHashedHa
 
 pub returns-in-Err : goal.returns-in-Err
 returns-in-Err g c =
-    subst (λ view. StandsAt (std_map_refuses g.W.Word.word g.K.Element.shape g.V.Element.shape g.K.Deserialize.refuses g.V.Deserialize.refuses) view c.in-Err.e) c.of.ensures.view c.in-Err.ensures
+    subst (λ view. StandsAt (std_map_refuses g.W.Word.word g.K.Shaped.shape g.V.Shaped.shape g.K.Deserialize.refuses g.V.Deserialize.refuses) view c.in-Err.e) c.of.ensures.view c.in-Err.ensures

@@ -13,7 +13,7 @@ use Rattle.rkyv_index.proofs.map.entries.Entries.is_misplaced.Goals as goal
 
 pub returns-clause-told : goal.returns-clause-told
 returns-clause-told g c =
-    let m = index_of g.W.Word.word g.K.Element.shape g.V.Element.shape c.args.self.map in
+    let m = index_of c.args.self.map in
     let key_hash = hash_at g.H.KeyHasher.hasher g.K.KeyElement.key_calls in
     let own : _ → ℕ → Option ℕ = λ b q. index_found m.word m.bytes m.pos (key_hash b q) (λ j. g.K.ElementEq.same b q m.bytes (key_at m j)) in
     let at : IsAt c.key-key.result (index_archive c.args.self.map) (key_at m c.args.place) = (c.key-key.ensures.at.0 ∙ c.entry.ensures.at.0, c.key-key.ensures.at.1 ∙ c.entry.ensures.at.1) in
@@ -21,15 +21,15 @@ returns-clause-told g c =
 
 pub returns-clause-repeated : goal.returns-clause-repeated
 returns-clause-repeated g c = λ homes written.
-    let k = g.K.Element.shape in
-    let v = g.V.Element.shape in
-    let kl = g.met.K.Element.laws in
-    let vl = g.met.V.Element.laws in
-    let m = index_of g.W.Word.word k v c.args.self.map in
+    let k = g.K.Shaped.shape in
+    let v = g.V.Shaped.shape in
+    let kl = g.K.Shaped.laws in
+    let vl = g.V.Shaped.laws in
+    let m = index_of c.args.self.map in
     let i : ℕ = c.args.place in
     let first : _ → ℕ → Option ℕ = λ b q. find (λ j. g.K.ElementEq.same b q m.bytes (key_at m j)) (index_places m) in
     let at : IsAt c.key-key.result (index_archive c.args.self.map) (key_at m c.args.place) = (c.key-key.ensures.at.0 ∙ c.entry.ensures.at.0, c.key-key.ensures.at.1 ∙ c.entry.ensures.at.1) in
-    let there = entry_viewed m.word g.met.W.Width.layout.kind (entry_shape k v) (entry_element k v kl vl) m.bytes m.pos c.requires.entries.map i c.requires.below in
+    let there = entry_viewed m.word g.met.W.Width.layout.kind (entry_shape k v) (entry_element k v kl vl) m.bytes m.pos c.args.self.map.valid i c.requires.below in
     let itself : same_keys m (hash_at g.H.KeyHasher.hasher g.K.KeyElement.key_calls) g.K.ElementEq.same i i ≡ true = g.met.K.ElementEquiv.equivalence.reflexive m.bytes (key_at m i) (standing_key kl vl m.bytes (key_at m i) there.stands) in
     c.is_elsewhere.ensures ∙ ap (λ (o : Option ℕ). not (is_answer i o)) (c.find_key.ensures.first homes written ∙ view_at c.key-key.result _ _ at first)
     ∙ elsewhere_repeated _ _ i c.requires.below itself

@@ -1,9 +1,10 @@
-use Rattle.std.proofs.Common.{◌∷◌, ◌∙◌, ◌≡◌, ◌+◌, ◌-◌, ◌<◌, ap, arith, length, refl, subst, sym, List, ℕ}
+use Rattle.std.proofs.Common.{◌∷◌, ◌∙◌, ◌≡◌, ◌+◌, ◌*◌, ◌-◌, ◌<◌, ap, arith, length, refl, subst, sym, List, ℕ}
 use Rattle.std.specs.List.{All}
 use Rattle.std.proofs.lemmas.List.Elements.{All-head, All-rest}
+use Rattle.std.proofs.Math.Nat.{add-mul}
 use Rattle.rkyv_base.specs.Entry.{entry_shape}
 use Rattle.rkyv_base.specs.Shape.{Viewed}
-use Rattle.rkyv_table.specs.Table.RawItems.{AllStand, ItemsLeft}
+use Rattle.rkyv_table.specs.Table.RawItems.{ItemsLeft}
 use Rattle.rkyv_index.specs.Index.{row}
 use Rattle.rkyv_index.proofs.Checking.{view_there}
 use Rattle.rkyv_index.proofs.Rows.{row_step}
@@ -11,11 +12,11 @@ use Rattle.rkyv_index.proofs.map.iter.IterIterator.next.Goals as goal
 
 pub value-requires : goal.value-requires
 value-requires g c =
-    let s = entry_shape g.K.Element.shape g.V.Element.shape in
+    let s = entry_shape g.K.Shaped.shape g.V.Shaped.shape in
     let i = c.self.inside in
     let none = c.if-self-eq0.false in
     let some : 0 < i.left = omega arith in
-    let stand = subst (AllStand s) (sym c.self.view_is) c.requires in
+    let stand = c.self.invariant.stand in
     let here = All-head (Viewed s i.archive.now) i.at (row i.size (i.at + i.size) (i.left - 1)) (subst (All (Viewed s i.archive.now)) (row_step i.size i.at i.left some) stand) in
     view_there s c.new-entry.result i.archive i.at c.new-entry.ensures here
 
@@ -37,14 +38,27 @@ returns-clause-steps g c =
 
 pub returns-clause-goes : goal.returns-clause-goes
 returns-clause-goes g c =
-    let s = entry_shape g.K.Element.shape g.V.Element.shape in
     let i = c.self.inside in
     let before : ItemsLeft = c.args.self.now in
     let none = c.if-self-eq0.false in
     let some : 0 < i.left = omega arith in
     let rest : List ℕ = row i.size (i.at + i.size) (i.left - 1) in
     let first : before.places ≡ i.at ∷ rest = ap (λ (l : ItemsLeft). l.places) (sym c.self.view_is) ∙ row_step i.size i.at i.left some in
-    let stand = subst (AllStand s) (sym c.self.view_is) c.requires in
-    let after : All (Viewed s i.archive.now) rest = All-rest (Viewed s i.archive.now) i.at rest (row i.size i.at i.left) (row_step i.size i.at i.left some) stand in
     let n = ap length first in
-    record { on = λ f. (after, f, omega arith); keeps = after; rests = λ f. tt }
+    record { on = λ f. (tt, f, omega arith); keeps = tt; rests = λ f. tt }
+
+-- the entries after the first are valid and end below 2^64
+pub invariant_of-self : goal.invariant_of-self
+invariant_of-self g c =
+    let s = entry_shape g.K.Shaped.shape g.V.Shaped.shape in
+    let i = c.self.inside in
+    let none = c.if-self-eq0.false in
+    let some : 0 < i.left = omega arith in
+    let rest : List ℕ = row i.size (i.at + i.size) (i.left - 1) in
+    let e : i.left ≡ 1 + (i.left - 1) = omega arith in
+    let m = ap (λ n. n * i.size) e ∙ add-mul 1 (i.left - 1) i.size in
+    let below = c.self.invariant.below in
+    record {
+      below = omega (arith, m, below);
+      stand = All-rest (Viewed s i.archive.now) i.at rest (row i.size i.at i.left) (row_step i.size i.at i.left some) c.self.invariant.stand;
+    }

@@ -7,19 +7,19 @@ pub find_from-bucket-requires : goal.find_from-bucket-requires
 find_from-bucket-requires g c κs =
     let are = c.requires.items in
     record {
-      accepted = read_accepted g.W.Word.word g.T.Element.shape g.met.T.Element.laws c.args.self are;
+      accepted = read_accepted g.T.Shaped.laws c.args.self are;
       start = c.requires.start;
       room = c.requires.room;
-      callable = λ b full. ((refl, tt), (are, (read_walked g.W.Word.word g.T.Element.shape g.met.T.Element.laws c.args.self are b full, c.requires.callable)));
+      callable = λ b full. ((refl, tt), (are, (read_walked g.T.Shaped.laws c.args.self are b full, c.requires.callable)));
     }
 
 pub returns-in-Some : goal.returns-in-Some
 returns-in-Some g c =
     let post = goal.F-post g c.args.cmp in
     record {
-      found = item_found post g.G.GroupKind.kind g.met.G.GroupKind.lawful g.W.Word.word g.T.Element.shape g.met.T.Element.laws c.args.self c.requires.items c.args.hash c.ranges.hash.fits _ _ _ (λ i r e. e)
+      found = item_found post g.G.GroupKind.kind g.met.G.GroupKind.lawful g.T.Shaped.laws c.args.self c.requires.items c.args.hash c.ranges.hash.fits _ _ _ (λ i r e. e)
           (Some c.in-Some.bucket) c.in-Some.ensures c.in-Some.bucket refl c.item.result c.item.ensures;
-      counts = strides_counted post g.G.GroupKind.kind g.met.G.GroupKind.lawful g.W.Word.word g.T.Element.shape g.met.T.Element.laws c.args.self c.requires.items c.args.hash c.ranges.hash.fits _ _ _ (λ i r e. e)
+      counts = strides_counted post g.G.GroupKind.kind g.met.G.GroupKind.lawful g.T.Shaped.laws c.args.self c.requires.items c.args.hash c.ranges.hash.fits _ _ _ (λ i r e. e)
           (Some c.in-Some.bucket) c.in-Some.ensures;
     }
 
@@ -27,8 +27,8 @@ pub returns : goal.returns
 returns g c =
     let post = goal.F-post g c.args.cmp in
     record {
-      found = none_found post g.G.GroupKind.kind g.met.G.GroupKind.lawful g.W.Word.word g.T.Element.shape g.met.T.Element.laws c.args.self c.requires.items c.args.hash c.ranges.hash.fits _ _ _ (λ i r e. e)
+      found = none_found post g.G.GroupKind.kind g.met.G.GroupKind.lawful g.T.Shaped.laws c.args.self c.requires.items c.args.hash c.ranges.hash.fits _ _ _ (λ i r e. e)
           None c.in-None.ensures refl;
-      counts = strides_counted post g.G.GroupKind.kind g.met.G.GroupKind.lawful g.W.Word.word g.T.Element.shape g.met.T.Element.laws c.args.self c.requires.items c.args.hash c.ranges.hash.fits _ _ _ (λ i r e. e)
+      counts = strides_counted post g.G.GroupKind.kind g.met.G.GroupKind.lawful g.T.Shaped.laws c.args.self c.requires.items c.args.hash c.ranges.hash.fits _ _ _ (λ i r e. e)
           None c.in-None.ensures;
     }

@@ -7,7 +7,7 @@ controls_from-requires g c =
     let t = c.args.table in
     let h = t.decoded in
     let some : 0 < t.header.cap = omega (arith, c.if-header-eq0.false) in
-    let u = controls_inside g.W.Word.word g.T.Element.shape g.met.T.Element.laws t.view.archive.now t.view.pos c.requires (omega (arith, c.if-header-eq0.false, h.cap)) in
+    let u = controls_inside g.W.Word.word g.T.Shaped.shape g.T.Shaped.laws t.view.archive.now t.view.pos c.args.table.valid (omega (arith, c.if-header-eq0.false, h.cap)) in
     rw (c.bytes.ensures, h.controls_pos some, h.cap) u.0
 
 pub returns-clause-items : goal.returns-clause-items
@@ -15,7 +15,7 @@ returns-clause-items g c =
     let t = c.args.table in
     let h = t.decoded in
     record {
-      table = c.requires;
+      table = c.args.table.valid;
       len = h.len;
       cap = h.cap;
       small = h.small;

@@ -1,7 +1,9 @@
-use Rattle.std.proofs.Common.{◌≡◌, ◌∙◌, ◌<◌, ◌≤◌, ap, arith, length, sym}
+use Rattle.std.proofs.Common.{◌≡◌, ◌∙◌, ◌<◌, ap, arith, length, sym}
+use Rattle.rkyv_table.specs.Controls.Numbers.{control_count}
 use Rattle.rkyv_table.specs.Controls.Placing.{walk}
-use Rattle.rkyv_table.specs.Table.Reading.{table_bytes, table_controls, table_pos}
-use Rattle.rkyv_table.proofs.Items.{controls_count}
+use Rattle.rkyv_table.specs.Table.Positions.{table_controls}
+use Rattle.rkyv_table.specs.Table.Reading.{table_bytes, table_pos}
+use Rattle.rkyv_table.proofs.Items.{controls_count, controls_length}
 use Rattle.rkyv_table.proofs.Walks.{walk_none}
 use Rattle.rkyv_table.proofs.table.items.Items.walk.Goals as goal
 
@@ -15,5 +17,14 @@ pub new-requires-clause-some : goal.new-requires-clause-some
 new-requires-clause-some g c =
     let t = c.args.self.table in
     let some : 0 < c.args.self.cap = omega arith in
-    let n = controls_count g.W.Word.word g.T.Element.shape g.met.T.Element.laws (table_bytes t) (table_pos t) c.requires.table (omega (arith, some, c.requires.cap)) in
+    let n = controls_count g.W.Word.word g.T.Shaped.shape g.T.Shaped.laws (table_bytes t) (table_pos t) c.requires.table (omega (arith, some, c.requires.cap)) in
     omega (arith, ap length (c.requires.controls some), n)
+
+pub new-requires-clause-count : goal.new-requires-clause-count
+new-requires-clause-count g c =
+    let t = c.args.self.table in
+    let some : 0 < c.args.self.cap = omega arith in
+    let n = controls_length g.W.Word.word g.T.Shaped.shape g.T.Shaped.laws (table_bytes t) (table_pos t) c.requires.table (omega (arith, some, c.requires.cap)) in
+    let e : control_count c.args.self.cap ≡ length c.args.self.controls.now =
+    ap control_count c.requires.cap ∙ sym n ∙ sym (ap length (c.requires.controls some)) in
+    omega (arith, e)

@@ -7,7 +7,7 @@ use Rattle.rkyv_table.proofs.table.raw_iter.RawIter.next_view.Goals as goal
 
 pub returns-clause-stand : goal.returns-clause-stand
 returns-clause-stand g c =
-    let s = g.T.Element.shape in
+    let s = g.T.Shaped.shape in
     let before = c.args.self.now in
     let after = c.next.new.self in
     let e = c.in_ok-pos.ensures.steps in

@@ -1,9 +1,8 @@
 use Rattle.std.proofs.Common.{refl}
-use Rattle.rkyv_base.specs.Scalar.{scalar_shape}
 use Rattle.rkyv_table.proofs.SealedItems.{cursor_kept}
 use Rattle.rkyv_table.proofs.table.raw_iter_seal.RawIterSeal.set_at.Goals as goal
 
 pub returns-clause-kept : goal.returns-clause-kept
 returns-clause-kept g c = λ w p i is item.
-    cursor_kept w (scalar_shape g.N.Scalar.encoding) p i c.args.pos c.args.self.now _ is item
+    cursor_kept w g.N.Shaped.shape p i c.args.pos c.args.self.now _ is item
     (record { reference = refl; place = refl; cap = refl; next = refl; left = refl }) c.set_at.ensures.sealed c.set_at.ensures.holds

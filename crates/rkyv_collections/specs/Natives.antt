@@ -1,0 +1,107 @@
+-- Native keys and values: how they are written, what represents them, how they are looked up.
+use Rattle.std.specs.Prelude.{ℕ, Bool, List}
+use Rattle.std.specs.Int.{Width}
+use Rattle.rkyv_scan.specs.Hash.{Hasher, HasherCall, hash_of_calls}
+use Rattle.rkyv_base.specs.Format.{Format}
+use Rattle.rkyv_base.specs.Shape.{IsElement, Shape}
+use Rattle.rkyv_base.specs.Text.{IsArchiveWord}
+
+-- the members of a `Width` and its `Word`
+abbrev pub WidthMembers : Type 0
+WidthMembers = record {
+  word : Width;
+  kind : IsArchiveWord word;
+  LIMIT : ℕ;
+  ALIGN : ℕ;
+  MAX_CAPACITY : ℕ;
+  TABLE_SIZE : ℕ;
+  INDEX_SIZE : ℕ;
+  TEXT_SIZE : ℕ;
+  TEXT_LIMIT : ℕ;
+}
+
+-- the members of an element, and what its values represent
+abbrev pub ElementMembers : Type 0 → Type 1
+ElementMembers V = record {
+  shape : Shape;
+  laws : IsElement shape;
+  stands : List ℕ → ℕ → V → Type 0;
+}
+
+-- how native keys are written. `shape`: shape of their elements, `format`: their format,
+-- `hash`: hash of a native key
+pub record KeyFormat (A R : Type 0) : Type 1 where
+  pub shape : Shape
+  pub format : Format A R
+  pub hash : A → ℕ
+
+-- the format of keys with the hasher calls `calls`
+abbrev pub key_format : {State A R : Type 0} → Shape → Format A R → Hasher State
+    → (A → List HasherCall) → KeyFormat A R
+key_format shape format hasher calls = record {
+  shape = shape;
+  format = format;
+  hash = λ key. hash_of_calls hasher (calls key);
+}
+
+-- how native pairs are written. `key_shape` and `value_shape`: shapes of their elements,
+-- `key` and `value`: their formats, `hash`: hash of a native key
+pub record PairFormat (A B R Q : Type 0) : Type 1 where
+  pub key_shape : Shape
+  pub value_shape : Shape
+  pub key : Format A R
+  pub value : Format B Q
+  pub hash : A → ℕ
+
+-- the format of pairs of keys with the hasher calls `calls`
+abbrev pub pair_format : {State A B R Q : Type 0} → Shape → Shape → Format A R → Format B Q
+    → Hasher State → (A → List HasherCall) → PairFormat A B R Q
+pair_format key_shape value_shape key value hasher calls = record {
+  key_shape = key_shape;
+  value_shape = value_shape;
+  key = key;
+  value = value;
+  hash = λ a. hash_of_calls hasher (calls a);
+}
+
+-- the native pairs of a map. `key` and `value`: bytes at a position represent a key or a value,
+-- `key_hash`: hash of the key at a position
+pub record NativePairs (A B : Type 0) : Type 1 where
+  pub key : List ℕ → ℕ → A → Type 0
+  pub value : List ℕ → ℕ → B → Type 0
+  pub key_hash : List ℕ → ℕ → ℕ
+
+-- the native pairs of a map with a hasher, whose keys have the hasher calls `key_calls`
+abbrev pub native_pairs : {State A B : Type 0} → (List ℕ → ℕ → A → Type 0)
+    → (List ℕ → ℕ → B → Type 0) → Hasher State → (List ℕ → ℕ → List HasherCall) → NativePairs A B
+native_pairs key value hasher key_calls = record {
+  key = key;
+  value = value;
+  key_hash = λ b q. hash_of_calls hasher (key_calls b q);
+}
+
+-- the native keys of a map, which are its queries. `stands`: bytes at a position represent a key,
+-- `key_hash`: hash of the key at a position, `fits`: a query fits the key at a position,
+-- `equal`: equality of native keys
+pub record NativeKeys (A : Type 0) : Type 1 where
+  pub stands : List ℕ → ℕ → A → Type 0
+  pub key_hash : List ℕ → ℕ → ℕ
+  pub fits : A → List ℕ → ℕ → Bool
+  pub equal : A → A → Bool
+
+-- the native keys of a map under the hashes `key_hash`
+abbrev pub native_keys : {A : Type 0} → (List ℕ → ℕ → A → Type 0) → (List ℕ → ℕ → ℕ)
+    → (A → List ℕ → ℕ → Bool) → (A → A → Bool) → NativeKeys A
+native_keys stands key_hash fits equal =
+    record { stands = stands; key_hash = key_hash; fits = fits; equal = equal }
+
+-- queries. `hash`: hash of a query, `fits`: a query fits the key at a position
+pub record Queried (Q : Type 0) : Type 0 where
+  pub hash : Q → ℕ
+  pub fits : Q → List ℕ → ℕ → Bool
+
+-- the queries with the hasher calls `calls`
+abbrev pub queried : {State Q : Type 0} → Hasher State → (Q → List HasherCall)
+    → (Q → List ℕ → ℕ → Bool) → Queried Q
+queried hasher calls fits =
+    record { hash = λ query. hash_of_calls hasher (calls query); fits = fits }

@@ -1,0 +1,14 @@
+-- The header of an index map, by the length and the load factor of its resolver.
+use Rattle.std.proofs.Common.{◌≡◌, ℕ, List, subst}
+use Rattle.std.specs.Int.{Width}
+use Rattle.rkyv_table.specs.Controls.Numbers.{capacity}
+use Rattle.rkyv_index.specs.IndexHeader.{IndexFar, IndexResolver, IsIndexHeader}
+
+module _ (w : Width) (r : IndexResolver) (len : ℕ) (load_factor : ℕ × ℕ) (p : ℕ) (same : (len ≡ r.table.len) × (load_factor ≡ r.table.load_factor)) where
+  pub header_of : (out : List ℕ) → IsIndexHeader w len (capacity len load_factor) r p out → IsIndexHeader w r.table.len (capacity r.table.len r.table.load_factor) r p out
+  header_of out h =
+      subst (λ n. IsIndexHeader w n (capacity n r.table.load_factor) r p out) same.0
+      (subst (λ (f : ℕ × ℕ). IsIndexHeader w len (capacity len f) r p out) same.1 h)
+
+  pub far_of : IndexFar w len r p → IndexFar w r.table.len r p
+  far_of = subst (λ n. IndexFar w n r p) same.0
