@@ -7,5 +7,6 @@
 //! A call that returns a `u32` returns a status: 0 on success, otherwise one of its errors.
 #![tactic(auto)]
 
+mod containers;
 mod numbers;
 mod texts;

@@ -1,9 +1,9 @@
 -- The results for the first pair of a list whose key passes the test.
+use Rattle.rkyv_base.specs.declared.element.Shaped.{Ghosts as Shapes}
 use Rattle.rkyv_base.specs.declared.width.Word.{Ghosts as Words}
 use Rattle.std.proofs.Common.{◌≡◌, ◌∙◌, ℕ, Bool, List, None, Option, Some, ap, false, subst, sym, true}
 use Rattle.std.specs.Option.{is_some}
 use Rattle.std.specs.Borrow.{Bor}
-use Rattle.std.specs.Int.{Width}
 use Rattle.std.specs.Prelude.{IfSome, MatchOption}
 use Rattle.std.proofs.lemmas.Option.{same_Some}
 use Rattle.rkyv_base.specs.Shape.{Shape, Viewed}
@@ -22,12 +22,12 @@ pub view_stands : {T : Type 0} (s : Shape) (view : View T) (a : Bor (List ℕ)) 
 view_stands s view a p e f h = subst (Viewed s view.archive.now) (sym f) (subst (λ (d : Bor (List ℕ)). Viewed s d.now p) (sym e) h)
 
 -- the position of a value that is found in a map over the bytes `b`, and its validity
-module _ {K V H W : Type 0} {wt : Words W} (w : Width) (k v : Shape) (m : ArchivedHashMap K V H W wt) (b : List ℕ) (same : map_bytes m ≡ b) where
-  pub found_viewed : (found : Option (View V)) (place : Option ℕ) → place ≡ pos_of_found found → IfSome found (IsValueIn w k v m) → IfSome place (Viewed v b)
-  found_viewed None place e h = subst (λ (o : Option ℕ). IfSome o (Viewed v b)) (sym e) h
-  found_viewed (Some value) place e h = subst (λ (o : Option ℕ). IfSome o (Viewed v b)) (sym e) (subst (λ d. Viewed v d value.pos) (ap (λ (a : Bor (List ℕ)). a.now) h.at.0 ∙ same) h.viewed)
+module _ {K V H W : Type 0} {ks : Shapes K} {vs : Shapes V} {wt : Words W} (m : ArchivedHashMap K V H W ks vs wt) (b : List ℕ) (same : map_bytes m ≡ b) where
+  pub found_viewed : (found : Option (View V)) (place : Option ℕ) → place ≡ pos_of_found found → IfSome found (IsValueIn m) → IfSome place (Viewed vs.shape b)
+  found_viewed None place e h = subst (λ (o : Option ℕ). IfSome o (Viewed vs.shape b)) (sym e) h
+  found_viewed (Some value) place e h = subst (λ (o : Option ℕ). IfSome o (Viewed vs.shape b)) (sym e) (subst (λ d. Viewed vs.shape d value.pos) (ap (λ (a : Bor (List ℕ)). a.now) h.at.0 ∙ same) h.viewed)
 
-  pub found_placed : {B : Type 0} (stands : List ℕ → ℕ → B → Type 0) (found : Option (View V)) (place : Option ℕ) (o : Option B) → place ≡ pos_of_found found → IfSome found (IsValueIn w k v m)
+  pub found_placed : {B : Type 0} (stands : List ℕ → ℕ → B → Type 0) (found : Option (View V)) (place : Option ℕ) (o : Option B) → place ≡ pos_of_found found → IfSome found (IsValueIn m)
       → IsFoundValue stands found o → MatchOption o (place ≡ None) (StandsIn stands b place)
   found_placed stands None place None e within h = e
   found_placed stands None place (Some x) e within h = absurd h

@@ -3,3 +3,4 @@ pub mod Forms
 pub mod Collected
 pub mod First
 pub mod Next
+pub mod Statuses

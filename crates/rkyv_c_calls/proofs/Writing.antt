@@ -7,25 +7,25 @@ use Rattle.rkyv_scan.specs.Groups.{generic_kind}
 use Rattle.rkyv_scan.specs.Hash.{HasherCall}
 use Rattle.rkyv_base.specs.Access.{Accepted}
 use Rattle.rkyv_base.specs.Entry.{entry_shape}
-use Rattle.rkyv_base.specs.Scalar.{Encoding, scalar_shape}
+use Rattle.rkyv_base.specs.Scalar.{Encoding}
 use Rattle.rkyv_base.specs.Sealing.{value_pos, with_value}
 use Rattle.rkyv_base.specs.Shape.{Shape, Standing, Viewed}
-use Rattle.rkyv_table.specs.Table.Reading.{pos_found}
-use Rattle.rkyv_collections.specs.InPlace.{SetsFound, SetsValueAt}
-use Rattle.rkyv_collections.specs.Map.{map_shape}
+use Rattle.rkyv_table.specs.Table.Positions.{pos_found}
+use Rattle.rkyv_collections.specs.InPlace.{SetsFound}
+use Rattle.rkyv_collections.specs.MapShape.{map_shape}
 use Rattle.rkyv_c_calls.specs.Archives.{hash_by, root, value_found}
 
-module _ {N : Type 0} (w : Width) (k : Shape) (e : Encoding N) (key_hash : List ℕ → ℕ → ℕ) (b : List ℕ) (p : ℕ) (value : N) (result : Bool) (c : List ℕ) where
+module _ {N : Type 0} (w : Width) (k v : Shape) (e : Encoding N) (key_hash : List ℕ → ℕ → ℕ) (b : List ℕ) (p : ℕ) (value : N) (result : Bool) (c : List ℕ) where
   -- the result of an overwrite, by its status
-  status_of_set : (status : ℕ) (place : Option ℕ) → (result ≡ true → status ≡ 0) → (result ≡ false → status ≡ 1) → SetsFound w k e key_hash b p value result c place
+  status_of_set : (status : ℕ) (place : Option ℕ) → (result ≡ true → status ≡ 0) → (result ≡ false → status ≡ 1) → SetsFound w k v e key_hash b p value result c place
       → MatchOption place ((status ≡ 1) × (c ≡ b)) (λ q. (status ≡ 0) × (c ≡ with_value e b q value))
   status_of_set status None found missed h = (missed h.0, h.1)
   status_of_set status (Some q) found missed h = (found h.0, h.1)
 
   -- the map is valid after the overwrite
-  stands_after_set : (place : Option ℕ) → SetsFound w k e key_hash b p value result c place → Viewed (map_shape w k (scalar_shape e)) b p → Viewed (map_shape w k (scalar_shape e)) c p
-  stands_after_set None h v = subst (λ x. Viewed (map_shape w k (scalar_shape e)) x p) (sym h.1) v
-  stands_after_set (Some q) h v = h.2.1.stands
+  stands_after_set : (place : Option ℕ) → SetsFound w k v e key_hash b p value result c place → Viewed (map_shape w k v) b p → Viewed (map_shape w k v) c p
+  stands_after_set None h there = subst (λ x. Viewed (map_shape w k v) x p) (sym h.1) there
+  stands_after_set (Some q) h there = h.2.1.stands
 
 -- bytes of the same length with a valid root are a valid archive
 accepted_again : (limit : ℕ) (s : Shape) (b c : List ℕ) (p : ℕ) → Accepted limit s b → p ≡ length b - s.size → length c ≡ length b → Viewed s c p → Accepted limit s c
@@ -40,18 +40,18 @@ accepted_again limit s b c p a at same v =
     }
 
 -- an overwrite at the position that a lookup finds in the map at the root of an archive
-module _ {N : Type 0} (w : Width) (k : Shape) (e : Encoding N) (key_hash : List ℕ → ℕ → ℕ) (b : List ℕ) (p : ℕ) (calls : List HasherCall) (fits : ℕ → Bool) (value : N) (result : Bool) (c : List ℕ)
-    (at : p ≡ root w k (scalar_shape e) b) (set : SetsValueAt w k e key_hash b p (hash_by calls) fits value result c) where
+module _ {N : Type 0} (w : Width) (k v : Shape) (e : Encoding N) (key_hash : List ℕ → ℕ → ℕ) (b : List ℕ) (p : ℕ) (calls : List HasherCall) (fits : ℕ → Bool) (value : N) (result : Bool) (c : List ℕ)
+    (at : p ≡ root w k v b) (set : SetsFound w k v e key_hash b p value result c (option_map (value_pos k v) (pos_found generic_kind w (entry_shape k v).size b p (hash_by calls) fits))) where
   abbrev place_at : ℕ → Option ℕ
-  place_at q = option_map (value_pos k (scalar_shape e)) (pos_found generic_kind w (entry_shape k (scalar_shape e)).size b q (hash_by calls) fits)
+  place_at q = option_map (value_pos k v) (pos_found generic_kind w (entry_shape k v).size b q (hash_by calls) fits)
 
   -- the archive is valid after the overwrite
-  pub set_kept : (limit : ℕ) → Accepted limit (map_shape w k (scalar_shape e)) b → Viewed (map_shape w k (scalar_shape e)) b p → length c ≡ length b → Accepted limit (map_shape w k (scalar_shape e)) c
-  set_kept limit accepted viewed same = accepted_again limit (map_shape w k (scalar_shape e)) b c p accepted at same (stands_after_set w k e key_hash b p value result c (place_at p) set viewed)
+  pub set_kept : (limit : ℕ) → Accepted limit (map_shape w k v) b → Viewed (map_shape w k v) b p → length c ≡ length b → Accepted limit (map_shape w k v) c
+  set_kept limit accepted viewed same = accepted_again limit (map_shape w k v) b c p accepted at same (stands_after_set w k v e key_hash b p value result c (place_at p) set viewed)
 
   -- the status of the overwrite, by the position that the lookup finds
   pub set_told : (status : ℕ) → (result ≡ true → status ≡ 0) → (result ≡ false → status ≡ 1)
-      → MatchOption (value_found w k (scalar_shape e) b calls fits) ((status ≡ 1) × (c ≡ b)) (λ q. (status ≡ 0) × (c ≡ with_value e b q value))
+      → MatchOption (value_found w k v b calls fits) ((status ≡ 1) × (c ≡ b)) (λ q. (status ≡ 0) × (c ≡ with_value e b q value))
   set_told status met missed =
       let Told : Option ℕ → Type 0 = λ o. MatchOption o ((status ≡ 1) × (c ≡ b)) (λ q. (status ≡ 0) × (c ≡ with_value e b q value)) in
-      subst Told (ap place_at at) (status_of_set w k e key_hash b p value result c status (place_at p) met missed set)
+      subst Told (ap place_at at) (status_of_set w k v e key_hash b p value result c status (place_at p) met missed set)

@@ -1,6 +1,6 @@
 -- The archives of maps: forms, validity, lookups and overwrites.
-use Rattle.std.specs.Prelude.{◌≡◌, ℕ, ◌-◌, ◌^◌, ◌≤◌, ◌⊎◌, Bool, true, false, List, length, Option}
-use Rattle.std.specs.Prelude.{MatchOption}
+use Rattle.std.specs.Prelude.{◌≡◌, ℕ, ◌-◌, ◌<◌, ◌^◌, ◌≤◌, ◌⊎◌, Bool, true, false, List, length}
+use Rattle.std.specs.Prelude.{MatchOption, Option}
 use Rattle.std.specs.Int.{Width, w32, w64}
 use Rattle.std.specs.Option.{option_map}
 use mir.Val.{bits}
@@ -15,8 +15,8 @@ use Rattle.rkyv_base.specs.Sealing.{value_pos, with_value}
 use Rattle.rkyv_base.specs.Shape.{Shape, Viewed}
 use Rattle.rkyv_base.specs.Text.{text_shape}
 use Rattle.rkyv_base.specs.declared.errors.VerifyError.{VerifyError}
-use Rattle.rkyv_collections.specs.Map.{map_shape}
-use Rattle.rkyv_table.specs.Table.Reading.{pos_found}
+use Rattle.rkyv_collections.specs.MapShape.{map_shape}
+use Rattle.rkyv_table.specs.Table.Positions.{pos_found}
 use Rattle.rkyv_c_calls.specs.Status.{refusal}
 
 -- `shorter` if the flag is `false`, `longer` if it is `true`
@@ -60,13 +60,13 @@ text_map long_values wide = map_shape (word_of wide) (text_key wide) (value_shap
 abbrev pub IsMapAt : Width → Shape → Shape → List ℕ → ℕ → Type 0
 IsMapAt w k v b p = Viewed (map_shape w k v) b p
 
--- `b` is the valid archive of a map with keys of shape `k` and values of encoding `e`
-abbrev pub IsMapArchive : {N : Type 0} → Width → ℕ → Shape → Encoding N → List ℕ → Type 0
-IsMapArchive w limit k e b = Accepted limit (map_shape w k (scalar_shape e)) b
+-- `b` is the valid archive of a map with keys of shape `k` and values of shape `v`
+abbrev pub IsMapArchive : Width → ℕ → Shape → Shape → List ℕ → Type 0
+IsMapArchive w limit k v b = Accepted limit (map_shape w k v) b
 
 -- a valid pair of such a map is at position `p`
-abbrev pub IsPairAt : {N : Type 0} → Shape → Encoding N → List ℕ → ℕ → Type 0
-IsPairAt k e b p = Viewed (entry_shape k (scalar_shape e)) b p
+abbrev pub IsPairAt : Shape → Shape → List ℕ → ℕ → Type 0
+IsPairAt k v b p = Viewed (entry_shape k v) b p
 
 -- `b` is the valid archive of a map of numbers in the form
 abbrev pub IsNumberArchive : Bool → Bool → List ℕ → Type 0
@@ -107,5 +107,6 @@ Gives v b place before status after = MatchOption place ((status ≡ 1) × (afte
 abbrev pub Sets : {N : Type 0} → Encoding N → List ℕ → Option ℕ → ℕ → ℕ → List ℕ → Type 0
 Sets {N} e b place number status c =
     ((2 ^ bits e.word ≤ number) × (status ≡ 3) × (c ≡ b))
-    ⊎ ((value : N) × (e.code value ≡ number) × MatchOption place ((status ≡ 1) × (c ≡ b))
-    (λ q. (status ≡ 0) × (c ≡ with_value e b q value)))
+    ⊎ ((number < 2 ^ bits e.word) × ((value : N) × (e.code value ≡ number)
+    × MatchOption place ((status ≡ 1) × (c ≡ b))
+    (λ q. (status ≡ 0) × (c ≡ with_value e b q value))))

@@ -61,9 +61,11 @@ SetsText long_values wide b key value status c =
 -- the result of a step to the next pair of a map of numbers
 abbrev pub StepsNumbers : Bool → Bool → List ℕ → NumberPair → ℕ → NumberPair → Type 0
 StepsNumbers long_values wide b before status after =
-    NextNumber (word_of wide) (unsigned (word_of long_values)) b before status after
+    NextNumber (word_of wide) (value_shape long_values) (unsigned (word_of long_values))
+    b before status after
 
 -- the result of a step to the next pair of a map of texts
 abbrev pub StepsTexts : Bool → Bool → List ℕ → TextPair → ℕ → TextPair → Type 0
 StepsTexts long_values wide b before status after =
-    NextText (word_of wide) (unsigned (word_of long_values)) b before status after
+    NextText (word_of wide) (value_shape long_values) (unsigned (word_of long_values))
+    b before status after

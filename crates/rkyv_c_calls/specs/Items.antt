@@ -1,11 +1,13 @@
 -- The items to be archived, and the results of their write.
-use Rattle.std.specs.Prelude.{◌≡◌, ℕ, ◌<◌, ◌^◌, ◌≤◌, ◌⊎◌, All, Bool, Contains, List, map}
+use Rattle.std.specs.Prelude.{◌≡◌, ℕ, ◌<◌, ◌^◌, ◌≤◌, ◌⊎◌, All, Bool, List, Some, map, slice_get}
+use Rattle.std.specs.Prelude.{take}
 use Rattle.std.specs.Borrow.{Bor}
 use Rattle.std.specs.Int.{Width, w32}
 use Rattle.std.specs.Str.{IsUtf8}
 use mir.Val.{bits}
 use Rattle.rkyv_base.specs.Numbers.{unsigned}
 use Rattle.rkyv_base.specs.Scalar.{Encoding, ScalarStands, scalar_format}
+use Rattle.rkyv_base.specs.Shape.{Shape}
 use Rattle.rkyv_base.specs.Pairs.{written_as}
 use Rattle.rkyv_base.specs.Text.{text_shape}
 use Rattle.rkyv_base.specs.TextWriting.{text_format}
@@ -13,7 +15,7 @@ use Rattle.rkyv_base.specs.declared.errors.WriteError.{WriteError}
 use Rattle.rkyv_base.specs.declared.writer.NoMemory.{NoMemory}
 use Rattle.rkyv_keys.specs.Calls.{text_calls}
 use Rattle.rkyv_keys.specs.OfTexts.{IsTextOf, text_key_calls}
-use Rattle.rkyv_c_calls.specs.Archives.{limit_of, most_of, number_key, word_of}
+use Rattle.rkyv_c_calls.specs.Archives.{limit_of, most_of, number_key, value_shape, word_of}
 use Rattle.rkyv_c_calls.specs.Listed.{calls_of_number_at, number_calls}
 use Rattle.rkyv_c_calls.specs.Lists.{IsArchiveOf, NoArchiveOf}
 use Rattle.rkyv_c_calls.specs.Status.{write_refusal}
@@ -21,28 +23,33 @@ use Rattle.rkyv_c_calls.specs.declared.building.Built.{Built}
 use Rattle.rkyv_c_calls.specs.declared.number_items.NumberItem.{NumberItem}
 use Rattle.rkyv_c_calls.specs.declared.text_items.TextItem.{TextItem}
 
-module _ {N : Type 0} (w : Width) (e : Encoding N) where
+module _ {N : Type 0} (w : Width) (v : Shape) (e : Encoding N) where
   -- a list of bytes is the archive of pairs of numbers
   abbrev pub AreNumbers : ℕ → ℕ → List (ℕ × N) → List ℕ → Type 0
-  AreNumbers limit most = IsArchiveOf w number_key (ScalarStands (unsigned w32)) calls_of_number_at
-      e limit most (scalar_format (unsigned w32)) number_calls
+  AreNumbers limit most = IsArchiveOf w number_key v (ScalarStands (unsigned w32))
+      calls_of_number_at e limit most (scalar_format (unsigned w32)) number_calls
 
   -- the write of pairs of numbers fails with an error
   abbrev pub AreNoNumbers : ℕ → ℕ → List (ℕ × N) → WriteError NoMemory → Type 0
-  AreNoNumbers limit most = NoArchiveOf w number_key (ScalarStands (unsigned w32))
+  AreNoNumbers limit most = NoArchiveOf w number_key v (ScalarStands (unsigned w32))
       calls_of_number_at e limit most (scalar_format (unsigned w32)) number_calls
 
   -- a list of bytes is the archive of pairs of texts
   abbrev pub AreTexts : ℕ → ℕ → List (Bor (List ℕ) × N) → List ℕ → Type 0
-  AreTexts limit most = IsArchiveOf w (text_shape w) (IsTextOf w (λ text. text.now))
+  AreTexts limit most = IsArchiveOf w (text_shape w) v (IsTextOf w (λ text. text.now))
       (text_key_calls w) e limit most (written_as (λ text. text.now) (text_format w))
       (λ text. text_calls text.now)
 
   -- the write of pairs of texts fails with an error
   abbrev pub AreNoTexts : ℕ → ℕ → List (Bor (List ℕ) × N) → WriteError NoMemory → Type 0
-  AreNoTexts limit most = NoArchiveOf w (text_shape w) (IsTextOf w (λ text. text.now))
+  AreNoTexts limit most = NoArchiveOf w (text_shape w) v (IsTextOf w (λ text. text.now))
       (text_key_calls w) e limit most (written_as (λ text. text.now) (text_format w))
       (λ text. text_calls text.now)
+
+-- `IsCause` applies to the first of `items` that doesn't fit; all items before it fit
+abbrev pub FirstUnfit : {I : Type 0} → (I → Type 0) → (I → Type 0) → List I → Type 0
+FirstUnfit {I} Fits IsCause items = (n : ℕ) × ((item : I)
+    × (slice_get items n ≡ Some item) × All Fits (take n items) × IsCause item)
 
 module _ {N : Type 0} (e : Encoding N) where
   -- the value of `item` has no more bits than the word
@@ -57,10 +64,10 @@ module _ {N : Type 0} (e : Encoding N) where
   abbrev pub ArePairsOfNumbers : List NumberItem → List (ℕ × N) → Type 0
   ArePairsOfNumbers items pairs = All NumberFits items × (pairs ≡ map number_pair items)
 
-  -- `status` is that of an allocation failure, or of a value with more bits than the word
+  -- `status` is that of an allocation failure, or of the first value with more bits than the word
   abbrev pub NoPairsOfNumbers : List NumberItem → ℕ → Type 0
   NoPairsOfNumbers items status = (status ≡ 12)
-      ⊎ ((item : NumberItem) × Contains items item × (2 ^ bits e.word ≤ item.value) × (status ≡ 3))
+      ⊎ FirstUnfit NumberFits (λ item. (2 ^ bits e.word ≤ item.value) × (status ≡ 3)) items
 
   -- the key of `item` is UTF-8, and its value has no more bits than the word
   abbrev pub TextFits : TextItem → Type 0
@@ -79,55 +86,58 @@ module _ {N : Type 0} (e : Encoding N) where
   ArePairsOfTexts items pairs =
       All TextFits items × (map text_seen pairs ≡ map text_pair items)
 
-  -- `status` is that of an allocation failure, a key that isn't UTF-8, or a value that doesn't fit
-  abbrev pub NoPairsOfTexts : List TextItem → ℕ → Type 0
-  NoPairsOfTexts items status = (status ≡ 12)
-      ⊎ ((item : TextItem) × Contains items item × (IsUtf8 item.key.now → ⊥) × (status ≡ 4))
-      ⊎ ((item : TextItem) × Contains items item × (2 ^ bits e.word ≤ item.value) × (status ≡ 3))
+  -- `status` is that of `item`: its key isn't UTF-8, or its key is and its value has too many bits
+  abbrev pub TextFails : ℕ → TextItem → Type 0
+  TextFails status item = ((IsUtf8 item.key.now → ⊥) × (status ≡ 4))
+      ⊎ (IsUtf8 item.key.now × (2 ^ bits e.word ≤ item.value) × (status ≡ 3))
 
-module _ {N : Type 0} (w : Width) (e : Encoding N) (limit most : ℕ) where
+  -- `status` is that of an allocation failure, or of the first item that doesn't fit
+  abbrev pub NoPairsOfTexts : List TextItem → ℕ → Type 0
+  NoPairsOfTexts items status = (status ≡ 12) ⊎ FirstUnfit TextFits (TextFails status) items
+
+module _ {N : Type 0} (w : Width) (v : Shape) (e : Encoding N) (limit most : ℕ) where
   -- `b` is the archive of the pairs of the items
   abbrev pub NumbersMade : List NumberItem → List ℕ → Type 0
   NumbersMade items b = (pairs : List (ℕ × N)) × ArePairsOfNumbers e items pairs
-      × AreNumbers w e limit most pairs b
+      × AreNumbers w v e limit most pairs b
 
   -- `status` is that of items without pairs, or of the error of the write of their pairs
   abbrev pub NumbersRefused : List NumberItem → ℕ → Type 0
   NumbersRefused items status = NoPairsOfNumbers e items status
       ⊎ ((pairs : List (ℕ × N)) × (error : WriteError NoMemory) × ArePairsOfNumbers e items pairs
-      × AreNoNumbers w e limit most pairs error × (status ≡ write_refusal error))
+      × AreNoNumbers w v e limit most pairs error × (status ≡ write_refusal error))
 
   -- `b` is the archive of the pairs of the items
   abbrev pub TextsMade : List TextItem → List ℕ → Type 0
   TextsMade items b = (pairs : List (Bor (List ℕ) × N)) × ArePairsOfTexts e items pairs
-      × AreTexts w e limit most pairs b
+      × AreTexts w v e limit most pairs b
 
   -- `status` is that of items without pairs, or of the error of the write of their pairs
   abbrev pub TextsRefused : List TextItem → ℕ → Type 0
   TextsRefused items status = NoPairsOfTexts e items status
       ⊎ ((pairs : List (Bor (List ℕ) × N)) × (error : WriteError NoMemory)
-      × ArePairsOfTexts e items pairs × AreNoTexts w e limit most pairs error
+      × ArePairsOfTexts e items pairs × AreNoTexts w v e limit most pairs error
       × (status ≡ write_refusal error))
 
 -- a list of bytes is the archive of the pairs of numbers in the form
 abbrev pub IsArchiveOfNumbers : Bool → Bool → List NumberItem → List ℕ → Type 0
-IsArchiveOfNumbers long_values wide = NumbersMade (word_of wide) (unsigned (word_of long_values))
-    (limit_of wide) (most_of wide)
+IsArchiveOfNumbers long_values wide = NumbersMade (word_of wide) (value_shape long_values)
+    (unsigned (word_of long_values)) (limit_of wide) (most_of wide)
 
 -- a list of bytes is the archive of the pairs of texts in the form
 abbrev pub IsArchiveOfTexts : Bool → Bool → List TextItem → List ℕ → Type 0
-IsArchiveOfTexts long_values wide = TextsMade (word_of wide) (unsigned (word_of long_values))
-    (limit_of wide) (most_of wide)
+IsArchiveOfTexts long_values wide = TextsMade (word_of wide) (value_shape long_values)
+    (unsigned (word_of long_values)) (limit_of wide) (most_of wide)
 
 -- a status is the error of the write of the pairs of numbers in the form
 abbrev pub NoArchiveOfNumbers : Bool → Bool → List NumberItem → ℕ → Type 0
 NoArchiveOfNumbers long_values wide = NumbersRefused (word_of wide)
-    (unsigned (word_of long_values)) (limit_of wide) (most_of wide)
+    (value_shape long_values) (unsigned (word_of long_values)) (limit_of wide) (most_of wide)
 
 -- a status is the error of the write of the pairs of texts in the form
 abbrev pub NoArchiveOfTexts : Bool → Bool → List TextItem → ℕ → Type 0
-NoArchiveOfTexts long_values wide = TextsRefused (word_of wide) (unsigned (word_of long_values))
-    (limit_of wide) (most_of wide)
+NoArchiveOfTexts long_values wide = TextsRefused (word_of wide) (value_shape long_values)
+    (unsigned (word_of long_values)) (limit_of wide) (most_of wide)
 
 -- the status is 0 and `after` has the archive, or it is an error and `after` is `before`
 abbrev pub HandsOut : (List ℕ → Type 0) → (ℕ → Type 0) → Built → ℕ → Built → Type 0

@@ -5,3 +5,4 @@ pub mod Listed
 pub mod Items
 pub mod Walking
 pub mod Calls
+pub mod Containers

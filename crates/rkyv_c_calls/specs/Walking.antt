@@ -3,13 +3,13 @@ use Rattle.std.specs.Prelude.{◌≡◌, ℕ, ◌+◌, ◌⊎◌, List, [], ◌�
 use Rattle.std.specs.Int.{Width, w32}
 use Rattle.rkyv_base.specs.Bytes.{number_at}
 use Rattle.rkyv_base.specs.Entry.{entry_shape}
-use Rattle.rkyv_base.specs.Scalar.{Encoding, scalar_shape}
+use Rattle.rkyv_base.specs.Scalar.{Encoding}
 use Rattle.rkyv_base.specs.Sealing.{value_pos}
 use Rattle.rkyv_base.specs.Shape.{Shape}
 use Rattle.rkyv_base.specs.Text.{text_at, text_shape}
 use Rattle.rkyv_table.specs.Controls.Walking.{full_from}
 use Rattle.rkyv_table.specs.Table.Header.{cap_at}
-use Rattle.rkyv_table.specs.Table.Reading.{item_at, table_controls}
+use Rattle.rkyv_table.specs.Table.Positions.{item_at, table_controls}
 use Rattle.rkyv_c_calls.specs.Archives.{number_key, root}
 use Rattle.rkyv_c_calls.specs.declared.numbers.NumberPair.{NumberPair}
 use Rattle.rkyv_c_calls.specs.declared.texts.TextPair.{TextPair}
@@ -35,35 +35,35 @@ Steps buckets next IsTold before status after =
     × (next after ≡ bucket + 1) × IsTold bucket after)
 
 -- the value of the pair at `q`
-abbrev pub value_at : {N : Type 0} → Encoding N → List ℕ → Shape → ℕ → ℕ
-value_at e b k q = number_at e.word b (value_pos k (scalar_shape e) q)
+abbrev pub value_at : {N : Type 0} → Encoding N → List ℕ → Shape → Shape → ℕ → ℕ
+value_at e b k v q = number_at e.word b (value_pos k v q)
 
-module _ {N : Type 0} (w : Width) (e : Encoding N) (b : List ℕ) where
+module _ {N : Type 0} (w : Width) (v : Shape) (e : Encoding N) (b : List ℕ) where
   -- the position of the pair in a bucket of the map, whose keys have the shape `k`
   abbrev pub pair_pos : Shape → ℕ → ℕ
   pair_pos k bucket =
-      item_at w (entry_shape k (scalar_shape e)).size b (root w k (scalar_shape e) b) bucket
+      item_at w (entry_shape k v).size b (root w k v b) bucket
 
   -- `pair` is the pair in a bucket of a map of numbers
   abbrev pub IsNumberPair : ℕ → NumberPair → Type 0
   IsNumberPair bucket pair =
       (pair.key ≡ number_at w32 b (pair_pos number_key bucket))
-      × (pair.value ≡ value_at e b number_key (pair_pos number_key bucket))
+      × (pair.value ≡ value_at e b number_key v (pair_pos number_key bucket))
 
   -- the result of a step to the next pair of a map of numbers
   abbrev pub NextNumber : NumberPair → ℕ → NumberPair → Type 0
   NextNumber before status after =
-      Steps (buckets_from w b (root w number_key (scalar_shape e) b))
+      Steps (buckets_from w b (root w number_key v b))
       (λ (pair : NumberPair). pair.next) IsNumberPair before status after
 
   -- `pair` is the pair in a bucket of a map of texts
   abbrev pub IsTextPair : ℕ → TextPair → Type 0
   IsTextPair bucket pair =
       (pair.key.now ≡ text_at w b (pair_pos (text_shape w) bucket))
-      × (pair.value ≡ value_at e b (text_shape w) (pair_pos (text_shape w) bucket))
+      × (pair.value ≡ value_at e b (text_shape w) v (pair_pos (text_shape w) bucket))
 
   -- the result of a step to the next pair of a map of texts
   abbrev pub NextText : TextPair → ℕ → TextPair → Type 0
   NextText before status after =
-      Steps (buckets_from w b (root w (text_shape w) (scalar_shape e) b))
+      Steps (buckets_from w b (root w (text_shape w) v b))
       (λ (pair : TextPair). pair.next) IsTextPair before status after

@@ -3,8 +3,7 @@
 ghost use Rattle.std.specs.Prelude.{◌≡◌};
 ghost use Rattle.rkyv_base.specs.Access.{Accepted};
 ghost use Rattle.rkyv_base.specs.Shape.{Viewed};
-ghost use Rattle.rkyv_collections.specs.Map.{map_shape};
-ghost use Rattle.rkyv_base.specs.Scalar.{scalar_shape};
+ghost use Rattle.rkyv_collections.specs.MapShape.{map_shape};
 ghost use Rattle.rkyv_c_calls.specs.Archives.{IsMapArchive, Opens, root};
 ghost use Rattle.rkyv_c_calls.specs.Calls.{Counts};
 
@@ -42,8 +41,8 @@ pub(crate) fn root_of<K: Element, V: Element, W: Width>(archive: &[u8]) -> u64
 /// Returns the number of pairs of the map in a valid archive.
 #[inline]
 pub(crate) fn pair_count<K: Element, V: Value, W: Width>(archive: &[u8]) -> usize
-    requires { IsMapArchive W.word W.LIMIT K.shape V.encoding archive.now }
-    ensures { Counts W.word K.shape (scalar_shape V.encoding) archive.now result }
+    requires { IsMapArchive W.word W.LIMIT K.shape V.shape archive.now }
+    ensures { Counts W.word K.shape V.shape archive.now result }
 {
     let root = root_of::<K, V, W>(archive);
     ArchivedHashMap::<K, V, FxHasher64, W>::of(View::new(archive, root)).len()

@@ -21,11 +21,11 @@ pub(crate) fn archive_of<A: NativeKey<A::Archived> + Serialize<VecWriter, W>, V:
 where
     A::Archived: KeyElement,
     ensures made { IfOk result (λ v.
-        IsArchiveOf W.word A.Archived.shape A.Archived.stands A.Archived.key_calls V.encoding
-        W.LIMIT W.MAX_CAPACITY A.format A.calls pairs.now v.items) }
+        IsArchiveOf W.word A.Archived.shape V.shape A.Archived.stands A.Archived.key_calls
+        V.encoding W.LIMIT W.MAX_CAPACITY A.format A.calls pairs.now v.items) }
     ensures refused { IfErr result
-        (NoArchiveOf W.word A.Archived.shape A.Archived.stands A.Archived.key_calls V.encoding
-        W.LIMIT W.MAX_CAPACITY A.format A.calls pairs.now) }
+        (NoArchiveOf W.word A.Archived.shape V.shape A.Archived.stands A.Archived.key_calls
+        V.encoding W.LIMIT W.MAX_CAPACITY A.format A.calls pairs.now) }
 {
     let list: MapPairs<'_, A, V> = MapPairs::new(pairs);
     match to_bytes_in::<W, MapPairs<'_, A, V>>(alloc, &list) {

@@ -14,7 +14,7 @@ use rkyv_collections::{FxHasher64, KeyElement, NativeKey};
 /// The buckets ascend, and the n-th home bucket has the n-th pair of the list.
 /// Repeated calls for the next pair, from bucket 0 on, thus return each pair of the list once.
 pub fn walks_visit_listed<A, K: KeyElement + StandsFor<A>, V: Value, W: Width>()
-    ensures { WalksVisitListed W.word K.shape K.stands K.key_calls V.encoding }
+    ensures { WalksVisitListed W.word K.shape V.shape K.stands K.key_calls V.encoding }
 {
     walks_give_listed::<A, V, K, V, FxHasher64, W>();
 }
@@ -23,6 +23,6 @@ pub fn walks_visit_listed<A, K: KeyElement + StandsFor<A>, V: Value, W: Width>()
 pub fn archives_stand_for_their_lists<A: NativeKey<A::Archived> + Archive<W>, V: Value, W: Width>()
 where
     A::Archived: KeyElement,
-    ensures { ArchivesStand W.word A.Archived.shape A.Archived.stands A.Archived.key_calls
+    ensures { ArchivesStand W.word A.Archived.shape V.shape A.Archived.stands A.Archived.key_calls
         V.encoding W.LIMIT W.MAX_CAPACITY A.format A.calls }
 {}

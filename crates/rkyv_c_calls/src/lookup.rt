@@ -2,7 +2,6 @@
 
 ghost use Rattle.std.specs.Prelude.{IfSome, false, true, ◌≡◌};
 ghost use Rattle.rkyv_base.specs.Bytes.{number_at};
-ghost use Rattle.rkyv_base.specs.Scalar.{scalar_shape};
 ghost use Rattle.rkyv_base.specs.Shape.{Viewed};
 ghost use Rattle.rkyv_table.specs.Table.Reading.{pos_of_found};
 ghost use Rattle.rkyv_c_calls.specs.Archives.{Gives, IsMapArchive, Sets, value_found};
@@ -36,13 +35,13 @@ fn value_place<A: NativeKey<K>, K: KeyElement + StandsFor<A>, V: Value, W: Width
     archive: &[u8],
     key: &A,
 ) -> Option<u64>
-    requires archive { IsMapArchive W.word W.LIMIT K.shape V.encoding archive.now }
+    requires archive { IsMapArchive W.word W.LIMIT K.shape V.shape archive.now }
     requires query { A.can_read key.now }
-    ensures viewed { IfSome result (Viewed (scalar_shape V.encoding) archive.now) }
-    ensures found { result ≡ value_found W.word K.shape (scalar_shape V.encoding) archive.now
+    ensures viewed { IfSome result (Viewed V.shape archive.now) }
+    ensures found { result ≡ value_found W.word K.shape V.shape archive.now
         (A.calls key.now) (A.fits key.now archive.now) }
-    ensures listed { PlaceOfFirst W.word K.shape K.stands K.key_calls V.encoding (A.eq key.now)
-        archive.now result }
+    ensures listed { PlaceOfFirst W.word K.shape V.shape K.stands K.key_calls V.encoding
+        (A.eq key.now) archive.now result }
 {
     lookups_find_listed::<A, V, K, V, FxHasher64, W>();
     let root = root_of::<K, V, W>(archive);
@@ -53,7 +52,7 @@ fn value_place<A: NativeKey<K>, K: KeyElement + StandsFor<A>, V: Value, W: Width
 /// Returns the number at a position.
 #[inline]
 pub(crate) fn number_in<V: Value>(archive: &[u8], pos: u64) -> u64
-    requires { Viewed (scalar_shape V.encoding) archive.now pos }
+    requires { Viewed V.shape archive.now pos }
     ensures { result ≡ number_at V.encoding.word archive.now pos }
 {
     View::<V>::new(archive, pos).to_native().to_number()
@@ -69,13 +68,13 @@ pub(crate) fn get_in<A: NativeKey<K>, K: KeyElement + StandsFor<A>, V: Value, W:
     key: &A,
     value: &mut u64,
 ) -> u32
-    requires archive { IsMapArchive W.word W.LIMIT K.shape V.encoding archive.now }
+    requires archive { IsMapArchive W.word W.LIMIT K.shape V.shape archive.now }
     requires query { A.can_read key.now }
     ensures gives { Gives V.encoding.word archive.now
-        (value_found W.word K.shape (scalar_shape V.encoding) archive.now (A.calls key.now)
+        (value_found W.word K.shape V.shape archive.now (A.calls key.now)
         (A.fits key.now archive.now)) value.old result value.new }
-    ensures listed { GivesFirst W.word K.shape K.stands K.key_calls V.encoding (A.eq key.now)
-        archive.now value.old result value.new }
+    ensures listed { GivesFirst W.word K.shape V.shape K.stands K.key_calls V.encoding
+        (A.eq key.now) archive.now value.old result value.new }
 {
     match value_place::<A, K, V, W>(archive, key) {
         Some(pos) => {
@@ -108,14 +107,14 @@ pub(crate) fn set_in<A: NativeKey<K>, K: KeyElement + StandsFor<A>, V: Value, W:
     key: &A,
     value: u64,
 ) -> u32
-    requires archive { IsMapArchive W.word W.LIMIT K.shape V.encoding archive.old }
+    requires archive { IsMapArchive W.word W.LIMIT K.shape V.shape archive.old }
     requires query { A.can_read key.now }
-    ensures kept { IsMapArchive W.word W.LIMIT K.shape V.encoding archive.new }
+    ensures kept { IsMapArchive W.word W.LIMIT K.shape V.shape archive.new }
     ensures sets { Sets V.encoding archive.old
-        (value_found W.word K.shape (scalar_shape V.encoding) archive.old (A.calls key.now)
+        (value_found W.word K.shape V.shape archive.old (A.calls key.now)
         (A.fits key.now archive.old)) value result archive.new }
-    ensures listed { SetsFirstOf W.word K.shape K.stands K.key_calls V.encoding (A.eq key.now)
-        archive.old value result archive.new }
+    ensures listed { SetsFirstOf W.word K.shape V.shape K.stands K.key_calls V.encoding
+        (A.eq key.now) archive.old value result archive.new }
 {
     let number = match V::of_number(value) {
         Some(number) => number,

@@ -48,8 +48,8 @@ fn pairs_of<V: Value>(alloc: Global, items: &[NumberItem]) -> Result<Vec<(u32, V
 /// Writes the archive of the items.
 fn archive_in<V: Value, W: Width>(alloc: Global, items: &[NumberItem]) -> Result<Vec<u8>, u32>
     ensures { MatchResult result
-        (λ v. NumbersMade W.word V.encoding W.LIMIT W.MAX_CAPACITY items.now v.items)
-        (NumbersRefused W.word V.encoding W.LIMIT W.MAX_CAPACITY items.now) }
+        (λ v. NumbersMade W.word V.shape V.encoding W.LIMIT W.MAX_CAPACITY items.now v.items)
+        (NumbersRefused W.word V.shape V.encoding W.LIMIT W.MAX_CAPACITY items.now) }
 {
     let pairs = match pairs_of::<V>(alloc, items) {
         Ok(pairs) => pairs,

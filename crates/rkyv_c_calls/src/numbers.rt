@@ -123,7 +123,7 @@ pub fn set_number(archive: &mut [u8], form: Form, key: u32, value: u64) -> u32
 
 /// Returns the key of the pair at a position.
 fn key_in<V: Value>(archive: &[u8], pos: u64) -> u32
-    requires { IsPairAt number_key V.encoding archive.now pos }
+    requires { IsPairAt number_key V.shape archive.now pos }
     ensures { result ≡ number_at w32 archive.now pos }
 {
     let entry: View<'_, Entry<u32, V>> = View::new(archive, pos);
@@ -132,8 +132,8 @@ fn key_in<V: Value>(archive: &[u8], pos: u64) -> u32
 
 /// Stores the next pair of the map at the root of an archive, or returns `END`.
 fn next_in<V: Value, W: Width>(archive: &[u8], pair: &mut NumberPair) -> u32
-    requires { IsMapArchive W.word W.LIMIT number_key V.encoding archive.now }
-    ensures { NextNumber W.word V.encoding archive.now pair.old result pair.new }
+    requires { IsMapArchive W.word W.LIMIT number_key V.shape archive.now }
+    ensures { NextNumber W.word V.shape V.encoding archive.now pair.old result pair.new }
 {
     let root = root_of::<u32, V, W>(archive);
     let place = match next_place::<u32, V, W>(archive, root, pair.next) {

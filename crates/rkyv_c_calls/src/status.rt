@@ -1,10 +1,11 @@
 //! The statuses that calls return.
 
 ghost use Rattle.std.specs.Prelude.{◌≡◌};
-ghost use Rattle.rkyv_c_calls.specs.Status.{refusal, write_refusal};
+ghost use Rattle.rkyv_c_calls.specs.Status.{container_refusal, refusal, write_refusal};
 
 use rkyv_base::errors::{VerifyError, WriteError};
 use rkyv_base::writer::NoMemory;
+use rkyv_container::errors::ContainerError;
 
 /// The call succeeded.
 pub const DONE: u32 = 0;
@@ -23,6 +24,9 @@ pub const NOT_TEXT: u32 = 4;
 
 /// An allocation failed.
 pub const NO_MEMORY: u32 = 12;
+
+/// The length in a container's header isn't the number of bytes behind the header.
+pub const WRONG_LENGTH: u32 = 46;
 
 /// Returns the status of a validation error: 16 to 23.
 #[tactic(auto, unfolding(crate::specs::Status::refusal))]
@@ -56,5 +60,30 @@ pub(crate) fn write_refusal(error: &WriteError<NoMemory>) -> u32
         WriteError::TextTooLong => 27,
         WriteError::InvalidLoadFactor { .. } => 28,
         WriteError::IteratorLengthMismatch(_) => 29,
+    }
+}
+
+/// Returns the status of a container's error: 32 to 47.
+#[tactic(auto, unfolding(crate::specs::Status::container_refusal))]
+pub(crate) fn container_refusal(error: &ContainerError) -> u32
+    ensures { result ≡ container_refusal error.now }
+{
+    match error {
+        ContainerError::TooShort { .. } => 32,
+        ContainerError::WrongMagic => 33,
+        ContainerError::UnsupportedVersion(_) => 34,
+        ContainerError::UnknownKind(_) => 35,
+        ContainerError::UnknownKeyType(_) => 36,
+        ContainerError::UnknownValueType(_) => 37,
+        ContainerError::UnknownWidth(_) => 38,
+        ContainerError::UnknownFlags(_) => 39,
+        ContainerError::UnexpectedChecksum(_) => 40,
+        ContainerError::NonzeroReserved(_) => 41,
+        ContainerError::WrongKind { .. } => 42,
+        ContainerError::WrongKeyType { .. } => 43,
+        ContainerError::WrongValueType { .. } => 44,
+        ContainerError::WrongWidth { .. } => 45,
+        ContainerError::WrongLength { .. } => 46,
+        ContainerError::WrongChecksum { .. } => 47,
     }
 }

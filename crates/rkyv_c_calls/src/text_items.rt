@@ -53,8 +53,8 @@ fn pairs_of<'a, V: Value>(alloc: Global, items: &[TextItem<'a>]) -> Result<Vec<(
 /// Writes the archive of the items.
 fn archive_in<V: Value, W: Width>(alloc: Global, items: &[TextItem<'_>]) -> Result<Vec<u8>, u32>
     ensures { MatchResult result
-        (λ v. TextsMade W.word V.encoding W.LIMIT W.MAX_CAPACITY items.now v.items)
-        (TextsRefused W.word V.encoding W.LIMIT W.MAX_CAPACITY items.now) }
+        (λ v. TextsMade W.word V.shape V.encoding W.LIMIT W.MAX_CAPACITY items.now v.items)
+        (TextsRefused W.word V.shape V.encoding W.LIMIT W.MAX_CAPACITY items.now) }
 {
     let pairs = match pairs_of::<V>(alloc, items) {
         Ok(pairs) => pairs,

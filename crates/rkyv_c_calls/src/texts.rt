@@ -180,7 +180,7 @@ pub fn set_text(archive: &mut [u8], form: Form, key: &[u8], value: u64) -> u32
 
 /// Returns the bytes of the key of the pair at a position.
 fn key_in<V: Value, W: Width>(archive: &[u8], pos: u64) -> &[u8]
-    requires { IsPairAt (text_shape W.word) V.encoding archive.now pos }
+    requires { IsPairAt (text_shape W.word) V.shape archive.now pos }
     ensures { result.now ≡ text_at W.word archive.now pos }
 {
     let entry: View<'_, Entry<Text<W>, V>> = View::new(archive, pos);
@@ -189,8 +189,8 @@ fn key_in<V: Value, W: Width>(archive: &[u8], pos: u64) -> &[u8]
 
 /// Stores the next pair of the map at the root of an archive, or returns `END`.
 fn next_in<'a, V: Value, W: Width>(archive: &'a [u8], pair: &mut TextPair<'a>) -> u32
-    requires { IsMapArchive W.word W.LIMIT (text_shape W.word) V.encoding archive.now }
-    ensures { NextText W.word V.encoding archive.now pair.old result pair.new }
+    requires { IsMapArchive W.word W.LIMIT (text_shape W.word) V.shape archive.now }
+    ensures { NextText W.word V.shape V.encoding archive.now pair.old result pair.new }
 {
     let root = root_of::<Text<W>, V, W>(archive);
     let place = match next_place::<Text<W>, V, W>(archive, root, pair.next) {

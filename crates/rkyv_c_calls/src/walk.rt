@@ -126,8 +126,8 @@ pub(crate) fn next_place<K: Element, V: Element, W: Width>(
 /// Returns the value of the pair at a position, as a number of 64 bits.
 #[inline]
 pub(crate) fn value_in<K: Element, V: Value>(archive: &[u8], pos: u64) -> u64
-    requires { IsPairAt K.shape V.encoding archive.now pos }
-    ensures { result ≡ value_at V.encoding archive.now K.shape pos }
+    requires { IsPairAt K.shape V.shape archive.now pos }
+    ensures { result ≡ value_at V.encoding archive.now K.shape V.shape pos }
 {
     let entry: View<'_, Entry<K, V>> = View::new(archive, pos);
     entry.value().to_native().to_number()

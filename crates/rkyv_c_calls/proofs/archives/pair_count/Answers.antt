@@ -1,12 +1,11 @@
 use Rattle.std.proofs.Common.{◌∙◌, ap}
-use Rattle.rkyv_base.specs.Scalar.{scalar_shape}
 use Rattle.rkyv_table.specs.Table.Header.{len_at}
-use Rattle.rkyv_collections.specs.Map.{map_shape}
+use Rattle.rkyv_collections.specs.MapShape.{map_shape}
 use Rattle.rkyv_c_calls.proofs.First.{view_stands}
 use Rattle.rkyv_c_calls.proofs.archives.pair_count.Goals as goal
 
 pub of-requires : goal.of-requires
-of-requires g c = view_stands (map_shape g.W.Word.word g.K.Element.shape (scalar_shape g.V.Scalar.encoding)) c.new.result c.args.archive c.root_of-root.result c.new.ensures.0 c.new.ensures.1 c.root_of-root.ensures.viewed
+of-requires g c = view_stands (map_shape g.W.Word.word g.K.Shaped.shape g.V.Shaped.shape) c.new.result c.args.archive c.root_of-root.result c.new.ensures.0 c.new.ensures.1 c.root_of-root.ensures.viewed
 
 pub returns : goal.returns
 returns g c =

@@ -1,7 +1,7 @@
 use Rattle.std.proofs.Common.{◌≡◌, ◌∙◌, ℕ, ◌-◌, List, ap, arith, inl, inr, length, refl, subst, sym}
 use Rattle.rkyv_scan.specs.Hash.{fx_hasher, low_halves}
-use Rattle.rkyv_base.specs.Scalar.{scalar_shape}
-use Rattle.rkyv_collections.specs.Map.{hash_at, map_shape}
+use Rattle.rkyv_collections.specs.Map.{hash_at}
+use Rattle.rkyv_collections.specs.MapShape.{map_shape}
 use Rattle.rkyv_c_calls.proofs.Writing.{set_kept, set_told}
 use Rattle.rkyv_collections.specs.InPlace.{with_first}
 use Rattle.rkyv_collections.specs.ListedLookups.{first_pair}
@@ -16,15 +16,15 @@ pub returns-clause-kept : goal.returns-clause-kept
 returns-clause-kept g c =
     let set = c.set_value_of-found in
     let same : length set.new.archive ≡ length c.args.archive.now = omega (arith, set.auto.archive) in
-    set_kept g.W.Word.word g.K.Element.shape g.V.Scalar.encoding (hash_at (fx_hasher low_halves) g.K.KeyElement.key_calls) c.args.archive.now c.root_of-root.result (g.A.KeyHash.calls c.args.key.now)
-    (g.A.Query.fits c.args.key.now c.args.archive.now) c.in-Some.number set.result set.new.archive c.root_of-root.ensures.at set.ensures.answer g.W.Width.LIMIT c.requires.archive c.root_of-root.ensures.viewed same
+    set_kept g.W.Word.word g.K.Shaped.shape g.V.Shaped.shape g.V.Scalar.encoding (hash_at (fx_hasher low_halves) g.K.KeyElement.key_calls) c.args.archive.now c.root_of-root.result (g.A.KeyHash.calls c.args.key.now)
+    (g.A.Query.fits c.args.key.now c.args.archive.now) c.in-Some.number set.result set.new.archive c.root_of-root.ensures.at set.ensures.answer.answer g.W.Width.LIMIT c.requires.archive c.root_of-root.ensures.viewed same
 
 pub returns-clause-sets : goal.returns-clause-sets
 returns-clause-sets g c =
     let set = c.set_value_of-found in
-    let told = set_told g.W.Word.word g.K.Element.shape g.V.Scalar.encoding (hash_at (fx_hasher low_halves) g.K.KeyElement.key_calls) c.args.archive.now c.root_of-root.result (g.A.KeyHash.calls c.args.key.now)
-    (g.A.Query.fits c.args.key.now c.args.archive.now) c.in-Some.number set.result set.new.archive c.root_of-root.ensures.at set.ensures.answer c.status_of.result c.status_of.ensures.yes c.status_of.ensures.no in
-    inr (c.in-Some.number, c.in-Some.ensures.told, told)
+    let told = set_told g.W.Word.word g.K.Shaped.shape g.V.Shaped.shape g.V.Scalar.encoding (hash_at (fx_hasher low_halves) g.K.KeyElement.key_calls) c.args.archive.now c.root_of-root.result (g.A.KeyHash.calls c.args.key.now)
+    (g.A.Query.fits c.args.key.now c.args.archive.now) c.in-Some.number set.result set.new.archive c.root_of-root.ensures.at set.ensures.answer.answer c.status_of.result c.status_of.ensures.yes c.status_of.ensures.no in
+    inr (c.in-Some.ensures.read.0, (c.in-Some.number, c.in-Some.ensures.told, told))
 
 pub returns-in-None-clause-listed : goal.returns-in-None-clause-listed
 returns-in-None-clause-listed g c = λ factor pairs stands. inl (c.in-None.ensures.told, refl)
@@ -35,14 +35,17 @@ returns-clause-listed g c = λ factor pairs stands.
     let b = c.args.archive.now in
     let set = c.set_value_of-found in
     let asks = g.A.PartialEq.eq c.args.key.now in
-    let Stands : List ℕ → ℕ → List (g.row.A.Denot × g.row.V.Denot) → Type 0 = λ d r ps. PairsStandAt g.W.Word.word g.K.Element.shape g.K.StandsFor.stands g.K.KeyElement.key_calls e factor d r ps in
+    let Stands : List ℕ → ℕ → List (g.row.A.Denot × g.row.V.Denot) → Type 0 = λ d r ps. PairsStandAt g.W.Word.word g.K.Shaped.shape g.V.Shaped.shape g.K.StandsFor.stands g.K.KeyElement.key_calls e factor d r ps in
     let at = c.root_of-root.ensures.at in
     let same : length set.new.archive ≡ length b = omega (arith, set.auto.archive) in
     let after = set.ensures.listed factor pairs (subst (λ p. Stands b p pairs) (sym at) stands) in
-    let root_after = at ∙ ap (λ n. n - (map_shape g.W.Word.word g.K.Element.shape (scalar_shape e)).size) (sym same) in
+    let root_after = at ∙ ap (λ n. n - (map_shape g.W.Word.word g.K.Shaped.shape g.V.Shaped.shape).size) (sym same) in
     inr (
-      c.in-Some.number,
-      c.in-Some.ensures.told,
-      first_set (first_pair asks pairs) set.result c.status_of.result after.0 c.status_of.ensures.yes c.status_of.ensures.no,
-      subst (λ p. Stands set.new.archive p (with_first asks c.in-Some.number pairs)) root_after after.1,
+      c.in-Some.ensures.read.0,
+      (
+        c.in-Some.number,
+        c.in-Some.ensures.told,
+        first_set (first_pair asks pairs) set.result c.status_of.result after.0 c.status_of.ensures.yes c.status_of.ensures.no,
+        subst (λ p. Stands set.new.archive p (with_first asks c.in-Some.number pairs)) root_after after.1,
+      ),
     )

@@ -2,32 +2,34 @@ use Rattle.std.proofs.Common.{◌≡◌, ℕ, ◌∙◌, List, ap, sym}
 use Rattle.std.specs.Option.{option_map}
 use Rattle.rkyv_scan.specs.Groups.{generic_kind}
 use Rattle.rkyv_base.specs.Entry.{entry_shape}
-use Rattle.rkyv_base.specs.Scalar.{ScalarStands, scalar_shape}
+use Rattle.rkyv_base.specs.Scalar.{ScalarStands}
 use Rattle.rkyv_base.specs.Sealing.{value_pos}
-use Rattle.rkyv_table.specs.Table.Reading.{pos_found, pos_of_found}
+use Rattle.rkyv_table.specs.Table.Positions.{pos_found}
+use Rattle.rkyv_table.specs.Table.Reading.{pos_of_found}
 use Rattle.rkyv_table.proofs.Moved.{moved}
 use Rattle.rkyv_collections.proofs.SealedMap.{as_read}
 use Rattle.rkyv_collections.specs.ListedLookups.{first_value}
-use Rattle.rkyv_collections.specs.Map.{map_bytes, map_pos, map_shape}
+use Rattle.rkyv_collections.specs.Map.{map_bytes, map_pos}
+use Rattle.rkyv_collections.specs.MapShape.{map_shape}
 use Rattle.rkyv_c_calls.specs.Archives.{hash_by, root}
 use Rattle.rkyv_c_calls.specs.Lists.{PairsStandAt}
 use Rattle.rkyv_c_calls.proofs.First.{found_placed, found_viewed, view_stands}
 use Rattle.rkyv_c_calls.proofs.lookup.value_place.Goals as goal
 
 pub of-map-requires : goal.of-map-requires
-of-map-requires g c = view_stands (map_shape g.W.Word.word g.K.Element.shape (scalar_shape g.V.Scalar.encoding)) c.new.result c.args.archive c.root_of-root.result c.new.ensures.0 c.new.ensures.1 c.root_of-root.ensures.viewed
+of-map-requires g c = view_stands (map_shape g.W.Word.word g.K.Shaped.shape g.V.Shaped.shape) c.new.result c.args.archive c.root_of-root.result c.new.ensures.0 c.new.ensures.1 c.root_of-root.ensures.viewed
 
 pub returns-clause-viewed : goal.returns-clause-viewed
 returns-clause-viewed g c =
     let bytes = ap (λ v. v.archive.now) c.of-map.ensures.view ∙ ap (λ a. a.now) c.new.ensures.0 in
-    found_viewed g.W.Word.word g.K.Element.shape (scalar_shape g.V.Scalar.encoding) c.of-map.result c.args.archive.now bytes c.get.result c.found_pos.result c.found_pos.ensures c.get.ensures.walked
+    found_viewed c.of-map.result c.args.archive.now bytes c.get.result c.found_pos.result c.found_pos.ensures c.get.ensures.walked
 
 pub returns-clause-found : goal.returns-clause-found
 returns-clause-found g c =
     let bytes = ap (λ v. v.archive.now) c.of-map.ensures.view ∙ ap (λ a. a.now) c.new.ensures.0 in
     let place = ap (λ v. v.pos) c.of-map.ensures.view ∙ c.new.ensures.1 ∙ c.root_of-root.ensures.at in
-    let k = g.K.Element.shape in
-    let v = scalar_shape g.V.Scalar.encoding in
+    let k = g.K.Shaped.shape in
+    let v = g.V.Shaped.shape in
     c.found_pos.ensures
     ∙ as_read c.of-map.result c.args.archive.now (root g.W.Word.word k v c.args.archive.now) bytes place
     (λ d r. pos_of_found c.get.result ≡ option_map (value_pos k v) (pos_found generic_kind g.W.Word.word (entry_shape k v).size d r (hash_by (g.A.KeyHash.calls c.args.key.now)) (g.A.Query.fits c.args.key.now d)))
@@ -40,8 +42,8 @@ returns-clause-listed g c = λ factor pairs stands.
     let m = c.of-map.result in
     let e = g.V.Scalar.encoding in
     let asks = g.A.PartialEq.eq c.args.key.now in
-    let Stands : List ℕ → ℕ → Type 0 = λ d r. PairsStandAt g.W.Word.word g.K.Element.shape g.K.StandsFor.stands g.K.KeyElement.key_calls e factor d r pairs in
-    let here = moved Stands c.args.archive.now (map_bytes m) (root g.W.Word.word g.K.Element.shape (scalar_shape e) c.args.archive.now) (map_pos m) (sym bytes) (sym place) stands in
-    let listed = c.lookups_find_listed.ensures m (g.A.Query.fits c.args.key.now (map_bytes m)) asks factor pairs c.of-map.ensures.map (λ a q s there. g.met.A.NativeKey.native c.args.key.now a (map_bytes m) q s there) here in
-    found_placed g.W.Word.word g.K.Element.shape (scalar_shape e) m c.args.archive.now bytes (ScalarStands e) c.get.result c.found_pos.result (first_value asks pairs) c.found_pos.ensures c.get.ensures.walked
+    let Stands : List ℕ → ℕ → Type 0 = λ d r. PairsStandAt g.W.Word.word g.K.Shaped.shape g.V.Shaped.shape g.K.StandsFor.stands g.K.KeyElement.key_calls e factor d r pairs in
+    let here = moved Stands c.args.archive.now (map_bytes m) (root g.W.Word.word g.K.Shaped.shape g.V.Shaped.shape c.args.archive.now) (map_pos m) (sym bytes) (sym place) stands in
+    let listed = c.lookups_find_listed.ensures m (g.A.Query.fits c.args.key.now (map_bytes m)) asks factor pairs (λ a q s there. g.met.A.NativeKey.native c.args.key.now a (map_bytes m) q s there) here in
+    found_placed m c.args.archive.now bytes (ScalarStands e) c.get.result c.found_pos.result (first_value asks pairs) c.found_pos.ensures c.get.ensures.walked
     (listed.gives_value c.get.result c.get.ensures.walked c.get.ensures.first)

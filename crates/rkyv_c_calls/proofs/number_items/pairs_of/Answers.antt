@@ -1,5 +1,5 @@
 use Rattle.std.proofs.Common.{◌∙◌, arith, inr, refl}
-use Rattle.std.proofs.lemmas.List.Elements.{Contains-get_or}
+use Rattle.std.proofs.lemmas.Option.{slice_get-get_or}
 use Rattle.rkyv_c_calls.specs.Items.{NumberFits, number_pair}
 use Rattle.rkyv_c_calls.proofs.Collected.{all_of_them, nothing_yet, one_more, same_pair}
 use Rattle.rkyv_c_calls.proofs.number_items.pairs_of.Goals as goal
@@ -9,7 +9,7 @@ loop-item-init g c = let e = g.V.Scalar.encoding in nothing_yet (NumberFits e) (
 
 pub returns-in-None : goal.returns-in-None
 returns-in-None g c =
-    inr (_, Contains-get_or c.args.items.now c.loop-item.item-index _ c.loop-item-test.true, c.in-None.ensures.told, refl)
+    inr (c.loop-item.item-index, (_, slice_get-get_or c.args.items.now c.loop-item.item-index _ c.loop-item-test.true, c.loop-item.invariant.0, (c.in-None.ensures.told, refl)))
 
 pub loop-item-preserved : goal.loop-item-preserved
 loop-item-preserved g c =

@@ -6,12 +6,12 @@ use Rattle.rkyv_c_calls.proofs.Next.{none_left, pair_told, some_left}
 use Rattle.rkyv_c_calls.proofs.numbers.next_in.Goals as goal
 
 pub returns-in-None : goal.returns-in-None
-returns-in-None g c = inl (none_left g.W.Word.word g.V.Scalar.encoding c.args.archive.now number_key c.root_of-root.result c.root_of-root.ensures.at c.args.pair.now.next c.in-None.ensures.next, refl, refl)
+returns-in-None g c = inl (none_left g.W.Word.word number_key g.V.Shaped.shape g.V.Scalar.encoding c.args.archive.now c.root_of-root.result c.root_of-root.ensures.at c.args.pair.now.next c.in-None.ensures.next, refl, refl)
 
 pub returns : goal.returns
 returns g c =
     let place = c.in-Some.place in
     let next = c.in-Some.ensures.next in
-    let taken = some_left g.W.Word.word g.V.Scalar.encoding c.args.archive.now number_key c.root_of-root.result c.root_of-root.ensures.at c.args.pair.now.next place.bucket next.0 in
-    let told = pair_told g.W.Word.word g.V.Scalar.encoding c.args.archive.now number_key c.root_of-root.result c.root_of-root.ensures.at (number_at w32 c.args.archive.now) place.bucket place.pos c.key_in-key.result c.value_in-value.result next.1 c.key_in-key.ensures c.value_in-value.ensures in
+    let taken = some_left g.W.Word.word number_key g.V.Shaped.shape g.V.Scalar.encoding c.args.archive.now c.root_of-root.result c.root_of-root.ensures.at c.args.pair.now.next place.bucket next.0 in
+    let told = pair_told g.W.Word.word number_key g.V.Shaped.shape g.V.Scalar.encoding c.args.archive.now c.root_of-root.result c.root_of-root.ensures.at (number_at w32 c.args.archive.now) place.bucket place.pos c.key_in-key.result c.value_in-value.result next.1 c.key_in-key.ensures c.value_in-value.ensures in
     inr (place.bucket, taken, refl, refl, told)

@@ -1,6 +1,6 @@
 use Rattle.std.proofs.Common.{◌∙◌, [], ◌∷◌, ap, arith, inl, inr, map, refl}
 use Rattle.std.proofs.lemmas.List.{map-append}
-use Rattle.std.proofs.lemmas.List.Elements.{Contains-get_or}
+use Rattle.std.proofs.lemmas.Option.{slice_get-get_or}
 use Rattle.rkyv_c_calls.specs.Items.{TextFits, text_pair, text_seen}
 use Rattle.rkyv_c_calls.proofs.Collected.{all_of_them, nothing_yet, one_more, same_pair}
 use Rattle.rkyv_c_calls.proofs.text_items.pairs_of.Goals as goal
@@ -10,11 +10,11 @@ loop-item-init g c = let e = g.V.Scalar.encoding in nothing_yet (TextFits e) (te
 
 pub returns-in-None : goal.returns-in-None
 returns-in-None g c =
-    inr (inl (_, Contains-get_or c.args.items.now c.loop-item.item-index _ c.loop-item-test.true, c.in-None.ensures, refl))
+    inr (c.loop-item.item-index, (_, slice_get-get_or c.args.items.now c.loop-item.item-index _ c.loop-item-test.true, c.loop-item.invariant.0, inl (c.in-None.ensures, refl)))
 
 pub returns-in-None-of_number : goal.returns-in-None-of_number
 returns-in-None-of_number g c =
-    inr (inr (_, Contains-get_or c.args.items.now c.loop-item.item-index _ c.loop-item-test.true, c.in-None-of_number.ensures.told, refl))
+    inr (c.loop-item.item-index, (_, slice_get-get_or c.args.items.now c.loop-item.item-index _ c.loop-item-test.true, c.loop-item.invariant.0, inr (c.in-Some.ensures.0, c.in-None-of_number.ensures.told, refl)))
 
 pub loop-item-preserved : goal.loop-item-preserved
 loop-item-preserved g c =

@@ -3,7 +3,7 @@ use Rattle.std.specs.Int.{Width}
 use Rattle.rkyv_base.specs.Bytes.{signed_at}
 use Rattle.rkyv_base.specs.Entry.{entry_element, entry_shape}
 use Rattle.rkyv_base.specs.Shape.{IsElement, Shape, Viewed}
-use Rattle.rkyv_collections.specs.Map.{map_shape}
+use Rattle.rkyv_collections.specs.MapShape.{map_shape}
 use Rattle.rkyv_table.specs.Controls.Numbers.{control_count}
 use Rattle.rkyv_table.specs.Table.Header.{cap_at, controls_pos}
 use Rattle.rkyv_table.proofs.Items.{controls_inside}
@@ -19,7 +19,7 @@ inside w k v kl vl b p cap map same some =
 
 pub controls_begin-requires : goal.controls_begin-requires
 controls_begin-requires g c =
-    let u = inside g.W.Word.word g.K.Element.shape g.V.Element.shape g.met.K.Element.laws g.met.V.Element.laws c.args.archive.now c.args.root c.args.cap c.requires.map c.requires.cap c.requires.some in
+    let u = inside g.W.Word.word g.K.Shaped.shape g.V.Shaped.shape g.K.Shaped.laws g.V.Shaped.laws c.args.archive.now c.args.root c.args.cap c.requires.map c.requires.cap c.requires.some in
     (controls_pos g.W.Word.word c.args.archive.now c.args.root, rw c.distance_at.ensures u.1, omega (arith, u.0))
 
 pub returns-clause-at : goal.returns-clause-at
@@ -27,6 +27,6 @@ returns-clause-at g c = rw c.distance_at.ensures at c.controls_begin.ensures
 
 pub returns-clause-inside : goal.returns-clause-inside
 returns-clause-inside g c =
-    let u = inside g.W.Word.word g.K.Element.shape g.V.Element.shape g.met.K.Element.laws g.met.V.Element.laws c.args.archive.now c.args.root c.args.cap c.requires.map c.requires.cap c.requires.some in
+    let u = inside g.W.Word.word g.K.Shaped.shape g.V.Shaped.shape g.K.Shaped.laws g.V.Shaped.laws c.args.archive.now c.args.root c.args.cap c.requires.map c.requires.cap c.requires.some in
     let at : c.controls_begin.result ≡ controls_pos g.W.Word.word c.args.archive.now c.args.root = rw c.distance_at.ensures at c.controls_begin.ensures in
     rw at u.0

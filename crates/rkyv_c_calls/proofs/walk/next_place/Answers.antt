@@ -3,7 +3,7 @@ use Rattle.rkyv_base.specs.Entry.{entry_element, entry_shape}
 use Rattle.rkyv_base.specs.Shape.{Viewed}
 use Rattle.rkyv_table.specs.Controls.Walking.{full_from}
 use Rattle.rkyv_table.specs.Table.Header.{cap_at}
-use Rattle.rkyv_table.specs.Table.Reading.{IsWalked, item_at, table_controls}
+use Rattle.rkyv_table.specs.Table.Positions.{IsWalked, item_at, table_controls}
 use Rattle.rkyv_table.proofs.Items.{item_before, item_viewed}
 use Rattle.rkyv_table.proofs.SealedItems.{full_end}
 use Rattle.rkyv_c_calls.proofs.walk.next_place.Goals as goal
@@ -19,13 +19,13 @@ returns-then-from-cap-clause-next g c =
 pub pos_before-requires : goal.pos_before-requires
 pos_before-requires g c =
     let w = g.W.Word.word in
-    let k = g.K.Element.shape in
-    let v = g.V.Element.shape in
+    let k = g.K.Shaped.shape in
+    let v = g.V.Shaped.shape in
     let b = c.args.archive.now in
     let p = c.args.root in
     let i = c.in-Some.bucket in
     let cap = c.bucket_count-cap.ensures in
-    let law = entry_element k v g.met.K.Element.laws g.met.V.Element.laws in
+    let law = entry_element k v g.K.Shaped.laws g.V.Shaped.laws in
     let below : i < cap_at w b p = omega (arith, c.in-Some.ensures.0) in
     let before = item_before w (entry_shape k v) law b p c.requires i below in
     record {
@@ -36,7 +36,7 @@ pos_before-requires g c =
 pub returns-in-Some-clause-next : goal.returns-in-Some-clause-next
 returns-in-Some-clause-next g c =
     let w = g.W.Word.word in
-    let s = entry_shape g.K.Element.shape g.V.Element.shape in
+    let s = entry_shape g.K.Shaped.shape g.V.Shaped.shape in
     let b = c.args.archive.now in
     let p = c.args.root in
     let i = c.in-Some.bucket in
@@ -52,15 +52,15 @@ returns-in-Some-clause-next g c =
 pub returns-in-Some-clause-viewed : goal.returns-in-Some-clause-viewed
 returns-in-Some-clause-viewed g c =
     let w = g.W.Word.word in
-    let k = g.K.Element.shape in
-    let v = g.V.Element.shape in
+    let k = g.K.Shaped.shape in
+    let v = g.V.Shaped.shape in
     let s = entry_shape k v in
     let b = c.args.archive.now in
     let p = c.args.root in
     let i = c.in-Some.bucket in
     let cap = c.bucket_count-cap.ensures in
     let at = c.controls_in-begin.ensures.at in
-    let law = entry_element k v g.met.K.Element.laws g.met.V.Element.laws in
+    let law = entry_element k v g.K.Shaped.laws g.V.Shaped.laws in
     let controls : c.controls_from-controls.result.now ≡ table_controls w b p = rw (at, cap) at c.controls_from-controls.ensures in
     let walked : IsWalked w b p i = (subst (λ n. i < n) cap c.in-Some.ensures.0, subst (λ (xs : List ℕ). slice_index xs i < 128) controls c.in-Some.ensures.1) in
     let place : c.pos_before.result ≡ item_at w s.size b p i =
