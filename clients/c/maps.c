@@ -1,10 +1,11 @@
-/* An example of rkyv.h: opens the archive of a map and runs commands.
+/* An example of rkyv.h: opens the archive of a map, or its container, and runs commands.
  *
- *     maps KIND WIDTH FILE < COMMANDS
+ *     maps KIND WIDTH FILE [container] < COMMANDS
  *
- * KIND is the number of a `rkyv_kind`. A command is a line `get KEY`, `set KEY VALUE`, `count` or
- * `list`. Each prints its status and result on a line; `list` prints a line for each pair. `set`
- * doesn't change the file. If the file can't be read, the program exits with 1. */
+ * KIND is the number of a `rkyv_kind`. The width of a container may be 0, for either width. A
+ * command is a line `get KEY`, `set KEY VALUE`, `count` or `list`. Each prints its status and result
+ * on a line; `list` prints a line for each pair. `set` doesn't change the file. If the file can't be
+ * read, the program exits with 1. */
 #include "rkyv.h"
 
 #include <stdio.h>
@@ -76,18 +77,21 @@ static void *bytes_of(const char *path, size_t *length) {
 int main(int count, char **words) {
     static char line[1 << 16];
     size_t length = 0;
-    if (count != 4) {
-        fprintf(stderr, "maps KIND WIDTH FILE < COMMANDS\n");
+    int in_container = count == 5 && strcmp(words[4], "container") == 0;
+    if (count != 4 && !in_container) {
+        fprintf(stderr, "maps KIND WIDTH FILE [container] < COMMANDS\n");
         return 2;
     }
     uint32_t kind = (uint32_t)strtoul(words[1], NULL, 10);
+    uint32_t width = (uint32_t)strtoul(words[2], NULL, 10);
     void *bytes = bytes_of(words[3], &length);
     if (bytes == NULL) {
         perror(words[3]);
         return 1;
     }
-    rkyv_status status = rkyv_map_open_writable(bytes, length, kind,
-                                                (uint32_t)strtoul(words[2], NULL, 10), &map);
+    rkyv_status status =
+        in_container ? rkyv_map_open_container_writable(bytes, length, kind, width, &map)
+                     : rkyv_map_open_writable(bytes, length, kind, width, &map);
     printf("%s\n", rkyv_status_name(status));
     while (status == RKYV_OK && fgets(line, sizeof line, stdin) != NULL) {
         run(kind == RKYV_TEXT_TO_U32 || kind == RKYV_TEXT_TO_U64, line);

@@ -25,12 +25,19 @@ typedef struct built {
     size_t length;
 } built;
 
+/* The archive in a container that the library has opened. */
+typedef struct opened {
+    const uint8_t *bytes;
+    size_t length;
+} opened;
+
 #ifdef __cplusplus
 extern "C" {
 #endif
 
 /* The proved library. The functions that count, get, set and return the next pair require valid
- * bytes: the function that opens has returned 0 for them. The others require nothing. */
+ * bytes: the function that opens has returned 0 for them. The function that writes a header
+ * requires that it has 32 bytes. The others require nothing. */
 uint32_t rkyv_c_open_numbers(const uint8_t *archive, size_t length, bool long_values, bool wide);
 uint32_t rkyv_c_open_texts(const uint8_t *archive, size_t length, bool long_values, bool wide);
 size_t rkyv_c_count_numbers(const uint8_t *archive, size_t length, bool long_values, bool wide);
@@ -52,6 +59,12 @@ uint32_t rkyv_c_build_numbers(const number_item *items, size_t count, bool long_
                               built *built);
 uint32_t rkyv_c_build_texts(const text_item *items, size_t count, bool long_values, bool wide,
                             built *built);
+void rkyv_c_write_header(const uint8_t *archive, size_t length, bool of_texts, bool long_values,
+                         bool wide, bool checked, uint8_t *header, size_t header_length);
+uint32_t rkyv_c_container_width(const uint8_t *bytes, size_t length, bool *wide);
+uint32_t rkyv_c_open_container(const uint8_t *bytes, size_t length, bool of_texts,
+                               bool long_values, bool wide, opened *opened);
+uint32_t rkyv_c_update_container(uint8_t *bytes, size_t length);
 
 #ifdef __cplusplus
 }
@@ -96,6 +109,14 @@ static rkyv_status check_bytes(const void *bytes, size_t length) {
     return length <= PTRDIFF_MAX ? RKYV_OK : RKYV_TOO_LONG;
 }
 
+/* RKYV_OK if there is such a kind and such a width. */
+static rkyv_status check_types(uint32_t kind, uint32_t width) {
+    if (!is_of_numbers(kind) && !is_of_texts(kind)) {
+        return RKYV_UNKNOWN_KIND;
+    }
+    return width == 32 || width == 64 ? RKYV_OK : RKYV_UNKNOWN_WIDTH;
+}
+
 static const uint8_t *bytes_of(const void *bytes) {
     return bytes != NULL ? (const uint8_t *)bytes : nothing;
 }
@@ -115,6 +136,7 @@ const char *rkyv_status_name(uint32_t status) {
     case RKYV_CLOSED: return "RKYV_CLOSED";
     case RKYV_READ_ONLY: return "RKYV_READ_ONLY";
     case RKYV_NO_MEMORY: return "RKYV_NO_MEMORY";
+    case RKYV_WRONG_SIZE: return "RKYV_WRONG_SIZE";
     case RKYV_OUT_OF_RANGE: return "RKYV_OUT_OF_RANGE";
     case RKYV_UNALIGNED: return "RKYV_UNALIGNED";
     case RKYV_INVALID_LENGTH: return "RKYV_INVALID_LENGTH";
@@ -129,6 +151,22 @@ const char *rkyv_status_name(uint32_t status) {
     case RKYV_TEXT_TOO_LONG: return "RKYV_TEXT_TOO_LONG";
     case RKYV_INVALID_LOAD_FACTOR: return "RKYV_INVALID_LOAD_FACTOR";
     case RKYV_ITERATOR_LENGTH_MISMATCH: return "RKYV_ITERATOR_LENGTH_MISMATCH";
+    case RKYV_CONTAINER_TOO_SHORT: return "RKYV_CONTAINER_TOO_SHORT";
+    case RKYV_CONTAINER_WRONG_MAGIC: return "RKYV_CONTAINER_WRONG_MAGIC";
+    case RKYV_CONTAINER_UNSUPPORTED_VERSION: return "RKYV_CONTAINER_UNSUPPORTED_VERSION";
+    case RKYV_CONTAINER_UNKNOWN_COLLECTION: return "RKYV_CONTAINER_UNKNOWN_COLLECTION";
+    case RKYV_CONTAINER_UNKNOWN_KEY_TYPE: return "RKYV_CONTAINER_UNKNOWN_KEY_TYPE";
+    case RKYV_CONTAINER_UNKNOWN_VALUE_TYPE: return "RKYV_CONTAINER_UNKNOWN_VALUE_TYPE";
+    case RKYV_CONTAINER_UNKNOWN_WIDTH: return "RKYV_CONTAINER_UNKNOWN_WIDTH";
+    case RKYV_CONTAINER_UNKNOWN_FLAGS: return "RKYV_CONTAINER_UNKNOWN_FLAGS";
+    case RKYV_CONTAINER_UNEXPECTED_CHECKSUM: return "RKYV_CONTAINER_UNEXPECTED_CHECKSUM";
+    case RKYV_CONTAINER_NONZERO_RESERVED: return "RKYV_CONTAINER_NONZERO_RESERVED";
+    case RKYV_CONTAINER_WRONG_COLLECTION: return "RKYV_CONTAINER_WRONG_COLLECTION";
+    case RKYV_CONTAINER_WRONG_KEY_TYPE: return "RKYV_CONTAINER_WRONG_KEY_TYPE";
+    case RKYV_CONTAINER_WRONG_VALUE_TYPE: return "RKYV_CONTAINER_WRONG_VALUE_TYPE";
+    case RKYV_CONTAINER_WRONG_WIDTH: return "RKYV_CONTAINER_WRONG_WIDTH";
+    case RKYV_CONTAINER_WRONG_LENGTH: return "RKYV_CONTAINER_WRONG_LENGTH";
+    case RKYV_CONTAINER_WRONG_CHECKSUM: return "RKYV_CONTAINER_WRONG_CHECKSUM";
     default: return "unknown";
     }
 }
@@ -140,13 +178,10 @@ static rkyv_status open_map(const void *bytes, void *writable, size_t length, ui
         return RKYV_NULL;
     }
     *map = closed;
-    if (!is_of_numbers(kind) && !is_of_texts(kind)) {
-        return RKYV_UNKNOWN_KIND;
+    rkyv_status status = check_types(kind, width);
+    if (status == RKYV_OK) {
+        status = check_bytes(bytes, length);
     }
-    if (width != 32 && width != 64) {
-        return RKYV_UNKNOWN_WIDTH;
-    }
-    rkyv_status status = check_bytes(bytes, length);
     if (status != RKYV_OK) {
         return status;
     }
@@ -172,9 +207,63 @@ rkyv_status rkyv_map_open_writable(void *bytes, size_t length, uint32_t kind, ui
     return open_map(bytes, bytes, length, kind, width, map);
 }
 
+/* Opens the map in a container. `writable` is the address of the container, or null. */
+static rkyv_status open_container(const void *bytes, void *writable, size_t length, uint32_t kind,
+                                  uint32_t width, rkyv_map *map) {
+    const rkyv_map closed = {NULL, NULL, 0, 0, 0};
+    opened found = {nothing, 0};
+    bool wide = width == 64;
+    if (map == NULL) {
+        return RKYV_NULL;
+    }
+    *map = closed;
+    rkyv_status status = check_types(kind, width != RKYV_ANY_WIDTH ? width : 32);
+    if (status == RKYV_OK) {
+        status = check_bytes(bytes, length);
+    }
+    if (status != RKYV_OK) {
+        return status;
+    }
+    const uint8_t *container = bytes_of(bytes);
+    if (width == RKYV_ANY_WIDTH) {
+        status = (rkyv_status)rkyv_c_container_width(container, length, &wide);
+    }
+    if (status == RKYV_OK) {
+        status = (rkyv_status)rkyv_c_open_container(container, length, is_of_texts(kind),
+                                                    has_long_values(kind), wide, &found);
+    }
+    if (status != RKYV_OK) {
+        return status;
+    }
+    uint8_t *archive = writable != NULL ? (uint8_t *)writable + (found.bytes - container) : NULL;
+    return open_map(found.bytes, archive, found.length, kind, wide ? 64 : 32, map);
+}
+
+rkyv_status rkyv_map_open_container(const void *bytes, size_t length, uint32_t kind,
+                                    uint32_t width, rkyv_map *map) {
+    return open_container(bytes, NULL, length, kind, width, map);
+}
+
+rkyv_status rkyv_map_open_container_writable(void *bytes, size_t length, uint32_t kind,
+                                             uint32_t width, rkyv_map *map) {
+    return open_container(bytes, bytes, length, kind, width, map);
+}
+
 static bool is_any(uint32_t kind) {
     (void)kind;
     return true;
+}
+
+rkyv_status rkyv_map_width(const rkyv_map *map, uint32_t *width) {
+    rkyv_status status = check_map(map, is_any);
+    if (status != RKYV_OK) {
+        return status;
+    }
+    if (width == NULL) {
+        return RKYV_NULL;
+    }
+    *width = map->width;
+    return RKYV_OK;
 }
 
 rkyv_status rkyv_map_count(const rkyv_map *map, size_t *count) {
@@ -323,11 +412,9 @@ rkyv_status rkyv_builder_new(uint32_t kind, uint32_t width, rkyv_builder **build
         return RKYV_NULL;
     }
     *builder = NULL;
-    if (!is_of_numbers(kind) && !is_of_texts(kind)) {
-        return RKYV_UNKNOWN_KIND;
-    }
-    if (width != 32 && width != 64) {
-        return RKYV_UNKNOWN_WIDTH;
+    rkyv_status status = check_types(kind, width);
+    if (status != RKYV_OK) {
+        return status;
     }
     struct rattle_block made = rattle_alloc(sizeof(rkyv_builder), 8);
     if (!made.is_there) {
@@ -439,4 +526,70 @@ void rkyv_bytes_free(uint8_t *bytes) {
     if (bytes != NULL) {
         rattle_dealloc(bytes);
     }
+}
+
+rkyv_status rkyv_container_size(size_t length, size_t *size) {
+    if (size == NULL) {
+        return RKYV_NULL;
+    }
+    if (length > PTRDIFF_MAX - RKYV_CONTAINER_HEADER) {
+        return RKYV_TOO_LONG;
+    }
+    *size = RKYV_CONTAINER_HEADER + length;
+    return RKYV_OK;
+}
+
+/* RKYV_OK if `length` bytes may be the archive of such a map at the address. */
+static rkyv_status check_archive(const void *archive, size_t length, uint32_t kind,
+                                 uint32_t width) {
+    rkyv_status status = check_types(kind, width);
+    return status == RKYV_OK ? check_bytes(archive, length) : status;
+}
+
+static void write_header(const uint8_t *archive, size_t length, uint32_t kind, uint32_t width,
+                         bool checksum, uint8_t *header) {
+    rkyv_c_write_header(archive, length, is_of_texts(kind), has_long_values(kind), width == 64,
+                        checksum, header, RKYV_CONTAINER_HEADER);
+}
+
+rkyv_status rkyv_container_header(const void *archive, size_t length, uint32_t kind,
+                                  uint32_t width, bool checksum, uint8_t *header) {
+    rkyv_status status = check_archive(archive, length, kind, width);
+    if (status == RKYV_OK && header == NULL) {
+        status = RKYV_NULL;
+    }
+    if (status == RKYV_OK) {
+        write_header(bytes_of(archive), length, kind, width, checksum, header);
+    }
+    return status;
+}
+
+rkyv_status rkyv_container_write(const void *archive, size_t length, uint32_t kind,
+                                 uint32_t width, bool checksum, void *container, size_t size) {
+    size_t wanted = 0;
+    rkyv_status status = check_archive(archive, length, kind, width);
+    if (status == RKYV_OK) {
+        status = rkyv_container_size(length, &wanted);
+    }
+    if (status == RKYV_OK && container == NULL) {
+        status = RKYV_NULL;
+    }
+    if (status == RKYV_OK && size != wanted) {
+        status = RKYV_WRONG_SIZE;
+    }
+    if (status == RKYV_OK) {
+        uint8_t *header = (uint8_t *)container, *copy = header + RKYV_CONTAINER_HEADER;
+        memmove(copy, bytes_of(archive), length);
+        write_header(copy, length, kind, width, checksum, header);
+    }
+    return status;
+}
+
+rkyv_status rkyv_container_update(void *bytes, size_t length) {
+    uint8_t none[1] = {0};
+    rkyv_status status = check_bytes(bytes, length);
+    if (status != RKYV_OK) {
+        return status;
+    }
+    return (rkyv_status)rkyv_c_update_container(bytes != NULL ? (uint8_t *)bytes : none, length);
 }

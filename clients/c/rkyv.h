@@ -2,12 +2,14 @@
  * Hash maps in rkyv's archived byte format.
  *
  * A map has the keys and values of a `rkyv_kind`. Its archive has a width: 32 or 64, the number of
- * bits of its positions. The bytes record neither: open an archive with the kind and the width that
- * it was built with. An archive of one kind may be valid as another, and then has meaningless
- * pairs.
+ * bits of its positions. The bytes of an archive record neither: open an archive with the kind and
+ * the width that it was built with. An archive of one kind may be valid as another, and then has
+ * meaningless pairs. A container records both: it is a header of 32 bytes with the archive behind
+ * it. A container of one kind is never opened as another.
  *
- * `rkyv_map_open` validates untrusted bytes once and fills a handle. The other calls of a map take
- * the handle. A builder collects pairs and builds the archive of their map.
+ * `rkyv_map_open` and `rkyv_map_open_container` validate untrusted bytes once and fill a handle.
+ * The other calls of a map take the handle. A builder collects pairs and builds the archive of
+ * their map.
  *
  * A call returns RKYV_OK or the first of the errors listed at it. After an error its outputs are
  * unchanged, unless its comment says otherwise. The calls keep no state. Two threads may use two
@@ -20,13 +22,14 @@
  *     writes.
  *   - The bytes of a map stay at their address while a handle of it is in use. Only
  *     `rkyv_map_set_number` and `rkyv_map_set_text` change them.
- *   - A handle was filled by `rkyv_map_open` or `rkyv_map_open_writable`, or is all zeros.
+ *   - A handle was filled by a call that opens a map, or is all zeros.
  *   - A builder is one of `rkyv_builder_new` that is not freed, used by one thread at a time.
  *   - The argument of `rkyv_bytes_free` is one of `rkyv_builder_finish` that is not freed.
  */
 #ifndef RKYV_H
 #define RKYV_H
 
+#include <stdbool.h>
 #include <stddef.h>
 #include <stdint.h>
 
@@ -61,10 +64,12 @@ typedef enum rkyv_status {
     RKYV_WRONG_KIND = 9,
     /* The handle is not of an open map. */
     RKYV_CLOSED = 10,
-    /* The map was opened with `rkyv_map_open`, which allows no writing. */
+    /* The map was opened to read, which allows no writing. */
     RKYV_READ_ONLY = 11,
     /* An allocation failed. */
     RKYV_NO_MEMORY = 12,
+    /* The room for a container does not have the size of the container. */
+    RKYV_WRONG_SIZE = 13,
 
     /* Errors of validation: the bytes are not an archive of such a map. */
 
@@ -98,7 +103,42 @@ typedef enum rkyv_status {
     /* The load factor is invalid. No call here returns it. */
     RKYV_INVALID_LOAD_FACTOR = 28,
     /* The number of pairs differs from the expected one. No call here returns it. */
-    RKYV_ITERATOR_LENGTH_MISMATCH = 29
+    RKYV_ITERATOR_LENGTH_MISMATCH = 29,
+
+    /* Errors of containers. Those up to RKYV_CONTAINER_NONZERO_RESERVED are of the header alone. */
+
+    /* There are fewer than 32 bytes. */
+    RKYV_CONTAINER_TOO_SHORT = 32,
+    /* The first eight bytes are not those of a container. */
+    RKYV_CONTAINER_WRONG_MAGIC = 33,
+    /* The version of the container is not 1. */
+    RKYV_CONTAINER_UNSUPPORTED_VERSION = 34,
+    /* No kind of collection has the code in the header. */
+    RKYV_CONTAINER_UNKNOWN_COLLECTION = 35,
+    /* No type of keys has the code in the header. */
+    RKYV_CONTAINER_UNKNOWN_KEY_TYPE = 36,
+    /* No type of values has the code in the header. */
+    RKYV_CONTAINER_UNKNOWN_VALUE_TYPE = 37,
+    /* No width has the code in the header. */
+    RKYV_CONTAINER_UNKNOWN_WIDTH = 38,
+    /* A flag is set that has no meaning. */
+    RKYV_CONTAINER_UNKNOWN_FLAGS = 39,
+    /* There is a checksum, but no flag for one. */
+    RKYV_CONTAINER_UNEXPECTED_CHECKSUM = 40,
+    /* The last four bytes of the header are not 0. */
+    RKYV_CONTAINER_NONZERO_RESERVED = 41,
+    /* The container has another kind of collection than a hash map. */
+    RKYV_CONTAINER_WRONG_COLLECTION = 42,
+    /* The keys in the container are of another type. */
+    RKYV_CONTAINER_WRONG_KEY_TYPE = 43,
+    /* The values in the container are of another type. */
+    RKYV_CONTAINER_WRONG_VALUE_TYPE = 44,
+    /* The archive in the container has another width. */
+    RKYV_CONTAINER_WRONG_WIDTH = 45,
+    /* The number of bytes behind the header is not the length in the header. */
+    RKYV_CONTAINER_WRONG_LENGTH = 46,
+    /* The checksum in the header is not that of the archive. */
+    RKYV_CONTAINER_WRONG_CHECKSUM = 47
 } rkyv_status;
 
 /* The types of the keys and values of a map: a number key has 32 bits, a text key is UTF-8. */
@@ -152,6 +192,42 @@ rkyv_status rkyv_map_open(const void *bytes, size_t length, uint32_t kind, uint3
 /* Opens a map as `rkyv_map_open` does, to read and to write values in place. */
 rkyv_status rkyv_map_open_writable(void *bytes, size_t length, uint32_t kind, uint32_t width,
                                    rkyv_map *map);
+
+/* The number of bytes of a container's header, and the position of the archive in a container. */
+#define RKYV_CONTAINER_HEADER 32
+
+/* The `width` with which `rkyv_map_open_container` opens a container of either width. */
+#define RKYV_ANY_WIDTH 0
+
+/* Opens the map in a container, to read: checks that the container is one of this kind and width,
+ * then validates the archive. `width` is 32, 64 or RKYV_ANY_WIDTH. `bytes` may be null if `length`
+ * is 0. The handle points into the container.
+ *
+ * A container detects a wrong kind and an accident, not an attacker. So validation is as that of
+ * `rkyv_map_open`.
+ *
+ * Errors, after which the handle is not of an open map:
+ *   - RKYV_NULL: `map` is null;
+ *   - RKYV_UNKNOWN_KIND, RKYV_UNKNOWN_WIDTH;
+ *   - RKYV_NULL: `bytes` is null;
+ *   - RKYV_TOO_LONG;
+ *   - the first error of the container: RKYV_CONTAINER_TOO_SHORT to RKYV_CONTAINER_WRONG_CHECKSUM;
+ *   - the first error of validation: RKYV_OUT_OF_RANGE to RKYV_INVALID_VALUE. */
+rkyv_status rkyv_map_open_container(const void *bytes, size_t length, uint32_t kind,
+                                    uint32_t width, rkyv_map *map);
+
+/* Opens the map in a container as `rkyv_map_open_container` does, to read and to write values in
+ * place. A write does not change the checksum in the header: see `rkyv_container_update`. */
+rkyv_status rkyv_map_open_container_writable(void *bytes, size_t length, uint32_t kind,
+                                             uint32_t width, rkyv_map *map);
+
+/* Stores the width of the map's archive: 32 or 64.
+ *
+ * Errors:
+ *   - RKYV_NULL: `map` is null;
+ *   - RKYV_CLOSED;
+ *   - RKYV_NULL: `width` is null. */
+rkyv_status rkyv_map_width(const rkyv_map *map, uint32_t *width);
 
 /* Stores the number of pairs. Pairs with equal keys count separately.
  *
@@ -259,6 +335,50 @@ void rkyv_builder_free(rkyv_builder *builder);
 
 /* Frees an archive that a builder built. It may be null. */
 void rkyv_bytes_free(uint8_t *bytes);
+
+/* Stores the number of bytes of the container of an archive of `length` bytes: 32 more.
+ *
+ * Errors:
+ *   - RKYV_NULL: `size` is null;
+ *   - RKYV_TOO_LONG: the size would be greater than PTRDIFF_MAX. */
+rkyv_status rkyv_container_size(size_t length, size_t *size);
+
+/* Writes the header of the container of an archive over the RKYV_CONTAINER_HEADER bytes at
+ * `header`. A program writes them to a file, and the archive behind them. `kind` and `width` are
+ * those that the archive was built with. The header has a checksum if `checksum` is true. The
+ * archive is not validated. No byte of it may be in the header. `archive` may be null if `length`
+ * is 0.
+ *
+ * Errors, after which no byte is changed:
+ *   - RKYV_UNKNOWN_KIND, RKYV_UNKNOWN_WIDTH;
+ *   - RKYV_NULL: `archive` is null;
+ *   - RKYV_TOO_LONG;
+ *   - RKYV_NULL: `header` is null. */
+rkyv_status rkyv_container_header(const void *archive, size_t length, uint32_t kind,
+                                  uint32_t width, bool checksum, uint8_t *header);
+
+/* Writes the container of an archive over the `size` bytes at `container`: the header, as
+ * `rkyv_container_header` does, and a copy of the archive. `size` is that of `rkyv_container_size`.
+ * The archive may be a part of these bytes: if it is behind room for the header, it stays there.
+ *
+ * Errors, after which no byte is changed:
+ *   - RKYV_UNKNOWN_KIND, RKYV_UNKNOWN_WIDTH;
+ *   - RKYV_NULL: `archive` is null;
+ *   - RKYV_TOO_LONG: the length or the size of the container is greater than PTRDIFF_MAX;
+ *   - RKYV_NULL: `container` is null;
+ *   - RKYV_WRONG_SIZE. */
+rkyv_status rkyv_container_write(const void *archive, size_t length, uint32_t kind,
+                                 uint32_t width, bool checksum, void *container, size_t size);
+
+/* Writes the checksum of a container anew, after values were written in place. If the header has no
+ * checksum, no byte is changed. `bytes` may be null if `length` is 0.
+ *
+ * Errors, after which no byte is changed:
+ *   - RKYV_NULL: `bytes` is null;
+ *   - RKYV_TOO_LONG;
+ *   - the first error of the header: RKYV_CONTAINER_TOO_SHORT to RKYV_CONTAINER_NONZERO_RESERVED;
+ *   - RKYV_CONTAINER_WRONG_LENGTH. */
+rkyv_status rkyv_container_update(void *bytes, size_t length);
 
 #ifdef __cplusplus
 }

@@ -209,6 +209,278 @@ static void errors(void) {
     returns("a key", rkyv_map_open(bytes, length, RKYV_TEXT_TO_U64, 64, &map), RKYV_INVALID_VALUE);
 }
 
+/* The container of the map of 1 to 2 has 92 bytes. */
+#define CONTAINER 92
+
+/* Writes the container of the map of 1 to 2, with a checksum or without one. */
+static void container_of(uint8_t *bytes, bool checksum) {
+    uint8_t archive[64];
+    size_t length = one_to_two(archive), size = 0;
+    returns("size", rkyv_container_size(length, &size), RKYV_OK);
+    same("size", size, CONTAINER);
+    returns("write", rkyv_container_write(archive, length, RKYV_NUMBER_TO_U32, 32, checksum, bytes,
+                                          size),
+            RKYV_OK);
+    same("the archive", memcmp(bytes + RKYV_CONTAINER_HEADER, archive, length) == 0, 1);
+}
+
+/* The header as docs/FORMAT.md has it: magic bytes, version 1, hash map, u32, u32, narrow, no
+ * flags, 60 bytes of archive, no checksum, reserved. */
+static const uint8_t header_of_one_to_two[RKYV_CONTAINER_HEADER] = {
+    0x89, 'R', 'K', 'Y', 'V', 0x0d, 0x0a, 0x1a, 1, 0, 1, 0x14, 0x14, 4, 0, 0,
+    60,   0,   0,   0,   0,   0,    0,    0,    0, 0, 0, 0,    0,    0, 0, 0,
+};
+
+static void containers(void) {
+    uint8_t bytes[CONTAINER];
+    uint64_t value = 9;
+    uint32_t width = 9;
+    size_t count = 9;
+    rkyv_map map;
+
+    container_of(bytes, false);
+    same("header", memcmp(bytes, header_of_one_to_two, sizeof header_of_one_to_two) == 0, 1);
+    for (int checked = 0; checked < 2; checked++) {
+        container_of(bytes, checked == 1);
+        same("flag", bytes[14], (uint64_t)checked);
+        for (uint32_t asked = 0; asked <= 32; asked += 32) {
+            returns("open", rkyv_map_open_container(bytes, CONTAINER, RKYV_NUMBER_TO_U32, asked,
+                                                    &map),
+                    RKYV_OK);
+            returns("get", rkyv_map_get_number(&map, 1, &value), RKYV_OK);
+            same("value", value, 2);
+            returns("count", rkyv_map_count(&map, &count), RKYV_OK);
+            same("count", count, 1);
+            returns("width", rkyv_map_width(&map, &width), RKYV_OK);
+            same("width", width, 32);
+            returns("set", rkyv_map_set_number(&map, 1, 3), RKYV_READ_ONLY);
+        }
+    }
+    returns("width null", rkyv_map_width(&map, NULL), RKYV_NULL);
+    returns("width of null", rkyv_map_width(NULL, &width), RKYV_NULL);
+    returns("as u64", rkyv_map_open_container(bytes, CONTAINER, RKYV_NUMBER_TO_U64, 32, &map),
+            RKYV_CONTAINER_WRONG_VALUE_TYPE);
+    returns("width of closed", rkyv_map_width(&map, &width), RKYV_CLOSED);
+    returns("as text", rkyv_map_open_container(bytes, CONTAINER, RKYV_TEXT_TO_U32, 32, &map),
+            RKYV_CONTAINER_WRONG_KEY_TYPE);
+    returns("as text", rkyv_map_open_container(bytes, CONTAINER, RKYV_TEXT_TO_U64, RKYV_ANY_WIDTH,
+                                               &map),
+            RKYV_CONTAINER_WRONG_KEY_TYPE);
+    returns("as wide", rkyv_map_open_container(bytes, CONTAINER, RKYV_NUMBER_TO_U32, 64, &map),
+            RKYV_CONTAINER_WRONG_WIDTH);
+    returns("as archive", rkyv_map_open(bytes + RKYV_CONTAINER_HEADER,
+                                        CONTAINER - RKYV_CONTAINER_HEADER, RKYV_NUMBER_TO_U32, 32,
+                                        &map),
+            RKYV_OK);
+}
+
+/* The container of a wide map of texts, which is written around its archive in place. */
+static void text_container(void) {
+    uint8_t bytes[136], other[136];
+    size_t length = empty_to_seven(bytes + RKYV_CONTAINER_HEADER), size = 0;
+    uint64_t value = 9;
+    uint32_t width = 9;
+    rkyv_map map;
+
+    returns("size", rkyv_container_size(length, &size), RKYV_OK);
+    same("size", size, sizeof bytes);
+    returns("write in place", rkyv_container_write(bytes + RKYV_CONTAINER_HEADER, length,
+                                                   RKYV_TEXT_TO_U64, 64, true, bytes, size),
+            RKYV_OK);
+    length = empty_to_seven(other);
+    returns("write", rkyv_container_write(other, length, RKYV_TEXT_TO_U64, 64, true, other, size),
+            RKYV_OK);
+    same("the same", memcmp(bytes, other, size) == 0, 1);
+    same("codes", bytes[10] == 1 && bytes[11] == 4 && bytes[12] == 0x18 && bytes[13] == 8, 1);
+    returns("open", rkyv_map_open_container(bytes, size, RKYV_TEXT_TO_U64, RKYV_ANY_WIDTH, &map),
+            RKYV_OK);
+    returns("get", rkyv_map_get_text(&map, "", 0, &value), RKYV_OK);
+    same("value", value, 7);
+    returns("width", rkyv_map_width(&map, &width), RKYV_OK);
+    same("width", width, 64);
+    returns("as narrow", rkyv_map_open_container(bytes, size, RKYV_TEXT_TO_U64, 32, &map),
+            RKYV_CONTAINER_WRONG_WIDTH);
+    returns("as u32", rkyv_map_open_container(bytes, size, RKYV_TEXT_TO_U32, 64, &map),
+            RKYV_CONTAINER_WRONG_VALUE_TYPE);
+    returns("as numbers", rkyv_map_open_container(bytes, size, RKYV_NUMBER_TO_U64, 64, &map),
+            RKYV_CONTAINER_WRONG_KEY_TYPE);
+}
+
+/* Whether a byte is the code of a type of items. */
+static bool is_item(uint8_t byte) {
+    static const uint8_t items[] = {1, 2, 3, 4, 5, 0x11, 0x12, 0x14, 0x18, 0x21, 0x22, 0x24, 0x28};
+    return memchr(items, byte, sizeof items) != NULL;
+}
+
+/* The status of a header with one wrong byte, as docs/FORMAT.md has it. */
+static rkyv_status header_status(size_t index, uint8_t byte, bool checked) {
+    if (index < 8) {
+        return RKYV_CONTAINER_WRONG_MAGIC;
+    }
+    if (index < 10) {
+        return RKYV_CONTAINER_UNSUPPORTED_VERSION;
+    }
+    if (index == 10) {
+        return byte >= 1 && byte <= 4 ? RKYV_CONTAINER_WRONG_COLLECTION
+                                      : RKYV_CONTAINER_UNKNOWN_COLLECTION;
+    }
+    if (index == 11) {
+        return is_item(byte) ? RKYV_CONTAINER_WRONG_KEY_TYPE : RKYV_CONTAINER_UNKNOWN_KEY_TYPE;
+    }
+    if (index == 12) {
+        return is_item(byte) ? RKYV_CONTAINER_WRONG_VALUE_TYPE : RKYV_CONTAINER_UNKNOWN_VALUE_TYPE;
+    }
+    if (index == 13) {
+        return byte == 8 ? RKYV_CONTAINER_WRONG_WIDTH : RKYV_CONTAINER_UNKNOWN_WIDTH;
+    }
+    if (index < 16) {
+        if (index == 15 || byte > 1) {
+            return RKYV_CONTAINER_UNKNOWN_FLAGS;
+        }
+        return byte == 1 ? RKYV_CONTAINER_WRONG_CHECKSUM : RKYV_CONTAINER_UNEXPECTED_CHECKSUM;
+    }
+    if (index < 24) {
+        return RKYV_CONTAINER_WRONG_LENGTH;
+    }
+    if (index < 28) {
+        return checked ? RKYV_CONTAINER_WRONG_CHECKSUM : RKYV_CONTAINER_UNEXPECTED_CHECKSUM;
+    }
+    return RKYV_CONTAINER_NONZERO_RESERVED;
+}
+
+static void damaged_containers(void) {
+    uint8_t bytes[CONTAINER + 1] = {0};
+    rkyv_map map;
+    for (int checked = 0; checked < 2; checked++) {
+        container_of(bytes, checked == 1);
+        for (size_t index = 0; index < RKYV_CONTAINER_HEADER; index++) {
+            uint8_t kept = bytes[index];
+            for (unsigned byte = 0; byte < 256; byte++) {
+                bytes[index] = (uint8_t)byte;
+                rkyv_status wanted = header_status(index, (uint8_t)byte, checked == 1);
+                rkyv_status status =
+                    rkyv_map_open_container(bytes, CONTAINER, RKYV_NUMBER_TO_U32, 32, &map);
+                returns("a header", status, byte == kept ? RKYV_OK : wanted);
+            }
+            bytes[index] = kept;
+        }
+        for (size_t length = 0; length <= CONTAINER + 1; length++) {
+            rkyv_status wanted = length < 32 ? RKYV_CONTAINER_TOO_SHORT
+                                             : RKYV_CONTAINER_WRONG_LENGTH;
+            returns("a length", rkyv_map_open_container(bytes, length, RKYV_NUMBER_TO_U32,
+                                                        RKYV_ANY_WIDTH, &map),
+                    length == CONTAINER ? RKYV_OK : wanted);
+        }
+    }
+    bytes[CONTAINER - 12] ^= 1;
+    returns("a damaged archive", rkyv_map_open_container(bytes, CONTAINER, RKYV_NUMBER_TO_U32, 32,
+                                                         &map),
+            RKYV_CONTAINER_WRONG_CHECKSUM);
+    container_of(bytes, false);
+    bytes[32 + 17] = 0xff;
+    returns("an invalid archive", rkyv_map_open_container(bytes, CONTAINER, RKYV_NUMBER_TO_U32, 32,
+                                                          &map),
+            RKYV_WRONG_NUMBER_OF_ELEMENTS);
+}
+
+static void written_containers(void) {
+    uint8_t bytes[CONTAINER], kept[CONTAINER];
+    uint64_t value = 9;
+    rkyv_map map;
+
+    container_of(bytes, true);
+    returns("open to write", rkyv_map_open_container_writable(bytes, CONTAINER, RKYV_NUMBER_TO_U32,
+                                                              32, &map),
+            RKYV_OK);
+    returns("set", rkyv_map_set_number(&map, 1, 3), RKYV_OK);
+    same("written", bytes[32 + 4], 3);
+    returns("an old checksum", rkyv_map_open_container(bytes, CONTAINER, RKYV_NUMBER_TO_U32, 32,
+                                                       &map),
+            RKYV_CONTAINER_WRONG_CHECKSUM);
+    returns("update", rkyv_container_update(bytes, CONTAINER), RKYV_OK);
+    returns("open", rkyv_map_open_container(bytes, CONTAINER, RKYV_NUMBER_TO_U32, 32, &map),
+            RKYV_OK);
+    returns("get", rkyv_map_get_number(&map, 1, &value), RKYV_OK);
+    same("value", value, 3);
+
+    container_of(bytes, false);
+    memcpy(kept, bytes, CONTAINER);
+    returns("update", rkyv_container_update(bytes, CONTAINER), RKYV_OK);
+    same("kept", memcmp(bytes, kept, CONTAINER) == 0, 1);
+    returns("update a part", rkyv_container_update(bytes, CONTAINER - 1),
+            RKYV_CONTAINER_WRONG_LENGTH);
+    returns("update a header", rkyv_container_update(bytes, 31), RKYV_CONTAINER_TOO_SHORT);
+    returns("update nothing", rkyv_container_update(NULL, 0), RKYV_CONTAINER_TOO_SHORT);
+    returns("update null", rkyv_container_update(NULL, 1), RKYV_NULL);
+    returns("update too long", rkyv_container_update(bytes, SIZE_MAX), RKYV_TOO_LONG);
+    bytes[28] = 1;
+    kept[28] = 1;
+    returns("update", rkyv_container_update(bytes, CONTAINER), RKYV_CONTAINER_NONZERO_RESERVED);
+    same("kept", memcmp(bytes, kept, CONTAINER) == 0, 1);
+}
+
+static void container_errors(void) {
+    uint8_t archive[64], bytes[CONTAINER] = {0};
+    size_t length = one_to_two(archive), size = 9;
+    uint32_t kind = RKYV_NUMBER_TO_U32;
+    rkyv_map map;
+
+    returns("size null", rkyv_container_size(length, NULL), RKYV_NULL);
+    returns("size", rkyv_container_size((size_t)PTRDIFF_MAX - 31, &size), RKYV_TOO_LONG);
+    returns("size", rkyv_container_size(SIZE_MAX, &size), RKYV_TOO_LONG);
+    same("kept", size, 9);
+    returns("size", rkyv_container_size((size_t)PTRDIFF_MAX - 32, &size), RKYV_OK);
+    same("the greatest", size, PTRDIFF_MAX);
+
+    returns("kind 0", rkyv_container_write(archive, length, 0, 32, true, bytes, CONTAINER),
+            RKYV_UNKNOWN_KIND);
+    returns("width 0", rkyv_container_write(archive, length, kind, 0, true, bytes, CONTAINER),
+            RKYV_UNKNOWN_WIDTH);
+    returns("null", rkyv_container_write(NULL, length, kind, 32, true, bytes, CONTAINER),
+            RKYV_NULL);
+    returns("too long", rkyv_container_write(archive, SIZE_MAX, kind, 32, true, bytes, CONTAINER),
+            RKYV_TOO_LONG);
+    returns("too long", rkyv_container_write(archive, PTRDIFF_MAX, kind, 32, true, bytes,
+                                             CONTAINER),
+            RKYV_TOO_LONG);
+    returns("no room", rkyv_container_write(archive, length, kind, 32, true, NULL, CONTAINER),
+            RKYV_NULL);
+    for (size = 0; size < 2 * CONTAINER; size++) {
+        if (size != CONTAINER) {
+            returns("a size", rkyv_container_write(archive, length, kind, 32, true, bytes, size),
+                    RKYV_WRONG_SIZE);
+        }
+    }
+    returns("kind 9", rkyv_container_header(archive, length, 9, 32, true, bytes),
+            RKYV_UNKNOWN_KIND);
+    returns("width 33", rkyv_container_header(archive, length, kind, 33, true, bytes),
+            RKYV_UNKNOWN_WIDTH);
+    returns("null", rkyv_container_header(NULL, 1, kind, 32, true, bytes), RKYV_NULL);
+    returns("too long", rkyv_container_header(archive, SIZE_MAX, kind, 32, true, bytes),
+            RKYV_TOO_LONG);
+    returns("no header", rkyv_container_header(archive, length, kind, 32, true, NULL), RKYV_NULL);
+    for (size_t i = 0; i < CONTAINER; i++) {
+        same("kept", bytes[i], 0);
+    }
+    returns("a header", rkyv_container_header(archive, length, kind, 32, false, bytes), RKYV_OK);
+    same("header", memcmp(bytes, header_of_one_to_two, sizeof header_of_one_to_two) == 0, 1);
+    same("the header alone", bytes[32], 0);
+    returns("of nothing", rkyv_container_header(NULL, 0, kind, 32, true, bytes), RKYV_OK);
+    same("the checksum of nothing", bytes[24], 1);
+
+    returns("no map", rkyv_map_open_container(bytes, 32, kind, 32, NULL), RKYV_NULL);
+    returns("kind 0", rkyv_map_open_container(bytes, 32, 0, 32, &map), RKYV_UNKNOWN_KIND);
+    returns("width 16", rkyv_map_open_container(bytes, 32, kind, 16, &map), RKYV_UNKNOWN_WIDTH);
+    returns("null", rkyv_map_open_container(NULL, 1, kind, 32, &map), RKYV_NULL);
+    returns("nothing", rkyv_map_open_container(NULL, 0, kind, RKYV_ANY_WIDTH, &map),
+            RKYV_CONTAINER_TOO_SHORT);
+    returns("too long", rkyv_map_open_container(bytes, SIZE_MAX, kind, 32, &map), RKYV_TOO_LONG);
+    returns("no archive", rkyv_map_open_container(bytes, 32, kind, 32, &map), RKYV_OUT_OF_RANGE);
+    returns("closed", rkyv_map_count(&map, &size), RKYV_CLOSED);
+    returns("any width", rkyv_map_open(archive, length, kind, RKYV_ANY_WIDTH, &map),
+            RKYV_UNKNOWN_WIDTH);
+}
+
 /* Checks that the builder builds these bytes. */
 static void makes(rkyv_builder *builder, const uint8_t *wanted, size_t wanted_length) {
     uint8_t *bytes = NULL;
@@ -387,6 +659,11 @@ int main(void) {
     texts();
     anywhere();
     errors();
+    containers();
+    text_container();
+    damaged_containers();
+    written_containers();
+    container_errors();
     built_numbers();
     built_texts();
     unbuilt();

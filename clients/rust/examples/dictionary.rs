@@ -11,12 +11,12 @@
 mod mapping;
 
 use std::error::Error;
-use std::fs;
+use std::fs::File;
 use std::sync::OnceLock;
 use std::thread;
 
 use mapping::{Mapping, Temporary};
-use rkyv_maps::{Builder, Map, Width};
+use rkyv_maps::{Builder, Checksum, Map, Width};
 
 static BYTES: OnceLock<Mapping> = OnceLock::new();
 static DICTIONARY: OnceLock<Map<'static, str, u32>> = OnceLock::new();
@@ -62,13 +62,13 @@ const NUMERALS: [(&str, u32); 27] = [
 ];
 
 fn main() -> Result<(), Box<dyn Error>> {
-    let file = Temporary::new("numerals.str-u32-narrow");
+    let file = Temporary::new("numerals.map");
     let archive = Builder::<str, u32>::from(NUMERALS).build(Width::Narrow)?;
-    fs::write(&*file, archive)?;
+    archive.write_container(Checksum::Adler32, File::create(&*file)?)?;
 
     // SAFETY: the name of the file has the number of this process, so nobody else uses it.
     let mapping = unsafe { Mapping::open(&file)? };
-    let map = Map::open(BYTES.get_or_init(|| mapping), Width::Narrow)?;
+    let map = Map::open_container(BYTES.get_or_init(|| mapping))?;
     DICTIONARY.get_or_init(|| map);
 
     let threads = ["seventy-two", "forty-one", "nineteen", "ninety-none"].map(|words| {

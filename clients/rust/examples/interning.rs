@@ -10,7 +10,7 @@
 use std::collections::HashSet;
 use std::error::Error;
 
-use rkyv_maps::{Builder, Map, Width};
+use rkyv_maps::{Builder, Checksum, Map, Width};
 
 const TEXT: &str =
     "the map is built once and the bytes of the map are read many times, and the words \
@@ -28,11 +28,11 @@ fn main() -> Result<(), Box<dyn Error>> {
     // The id of a word is its index.
     let words = words(TEXT);
     let table: Builder<str, u32> = words.iter().copied().zip(0..).collect();
-    let bytes: Vec<u8> = table.build(Width::Narrow)?.into();
+    let bytes = table.build(Width::Narrow)?.to_container(Checksum::None);
     println!("{} words in {} bytes", words.len(), bytes.len());
 
-    // The bytes can be stored and opened by another program, with these types and this width.
-    let ids = Map::<str, u32>::open(&bytes, Width::Narrow)?;
+    // The bytes can be stored and opened by another program, with these types alone.
+    let ids = Map::<str, u32>::open_container(&bytes)?;
     assert!(ids.iter().all(|(word, id)| words[id as usize] == word));
 
     let mut sought: Vec<String> = std::env::args().skip(1).collect();

@@ -1,5 +1,7 @@
 //! A symbol table: a file of names and addresses, which is mapped to look names up.
 //!
+//! The file is a container. So another file, or a damaged one, is an error.
+//!
 //! ```sh
 //! nm program | cargo run --example symbols -- build program.symbols
 //! cargo run --example symbols -- find program.symbols main _start
@@ -12,13 +14,13 @@
 mod mapping;
 
 use std::error::Error;
-use std::fs;
+use std::fs::File;
 use std::io::{self, BufRead, Write};
 use std::path::Path;
 use std::process::ExitCode;
 
 use mapping::{Mapping, Temporary};
-use rkyv_maps::{Builder, Map, Width};
+use rkyv_maps::{Builder, Checksum, Map, Width};
 
 const LINES: &str = "\
 0000000000001139 T main
@@ -26,9 +28,6 @@ const LINES: &str = "\
                  U puts@GLIBC_2.2.5
 0000000000004028 B a_name_that_is_longer_than_a_bucket
 ";
-
-/// The width of each symbol table. The types are those of `Table`.
-const WIDTH: Width = Width::Narrow;
 
 type Table<'a> = Map<'a, str, u64>;
 
@@ -43,8 +42,10 @@ fn build(path: &Path, lines: impl BufRead) -> Result<usize, Box<dyn Error>> {
             symbols.push(name, address.map_err(|error| format!("{line}: {error}"))?);
         }
     }
-    let archive = symbols.build(WIDTH)?;
-    fs::write(path, archive).map_err(|error| in_file(path, error))?;
+    let archive = symbols.build(Width::Narrow)?;
+    File::create(path)
+        .and_then(|file| archive.write_container(Checksum::Adler32, file))
+        .map_err(|error| in_file(path, error))?;
     Ok(symbols.len())
 }
 
@@ -52,7 +53,7 @@ fn build(path: &Path, lines: impl BufRead) -> Result<usize, Box<dyn Error>> {
 fn with_table<T>(path: &Path, use_table: impl FnOnce(Table) -> T) -> Result<T, Box<dyn Error>> {
     // SAFETY: this program doesn't change a file that it has mapped. No other one should.
     let bytes = unsafe { Mapping::open(path) }.map_err(|error| in_file(path, error))?;
-    let table = Table::open(&bytes, WIDTH).map_err(|error| in_file(path, error))?;
+    let table = Table::open_container(&bytes).map_err(|error| in_file(path, error))?;
     Ok(use_table(table))
 }
 

@@ -1,12 +1,14 @@
 use std::borrow::Borrow;
 use std::fmt;
+use std::io::{self, Write};
 use std::marker::PhantomData;
 use std::ptr::NonNull;
 
+use crate::container::header_of;
 use crate::error::check;
 use crate::raw::{self, RawBuilder};
 use crate::types::kind;
-use crate::{Error, Key, Map, MapMut, Value, Width};
+use crate::{Checksum, Error, Key, Map, MapMut, Value, Width};
 
 /// The pairs of a map that is to be archived.
 ///
@@ -183,16 +185,20 @@ impl Drop for OwnedBuilder {
 
 /// The bytes of an archive that a [`Builder`] has built, with the types and the width of the map.
 ///
-/// The bytes are in memory of the C library, which is freed when the archive is dropped.
+/// The bytes are in memory of the C library, which is freed when the archive is dropped. They don't
+/// record the types and the width. A container does: write one to a file.
 ///
 /// # Examples
 /// ```no_run
-/// use rkyv_maps::{Builder, Width};
+/// use rkyv_maps::{Builder, Checksum, Map, Width};
 ///
 /// # fn main() -> Result<(), Box<dyn std::error::Error>> {
 /// let archive = Builder::<str, u32>::from([("one", 1), ("two", 2)]).build(Width::Narrow)?;
-/// std::fs::write("numbers.map", &archive)?;
-/// let bytes: Vec<u8> = archive.into();
+/// archive.write_container(Checksum::Adler32, std::fs::File::create("numbers.map")?)?;
+///
+/// let bytes = std::fs::read("numbers.map")?;
+/// let map = Map::<str, u32>::open_container(&bytes)?;
+/// assert_eq!(map.get("two"), Some(2));
 /// # Ok(())
 /// # }
 /// ```
@@ -238,6 +244,25 @@ impl<K: Key + ?Sized, V: Value> Archive<K, V> {
         // SAFETY: the archive owns the bytes until it is dropped, and is borrowed mutably.
         let bytes = unsafe { std::slice::from_raw_parts_mut(self.bytes.as_ptr(), self.length) };
         MapMut::open(bytes, self.width).expect("a built archive is valid")
+    }
+
+    /// Returns the container of the archive: a header of 32 bytes, and a copy of the archive.
+    ///
+    /// [`Map::open_container`] opens it, with the types of this archive alone.
+    pub fn to_container(&self, checksum: Checksum) -> Vec<u8> {
+        let header = header_of::<K, V>(self.as_bytes(), self.width, checksum);
+        [&header, self.as_bytes()].concat()
+    }
+
+    /// Writes the container of the archive, as [`to_container`](Archive::to_container) returns it.
+    ///
+    /// The archive is written in place, without a copy in memory.
+    ///
+    /// # Errors
+    /// Those of the writer. It may then have taken a part of the container.
+    pub fn write_container<W: Write>(&self, checksum: Checksum, mut writer: W) -> io::Result<()> {
+        writer.write_all(&header_of::<K, V>(self.as_bytes(), self.width, checksum))?;
+        writer.write_all(self.as_bytes())
     }
 }
 

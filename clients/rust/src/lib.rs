@@ -22,23 +22,26 @@
 //! }
 //! ```
 //!
-//! # Types are not recorded in the bytes
+//! # Containers
 //!
-//! Neither the types of a map nor its [`Width`] are in the bytes. An archive of one type may be
-//! valid as another: a map of `str` to `u64` also opens as a map of `u32` to `u32`, with
-//! meaningless pairs. Open an archive with the types and the width that it was built with. If a
-//! program has archives of several types, record the type beside the bytes, for example in the name
-//! of the file.
+//! Neither the types of a map nor its [`Width`] are in the bytes of an archive. An archive of one
+//! type may be valid as another: a map of `str` to `u64` also opens as a map of `u32` to `u32`, with
+//! meaningless pairs. That is safe, but wrong.
 //!
-//! Opening with another type is safe: lookups and iteration then return meaningless values. An
-//! [`Archive`] has the types and the width of its [`Builder`], so [`Archive::open`] can't mix them
-//! up.
+//! A container records them: it is a header of 32 bytes and the archive behind it. It has the length
+//! of the archive too, and a [`Checksum`] if asked for. Write files as containers, with
+//! [`Archive::to_container`] or [`Archive::write_container`]. [`Map::open_container`] fails with an
+//! [`Error`] of its own if a type, the length or the checksum is wrong.
+//!
+//! A container detects a wrong type and an accident, not an attacker. So its archive is validated as
+//! any other. [`MapMut::open_container`] writes values in place, and [`update_container`] then
+//! writes the checksum anew.
 //!
 //! # Untrusted bytes
 //!
-//! [`Map::open`] and [`MapMut::open`] take any bytes, and fail with an [`Error`] if they are not
-//! valid. The keys of an untrusted archive may repeat, and may be in buckets where lookups don't
-//! find them.
+//! The calls that open an archive or a container take any bytes, and fail with an [`Error`] if they
+//! are not valid. The keys of an untrusted archive may repeat, and may be in buckets where lookups
+//! don't find them.
 //!
 //! A map borrows its bytes, so that safe code can't change them while it is in use. Who opens a
 //! memory-mapped file has to ensure that no other process changes the file.
@@ -52,6 +55,7 @@
 #![warn(unsafe_op_in_unsafe_fn)]
 
 mod builder;
+mod container;
 mod error;
 mod iter;
 mod map;
@@ -59,6 +63,7 @@ mod raw;
 mod types;
 
 pub use builder::{Archive, Builder};
+pub use container::{update_container, Checksum};
 pub use error::Error;
 pub use iter::{Iter, Keys, Values};
 pub use map::{Map, MapMut};

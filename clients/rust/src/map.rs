@@ -51,8 +51,8 @@ impl<K: ?Sized, V> Copy for Map<'_, K, V> {}
 impl<'a, K: Key + ?Sized, V: Value> Map<'a, K, V> {
     /// Validates the bytes and opens the map whose archive they are.
     ///
-    /// Validation reads all bytes once. The bytes don't record their types: see [Types are not
-    /// recorded in the bytes](crate#types-are-not-recorded-in-the-bytes).
+    /// Validation reads all bytes once. The bytes of an archive don't record their types:
+    /// [`open_container`](Map::open_container) opens those that do.
     ///
     /// # Errors
     /// The first error of validation:
@@ -73,6 +73,82 @@ impl<'a, K: Key + ?Sized, V: Value> Map<'a, K, V> {
             bytes: PhantomData,
             types: PhantomData,
         })
+    }
+
+    /// Opens the map in a container, whose header records its types and its width.
+    ///
+    /// A container of other types is never opened. The archive in the container is then validated,
+    /// as [`open`](Map::open) does.
+    ///
+    /// # Errors
+    /// The first of these:
+    /// - [`Error::ContainerTooShort`]
+    /// - [`Error::WrongMagic`]
+    /// - [`Error::UnsupportedVersion`]
+    /// - [`Error::UnknownCollection`]
+    /// - [`Error::UnknownKeyType`]
+    /// - [`Error::UnknownValueType`]
+    /// - [`Error::UnknownWidth`]
+    /// - [`Error::UnknownFlags`]
+    /// - [`Error::UnexpectedChecksum`]
+    /// - [`Error::NonzeroReserved`]
+    /// - [`Error::WrongCollection`]
+    /// - [`Error::WrongKeyType`]
+    /// - [`Error::WrongValueType`]
+    /// - [`Error::WrongLength`]
+    /// - [`Error::WrongChecksum`]
+    /// - those of [`open`](Map::open)
+    ///
+    /// # Examples
+    /// ```
+    /// use rkyv_maps::{Builder, Checksum, Error, Map, Width};
+    ///
+    /// # fn main() -> Result<(), Error> {
+    /// let archive = Builder::<str, u64>::from([("main", 0x1139)]).build(Width::Narrow)?;
+    /// let container = archive.to_container(Checksum::Adler32);
+    /// assert_eq!(Map::<str, u64>::open_container(&container)?.at("main"), 0x1139);
+    /// assert_eq!(Map::<u32, u64>::open_container(&container).err(), Some(Error::WrongKeyType));
+    /// # Ok(())
+    /// # }
+    /// ```
+    pub fn open_container(container: &'a [u8]) -> Result<Self, Error> {
+        Map::open_in(container, raw::ANY_WIDTH)
+    }
+
+    /// Opens the map in a container that has an archive of the given width.
+    ///
+    /// # Errors
+    /// As [`open_container`](Map::open_container), and after [`Error::WrongValueType`]:
+    /// - [`Error::WrongWidth`]
+    pub fn open_container_with_width(container: &'a [u8], width: Width) -> Result<Self, Error> {
+        Map::open_in(container, width as u32)
+    }
+
+    fn open_in(container: &'a [u8], width: u32) -> Result<Self, Error> {
+        let (pointer, length) = (container.as_ptr().cast(), container.len());
+        let mut raw = RawMap::CLOSED;
+        // SAFETY: pointer and length are those of one slice, which the map borrows.
+        let status = unsafe {
+            raw::rkyv_map_open_container(pointer, length, kind::<K, V>(), width, &mut raw)
+        };
+        check(status).map(|()| Map {
+            raw,
+            bytes: PhantomData,
+            types: PhantomData,
+        })
+    }
+
+    /// Returns the width of the archive.
+    pub fn width(&self) -> Width {
+        let mut width = 0;
+        // SAFETY: the map is open and borrows its bytes.
+        let status = unsafe { raw::rkyv_map_width(&self.raw, &mut width) };
+        check(status).expect("the map is open");
+        if width == Width::Narrow as u32 {
+            Width::Narrow
+        } else {
+            Width::Wide
+        }
     }
 
     /// Returns the number of pairs. Pairs with equal keys count separately.
@@ -207,6 +283,40 @@ impl<'a, K: Key + ?Sized, V: Value> MapMut<'a, K, V> {
         })
     }
 
+    /// Opens the map in a container, to read and to write.
+    ///
+    /// A write doesn't change the checksum in the header. If there is one, call
+    /// [`update_container`](crate::update_container) before the container is opened again.
+    ///
+    /// # Errors
+    /// As [`Map::open_container`].
+    pub fn open_container(container: &'a mut [u8]) -> Result<Self, Error> {
+        MapMut::open_in(container, raw::ANY_WIDTH)
+    }
+
+    /// Opens the map in a container that has an archive of the given width, to read and to write.
+    ///
+    /// # Errors
+    /// As [`Map::open_container_with_width`].
+    pub fn open_container_with_width(container: &'a mut [u8], width: Width) -> Result<Self, Error> {
+        MapMut::open_in(container, width as u32)
+    }
+
+    fn open_in(container: &'a mut [u8], width: u32) -> Result<Self, Error> {
+        let (pointer, length) = (container.as_mut_ptr().cast(), container.len());
+        let kind = kind::<K, V>();
+        let mut raw = RawMap::CLOSED;
+        // SAFETY: pointer and length are those of one slice, which the map borrows mutably.
+        let status = unsafe {
+            raw::rkyv_map_open_container_writable(pointer, length, kind, width, &mut raw)
+        };
+        check(status).map(|()| MapMut {
+            raw,
+            bytes: PhantomData,
+            types: PhantomData,
+        })
+    }
+
     /// Reborrows the map, to read.
     pub fn as_map(&self) -> Map<'_, K, V> {
         Map {
@@ -214,6 +324,11 @@ impl<'a, K: Key + ?Sized, V: Value> MapMut<'a, K, V> {
             bytes: PhantomData,
             types: PhantomData,
         }
+    }
+
+    /// Returns the width of the archive.
+    pub fn width(&self) -> Width {
+        self.as_map().width()
     }
 
     /// Returns the number of pairs. Pairs with equal keys count separately.

@@ -50,6 +50,12 @@ pub struct RawBuilder {
 pub const OK: u32 = 0;
 pub const NOT_FOUND: u32 = 1;
 
+/// The number of bytes of a container's header.
+pub const HEADER_LEN: usize = 32;
+
+/// The width with which a container of either width is opened.
+pub const ANY_WIDTH: u32 = 0;
+
 unsafe extern "C" {
     pub fn rkyv_map_open(
         bytes: *const c_void,
@@ -65,6 +71,21 @@ unsafe extern "C" {
         width: u32,
         map: *mut RawMap,
     ) -> u32;
+    pub fn rkyv_map_open_container(
+        bytes: *const c_void,
+        length: usize,
+        kind: u32,
+        width: u32,
+        map: *mut RawMap,
+    ) -> u32;
+    pub fn rkyv_map_open_container_writable(
+        bytes: *mut c_void,
+        length: usize,
+        kind: u32,
+        width: u32,
+        map: *mut RawMap,
+    ) -> u32;
+    pub fn rkyv_map_width(map: *const RawMap, width: *mut u32) -> u32;
     pub fn rkyv_map_count(map: *const RawMap, count: *mut usize) -> u32;
     pub fn rkyv_map_get_number(map: *const RawMap, key: u32, value: *mut u64) -> u32;
     pub fn rkyv_map_get_text(
@@ -92,4 +113,13 @@ unsafe extern "C" {
     ) -> u32;
     pub fn rkyv_builder_free(builder: *mut RawBuilder);
     pub fn rkyv_bytes_free(bytes: *mut u8);
+    pub fn rkyv_container_header(
+        archive: *const c_void,
+        length: usize,
+        kind: u32,
+        width: u32,
+        checksum: bool,
+        header: *mut u8,
+    ) -> u32;
+    pub fn rkyv_container_update(bytes: *mut c_void, length: usize) -> u32;
 }

@@ -1,0 +1,370 @@
+//! Containers: each opens as its own types alone, and each damaged header has the stated error.
+
+use rkyv_maps::{
+    update_container, Archive, Builder, Checksum, Error, Key, Map, MapMut, Value, Width,
+};
+
+const WIDTHS: [Width; 2] = [Width::Narrow, Width::Wide];
+const CHECKSUMS: [Checksum; 2] = [Checksum::None, Checksum::Adler32];
+
+/// The archive of the numbers 1 to `count` as keys, or of their texts, each with itself as value.
+trait Sample: Key {
+    fn sample<V: Value>(count: u32, width: Width) -> Archive<Self, V>;
+}
+
+impl Sample for u32 {
+    fn sample<V: Value>(count: u32, width: Width) -> Archive<u32, V> {
+        pairs(count)
+            .collect::<Builder<u32, V>>()
+            .build(width)
+            .unwrap()
+    }
+}
+
+impl Sample for str {
+    fn sample<V: Value>(count: u32, width: Width) -> Archive<str, V> {
+        let texts = pairs(count).map(|(number, value)| (number.to_string(), value));
+        texts.collect::<Builder<str, V>>().build(width).unwrap()
+    }
+}
+
+fn pairs<V: Value>(count: u32) -> impl Iterator<Item = (u32, V)> {
+    let value = |number| {
+        V::try_from(u64::from(number))
+            .ok()
+            .expect("a number of 32 bits")
+    };
+    (1..=count).map(move |number| (number, value(number)))
+}
+
+/// The error with which bytes are opened as a container of a type, to read and to write.
+fn error_as<K: Key + ?Sized, V: Value>(bytes: &[u8]) -> Option<Error> {
+    let error = Map::<K, V>::open_container(bytes).err();
+    let mut copy = bytes.to_vec();
+    assert_eq!(MapMut::<K, V>::open_container(&mut copy).err(), error);
+    for width in WIDTHS {
+        let other = Map::<K, V>::open_container_with_width(bytes, width).err();
+        let written = MapMut::<K, V>::open_container_with_width(&mut copy, width).err();
+        assert_eq!(written, other);
+        assert!(other == error || other == Some(Error::WrongWidth));
+    }
+    assert_eq!(copy, bytes);
+    error
+}
+
+/// The errors with which bytes are opened as `u32` to `u32`, `u32` to `u64`, `str` to `u32`, and
+/// `str` to `u64`.
+fn errors(bytes: &[u8]) -> [Option<Error>; 4] {
+    [
+        error_as::<u32, u32>(bytes),
+        error_as::<u32, u64>(bytes),
+        error_as::<str, u32>(bytes),
+        error_as::<str, u64>(bytes),
+    ]
+}
+
+/// A container of each type, each with and without a checksum, and its number in `errors`.
+fn containers(count: u32) -> Vec<(usize, Width, Checksum, Vec<u8>)> {
+    let mut containers = Vec::new();
+    for width in WIDTHS {
+        for checksum in CHECKSUMS {
+            let bytes = [
+                u32::sample::<u32>(count, width).to_container(checksum),
+                u32::sample::<u64>(count, width).to_container(checksum),
+                str::sample::<u32>(count, width).to_container(checksum),
+                str::sample::<u64>(count, width).to_container(checksum),
+            ];
+            for (number, bytes) in bytes.into_iter().enumerate() {
+                containers.push((number, width, checksum, bytes));
+            }
+        }
+    }
+    containers
+}
+
+#[test]
+fn containers_open_as_their_own_types_alone() {
+    for count in [0, 1, 20] {
+        for (number, _, _, bytes) in containers(count) {
+            let wanted = [0, 1, 2, 3].map(|other| {
+                if other / 2 != number / 2 {
+                    return Some(Error::WrongKeyType);
+                }
+                (other % 2 != number % 2).then_some(Error::WrongValueType)
+            });
+            assert_eq!(errors(&bytes), wanted, "type {number}, {count} pairs");
+        }
+    }
+}
+
+#[test]
+fn containers_open_with_their_own_width_alone() {
+    for width in WIDTHS {
+        let bytes = str::sample::<u64>(3, width).to_container(Checksum::None);
+        for other in WIDTHS {
+            let map = Map::<str, u64>::open_container_with_width(&bytes, other);
+            let wanted = (other != width).then_some(Error::WrongWidth);
+            assert_eq!(map.err(), wanted, "{width:?} as {other:?}");
+        }
+        let wrong = Map::<str, u32>::open_container_with_width(&bytes, width);
+        assert_eq!(wrong.err(), Some(Error::WrongValueType));
+    }
+}
+
+#[test]
+fn containers_have_the_pairs_of_their_archives() {
+    for width in WIDTHS {
+        for checksum in CHECKSUMS {
+            let archive = str::sample::<u64>(30, width);
+            let mut bytes = archive.to_container(checksum);
+            assert_eq!(&bytes[32..], archive.as_bytes());
+            let mut written = Vec::new();
+            archive.write_container(checksum, &mut written).unwrap();
+            assert_eq!(written, bytes);
+
+            let map = Map::<str, u64>::open_container(&bytes).unwrap();
+            assert_eq!(map.width(), width);
+            assert!(map.iter().eq(archive.open().iter()));
+            assert_eq!((map.get("17"), map.get("31")), (Some(17), None));
+
+            let mut map = MapMut::<str, u64>::open_container(&mut bytes).unwrap();
+            assert_eq!(map.width(), width);
+            assert!(map.set("17", u64::MAX) && !map.set("31", 5));
+            assert_eq!(map.at("17"), u64::MAX);
+        }
+    }
+}
+
+/// The container of the map of 1 to 2, whose bytes are those of the example in the format.
+#[test]
+fn container_has_the_bytes_of_the_format() {
+    let archive = Builder::<u32, u32>::from([(1, 2)])
+        .build(Width::Narrow)
+        .unwrap();
+    let header = [
+        0x89, b'R', b'K', b'Y', b'V', 0x0d, 0x0a, 0x1a, // magic
+        1, 0, 1, 0x14, 0x14, 4, 0, 0, // version, hash map, u32, u32, narrow, no flags
+        60, 0, 0, 0, 0, 0, 0, 0, // length
+        0, 0, 0, 0, 0, 0, 0, 0, // no checksum, reserved
+    ];
+    let container = archive.to_container(Checksum::None);
+    assert_eq!(container[..32], header);
+    assert_eq!(&container[32..], archive.as_bytes());
+
+    let container = archive.to_container(Checksum::Adler32);
+    assert_eq!(container[14..16], [1, 0]);
+    assert_eq!(container[24..28], adler32(archive.as_bytes()).to_le_bytes());
+}
+
+/// Adler-32 by its definition, in wide sums.
+fn adler32(bytes: &[u8]) -> u32 {
+    let low: u64 = 1 + bytes.iter().copied().map(u64::from).sum::<u64>();
+    let weighted = bytes
+        .iter()
+        .rev()
+        .zip(1..)
+        .map(|(byte, n)| n * u64::from(*byte));
+    let high = bytes.len() as u64 + weighted.sum::<u64>();
+    (((high % 65521) << 16) | (low % 65521)) as u32
+}
+
+/// The error of a header of a map of `str` to `u64` with one wrong byte, as the format has it.
+fn header_error(index: usize, byte: u8, checksum: Checksum, width: Width) -> Option<Error> {
+    const ITEMS: [u8; 13] = [
+        0x01, 0x02, 0x03, 0x04, 0x05, 0x11, 0x12, 0x14, 0x18, 0x21, 0x22, 0x24, 0x28,
+    ];
+    let checked = checksum == Checksum::Adler32;
+    Some(match index {
+        0..8 => Error::WrongMagic,
+        8..10 => Error::UnsupportedVersion,
+        10 if (1..=4).contains(&byte) => Error::WrongCollection,
+        10 => Error::UnknownCollection,
+        11 if ITEMS.contains(&byte) => Error::WrongKeyType,
+        11 => Error::UnknownKeyType,
+        12 if ITEMS.contains(&byte) => Error::WrongValueType,
+        12 => Error::UnknownValueType,
+        // The archive of the other width is not valid.
+        13 if byte == 4 || byte == 8 => return other_width_error(width),
+        13 => Error::UnknownWidth,
+        // Without the flag the checksum is unexpected. With it, 0 is not the checksum.
+        14 if byte == 0 => Error::UnexpectedChecksum,
+        14 if byte == 1 => Error::WrongChecksum,
+        14..16 => Error::UnknownFlags,
+        16..24 => Error::WrongLength,
+        24..28 if checked => Error::WrongChecksum,
+        24..28 => Error::UnexpectedChecksum,
+        _ => Error::NonzeroReserved,
+    })
+}
+
+/// The error of the sample archive, without its container, as one of the other width.
+fn other_width_error(width: Width) -> Option<Error> {
+    let other = WIDTHS.into_iter().find(|other| *other != width).unwrap();
+    Map::<str, u64>::open(str::sample::<u64>(5, width).as_bytes(), other).err()
+}
+
+#[test]
+fn damaged_headers_fail_byte_by_byte() {
+    for width in WIDTHS {
+        for checksum in CHECKSUMS {
+            let mut bytes = str::sample::<u64>(5, width).to_container(checksum);
+            for index in 0..32 {
+                let kept = bytes[index];
+                for byte in (0..=255).filter(|byte| *byte != kept) {
+                    bytes[index] = byte;
+                    let error = Map::<str, u64>::open_container(&bytes).err();
+                    let wanted = header_error(index, byte, checksum, width);
+                    assert_eq!(error, wanted, "byte {index} is {byte}");
+                    assert!(error.is_some(), "byte {index} is {byte}");
+                }
+                bytes[index] = kept;
+            }
+            assert_eq!(error_as::<str, u64>(&bytes), None);
+        }
+    }
+}
+
+#[test]
+fn other_lengths_fail() {
+    for (number, _, _, mut bytes) in containers(3) {
+        let length = bytes.len();
+        for cut in 0..length {
+            let wanted = if cut < 32 {
+                Error::ContainerTooShort
+            } else {
+                Error::WrongLength
+            };
+            assert_eq!(errors(&bytes[..cut])[number], Some(wanted), "{cut} bytes");
+        }
+        bytes.push(0);
+        assert_eq!(errors(&bytes)[number], Some(Error::WrongLength));
+    }
+}
+
+#[test]
+fn archives_are_no_containers() {
+    for width in WIDTHS {
+        let archive = str::sample::<u64>(3, width);
+        assert_eq!(
+            errors(archive.as_bytes()),
+            [Some(Error::WrongMagic); 4],
+            "{width:?}"
+        );
+        let container = archive.to_container(Checksum::None);
+        assert!(Map::<str, u64>::open(&container[32..], width).is_ok());
+    }
+    assert_eq!(errors(&[]), [Some(Error::ContainerTooShort); 4]);
+}
+
+#[test]
+fn checksums_detect_each_byte() {
+    for (number, _, checksum, mut bytes) in containers(4) {
+        if checksum == Checksum::None {
+            continue;
+        }
+        for index in 32..bytes.len() {
+            for bit in 0..8 {
+                bytes[index] ^= 1 << bit;
+                let error = errors(&bytes)[number];
+                assert_eq!(error, Some(Error::WrongChecksum), "byte {index}");
+                bytes[index] ^= 1 << bit;
+            }
+        }
+        assert_eq!(errors(&bytes)[number], None);
+    }
+}
+
+/// Without a checksum a damaged archive has its own error, that of the archive alone.
+#[test]
+fn damaged_archives_fail_as_without_a_container() {
+    for width in WIDTHS {
+        let mut bytes = str::sample::<u64>(4, width).to_container(Checksum::None);
+        let mut damaged = 0;
+        for index in 32..bytes.len() {
+            for other in [0, 1, 0x7f, 0x80, 0xff] {
+                let kept = std::mem::replace(&mut bytes[index], other);
+                let wanted = Map::<str, u64>::open(&bytes[32..], width).err();
+                assert_eq!(error_as::<str, u64>(&bytes), wanted, "byte {index}");
+                damaged += usize::from(wanted.is_some());
+                bytes[index] = kept;
+            }
+        }
+        assert!(damaged > 0);
+    }
+}
+
+#[test]
+fn updates_write_the_checksum() {
+    for width in WIDTHS {
+        let mut bytes = u32::sample::<u64>(9, width).to_container(Checksum::Adler32);
+        let mut map = MapMut::<u32, u64>::open_container(&mut bytes).unwrap();
+        assert!(map.set(&5, 500));
+        let error = error_as::<u32, u64>(&bytes);
+        assert_eq!(error, Some(Error::WrongChecksum));
+        assert_eq!(update_container(&mut bytes), Ok(()));
+        let sum = adler32(&bytes[32..]).to_le_bytes();
+        assert_eq!(bytes[24..28], sum);
+        assert_eq!(Map::<u32, u64>::open_container(&bytes).unwrap().at(&5), 500);
+
+        // Without a checksum nothing is changed.
+        let mut bytes = u32::sample::<u64>(9, width).to_container(Checksum::None);
+        let kept = bytes.clone();
+        assert_eq!(update_container(&mut bytes), Ok(()));
+        assert_eq!(bytes, kept);
+    }
+}
+
+#[test]
+fn updates_fail_for_no_container() {
+    let container = str::sample::<u32>(2, Width::Narrow).to_container(Checksum::Adler32);
+    let rejected = |change: fn(&mut Vec<u8>)| {
+        let mut bytes = container.clone();
+        change(&mut bytes);
+        let kept = bytes.clone();
+        let error = update_container(&mut bytes).err();
+        assert_eq!(bytes, kept);
+        error
+    };
+    assert_eq!(rejected(Vec::clear), Some(Error::ContainerTooShort));
+    assert_eq!(rejected(|bytes| bytes[0] = 0), Some(Error::WrongMagic));
+    assert_eq!(
+        rejected(|bytes| bytes[8] = 2),
+        Some(Error::UnsupportedVersion)
+    );
+    assert_eq!(
+        rejected(|bytes| bytes[31] = 1),
+        Some(Error::NonzeroReserved)
+    );
+    assert_eq!(rejected(|bytes| bytes.push(0)), Some(Error::WrongLength));
+    assert_eq!(
+        rejected(|bytes| bytes.truncate(40)),
+        Some(Error::WrongLength)
+    );
+}
+
+#[test]
+fn errors_have_texts() {
+    let errors = [
+        Error::ContainerTooShort,
+        Error::WrongMagic,
+        Error::UnsupportedVersion,
+        Error::UnknownCollection,
+        Error::UnknownKeyType,
+        Error::UnknownValueType,
+        Error::UnknownWidth,
+        Error::UnknownFlags,
+        Error::UnexpectedChecksum,
+        Error::NonzeroReserved,
+        Error::WrongCollection,
+        Error::WrongKeyType,
+        Error::WrongValueType,
+        Error::WrongWidth,
+        Error::WrongLength,
+        Error::WrongChecksum,
+    ];
+    let mut texts: Vec<_> = errors.iter().map(Error::to_string).collect();
+    texts.sort();
+    texts.dedup();
+    assert_eq!(texts.len(), errors.len());
+    assert!(texts.iter().all(|text| text.len() > 10));
+}
