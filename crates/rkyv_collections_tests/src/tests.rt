@@ -8,6 +8,7 @@ mod lists;
 mod lookups;
 mod nested;
 mod reading;
+mod recipes;
 mod sealed;
 mod sets;
 mod std_maps;

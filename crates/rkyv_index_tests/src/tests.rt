@@ -8,6 +8,7 @@ mod forms;
 mod interning;
 mod lookups;
 mod reading_back;
+mod recipes;
 mod sealed;
 mod sets;
 mod writing;

@@ -1,0 +1,102 @@
+//! The programs of the page of recipes that are about index maps and index sets.
+
+use rkyv_base::access::access;
+use rkyv_base::errors::VerifyError;
+use rkyv_base::root::to_bytes;
+use rkyv_base::text::Text;
+use rkyv_index::{
+    ArchivedIndexMap, ArchivedIndexSet, IndexMapOf, IndexSetOf, OrderedItems, OrderedPairs,
+};
+use std::alloc::Global;
+use std::test::Fail;
+
+type Prices = IndexMapOf<Text, u32>;
+
+// Archives names with prices, in this order.
+fn write_prices(alloc: Global) -> Result<Vec<u8>, Fail> {
+    let list = OrderedPairs(vec![in alloc; ("tea", 3u32), ("coffee", 4), ("cake", 5)]?);
+    Ok(to_bytes(alloc, &list)?)
+}
+
+// Returns the price of a name.
+fn price_of(archive: &[u8], name: &str) -> Result<Option<u32>, VerifyError> {
+    let prices = ArchivedIndexMap::of(access::<Prices>(archive)?);
+    match prices.get(&name) {
+        Some(price) => Ok(Some(price.to_native())),
+        None => Ok(None),
+    }
+}
+
+// Returns the index of a name, and its price.
+fn find(archive: &[u8], name: &str) -> Result<Option<(usize, u32)>, VerifyError> {
+    let prices = ArchivedIndexMap::of(access::<Prices>(archive)?);
+    match prices.get_full(&name) {
+        Some((index, _, price)) => Ok(Some((index, price.to_native()))),
+        None => Ok(None),
+    }
+}
+
+// Returns the name at an index, borrowed from the archive.
+fn name_at(archive: &[u8], index: usize) -> Result<Option<&str>, VerifyError> {
+    let prices = ArchivedIndexMap::of(access::<Prices>(archive)?);
+    match prices.get_index(index) {
+        Some((name, _)) => Ok(Some(name.as_str())),
+        None => Ok(None),
+    }
+}
+
+// Returns the prices in insertion order.
+fn all_prices(alloc: Global, archive: &[u8]) -> Result<Vec<u32>, Fail> {
+    let prices = ArchivedIndexMap::of(access::<Prices>(archive)?);
+    let mut all = Vec::new(alloc);
+    for (_, price) in prices.iter() {
+        all.push(price.to_native())?;
+    }
+    Ok(all)
+}
+
+#[test]
+fn an_index_map(rt: HostRuntime) -> Result<(), Fail> {
+    let alloc = rt.alloc();
+    let archive = write_prices(alloc)?;
+    let coffee = price_of(archive.as_slice(), "coffee")?;
+    let milk = price_of(archive.as_slice(), "milk")?;
+    let cake = find(archive.as_slice(), "cake")?;
+    assert_eq!(rt; (coffee, milk, cake), (Some(4), None, Some((2, 5))));
+    let first = name_at(archive.as_slice(), 0)?;
+    let fourth = name_at(archive.as_slice(), 3)?;
+    assert!(rt; first == Some("tea") && fourth.is_none());
+    let all = all_prices(alloc, archive.as_slice())?;
+    assert_eq!(rt; all.as_slice(), [3, 4, 5].as_slice());
+    Ok(())
+}
+
+// Archives words, in this order.
+fn write_words(alloc: Global) -> Result<Vec<u8>, Fail> {
+    let list = OrderedItems(vec![in alloc; "red", "green", "blue"]?);
+    Ok(to_bytes(alloc, &list)?)
+}
+
+// Returns the index of a word.
+fn index_of(archive: &[u8], word: &str) -> Result<Option<usize>, VerifyError> {
+    let words = ArchivedIndexSet::of(access::<IndexSetOf<Text>>(archive)?);
+    Ok(words.get_index_of(&word))
+}
+
+// Reads the list of words back.
+fn read_words(alloc: Global, archive: &[u8]) -> Result<Vec<String>, Fail> {
+    let words = ArchivedIndexSet::of(access::<IndexSetOf<Text>>(archive)?);
+    Ok(words.deserialize_items(alloc)?)
+}
+
+#[test]
+fn an_index_set(rt: HostRuntime) -> Result<(), Fail> {
+    let alloc = rt.alloc();
+    let archive = write_words(alloc)?;
+    let blue = index_of(archive.as_slice(), "blue")?;
+    let pink = index_of(archive.as_slice(), "pink")?;
+    assert_eq!(rt; (blue, pink), (Some(2), None));
+    let words = read_words(alloc, archive.as_slice())?;
+    assert!(rt; words.len() == 3 && words[1].as_str() == "green");
+    Ok(())
+}
