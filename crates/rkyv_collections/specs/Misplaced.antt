@@ -1,14 +1,15 @@
 -- The keys of a map that a lookup of their own doesn't find.
 use Rattle.rkyv_base.specs.declared.element.Shaped.{Ghosts as Shapes}
 use Rattle.rkyv_base.specs.declared.width.Word.{Ghosts as Words}
-use Rattle.std.specs.Prelude.{◌≡◌, ℕ, List, Bool, true, false, Option, MatchOption}
+use Rattle.std.specs.Prelude.{◌≡◌, ℕ, ◌<◌, ◌≤◌, ◌^◌, ◌⊎◌, List, Bool, true, false, Option}
+use Rattle.std.specs.Prelude.{MatchOption}
 use Rattle.std.specs.Int.{Width}
 use Rattle.rkyv_scan.specs.Groups.{generic_kind}
 use Rattle.rkyv_base.specs.Entry.{entry_shape}
 use Rattle.rkyv_base.specs.Shape.{Shape, Viewed}
 use Rattle.rkyv_keys.specs.Equality.{Comparison}
 use Rattle.rkyv_table.specs.Table.Header.{cap_at, len_at}
-use Rattle.rkyv_table.specs.Table.Misplaced.{misplaced, repeated}
+use Rattle.rkyv_table.specs.Table.Misplaced.{all_strides, misplaced, repeated}
 use Rattle.rkyv_table.specs.Table.Positions.{IsWalked, home_positions, item_at, table_controls}
 use Rattle.rkyv_collections.specs.Map.{MapWrittenAt, map_bytes, map_pos}
 use Rattle.rkyv_collections.specs.MapShape.{map_shape}
@@ -26,6 +27,23 @@ abbrev pub misplaced_keys : {K V H W : Type 0} {ks : Shapes K} {vs : Shapes V} {
     → ArchivedHashMap K V H W ks vs wt → (List ℕ → ℕ → ℕ) → Comparison → ℕ
 misplaced_keys {ks = ks} {vs = vs} {wt = wt} m key_hash same_key =
     map_misplaced wt.word ks.shape vs.shape key_hash same_key (map_bytes m) (map_pos m)
+
+-- the number of strides that the lookups of all keys of a map read
+abbrev pub map_strides : Width → Shape → Shape → (List ℕ → ℕ → ℕ) → Comparison → List ℕ → ℕ → ℕ
+map_strides w k v key_hash same_key b p =
+    let at : ℕ → ℕ = item_at w (entry_shape k v).size b p in
+    all_strides generic_kind (table_controls w b p) (cap_at w b p) (len_at w b p)
+    (λ i. key_hash b (at i)) (λ i j. same_key b (at i) b (at j))
+
+-- `result`: number of misplaced keys of a map, or `None` if the lookups of all keys read more
+-- than `limit` strides, or more than 2^63
+abbrev pub CountsKeysUpTo : {K V H W : Type 0} {ks : Shapes K} {vs : Shapes V} {wt : Words W}
+    → ArchivedHashMap K V H W ks vs wt → (List ℕ → ℕ → ℕ) → Comparison → ℕ → Option ℕ → Type 0
+CountsKeysUpTo {ks = ks} {vs = vs} {wt = wt} m key_hash same_key limit result =
+    let strides : ℕ =
+    map_strides wt.word ks.shape vs.shape key_hash same_key (map_bytes m) (map_pos m) in
+    MatchOption result ((limit < strides) ⊎ (2 ^ 63 < strides))
+    (λ n. (strides ≤ limit) × (n ≡ misplaced_keys m key_hash same_key))
 
 -- in a valid written map, the number of misplaced keys is that of keys
 -- that are the same as an earlier key

@@ -3,7 +3,7 @@ ghost use Rattle.std.specs.Prelude.{◌≡◌};
 ghost use Rattle.rkyv_base.specs.Entry.{entry_shape};
 ghost use Rattle.rkyv_base.specs.View.{IsView, bytes_of, pos_of};
 ghost use Rattle.rkyv_collections.specs.Map.{hash_at};
-ghost use Rattle.rkyv_collections.specs.Misplaced.{misplaced_keys};
+ghost use Rattle.rkyv_collections.specs.Misplaced.{CountsKeysUpTo, misplaced_keys};
 
 use crate::map::ArchivedHashMap;
 use rkyv_base::element::Element;
@@ -12,6 +12,7 @@ use rkyv_base::width::Width;
 use rkyv_keys::hash::hash_value;
 use rkyv_keys::keys::KeyElement;
 use rkyv_scan::hash::KeyHasher;
+use rkyv_table::controls::find::Strides;
 
 impl<'a, K: KeyElement, V: Element, H: KeyHasher, W: Width> ArchivedHashMap<'a, K, V, H, W> {
     /// Returns the number of keys that a lookup of their own doesn't find.
@@ -40,6 +41,35 @@ impl<'a, K: KeyElement, V: Element, H: KeyHasher, W: Width> ArchivedHashMap<'a, 
                 ensures { result ≡ K.same (bytes_of own.entry) (pos_of own.entry)
                     (bytes_of other.entry) (pos_of other.entry) }
             { K::same(own.key(), other.key()) },
+        )
+    }
+    /// Returns the number of misplaced keys as `misplaced` does, or `None` at a limit.
+    ///
+    /// The result is `None` if the lookups of all keys read more than `limit` strides of sixteen
+    /// control bytes, or more than 2^63. Otherwise the number is exact.
+    ///
+    /// It reads at most `limit` strides and those of one more lookup, so its cost on an untrusted
+    /// map is bounded: [`ArchivedHashTable::misplaced_up_to_by`] counts them. A written map
+    /// without repeated hashes takes about one stride for each key.
+    ///
+    /// [`ArchivedHashTable::misplaced_up_to_by`]: rkyv_table::table::ArchivedHashTable
+    pub fn misplaced_up_to(self, limit: u64) -> Option<usize>
+        ensures { CountsKeysUpTo self.entry (hash_at H.hasher K.key_calls) K.same limit result }
+    {
+        self.table().misplaced_up_to_by(
+            |entry|
+                requires { IsView (entry_shape K.shape V.shape) entry }
+                ensures { result ≡ hash_at H.hasher K.key_calls (bytes_of entry.entry)
+                    (pos_of entry.entry) }
+            { hash_value::<View<'_, K>, H>(&entry.key()) },
+            |entry, other|
+                requires entry { IsView (entry_shape K.shape V.shape) entry }
+                requires other { IsView (entry_shape K.shape V.shape) other }
+                ensures { result ≡ K.same (bytes_of entry.entry) (pos_of entry.entry)
+                    (bytes_of other.entry) (pos_of other.entry) }
+            { K::same(entry.key(), other.key()) },
+            limit,
+            &mut Strides::new(),
         )
     }
 }

@@ -3,6 +3,7 @@ ghost use Rattle.std.specs.Prelude.{◌≡◌};
 ghost use Rattle.rkyv_base.specs.View.{IsView};
 ghost use Rattle.rkyv_keys.specs.Places.{at_views};
 ghost use Rattle.rkyv_collections.specs.Map.{hash_at};
+ghost use Rattle.rkyv_collections.specs.Misplaced.{CountsKeysUpTo};
 ghost use Rattle.rkyv_collections.specs.Set.{set_bytes, set_equal, set_misplaced, set_pos};
 ghost use Rattle.rkyv_collections.specs.Set.{set_shape, set_view};
 
@@ -48,6 +49,21 @@ impl<'a, K: KeyElement, H: KeyHasher, W: Width> ArchivedHashSet<'a, K, H, W> {
             (set_pos self.entry) }
     {
         self.map.misplaced()
+    }
+
+    /// Returns the number of misplaced keys as `misplaced` does, or `None` at a limit.
+    ///
+    /// The result is `None` if the lookups of all keys read more than `limit` strides of sixteen
+    /// control bytes, or more than 2^63. Otherwise the number is exact.
+    ///
+    /// It reads at most `limit` strides and those of one more lookup, so its cost on an untrusted
+    /// set is bounded.
+    #[inline]
+    pub fn misplaced_up_to(self, limit: u64) -> Option<usize>
+        ensures { let key_hash = hash_at H.hasher K.key_calls in
+            CountsKeysUpTo self.entry.map key_hash K.same limit result }
+    {
+        self.map.misplaced_up_to(limit)
     }
 }
 

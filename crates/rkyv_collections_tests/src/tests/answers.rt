@@ -99,6 +99,26 @@ pub(crate) fn misplaced<K: KeyElement, V: Element, H: KeyHasher, W: Width>(
     Ok(map.misplaced())
 }
 
+/// Returns the number of misplaced keys of a map, or `None` if more than `limit` strides are read.
+pub(crate) fn misplaced_up_to<K: KeyElement, V: Element, H: KeyHasher, W: Width>(
+    bytes: &[u8],
+    limit: u64,
+) -> Result<Option<usize>, VerifyError> {
+    let root = access_in::<W, HashMapOf<K, V, H, W>>(bytes)?;
+    let map = ArchivedHashMap::<K, V, H, W>::of(root);
+    Ok(map.misplaced_up_to(limit))
+}
+
+/// Returns the number of misplaced keys of a set, or `None` if more than `limit` strides are read.
+pub(crate) fn set_misplaced_up_to<K: KeyElement, H: KeyHasher, W: Width>(
+    bytes: &[u8],
+    limit: u64,
+) -> Result<Option<usize>, VerifyError> {
+    let root = access_in::<W, HashSetOf<K, H, W>>(bytes)?;
+    let set = ArchivedHashSet::<K, H, W>::of(root);
+    Ok(set.misplaced_up_to(limit))
+}
+
 /// Returns whether the bytes are valid and their map prints as `text`.
 pub(crate) fn map_prints<K: ElementDebug, V: ElementDebug, H, W: Width>(
     alloc: Global,

@@ -5,7 +5,7 @@ ghost use Rattle.rkyv_base.specs.Text.{text_shape};
 ghost use Rattle.rkyv_base.specs.View.{IsView};
 
 use crate::tests::answers::{
-    counts, equal_maps, has_key, map_prints, misplaced, number_of, pair_of,
+    counts, equal_maps, has_key, map_prints, misplaced, misplaced_up_to, number_of, pair_of,
 };
 use rkyv_base::access::{access, access_in};
 use rkyv_base::entry::Entry;
@@ -272,6 +272,34 @@ fn keys_that_a_lookup_does_not_answer_are_counted(rt: HostRuntime) {
     assert_eq!(rt;
         (misplaced, small(&moved, 2)),
         ([Some(0), Some(1), Some(1)], Some(None))
+    );
+}
+
+fn small_misplaced_up_to(bytes: &[u8], limit: u64) -> Option<Option<usize>> {
+    misplaced_up_to::<i8, i8, FxHasher64, Narrow>(bytes, limit).ok()
+}
+
+// A table of at most sixteen buckets has one stride, so each lookup reads one.
+#[test]
+fn counting_misplaced_keys_ends_at_a_limit(rt: HostRuntime) {
+    let four = four_pairs();
+    let of_pairs = [
+        small_misplaced_up_to(&four, 3),
+        small_misplaced_up_to(&four, 4),
+        small_misplaced_up_to(&four, u64::MAX),
+    ];
+    let of_one_key = [
+        small_misplaced_up_to(&one_key_twice(), 1),
+        small_misplaced_up_to(&one_key_twice(), 2),
+    ];
+    let of_nothing = small_misplaced_up_to(&no_items(), 0);
+    assert_eq!(rt;
+        (of_pairs, of_one_key, of_nothing),
+        (
+            [Some(None), Some(Some(0)), Some(Some(0))],
+            [Some(None), Some(Some(1))],
+            Some(Some(0))
+        )
     );
 }
 

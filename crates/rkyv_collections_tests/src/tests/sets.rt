@@ -1,7 +1,7 @@
 //! Tests of reading sets in place, from fixed bytes.
 
 use crate::tests::answers::{
-    equal_maps, equal_sets, map_prints, member_of, set_counts, set_prints,
+    equal_maps, equal_sets, map_prints, member_of, set_counts, set_misplaced_up_to, set_prints,
 };
 use rkyv_base::access::access_in;
 use rkyv_base::errors::VerifyError;
@@ -40,6 +40,16 @@ fn a_set_is_read(rt: HostRuntime) {
             [true; 2]
         )
     );
+}
+
+#[test]
+fn counting_misplaced_keys_of_a_set_ends_at_a_limit(rt: HostRuntime) {
+    let three = three_keys();
+    let counted = [
+        set_misplaced_up_to::<u8, FxHasher64, Narrow>(&three, 2).ok(),
+        set_misplaced_up_to::<u8, FxHasher64, Narrow>(&three, 3).ok(),
+    ];
+    assert_eq!(rt; counted, [Some(None), Some(Some(0))]);
 }
 
 #[test]

@@ -1,9 +1,9 @@
 -- Items that a lookup of their own doesn't find.
 use Rattle.std.specs.Prelude.{◌≡◌, ℕ, ◌<◌, ◌^◌, List, Bool, true, false, not, length, Option, Some}
 use Rattle.std.specs.Prelude.{None, filter, take, slice_index, eqb, MatchOption}
-use Rattle.std.specs.List.{Contains, list_any, range_with_len}
+use Rattle.std.specs.List.{Contains, list_any, range_with_len, sum_by}
 use Rattle.rkyv_scan.specs.Groups.{Kind, IsKind}
-use Rattle.rkyv_table.specs.Controls.Finding.{found}
+use Rattle.rkyv_table.specs.Controls.Finding.{end, found}
 use Rattle.rkyv_table.specs.Controls.Laws.{AreHashes}
 use Rattle.rkyv_table.specs.Controls.Placing.{Accepted, Written, walk}
 
@@ -22,6 +22,16 @@ is_misplaced kind controls cap len hash_at same_at bucket =
 abbrev pub misplaced : Kind → List ℕ → ℕ → ℕ → (ℕ → ℕ) → (ℕ → ℕ → Bool) → ℕ
 misplaced kind controls cap len hash_at same_at =
     length (filter (is_misplaced kind controls cap len hash_at same_at) (walk controls cap))
+
+-- the number of strides that a lookup of the item in `bucket` reads
+abbrev pub own_strides : Kind → List ℕ → ℕ → ℕ → (ℕ → ℕ) → (ℕ → ℕ → Bool) → ℕ → ℕ
+own_strides kind controls cap len hash_at same_at bucket =
+    end kind controls cap len (hash_at bucket) (same_at bucket)
+
+-- the number of strides that the lookups of all items read
+abbrev pub all_strides : Kind → List ℕ → ℕ → ℕ → (ℕ → ℕ) → (ℕ → ℕ → Bool) → ℕ
+all_strides kind controls cap len hash_at same_at =
+    sum_by (own_strides kind controls cap len hash_at same_at) (walk controls cap)
 
 -- the item with the number `i` is the same as an earlier one
 abbrev pub repeats_earlier : (ℕ → ℕ → Bool) → List ℕ → ℕ → Bool

@@ -1,13 +1,14 @@
 -- The number of items of a table that a lookup of their own doesn't find.
 use Rattle.rkyv_base.specs.declared.element.Shaped.{Ghosts as Shapes}
 use Rattle.rkyv_base.specs.declared.width.Word.{Ghosts as Words}
-use Rattle.std.specs.Prelude.{◌≡◌, ℕ, Bool, List, Option}
+use Rattle.std.specs.Prelude.{◌≡◌, ℕ, ◌+◌, ◌/◌, ◌<◌, ◌≤◌, ◌^◌, ◌⊎◌, Bool, List, MatchOption, Option}
 use Rattle.rkyv_base.specs.declared.view.View.{View}
-use Rattle.rkyv_scan.specs.Groups.{Kind}
+use Rattle.rkyv_scan.specs.Groups.{Kind, generic_kind}
+use Rattle.rkyv_table.specs.Controls.Numbers.{probe_capacity}
 use Rattle.rkyv_table.specs.Table.Header.{cap_at, len_at}
-use Rattle.rkyv_table.specs.Table.Misplaced.{is_misplaced, misplaced}
-use Rattle.rkyv_table.specs.Table.Positions.{bucket_found}
-use Rattle.rkyv_table.specs.Table.Reading.{IsItem, IsItemIn, item_pos, table_bytes}
+use Rattle.rkyv_table.specs.Table.Misplaced.{all_strides, is_misplaced, misplaced, own_strides}
+use Rattle.rkyv_table.specs.Table.Positions.{bucket_found, lookup_end}
+use Rattle.rkyv_table.specs.Table.Reading.{CountsWithin, IsItem, IsItemIn, item_pos, table_bytes}
 use Rattle.rkyv_table.specs.Table.Positions.{table_controls}
 use Rattle.rkyv_table.specs.Table.Reading.{table_pos}
 use Rattle.rkyv_table.specs.declared.table.ArchivedHashTable.{ArchivedHashTable}
@@ -45,6 +46,14 @@ module _ {T W : Type 0} {ts : Shapes T} {wt : Words W} where
   abbrev pub table_misplaced : Kind → ArchivedHashTable T W ts wt → (ℕ → ℕ) → (ℕ → ℕ → Bool) → ℕ
   table_misplaced kind t hash_of same = told_of_table (misplaced kind) t hash_of same
 
+  -- the number of strides that a lookup of the item in the bucket reads
+  abbrev pub bucket_strides : Kind → ArchivedHashTable T W ts wt → (ℕ → ℕ) → (ℕ → ℕ → Bool) → ℕ → ℕ
+  bucket_strides kind t hash_of same = told_of_table (own_strides kind) t hash_of same
+
+  -- the number of strides that the lookups of all items read
+  abbrev pub table_strides : Kind → ArchivedHashTable T W ts wt → (ℕ → ℕ) → (ℕ → ℕ → Bool) → ℕ
+  table_strides kind t hash_of same = told_of_table (all_strides kind) t hash_of same
+
   -- `result`: result of the comparison for the items in buckets `i` and `j`
   abbrev pub AnswersOf : (View T → View T → Bool → Type 0) → ArchivedHashTable T W ts wt → ℕ → ℕ
       → Bool → Type 0
@@ -59,9 +68,34 @@ module _ {T W : Type 0} {ts : Shapes T} {wt : Words W} where
       → result ≡ bucket_found kind wt.word ts.shape.size (table_bytes t) (table_pos t) hash
       (same (item_pos t bucket))
 
+  -- the strides that a lookup of the item in `bucket` reads are counted
+  pub record CountsOwn (compares : View T → View T → Bool → Type 0)
+      (t : ArchivedHashTable T W ts wt) (hash bucket before after : ℕ) : Type 0 where
+    pub bounded : CountsWithin t before after
+    pub counted : (same : ℕ → ℕ → Bool) → ComparesAs compares t same
+        → after ≡ before + lookup_end generic_kind wt.word ts.shape.size (table_bytes t)
+        (table_pos t) hash (same (item_pos t bucket))
+
   -- `result`: number of misplaced items, if both functions depend only on positions of items
   abbrev pub CountsMisplaced : (View T → ℕ → Type 0) → (View T → View T → Bool → Type 0) → Kind
       → ArchivedHashTable T W ts wt → ℕ → Type 0
   CountsMisplaced hashes compares kind t result =
       (hash_of : ℕ → ℕ) (same : ℕ → ℕ → Bool) → HashesAs hashes t hash_of
       → ComparesAs compares t same → result ≡ table_misplaced kind t hash_of same
+
+  -- `result`: number of misplaced items, or `None` if the lookups of all items read more
+  -- than `limit` strides, or more than 2^63 with those that were counted before
+  abbrev pub CountsUpTo : (View T → ℕ → Type 0) → (View T → View T → Bool → Type 0)
+      → ArchivedHashTable T W ts wt → ℕ → ℕ → Option ℕ → Type 0
+  CountsUpTo hashes compares t limit before result =
+      (hash_of : ℕ → ℕ) (same : ℕ → ℕ → Bool) → HashesAs hashes t hash_of
+      → ComparesAs compares t same
+      → MatchOption result ((limit < table_strides generic_kind t hash_of same)
+      ⊎ (2 ^ 63 < before + table_strides generic_kind t hash_of same))
+      (λ n. (table_strides generic_kind t hash_of same ≤ limit)
+      × (n ≡ table_misplaced generic_kind t hash_of same))
+
+  -- at most `limit` strides are read, and those of one more lookup
+  abbrev pub ReadsUpTo : ArchivedHashTable T W ts wt → ℕ → ℕ → ℕ → Type 0
+  ReadsUpTo t limit before after = after ≤ before + limit
+      + probe_capacity (cap_at wt.word (table_bytes t) (table_pos t)) / 16

@@ -1,10 +1,10 @@
 //! Counting the items of a table that a lookup of their own doesn't find.
-ghost use Rattle.std.specs.Prelude.{not, ◌≡◌};
+ghost use Rattle.std.specs.Prelude.{false, not, true, ◌+◌, ◌<◌, ◌^◌, ◌≡◌, ◌≤◌, ◌⊎◌};
 ghost use Rattle.rkyv_scan.specs.Groups.{generic_kind};
 ghost use Rattle.rkyv_table.specs.Table.Misplaced.{is_answer, NoneMisplacedIsComplete};
 ghost use Rattle.rkyv_table.specs.Table.Misplaced.{RepeatedAreMisplaced};
-ghost use Rattle.rkyv_table.specs.Table.MisplacedIn.{AnswersOf, CountsMisplaced, FindsOwn};
-ghost use Rattle.rkyv_table.specs.Table.MisplacedIn.{MayCompare};
+ghost use Rattle.rkyv_table.specs.Table.MisplacedIn.{AnswersOf, CountsMisplaced, CountsOwn};
+ghost use Rattle.rkyv_table.specs.Table.MisplacedIn.{CountsUpTo, FindsOwn, MayCompare, ReadsUpTo};
 ghost use Rattle.rkyv_table.specs.Table.Positions.{IsWalked};
 ghost use Rattle.rkyv_table.specs.Table.Reading.{AreItems, MayAsk, table_bytes, table_pos};
 
@@ -27,20 +27,34 @@ pub fn is_elsewhere(bucket: usize, found: Option<usize>) -> bool
     }
 }
 
+// Returns `true` if more than `limit` strides are counted after `before`, or more than 2^63 in all.
+#[inline]
+fn is_past(before: u64, count: u64, limit: u64) -> bool
+    requires { before ≤ count }
+    ensures past { result ≡ true → (before + limit < count) ⊎ (2 ^ 63 < count) }
+    ensures within { result ≡ false → (count ≤ before + limit) × (count ≤ 2 ^ 63) }
+{
+    count - before > limit || count > 1 << 63
+}
+
 impl<'a, T: Element, W: Width> ArchivedHashTable<'a, T, W> {
-    // Returns the bucket that a lookup of the item in `bucket` finds.
+    // Returns the bucket that a lookup of the item in `bucket` finds, and counts its strides.
     #[inline]
     fn own_lookup<S: Fn(View<'a, T>, View<'a, T>) -> bool>(
         items: Items<'a, T, W>,
         bucket: usize,
         hash: u64,
         same: &S,
+        strides: &mut Strides,
     ) -> Option<usize>
         requires items { AreItems items }
         requires walked { IsWalked W.word (table_bytes items.table) (table_pos items.table) bucket }
+        requires room { strides.old ≤ 2 ^ 63 }
         requires comparable { MayCompare (S.pre same.now) items.table }
-        ensures { FindsOwn (S.post same.now) generic_kind items.entry.table hash
+        ensures found { FindsOwn (S.post same.now) generic_kind items.entry.table hash
             bucket result }
+        ensures counts { CountsOwn (S.post same.now) items.entry.table hash bucket strides.old
+            strides.new }
     {
         find::<Group, _>(
             items.controls,
@@ -57,7 +71,7 @@ impl<'a, T: Element, W: Width> ArchivedHashTable<'a, T, W> {
                 ensures { AnswersOf (S.post same.entry.now) items.entry.table bucket
                     other result }
             { same(items.item(bucket), items.item(other)) },
-            &mut Strides::new(),
+            strides,
         )
     }
 
@@ -90,11 +104,58 @@ impl<'a, T: Element, W: Width> ArchivedHashTable<'a, T, W> {
         let mut count = 0;
         for bucket in items.walk::<Group>() {
             let hash = hash_of(items.item(bucket));
-            if is_elsewhere(bucket, Self::own_lookup(items, bucket, hash, &same)) {
+            let found = Self::own_lookup(items, bucket, hash, &same, &mut Strides::new());
+            if is_elsewhere(bucket, found) {
                 count += 1;
             }
         }
         count
+    }
+
+    /// Returns the number of misplaced items as `misplaced_by` does, or `None` at a limit.
+    ///
+    /// The result is `None` if the lookups of all items read more than `limit` strides of sixteen
+    /// control bytes, or if `strides` counts more than 2^63 then. Otherwise the number is exact.
+    ///
+    /// For any `hash_of` and `same`, it reads at most `limit` strides and those of one more lookup,
+    /// which are at most ceil(capacity / 16). So its cost on untrusted bytes is bounded.
+    /// Each stride that is read is counted.
+    ///
+    /// # Requires
+    ///
+    /// - `hash_of` can be called with each item, and `same` with any two items.
+    /// - `strides` has at most 2^63 strides.
+    pub fn misplaced_up_to_by<H, S>(
+        self,
+        hash_of: H,
+        same: S,
+        limit: u64,
+        strides: &mut Strides,
+    ) -> Option<usize>
+    where
+        H: Fn(View<'a, T>) -> u64,
+        S: Fn(View<'a, T>, View<'a, T>) -> bool,
+        requires hashable { MayAsk (H.pre hash_of) self }
+        requires comparable { MayCompare (S.pre same) self }
+        requires room { strides.old ≤ 2 ^ 63 }
+        ensures counts { CountsUpTo (H.post hash_of) (S.post same) self.entry limit strides.old
+            result }
+        ensures bounded { ReadsUpTo self.entry limit strides.old strides.new }
+    {
+        let items = Items::of(self);
+        let before = strides.count();
+        let mut misplaced = 0;
+        for bucket in items.walk::<Group>() {
+            let hash = hash_of(items.item(bucket));
+            let answer = Self::own_lookup(items, bucket, hash, &same, strides);
+            if is_past(before, strides.count(), limit) {
+                return None;
+            }
+            if is_elsewhere(bucket, answer) {
+                misplaced += 1;
+            }
+        }
+        Some(misplaced)
     }
 }
 

@@ -4,6 +4,7 @@ use crate::tests::archives::{hash_of_i8, hash_of_u32, two_archived};
 use rkyv_base::access::access;
 use rkyv_base::entry::Entry;
 use rkyv_base::errors::VerifyError;
+use rkyv_table::controls::find::Strides;
 use rkyv_table::table::{ArchivedHashTable, TableOf};
 use rkyv_testing::archives::{four_pairs, no_items, one_key_twice, one_number, two_units};
 
@@ -69,4 +70,39 @@ fn misplaced_by_order(bytes: &[u8]) -> Result<(usize, usize), VerifyError> {
 #[test]
 fn the_own_item_is_asked_of_first(rt: HostRuntime) {
     assert_eq!(rt; misplaced_by_order(&two_archived()).ok(), Some((0, 1)));
+}
+
+// Returns the number of misplaced pairs of a table, and the number of strides that were read.
+fn counted_up_to(bytes: &[u8], limit: u64) -> Result<(Option<usize>, u64), VerifyError> {
+    let table = ArchivedHashTable::of(access::<TableOf<Entry<i8, i8>>>(bytes)?);
+    let mut strides = Strides::new();
+    let misplaced = table.misplaced_up_to_by(
+        |pair| hash_of_i8(pair.key().to_native()),
+        |own, other| own.key().to_native() == other.key().to_native(),
+        limit,
+        &mut strides,
+    );
+    Ok((misplaced, strides.count()))
+}
+
+// A table of at most sixteen buckets has one stride, so each lookup reads one.
+#[test]
+fn counting_ends_with_the_first_stride_past_the_limit(rt: HostRuntime) {
+    let counted = [
+        counted_up_to(&four_pairs(), 0).ok(),
+        counted_up_to(&four_pairs(), 3).ok(),
+        counted_up_to(&four_pairs(), 4).ok(),
+        counted_up_to(&one_key_twice(), 2).ok(),
+        counted_up_to(&no_items(), 0).ok(),
+    ];
+    assert_eq!(rt;
+        counted,
+        [
+            Some((None, 1)),
+            Some((None, 4)),
+            Some((Some(0), 4)),
+            Some((Some(1), 2)),
+            Some((Some(0), 0))
+        ]
+    );
 }

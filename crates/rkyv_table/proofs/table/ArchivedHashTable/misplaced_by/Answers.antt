@@ -48,20 +48,23 @@ module _ (g : _) (c : After-is_elsewhere g) where
   tells : TellsMisplaced generic_kind c.args.self (goal.H-post g c.args.hash_of) (goal.S-post g c.args.same) c.in-Some.bucket c.is_elsewhere.result
   tells = λ hash_of same hash_as same_as.
       c.is_elsewhere.ensures ∙ bucket_told generic_kind c.of-items.result.table c.args.self c.of-items.ensures.table _ _ c.in-Some.bucket c.hash_of-hash.result c.item.result c.item.ensures c.hash_of-hash.ensures
-      c.own_lookup.result c.own_lookup.ensures hash_of same hash_as same_as
+      c.own_lookup-found.result c.own_lookup-found.ensures.found hash_of same hash_as same_as
 
 pub item-requires-clause-walked : goal.item-requires-clause-walked
 item-requires-clause-walked g c = here g (goal.at.item-requires-clause-walked g c).In-Some
 
-pub own_lookup-requires : goal.own_lookup-requires
-own_lookup-requires g c κs =
+pub own_lookup-found-requires : goal.own_lookup-found-requires
+own_lookup-found-requires g c κs =
     let same = c.of-items.ensures.table in (
       (refl, tt),
       (
         c.of-items.ensures.items,
         (
-          here g (goal.at.own_lookup-requires g c).In-Some,
-          λ x y hx hy. c.requires.comparable x y (subst (λ t. IsItem t x) same hx) (subst (λ t. IsItem t y) same hy),
+          here g (goal.at.own_lookup-found-requires g c).In-Some,
+          (
+            omega (arith, c.new.ensures),
+            λ x y hx hy. c.requires.comparable x y (subst (λ t. IsItem t x) same hx) (subst (λ t. IsItem t y) same hy),
+          ),
         ),
       ),
     )

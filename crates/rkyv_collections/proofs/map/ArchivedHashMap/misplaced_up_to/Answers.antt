@@ -1,0 +1,42 @@
+use Rattle.std.proofs.Common.{ap, subst, zero-add, ◌∙◌, ◌≡◌, ◌+◌, ◌<◌, ◌≤◌, ◌^◌, ◌⊎◌, Bool, ℕ, List, MatchOption}
+use Rattle.std.specs.Borrow.{Bor}
+use Rattle.rkyv_scan.specs.Groups.{generic_kind}
+use Rattle.rkyv_base.specs.Entry.{entry_shape}
+use Rattle.rkyv_base.specs.View.{bytes_of}
+use Rattle.rkyv_base.specs.declared.entry.Entry.{Entry}
+use Rattle.rkyv_base.specs.declared.view.View.{View}
+use Rattle.rkyv_table.specs.Table.Header.{cap_at, len_at}
+use Rattle.rkyv_table.specs.Table.Misplaced.{all_strides, misplaced}
+use Rattle.rkyv_table.specs.Table.Positions.{item_at, table_controls}
+use Rattle.rkyv_table.specs.Table.Reading.{IsItem, table_bytes, table_pos}
+use Rattle.rkyv_collections.specs.Map.{hash_at, map_bytes, map_pos}
+use Rattle.rkyv_collections.proofs.map.ArchivedHashMap.misplaced_up_to.Goals as goal
+
+pub returns : goal.returns
+returns g c =
+    let w = g.W.Word.word in
+    let s = entry_shape g.K.Shaped.shape g.V.Shaped.shape in
+    let t = c.table.result in
+    let b : List ℕ = map_bytes c.args.self in
+    let key_hash = hash_at g.H.KeyHasher.hasher g.K.KeyElement.key_calls in
+    let same_key = g.K.ElementEq.same in
+    let hash_of : ℕ → ℕ = key_hash b in
+    let same : ℕ → ℕ → Bool = λ p q. same_key b p b q in
+    let told : (List ℕ → ℕ → ℕ → (ℕ → ℕ) → (ℕ → ℕ → Bool) → ℕ) → List ℕ → ℕ → ℕ =
+    λ f a p. f (table_controls w a p) (cap_at w a p) (len_at w a p) (λ i. hash_of (item_at w s.size a p i)) (λ i j. same (item_at w s.size a p i) (item_at w s.size a p j)) in
+    let here : (x : View (Entry g.row.K.Denot g.row.V.Denot)) → IsItem t x → bytes_of x ≡ b =
+    λ x item. ap (λ (a : Bor (List ℕ)). a.now) (item.1.archive ∙ c.table.ensures.at.0) in
+    let moved : (f : List ℕ → ℕ → ℕ → (ℕ → ℕ) → (ℕ → ℕ → Bool) → ℕ) → told f (table_bytes t) (table_pos t) ≡ told f b (map_pos c.args.self) =
+    λ f. ap (λ (a : Bor (List ℕ)). told f a.now (table_pos t)) c.table.ensures.at.0 ∙ ap (told f b) c.table.ensures.at.1 in
+    let read : ℕ = told (all_strides generic_kind) (table_bytes t) (table_pos t) in
+    let strides : ℕ = told (all_strides generic_kind) b (map_pos c.args.self) in
+    let counted : ℕ = told (misplaced generic_kind) (table_bytes t) (table_pos t) in
+    let keys : ℕ = told (misplaced generic_kind) b (map_pos c.args.self) in
+    let Counts : ℕ → ℕ → ℕ → Type 0 = λ all some many.
+    MatchOption c.misplaced_up_to_by.result ((c.args.limit < some) ⊎ (2 ^ 63 < all)) (λ n. (some ≤ c.args.limit) × (n ≡ many)) in
+    let first : Counts (c.new.result + read) read counted = c.misplaced_up_to_by.ensures.counts hash_of same
+    (λ x h item e. e.1 ∙ ap (λ a. key_hash a x.pos) (here x item))
+    (λ x y r own other e. e.2 ∙ ap (λ a. same_key a x.pos (bytes_of y) y.pos) (here x own) ∙ ap (λ a. same_key b x.pos a y.pos) (here y other)) in
+    let as_strides : read ≡ strides = moved (all_strides generic_kind) in
+    let none : c.new.result + read ≡ strides = ap (λ n. n + read) c.new.ensures ∙ zero-add read ∙ as_strides in
+    subst (λ n. Counts n strides keys) none (subst (λ n. Counts (c.new.result + read) n keys) as_strides (subst (λ n. Counts (c.new.result + read) read n) (moved (misplaced generic_kind)) first))
