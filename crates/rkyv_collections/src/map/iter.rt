@@ -190,3 +190,33 @@ impl<'a, K: Element, V: Element, H, W: Width> ArchivedHashMap<'a, K, V, H, W> {
         Values { rest: self.iter() }
     }
 }
+
+/// `for (key, value) in map` visits the pairs, in bucket order.
+impl<'a, K: Element, V: Element, H, W: Width> IntoIterator for ArchivedHashMap<'a, K, V, H, W> {
+    type Item = PairView<'a, K, V>;
+
+    type IntoIter = Iter<'a, K, V, H, W>;
+
+    ghost into_iter_gives = { λ map pairs. (pairs.archive ≡ map_archive map)
+        × (pairs.places ≡ key_positions map) × (length pairs.places ≡ map_len map) };
+
+    #[inline]
+    fn into_iter(self) -> Iter<'a, K, V, H, W> {
+        self.iter()
+    }
+}
+
+/// `for (key, value) in &map` visits the pairs, in bucket order.
+impl<'a, K: Element, V: Element, H, W: Width> IntoIterator for &ArchivedHashMap<'a, K, V, H, W> {
+    type Item = PairView<'a, K, V>;
+
+    type IntoIter = Iter<'a, K, V, H, W>;
+
+    ghost into_iter_gives = { λ map pairs. (pairs.archive ≡ map_archive map.now)
+        × (pairs.places ≡ key_positions map.now) × (length pairs.places ≡ map_len map.now) };
+
+    #[inline]
+    fn into_iter(self) -> Iter<'a, K, V, H, W> {
+        self.iter()
+    }
+}

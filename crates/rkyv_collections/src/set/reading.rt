@@ -91,6 +91,36 @@ impl<'a, K: Element, H, W: Width> ArchivedHashSet<'a, K, H, W> {
     }
 }
 
+/// `for key in set` visits the keys, in bucket order.
+impl<'a, K: Element, H, W: Width> IntoIterator for ArchivedHashSet<'a, K, H, W> {
+    type Item = View<'a, K>;
+
+    type IntoIter = Keys<'a, K, (), H, W>;
+
+    ghost into_iter_gives = { λ set keys. (keys.archive ≡ set_archive set)
+        × (keys.places ≡ member_positions set) × (length keys.places ≡ set_len set) };
+
+    #[inline]
+    fn into_iter(self) -> Keys<'a, K, (), H, W> {
+        self.iter()
+    }
+}
+
+/// `for key in &set` visits the keys, in bucket order.
+impl<'a, K: Element, H, W: Width> IntoIterator for &ArchivedHashSet<'a, K, H, W> {
+    type Item = View<'a, K>;
+
+    type IntoIter = Keys<'a, K, (), H, W>;
+
+    ghost into_iter_gives = { λ set keys. (keys.archive ≡ set_archive set.now)
+        × (keys.places ≡ member_positions set.now) × (length keys.places ≡ set_len set.now) };
+
+    #[inline]
+    fn into_iter(self) -> Keys<'a, K, (), H, W> {
+        self.iter()
+    }
+}
+
 impl<'a, K: KeyElement, H: KeyHasher, W: Width> ArchivedHashSet<'a, K, H, W> {
     /// Returns the key that the query finds, or `None`.
     ///

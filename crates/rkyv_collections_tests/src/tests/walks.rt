@@ -100,7 +100,7 @@ fn values_of<K: Element, V: Element>(
 fn found_by_own_keys(bytes: &[u8]) -> Result<usize, VerifyError> {
     let map = ArchivedHashMap::of(access::<HashMapOf<i8, i8>>(bytes)?);
     let mut count = 0usize;
-    for (key, value) in map.iter() {
+    for (key, value) in map {
         match map.get(&key.to_native()) {
             Some(found) => {
                 if found.pos() == value.pos() {
@@ -129,6 +129,29 @@ fn members<K: Element>(
         next_key(&mut rest),
     ];
     Ok((before, given, rest.size_hint()))
+}
+
+// Returns the sum of the keys and values of a map, and that of the keys of a set, by `for`.
+fn sums(map: &[u8], set: &[u8]) -> Result<[u8; 3], VerifyError> {
+    let map = ArchivedHashMap::of(access::<HashMapOf<u8, u8>>(map)?);
+    let set = ArchivedHashSet::of(access::<HashSetOf<u8>>(set)?);
+    let mut sums = [0u8; 3];
+    for (key, value) in &map {
+        sums[0] = sums[0].wrapping_add(key.to_native());
+        sums[0] = sums[0].wrapping_add(value.to_native());
+    }
+    for key in set {
+        sums[1] = sums[1].wrapping_add(key.to_native());
+    }
+    for key in &set {
+        sums[2] = sums[2].wrapping_add(key.to_native());
+    }
+    Ok(sums)
+}
+
+#[test]
+fn maps_and_sets_are_walked_by_for(rt: HostRuntime) {
+    assert_eq!(rt; sums(&four_pairs(), &three_keys()).ok(), Some([36, 6, 6]));
 }
 
 // In bucket order, the pairs are 5 to 6, 7 to 8, 1 to 2 and 3 to 4. The first has the last two

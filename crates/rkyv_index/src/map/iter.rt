@@ -205,3 +205,33 @@ impl<'a, K: Element, V: Element, H, W: Width> ArchivedIndexMap<'a, K, V, H, W> {
         Values { rest: self.iter() }
     }
 }
+
+/// `for (key, value) in map` visits the pairs, in order.
+impl<'a, K: Element, V: Element, H, W: Width> IntoIterator for ArchivedIndexMap<'a, K, V, H, W> {
+    type Item = PairView<'a, K, V>;
+
+    type IntoIter = Iter<'a, K, V>;
+
+    ghost into_iter_gives = { λ map pairs. (pairs.archive ≡ index_archive map)
+        × (pairs.places ≡ key_positions map) × (length pairs.places ≡ index_len map) };
+
+    #[inline]
+    fn into_iter(self) -> Iter<'a, K, V> {
+        self.iter()
+    }
+}
+
+/// `for (key, value) in &map` visits the pairs, in order.
+impl<'a, K: Element, V: Element, H, W: Width> IntoIterator for &ArchivedIndexMap<'a, K, V, H, W> {
+    type Item = PairView<'a, K, V>;
+
+    type IntoIter = Iter<'a, K, V>;
+
+    ghost into_iter_gives = { λ map pairs. (pairs.archive ≡ index_archive map.now)
+        × (pairs.places ≡ key_positions map.now) × (length pairs.places ≡ index_len map.now) };
+
+    #[inline]
+    fn into_iter(self) -> Iter<'a, K, V> {
+        self.iter()
+    }
+}

@@ -85,6 +85,38 @@ impl<'a, K: Element, H, W: Width> ArchivedIndexSet<'a, K, H, W> {
     }
 }
 
+/// `for key in set` visits the keys, in order.
+impl<'a, K: Element, H, W: Width> IntoIterator for ArchivedIndexSet<'a, K, H, W> {
+    type Item = View<'a, K>;
+
+    type IntoIter = Keys<'a, K, ()>;
+
+    ghost into_iter_gives = { λ set keys. (keys.archive ≡ index_archive (keys_of set))
+        × (keys.places ≡ key_positions (keys_of set))
+        × (length keys.places ≡ index_len (keys_of set)) };
+
+    #[inline]
+    fn into_iter(self) -> Keys<'a, K, ()> {
+        self.iter()
+    }
+}
+
+/// `for key in &set` visits the keys, in order.
+impl<'a, K: Element, H, W: Width> IntoIterator for &ArchivedIndexSet<'a, K, H, W> {
+    type Item = View<'a, K>;
+
+    type IntoIter = Keys<'a, K, ()>;
+
+    ghost into_iter_gives = { λ set keys. (keys.archive ≡ index_archive (keys_of set.now))
+        × (keys.places ≡ key_positions (keys_of set.now))
+        × (length keys.places ≡ index_len (keys_of set.now)) };
+
+    #[inline]
+    fn into_iter(self) -> Keys<'a, K, ()> {
+        self.iter()
+    }
+}
+
 impl<'a, K: KeyElement, H: KeyHasher, W: Width> ArchivedIndexSet<'a, K, H, W> {
     /// Returns the key that the query finds, with its index, or `None`.
     ///

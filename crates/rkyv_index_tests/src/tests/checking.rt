@@ -36,7 +36,7 @@ fn entries_may_stand_elsewhere(rt: HostRuntime) -> Result<(), Fail> {
     bytes[72] = 0xec;
     let map = ArchivedIndexMap::of(access::<Small>(&bytes)?);
     let mut digits = 0i32;
-    for (key, value) in map.iter() {
+    for (key, value) in map {
         let pair = i32::from(key.to_native()).wrapping_mul(10);
         let pair = pair.wrapping_add(i32::from(value.to_native()));
         digits = digits.wrapping_mul(100).wrapping_add(pair);

@@ -49,7 +49,7 @@ fn name_at(archive: &[u8], index: usize) -> Result<Option<&str>, VerifyError> {
 fn all_prices(alloc: Global, archive: &[u8]) -> Result<Vec<u32>, Fail> {
     let prices = ArchivedIndexMap::of(access::<Prices>(archive)?);
     let mut all = Vec::new(alloc);
-    for (_, price) in prices.iter() {
+    for (_, price) in &prices {
         all.push(price.to_native())?;
     }
     Ok(all)

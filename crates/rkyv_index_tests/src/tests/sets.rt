@@ -90,11 +90,14 @@ fn keys_are_found(rt: HostRuntime) -> Result<(), Fail> {
     let place = set.get_index_of(&3);
     assert!(rt; place == Some(2));
     assert!(rt; set.get_index(3).is_none());
-    let mut last = 0;
-    for key in set.iter() {
-        last = key.to_native();
+    let mut last = [0; 2];
+    for key in set {
+        last[0] = key.to_native();
     }
-    assert_eq!(rt; last, 3);
+    for key in &set {
+        last[1] = key.to_native();
+    }
+    assert_eq!(rt; last, [3; 2]);
     Ok(())
 }
 
