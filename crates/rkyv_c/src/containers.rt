@@ -1,6 +1,7 @@
 //! The calls for containers of archives.
 
 ghost use Rattle.std.specs.Prelude.{length, ◌++◌, ◌≡◌};
+ghost use Rattle.rkyv_c_calls.specs.Archives.{form_of};
 ghost use Rattle.rkyv_c_calls.specs.Containers.{IsWrittenContainer, OpensContainer, OpensOwnForm};
 ghost use Rattle.rkyv_c_calls.specs.Containers.{ReadsWidth, UpdatesContainer};
 
@@ -26,7 +27,7 @@ pub extern "C" fn rkyv_c_write_header(
     header: &mut [u8],
 )
     requires { length header.old ≡ 32 }
-    ensures { IsWrittenContainer of_texts long_values wide checked archive.now
+    ensures { IsWrittenContainer of_texts (form_of long_values wide) checked archive.now
         (header.new ++ archive.now) }
 {
     write_header(
@@ -65,9 +66,9 @@ pub extern "C" fn rkyv_c_open_container<'a>(
     wide: bool,
     opened: &mut Opened<'a>,
 ) -> u32
-    ensures told { OpensContainer of_texts long_values wide bytes.now opened.old result
+    ensures told { OpensContainer of_texts (form_of long_values wide) bytes.now opened.old result
         opened.new }
-    ensures opens { OpensOwnForm of_texts long_values wide bytes.now result }
+    ensures opens { OpensOwnForm of_texts (form_of long_values wide) bytes.now result }
 {
     open_container(bytes, of_texts, Form { long_values, wide }, opened)
 }

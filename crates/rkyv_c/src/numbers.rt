@@ -1,8 +1,8 @@
 //! The calls for maps of numbers of 32 bits.
 
 ghost use Rattle.std.specs.Prelude.{◌≡◌};
-ghost use Rattle.rkyv_c_calls.specs.Archives.{IsNumberArchive, Opens, limit_of, number_key};
-ghost use Rattle.rkyv_c_calls.specs.Archives.{number_map, value_shape, word_of};
+ghost use Rattle.rkyv_c_calls.specs.Archives.{IsNumberArchive, Opens, form_of, limit_of};
+ghost use Rattle.rkyv_c_calls.specs.Archives.{number_map, numbers_in};
 ghost use Rattle.rkyv_c_calls.specs.Calls.{Counts, GivesNumber, SetsNumber, StepsNumbers};
 ghost use Rattle.rkyv_c_calls.specs.Listed.{GivesFirstNumber, SetsFirstNumber};
 ghost use Rattle.rkyv_c_calls.specs.Items.{HandsOut, IsArchiveOfNumbers, NoArchiveOfNumbers};
@@ -22,8 +22,9 @@ use std::alloc::Global;
 /// - 16 to 23: the first validation error.
 #[unsafe(no_mangle)]
 pub extern "C" fn rkyv_c_open_numbers(archive: &[u8], long_values: bool, wide: bool) -> u32
-    ensures told { Opens (limit_of wide) (number_map long_values wide) archive.now result }
-    ensures accepts { IsNumberArchive long_values wide archive.now → result ≡ 0 }
+    ensures told { Opens (limit_of wide) (number_map (form_of long_values wide)) archive.now
+        result }
+    ensures accepts { IsNumberArchive (form_of long_values wide) archive.now → result ≡ 0 }
 {
     open_numbers(archive, Form { long_values, wide })
 }
@@ -35,8 +36,8 @@ pub extern "C" fn rkyv_c_open_numbers(archive: &[u8], long_values: bool, wide: b
 /// - The archive is valid: `rkyv_c_open_numbers` returned 0.
 #[unsafe(no_mangle)]
 pub extern "C" fn rkyv_c_count_numbers(archive: &[u8], long_values: bool, wide: bool) -> usize
-    requires { IsNumberArchive long_values wide archive.now }
-    ensures { Counts (word_of wide) number_key (value_shape long_values) archive.now result }
+    requires { IsNumberArchive (form_of long_values wide) archive.now }
+    ensures { Counts (numbers_in (form_of long_values wide) archive.now) result }
 {
     count_numbers(archive, Form { long_values, wide })
 }
@@ -58,9 +59,11 @@ pub extern "C" fn rkyv_c_get_number(
     key: u32,
     value: &mut u64,
 ) -> u32
-    requires { IsNumberArchive long_values wide archive.now }
-    ensures gives { GivesNumber long_values wide archive.now key value.old result value.new }
-    ensures listed { GivesFirstNumber long_values wide archive.now key value.old result value.new }
+    requires { IsNumberArchive (form_of long_values wide) archive.now }
+    ensures gives { GivesNumber (form_of long_values wide) archive.now key value.old result
+        value.new }
+    ensures listed { GivesFirstNumber (form_of long_values wide) archive.now key value.old result
+        value.new }
 {
     get_number(archive, Form { long_values, wide }, key, value)
 }
@@ -85,10 +88,11 @@ pub extern "C" fn rkyv_c_set_number(
     key: u32,
     value: u64,
 ) -> u32
-    requires { IsNumberArchive long_values wide archive.old }
-    ensures kept { IsNumberArchive long_values wide archive.new }
-    ensures sets { SetsNumber long_values wide archive.old key value result archive.new }
-    ensures listed { SetsFirstNumber long_values wide archive.old key value result archive.new }
+    requires { IsNumberArchive (form_of long_values wide) archive.old }
+    ensures kept { IsNumberArchive (form_of long_values wide) archive.new }
+    ensures sets { SetsNumber (form_of long_values wide) archive.old key value result archive.new }
+    ensures listed { SetsFirstNumber (form_of long_values wide) archive.old key value result
+        archive.new }
 {
     set_number(archive, Form { long_values, wide }, key, value)
 }
@@ -109,8 +113,8 @@ pub extern "C" fn rkyv_c_next_number(
     wide: bool,
     pair: &mut NumberPair,
 ) -> u32
-    requires { IsNumberArchive long_values wide archive.now }
-    ensures { StepsNumbers long_values wide archive.now pair.old result pair.new }
+    requires { IsNumberArchive (form_of long_values wide) archive.now }
+    ensures { StepsNumbers (form_of long_values wide) archive.now pair.old result pair.new }
 {
     next_number(archive, Form { long_values, wide }, pair)
 }
@@ -135,8 +139,8 @@ pub extern "C" fn rkyv_c_build_numbers(
     wide: bool,
     built: &mut Built<'_>,
 ) -> u32
-    ensures { HandsOut (IsArchiveOfNumbers long_values wide items.now)
-        (NoArchiveOfNumbers long_values wide items.now) built.old result built.new }
+    ensures { HandsOut (IsArchiveOfNumbers (form_of long_values wide) items.now)
+        (NoArchiveOfNumbers (form_of long_values wide) items.now) built.old result built.new }
 {
     build_numbers(alloc, items, Form { long_values, wide }, built)
 }

@@ -2,8 +2,8 @@
 
 ghost use Rattle.std.specs.Prelude.{IsTrue, ◌↔◌, ◌≡◌};
 ghost use Rattle.std.specs.Str.{IsUtf8};
-ghost use Rattle.rkyv_c_calls.specs.Archives.{IsTextArchive, Opens, limit_of, text_key, text_map};
-ghost use Rattle.rkyv_c_calls.specs.Archives.{value_shape, word_of};
+ghost use Rattle.rkyv_c_calls.specs.Archives.{IsTextArchive, Opens, form_of, limit_of, text_map};
+ghost use Rattle.rkyv_c_calls.specs.Archives.{texts_in};
 ghost use Rattle.rkyv_c_calls.specs.Calls.{Counts, GivesText, SetsText, StepsTexts};
 ghost use Rattle.rkyv_c_calls.specs.Listed.{GivesFirstText, SetsFirstText};
 ghost use Rattle.rkyv_c_calls.specs.Items.{HandsOut, IsArchiveOfTexts, NoArchiveOfTexts};
@@ -23,8 +23,8 @@ use std::alloc::Global;
 /// - 16 to 23: the first validation error.
 #[unsafe(no_mangle)]
 pub extern "C" fn rkyv_c_open_texts(archive: &[u8], long_values: bool, wide: bool) -> u32
-    ensures told { Opens (limit_of wide) (text_map long_values wide) archive.now result }
-    ensures accepts { IsTextArchive long_values wide archive.now → result ≡ 0 }
+    ensures told { Opens (limit_of wide) (text_map (form_of long_values wide)) archive.now result }
+    ensures accepts { IsTextArchive (form_of long_values wide) archive.now → result ≡ 0 }
 {
     open_texts(archive, Form { long_values, wide })
 }
@@ -36,8 +36,8 @@ pub extern "C" fn rkyv_c_open_texts(archive: &[u8], long_values: bool, wide: boo
 /// - The archive is valid: `rkyv_c_open_texts` returned 0.
 #[unsafe(no_mangle)]
 pub extern "C" fn rkyv_c_count_texts(archive: &[u8], long_values: bool, wide: bool) -> usize
-    requires { IsTextArchive long_values wide archive.now }
-    ensures { Counts (word_of wide) (text_key wide) (value_shape long_values) archive.now result }
+    requires { IsTextArchive (form_of long_values wide) archive.now }
+    ensures { Counts (texts_in (form_of long_values wide) archive.now) result }
 {
     count_texts(archive, Form { long_values, wide })
 }
@@ -62,10 +62,11 @@ pub extern "C" fn rkyv_c_get_text(
     key: &[u8],
     value: &mut u64,
 ) -> u32
-    requires { IsTextArchive long_values wide archive.now }
-    ensures gives { GivesText long_values wide archive.now key.now value.old result value.new }
+    requires { IsTextArchive (form_of long_values wide) archive.now }
+    ensures gives { GivesText (form_of long_values wide) archive.now key.now value.old result
+        value.new }
     ensures listed { IsUtf8 key.now
-        → GivesFirstText long_values wide archive.now key.now value.old result value.new }
+        → GivesFirstText (form_of long_values wide) archive.now key.now value.old result value.new }
 {
     get_text(archive, Form { long_values, wide }, key, value)
 }
@@ -91,11 +92,12 @@ pub extern "C" fn rkyv_c_set_text(
     key: &[u8],
     value: u64,
 ) -> u32
-    requires { IsTextArchive long_values wide archive.old }
-    ensures kept { IsTextArchive long_values wide archive.new }
-    ensures sets { SetsText long_values wide archive.old key.now value result archive.new }
+    requires { IsTextArchive (form_of long_values wide) archive.old }
+    ensures kept { IsTextArchive (form_of long_values wide) archive.new }
+    ensures sets { SetsText (form_of long_values wide) archive.old key.now value result
+        archive.new }
     ensures listed { IsUtf8 key.now
-        → SetsFirstText long_values wide archive.old key.now value result archive.new }
+        → SetsFirstText (form_of long_values wide) archive.old key.now value result archive.new }
 {
     set_text(archive, Form { long_values, wide }, key, value)
 }
@@ -116,8 +118,8 @@ pub extern "C" fn rkyv_c_next_text<'a>(
     wide: bool,
     pair: &mut TextPair<'a>,
 ) -> u32
-    requires { IsTextArchive long_values wide archive.now }
-    ensures { StepsTexts long_values wide archive.now pair.old result pair.new }
+    requires { IsTextArchive (form_of long_values wide) archive.now }
+    ensures { StepsTexts (form_of long_values wide) archive.now pair.old result pair.new }
 {
     next_text(archive, Form { long_values, wide }, pair)
 }
@@ -151,8 +153,8 @@ pub extern "C" fn rkyv_c_build_texts(
     wide: bool,
     built: &mut Built<'_>,
 ) -> u32
-    ensures { HandsOut (IsArchiveOfTexts long_values wide items.now)
-        (NoArchiveOfTexts long_values wide items.now) built.old result built.new }
+    ensures { HandsOut (IsArchiveOfTexts (form_of long_values wide) items.now)
+        (NoArchiveOfTexts (form_of long_values wide) items.now) built.old result built.new }
 {
     build_texts(alloc, items, Form { long_values, wide }, built)
 }

@@ -13,7 +13,7 @@ use Rattle.rkyv_base.specs.Shape.{Shape, Standing, Viewed}
 use Rattle.rkyv_table.specs.Table.Positions.{pos_found}
 use Rattle.rkyv_collections.specs.InPlace.{SetsFound}
 use Rattle.rkyv_collections.specs.MapShape.{map_shape}
-use Rattle.rkyv_c_calls.specs.Archives.{hash_by, root, value_found}
+use Rattle.rkyv_c_calls.specs.Archives.{hash_by, map_in, root, value_found}
 
 module _ {N : Type 0} (w : Width) (k v : Shape) (e : Encoding N) (key_hash : List ℕ → ℕ → ℕ) (b : List ℕ) (p : ℕ) (value : N) (result : Bool) (c : List ℕ) where
   -- the result of an overwrite, by its status
@@ -51,7 +51,7 @@ module _ {N : Type 0} (w : Width) (k v : Shape) (e : Encoding N) (key_hash : Lis
 
   -- the status of the overwrite, by the position that the lookup finds
   pub set_told : (status : ℕ) → (result ≡ true → status ≡ 0) → (result ≡ false → status ≡ 1)
-      → MatchOption (value_found w k v b calls fits) ((status ≡ 1) × (c ≡ b)) (λ q. (status ≡ 0) × (c ≡ with_value e b q value))
+      → MatchOption (value_found (map_in w k v b) calls fits) ((status ≡ 1) × (c ≡ b)) (λ q. (status ≡ 0) × (c ≡ with_value e b q value))
   set_told status met missed =
       let Told : Option ℕ → Type 0 = λ o. MatchOption o ((status ≡ 1) × (c ≡ b)) (λ q. (status ≡ 0) × (c ≡ with_value e b q value)) in
       subst Told (ap place_at at) (status_of_set w k v e key_hash b p value result c status (place_at p) met missed set)

@@ -15,9 +15,11 @@ use Rattle.rkyv_base.specs.Sealing.{value_pos, with_value}
 use Rattle.rkyv_base.specs.Shape.{Shape, Viewed}
 use Rattle.rkyv_base.specs.Text.{text_shape}
 use Rattle.rkyv_base.specs.declared.errors.VerifyError.{VerifyError}
+use Rattle.rkyv_collections.specs.MapAt.{MapAt}
 use Rattle.rkyv_collections.specs.MapShape.{map_shape}
 use Rattle.rkyv_table.specs.Table.Positions.{pos_found}
 use Rattle.rkyv_c_calls.specs.Status.{refusal}
+use Rattle.rkyv_c_calls.specs.declared.form.Form.{Form}
 
 -- `shorter` if the flag is `false`, `longer` if it is `true`
 abbrev pub by_form : {A : Type 0} → A → A → Bool → A
@@ -36,25 +38,33 @@ limit_of = by_form 4_294_967_295 9_223_372_036_854_775_807
 abbrev pub most_of : Bool → ℕ
 most_of = by_form 4_294_967_295 4_611_686_018_427_387_904
 
+-- the form of the two flags
+abbrev pub form_of : Bool → Bool → Form
+form_of long_values wide = record { long_values = long_values; wide = wide }
+
 -- the shape of a key that is a number of 32 bits
 abbrev pub number_key : Shape
 number_key = scalar_shape (unsigned w32)
 
--- the shape of a key that is a text, in a narrow or a wide archive
-abbrev pub text_key : Bool → Shape
-text_key wide = text_shape (word_of wide)
+-- the shape of a key that is a text
+abbrev pub text_key : Form → Shape
+text_key form = text_shape (word_of form.wide)
 
--- the shape of a value, a number of 32 or of 64 bits
-abbrev pub value_shape : Bool → Shape
-value_shape long_values = scalar_shape (unsigned (word_of long_values))
+-- the encoding of a value, a number of 32 or of 64 bits
+abbrev pub value_encoding : Form → Encoding ℕ
+value_encoding form = unsigned (word_of form.long_values)
+
+-- the shape of a value
+abbrev pub value_shape : Form → Shape
+value_shape form = scalar_shape (value_encoding form)
 
 -- the shape of the header of a map of numbers
-abbrev pub number_map : Bool → Bool → Shape
-number_map long_values wide = map_shape (word_of wide) number_key (value_shape long_values)
+abbrev pub number_map : Form → Shape
+number_map form = map_shape (word_of form.wide) number_key (value_shape form)
 
 -- the shape of the header of a map of texts
-abbrev pub text_map : Bool → Bool → Shape
-text_map long_values wide = map_shape (word_of wide) (text_key wide) (value_shape long_values)
+abbrev pub text_map : Form → Shape
+text_map form = map_shape (word_of form.wide) (text_key form) (value_shape form)
 
 -- a valid map is at position `p`
 abbrev pub IsMapAt : Width → Shape → Shape → List ℕ → ℕ → Type 0
@@ -69,12 +79,12 @@ abbrev pub IsPairAt : Shape → Shape → List ℕ → ℕ → Type 0
 IsPairAt k v b p = Viewed (entry_shape k v) b p
 
 -- `b` is the valid archive of a map of numbers in the form
-abbrev pub IsNumberArchive : Bool → Bool → List ℕ → Type 0
-IsNumberArchive long_values wide b = Accepted (limit_of wide) (number_map long_values wide) b
+abbrev pub IsNumberArchive : Form → List ℕ → Type 0
+IsNumberArchive form b = Accepted (limit_of form.wide) (number_map form) b
 
 -- `b` is the valid archive of a map of texts in the form
-abbrev pub IsTextArchive : Bool → Bool → List ℕ → Type 0
-IsTextArchive long_values wide b = Accepted (limit_of wide) (text_map long_values wide) b
+abbrev pub IsTextArchive : Form → List ℕ → Type 0
+IsTextArchive form b = Accepted (limit_of form.wide) (text_map form) b
 
 -- `b` is valid and the status is 0, or the status is that of the first validation error
 abbrev pub Opens : ℕ → Shape → List ℕ → ℕ → Type 0
@@ -85,16 +95,28 @@ Opens limit s b status = (Accepted limit s b × (status ≡ 0))
 abbrev pub hash_by : List HasherCall → ℕ
 hash_by calls = fx_hash low_halves calls
 
-module _ (w : Width) (k v : Shape) (b : List ℕ) where
-  -- the position of the map's header
-  abbrev pub root : ℕ
-  root = length b - (map_shape w k v).size
+-- the position of the header of a map at the end of `b`
+abbrev pub root : Width → Shape → Shape → List ℕ → ℕ
+root w k v b = length b - (map_shape w k v).size
 
-  -- the position of the value that a lookup finds.
-  -- `calls`: hasher calls of the key, `fits`: test of the key at a position
-  abbrev pub value_found : List HasherCall → (ℕ → Bool) → Option ℕ
-  value_found calls fits = option_map (value_pos k v)
-      (pos_found generic_kind w (entry_shape k v).size b root (hash_by calls) fits)
+-- the map at the root of the archive `b`
+abbrev pub map_in : Width → Shape → Shape → List ℕ → MapAt
+map_in w k v b = record { word = w; key = k; value = v; bytes = b; pos = root w k v b }
+
+-- the map of numbers, in the form, at the root of an archive
+abbrev pub numbers_in : Form → List ℕ → MapAt
+numbers_in form = map_in (word_of form.wide) number_key (value_shape form)
+
+-- the map of texts, in the form, at the root of an archive
+abbrev pub texts_in : Form → List ℕ → MapAt
+texts_in form = map_in (word_of form.wide) (text_key form) (value_shape form)
+
+-- the position of the value that a lookup finds.
+-- `calls`: hasher calls of the key, `fits`: test of the key at a position
+abbrev pub value_found : MapAt → List HasherCall → (ℕ → Bool) → Option ℕ
+value_found m calls fits = option_map (value_pos m.key m.value)
+    (pos_found generic_kind m.word (entry_shape m.key m.value).size m.bytes m.pos (hash_by calls)
+    fits)
 
 -- the status is 0 and `after` is the number at `place`.
 -- At `None` the status is 1 and `after` is `before`.

@@ -15,6 +15,7 @@ use Rattle.rkyv_container.specs.Header.{IsHeader, header_checks}
 use Rattle.rkyv_c_calls.specs.Archives.{by_form}
 use Rattle.rkyv_c_calls.specs.Status.{container_refusal}
 use Rattle.rkyv_c_calls.specs.declared.containers.Opened.{Opened}
+use Rattle.rkyv_c_calls.specs.declared.form.Form.{Form}
 
 -- the type of keys: numbers of 32 bits, or texts if the flag is `true`
 abbrev pub key_type : Bool → ItemType
@@ -29,22 +30,22 @@ abbrev pub width_by : Bool → Width
 width_by = by_form Narrow Wide
 
 -- the contents of the container of a map: its key type, its value type and its width
-abbrev pub contents_of : Bool → Bool → Bool → Contents
-contents_of of_texts long_values wide = record {
+abbrev pub contents_of : Bool → Form → Contents
+contents_of of_texts form = record {
   kind = HashMap;
   key = key_type of_texts;
-  value = value_type long_values;
-  width = width_by wide;
+  value = value_type form.long_values;
+  width = width_by form.wide;
 }
 
 -- `b` is a container of the archive `a` of a map in the form
-abbrev pub IsMapContainer : Bool → Bool → Bool → List ℕ → List ℕ → Type 0
-IsMapContainer of_texts long_values wide = IsContainerOf (contents_of of_texts long_values wide)
+abbrev pub IsMapContainer : Bool → Form → List ℕ → List ℕ → Type 0
+IsMapContainer of_texts form = IsContainerOf (contents_of of_texts form)
 
 -- `b` is the container of the archive `a` of a map in the form; `checked`: it has a checksum
-abbrev pub IsWrittenContainer : Bool → Bool → Bool → Bool → List ℕ → List ℕ → Type 0
-IsWrittenContainer of_texts long_values wide checked a =
-    IsContainer (header_of (contents_of of_texts long_values wide) a checked) a
+abbrev pub IsWrittenContainer : Bool → Form → Bool → List ℕ → List ℕ → Type 0
+IsWrittenContainer of_texts form checked a =
+    IsContainer (header_of (contents_of of_texts form) a checked) a
 
 -- The status is 0 and `after` is whether the header in `b` has the greater width.
 -- Or it is that of the first error of the header, and `after` is `before`.
@@ -56,17 +57,17 @@ ReadsWidth b before status after =
 
 -- The status is 0, and `after` has the archive of the container `b` of a map in the form.
 -- Or the status is that of the first error of the container, and `after` is `before`.
-abbrev pub OpensContainer : Bool → Bool → Bool → List ℕ → Opened → ℕ → Opened → Type 0
-OpensContainer of_texts long_values wide b before status after =
-    (IsMapContainer of_texts long_values wide after.archive.now b × (status ≡ 0))
-    ⊎ ((e : ContainerError) × OpenAsFails (contents_of of_texts long_values wide) b e
+abbrev pub OpensContainer : Bool → Form → List ℕ → Opened → ℕ → Opened → Type 0
+OpensContainer of_texts form b before status after =
+    (IsMapContainer of_texts form after.archive.now b × (status ≡ 0))
+    ⊎ ((e : ContainerError) × OpenAsFails (contents_of of_texts form) b e
     × (status ≡ container_refusal e) × (after ≡ before))
 
 -- a container of any map is opened if and only if its map is in the form
-abbrev pub OpensOwnForm : Bool → Bool → Bool → List ℕ → ℕ → Type 0
-OpensOwnForm of_texts long_values wide b status = (contents : Contents) (a : List ℕ)
+abbrev pub OpensOwnForm : Bool → Form → List ℕ → ℕ → Type 0
+OpensOwnForm of_texts form b status = (contents : Contents) (a : List ℕ)
     → IsContainerOf contents a b
-    → (status ≡ 0) ↔ (contents ≡ contents_of of_texts long_values wide)
+    → (status ≡ 0) ↔ (contents ≡ contents_of of_texts form)
 
 -- The container `before` becomes that of the bytes behind its header, and the status is 0.
 -- Its contents, its length and whether it has a checksum stay. If the header has an error, or

@@ -1,8 +1,7 @@
 -- The items to be archived, and the results of their write.
-use Rattle.std.specs.Prelude.{◌≡◌, ℕ, ◌<◌, ◌^◌, ◌≤◌, ◌⊎◌, All, Bool, List, Some, map, slice_get}
-use Rattle.std.specs.Prelude.{take}
+use Rattle.std.specs.Prelude.{◌≡◌, ℕ, ◌<◌, ◌^◌, ◌≤◌, ◌⊎◌, All, List, Some, map, slice_get, take}
 use Rattle.std.specs.Borrow.{Bor}
-use Rattle.std.specs.Int.{Width, w32}
+use Rattle.std.specs.Int.{w32}
 use Rattle.std.specs.Str.{IsUtf8}
 use mir.Val.{bits}
 use Rattle.rkyv_base.specs.Numbers.{unsigned}
@@ -14,37 +13,42 @@ use Rattle.rkyv_base.specs.TextWriting.{text_format}
 use Rattle.rkyv_base.specs.declared.errors.WriteError.{WriteError}
 use Rattle.rkyv_base.specs.declared.writer.NoMemory.{NoMemory}
 use Rattle.rkyv_keys.specs.Calls.{text_calls}
-use Rattle.rkyv_keys.specs.OfTexts.{IsTextOf, text_key_calls}
-use Rattle.rkyv_c_calls.specs.Archives.{limit_of, most_of, number_key, value_shape, word_of}
-use Rattle.rkyv_c_calls.specs.Listed.{calls_of_number_at, number_calls}
-use Rattle.rkyv_c_calls.specs.Lists.{IsArchiveOf, NoArchiveOf}
+use Rattle.rkyv_keys.specs.OfTexts.{text_key_calls}
+use Rattle.rkyv_c_calls.specs.Archives.{limit_of, most_of, number_key, value_encoding, value_shape}
+use Rattle.rkyv_c_calls.specs.Archives.{word_of}
+use Rattle.rkyv_c_calls.specs.Listed.{TextStands, calls_of_number_at, number_calls}
+use Rattle.rkyv_c_calls.specs.Lists.{ArchiveWidth, IsArchiveOf, NoArchiveOf, format_of}
+use Rattle.rkyv_c_calls.specs.Lists.{natives_of}
 use Rattle.rkyv_c_calls.specs.Status.{write_refusal}
 use Rattle.rkyv_c_calls.specs.declared.building.Built.{Built}
+use Rattle.rkyv_c_calls.specs.declared.form.Form.{Form}
 use Rattle.rkyv_c_calls.specs.declared.number_items.NumberItem.{NumberItem}
 use Rattle.rkyv_c_calls.specs.declared.text_items.TextItem.{TextItem}
 
-module _ {N : Type 0} (w : Width) (v : Shape) (e : Encoding N) where
+module _ {N : Type 0} (width : ArchiveWidth) (v : Shape) (e : Encoding N) where
   -- a list of bytes is the archive of pairs of numbers
-  abbrev pub AreNumbers : ℕ → ℕ → List (ℕ × N) → List ℕ → Type 0
-  AreNumbers limit most = IsArchiveOf w number_key v (ScalarStands (unsigned w32))
-      calls_of_number_at e limit most (scalar_format (unsigned w32)) number_calls
+  abbrev pub AreNumbers : List (ℕ × N) → List ℕ → Type 0
+  AreNumbers = IsArchiveOf width
+      (format_of number_key v (scalar_format (unsigned w32)) number_calls e)
+      (natives_of (ScalarStands (unsigned w32)) calls_of_number_at e)
 
   -- the write of pairs of numbers fails with an error
-  abbrev pub AreNoNumbers : ℕ → ℕ → List (ℕ × N) → WriteError NoMemory → Type 0
-  AreNoNumbers limit most = NoArchiveOf w number_key v (ScalarStands (unsigned w32))
-      calls_of_number_at e limit most (scalar_format (unsigned w32)) number_calls
+  abbrev pub AreNoNumbers : List (ℕ × N) → WriteError NoMemory → Type 0
+  AreNoNumbers = NoArchiveOf width
+      (format_of number_key v (scalar_format (unsigned w32)) number_calls e)
 
   -- a list of bytes is the archive of pairs of texts
-  abbrev pub AreTexts : ℕ → ℕ → List (Bor (List ℕ) × N) → List ℕ → Type 0
-  AreTexts limit most = IsArchiveOf w (text_shape w) v (IsTextOf w (λ text. text.now))
-      (text_key_calls w) e limit most (written_as (λ text. text.now) (text_format w))
-      (λ text. text_calls text.now)
+  abbrev pub AreTexts : List (Bor (List ℕ) × N) → List ℕ → Type 0
+  AreTexts = IsArchiveOf width
+      (format_of (text_shape width.word) v (written_as (λ text. text.now) (text_format width.word))
+      (λ text. text_calls text.now) e)
+      (natives_of (TextStands width.word) (text_key_calls width.word) e)
 
   -- the write of pairs of texts fails with an error
-  abbrev pub AreNoTexts : ℕ → ℕ → List (Bor (List ℕ) × N) → WriteError NoMemory → Type 0
-  AreNoTexts limit most = NoArchiveOf w (text_shape w) v (IsTextOf w (λ text. text.now))
-      (text_key_calls w) e limit most (written_as (λ text. text.now) (text_format w))
-      (λ text. text_calls text.now)
+  abbrev pub AreNoTexts : List (Bor (List ℕ) × N) → WriteError NoMemory → Type 0
+  AreNoTexts = NoArchiveOf width
+      (format_of (text_shape width.word) v (written_as (λ text. text.now) (text_format width.word))
+      (λ text. text_calls text.now) e)
 
 -- `IsCause` applies to the first of `items` that doesn't fit; all items before it fit
 abbrev pub FirstUnfit : {I : Type 0} → (I → Type 0) → (I → Type 0) → List I → Type 0
@@ -95,49 +99,50 @@ module _ {N : Type 0} (e : Encoding N) where
   abbrev pub NoPairsOfTexts : List TextItem → ℕ → Type 0
   NoPairsOfTexts items status = (status ≡ 12) ⊎ FirstUnfit TextFits (TextFails status) items
 
-module _ {N : Type 0} (w : Width) (v : Shape) (e : Encoding N) (limit most : ℕ) where
+module _ {N : Type 0} (width : ArchiveWidth) (v : Shape) (e : Encoding N) where
   -- `b` is the archive of the pairs of the items
   abbrev pub NumbersMade : List NumberItem → List ℕ → Type 0
   NumbersMade items b = (pairs : List (ℕ × N)) × ArePairsOfNumbers e items pairs
-      × AreNumbers w v e limit most pairs b
+      × AreNumbers width v e pairs b
 
   -- `status` is that of items without pairs, or of the error of the write of their pairs
   abbrev pub NumbersRefused : List NumberItem → ℕ → Type 0
   NumbersRefused items status = NoPairsOfNumbers e items status
       ⊎ ((pairs : List (ℕ × N)) × (error : WriteError NoMemory) × ArePairsOfNumbers e items pairs
-      × AreNoNumbers w v e limit most pairs error × (status ≡ write_refusal error))
+      × AreNoNumbers width v e pairs error × (status ≡ write_refusal error))
 
   -- `b` is the archive of the pairs of the items
   abbrev pub TextsMade : List TextItem → List ℕ → Type 0
   TextsMade items b = (pairs : List (Bor (List ℕ) × N)) × ArePairsOfTexts e items pairs
-      × AreTexts w v e limit most pairs b
+      × AreTexts width v e pairs b
 
   -- `status` is that of items without pairs, or of the error of the write of their pairs
   abbrev pub TextsRefused : List TextItem → ℕ → Type 0
   TextsRefused items status = NoPairsOfTexts e items status
       ⊎ ((pairs : List (Bor (List ℕ) × N)) × (error : WriteError NoMemory)
-      × ArePairsOfTexts e items pairs × AreNoTexts w v e limit most pairs error
+      × ArePairsOfTexts e items pairs × AreNoTexts width v e pairs error
       × (status ≡ write_refusal error))
 
+-- the width of an archive in the form
+abbrev pub width_of : Form → ArchiveWidth
+width_of form =
+    record { word = word_of form.wide; limit = limit_of form.wide; most = most_of form.wide }
+
 -- a list of bytes is the archive of the pairs of numbers in the form
-abbrev pub IsArchiveOfNumbers : Bool → Bool → List NumberItem → List ℕ → Type 0
-IsArchiveOfNumbers long_values wide = NumbersMade (word_of wide) (value_shape long_values)
-    (unsigned (word_of long_values)) (limit_of wide) (most_of wide)
+abbrev pub IsArchiveOfNumbers : Form → List NumberItem → List ℕ → Type 0
+IsArchiveOfNumbers form = NumbersMade (width_of form) (value_shape form) (value_encoding form)
 
 -- a list of bytes is the archive of the pairs of texts in the form
-abbrev pub IsArchiveOfTexts : Bool → Bool → List TextItem → List ℕ → Type 0
-IsArchiveOfTexts long_values wide = TextsMade (word_of wide) (value_shape long_values)
-    (unsigned (word_of long_values)) (limit_of wide) (most_of wide)
+abbrev pub IsArchiveOfTexts : Form → List TextItem → List ℕ → Type 0
+IsArchiveOfTexts form = TextsMade (width_of form) (value_shape form) (value_encoding form)
 
 -- a status is the error of the write of the pairs of numbers in the form
-abbrev pub NoArchiveOfNumbers : Bool → Bool → List NumberItem → ℕ → Type 0
-NoArchiveOfNumbers long_values wide = NumbersRefused (word_of wide)
-    (value_shape long_values) (unsigned (word_of long_values)) (limit_of wide) (most_of wide)
+abbrev pub NoArchiveOfNumbers : Form → List NumberItem → ℕ → Type 0
+NoArchiveOfNumbers form = NumbersRefused (width_of form) (value_shape form) (value_encoding form)
 
 -- a status is the error of the write of the pairs of texts in the form
-abbrev pub NoArchiveOfTexts : Bool → Bool → List TextItem → ℕ → Type 0
-NoArchiveOfTexts long_values wide = TextsRefused (word_of wide) (value_shape long_values)
-    (unsigned (word_of long_values)) (limit_of wide) (most_of wide)
+abbrev pub NoArchiveOfTexts : Form → List TextItem → ℕ → Type 0
+NoArchiveOfTexts form = TextsRefused (width_of form) (value_shape form) (value_encoding form)
 
 -- the status is 0 and `after` has the archive, or it is an error and `after` is `before`
 abbrev pub HandsOut : (List ℕ → Type 0) → (ℕ → Type 0) → Built → ℕ → Built → Type 0

@@ -15,71 +15,105 @@ use Rattle.rkyv_table.specs.Table.TableFormat.{TableResolver}
 use Rattle.rkyv_collections.specs.InPlace.{with_first}
 use Rattle.rkyv_collections.specs.ListedLookups.{first_pair, first_value}
 use Rattle.rkyv_collections.specs.ListedWalks.{WalksVisitPairs}
-use Rattle.rkyv_collections.specs.Map.{hash_at}
+use Rattle.rkyv_collections.specs.MapAt.{AskedValue, MapAt, asked_value}
 use Rattle.rkyv_collections.specs.MapShape.{map_shape}
-use Rattle.rkyv_collections.specs.MapFormat.{MapStands, hash_of, map_format}
-use Rattle.rkyv_c_calls.specs.Archives.{root}
+use Rattle.rkyv_collections.specs.MapFormat.{MapStands, map_format}
+use Rattle.rkyv_collections.specs.Natives.{NativePairs, PairFormat, WidthMembers, native_pairs}
+use Rattle.rkyv_collections.specs.Natives.{pair_format}
+use Rattle.rkyv_c_calls.specs.Archives.{map_in}
 
-module _ {A N : Type 0} (w : Width) (k v : Shape) (key : List ℕ → ℕ → A → Type 0)
-    (key_calls : List ℕ → ℕ → List HasherCall) (e : Encoding N) where
-  -- the map at a position represents the pairs, under the load factor
-  abbrev pub PairsStandAt : ℕ × ℕ → List ℕ → ℕ → List (A × N) → Type 0
-  PairsStandAt factor = MapStands w k v key (ScalarStands e)
-      (hash_at (fx_hasher low_halves) key_calls) factor
+-- the pairs of numbers under keys that `stands` relates to bytes, with the hasher calls `key_calls`
+abbrev pub natives_of : {A N : Type 0} → (List ℕ → ℕ → A → Type 0)
+    → (List ℕ → ℕ → List HasherCall) → Encoding N → NativePairs A N
+natives_of stands key_calls e =
+    native_pairs stands (ScalarStands e) (fx_hasher low_halves) key_calls
 
-  -- the map at the root of `b` represents the pairs
-  abbrev pub PairsStand : ℕ × ℕ → List ℕ → List (A × N) → Type 0
-  PairsStand factor b pairs = PairsStandAt factor b (root w k v b) pairs
+-- how pairs of keys and numbers are written: by the shapes of keys and values, the format and the
+-- hasher calls of a key, and the encoding of values
+abbrev pub format_of : {A N R : Type 0} → Shape → Shape → Format A R → (A → List HasherCall)
+    → Encoding N → PairFormat A N R (Unit {0})
+format_of k v format calls e = pair_format k v format (scalar_format e) (fx_hasher low_halves) calls
 
-  -- `place` is the position of the first value whose key passes `asks`, or both are `None`
-  abbrev pub PlaceOfFirst : (A → Bool) → List ℕ → Option ℕ → Type 0
-  PlaceOfFirst asks b place = (factor : ℕ × ℕ) (pairs : List (A × N))
-      → PairsStand factor b pairs
-      → MatchOption (first_value asks pairs) (place ≡ None)
-      (λ x. (q : ℕ) × (place ≡ Some q) × ScalarStands e b q x)
+-- the lookup of keys by the values that they represent
+abbrev pub asked_key : {A : Type 0} → (List ℕ → ℕ → A → Type 0) → (List ℕ → ℕ → List HasherCall)
+    → (A → Bool) → AskedValue A
+asked_key stands key_calls asks = asked_value (fx_hasher low_halves) key_calls stands asks
 
-  -- The result of a lookup is the value of the first pair whose key passes `asks`.
+-- the map represents the pairs, under the load factor
+abbrev pub PairsStand : {A N : Type 0} → MapAt → NativePairs A N → ℕ × ℕ → List (A × N) → Type 0
+PairsStand m native factor pairs = MapStands m.word m.key m.value native.key native.value
+    native.key_hash factor m.bytes m.pos pairs
+
+module _ {A N : Type 0} (m : MapAt) (a : AskedValue A) (e : Encoding N) where
+  -- the pairs of keys that a lookup asks for, and of values
+  abbrev pub asked_pairs : NativePairs A N
+  asked_pairs = record { key = a.stands; value = ScalarStands e; key_hash = a.key_hash }
+
+  -- `place` is the position of the first value whose key is accepted, or both are `None`
+  abbrev pub PlaceOfFirst : Option ℕ → Type 0
+  PlaceOfFirst place = (factor : ℕ × ℕ) (pairs : List (A × N))
+      → PairsStand m asked_pairs factor pairs
+      → MatchOption (first_value a.asks pairs) (place ≡ None)
+      (λ x. (q : ℕ) × (place ≡ Some q) × ScalarStands e m.bytes q x)
+
+  -- The result of a lookup is the value of the first pair whose key is accepted.
   -- Without one the status is 1 and `after` is `before`.
-  abbrev pub GivesFirst : (A → Bool) → List ℕ → ℕ → ℕ → ℕ → Type 0
-  GivesFirst asks b before status after = (factor : ℕ × ℕ) (pairs : List (A × N))
-      → PairsStand factor b pairs
-      → MatchOption (first_value asks pairs) ((status ≡ 1) × (after ≡ before))
+  abbrev pub GivesFirst : ℕ → ℕ → ℕ → Type 0
+  GivesFirst before status after = (factor : ℕ × ℕ) (pairs : List (A × N))
+      → PairsStand m asked_pairs factor pairs
+      → MatchOption (first_value a.asks pairs) ((status ≡ 1) × (after ≡ before))
       (λ value. (status ≡ 0) × (e.value after ≡ value))
 
   -- After an overwrite `c` represents the list with the value of `number` in the first such pair.
-  -- If no key passes `asks` the status is 1; if `number` has too many bits it is 3.
-  abbrev pub SetsFirstOf : (A → Bool) → List ℕ → ℕ → ℕ → List ℕ → Type 0
-  SetsFirstOf asks b number status c = (factor : ℕ × ℕ) (pairs : List (A × N))
-      → PairsStand factor b pairs
+  -- If no key is accepted the status is 1; if `number` has too many bits it is 3.
+  abbrev pub SetsFirstOf : ℕ → ℕ → List ℕ → Type 0
+  SetsFirstOf number status c = (factor : ℕ × ℕ) (pairs : List (A × N))
+      → PairsStand m asked_pairs factor pairs
       → ((2 ^ bits e.word ≤ number) × (status ≡ 3))
       ⊎ ((number < 2 ^ bits e.word) × ((value : N) × (e.code value ≡ number)
-      × MatchOption (first_pair asks pairs) (status ≡ 1) (λ pair. status ≡ 0)
-      × PairsStand factor c (with_first asks value pairs)))
+      × MatchOption (first_pair a.asks pairs) (status ≡ 1) (λ pair. status ≡ 0)
+      × PairsStand (map_in m.word m.key m.value c) asked_pairs factor
+      (with_first a.asks value pairs)))
 
-  -- A walk over an archive of a list visits the home buckets of its pairs, each once and ascending.
-  -- It visits no other bucket, and the n-th home bucket has the n-th pair.
-  abbrev pub WalksVisitListed : Type 0
-  WalksVisitListed = WalksVisitPairs w k v key (ScalarStands e)
-      (hash_at (fx_hasher low_halves) key_calls)
+-- A walk over an archive of a list visits the home buckets of its pairs, each once and ascending.
+-- It visits no other bucket, and the n-th home bucket has the n-th pair.
+abbrev pub WalksVisitListed : {A N : Type 0} → Width → Shape → Shape → NativePairs A N → Type 0
+WalksVisitListed w k v native = WalksVisitPairs w k v native.key native.value native.key_hash
 
-  module _ {R : Type 0} (limit most : ℕ) (format : Format A R) (calls : A → List HasherCall) where
-    -- the format of a list of pairs as a map of at most `most` buckets
-    abbrev pub pairs_format : Format (List (A × N)) TableResolver
-    pairs_format = listed most (7, 8) (map_format w k v format (scalar_format e)
-        (hash_of (fx_hasher low_halves) calls) (7, 8))
+-- the width of an archive. `word`: its word, `limit`: greatest length of an archive in bytes,
+-- `most`: greatest number of buckets
+pub record ArchiveWidth : Type 0 where
+  pub word : Width
+  pub limit : ℕ
+  pub most : ℕ
 
-    -- `b` is the archive of the pairs, in this order.
-    -- It is valid, represents them, and has no other bytes.
-    unfoldable pub IsArchiveOf : List (A × N) → List ℕ → Type 0
-    IsArchiveOf pairs b = ArchiveOf limit (map_shape w k v) (PairsStandAt (7, 8))
-        pairs_format pairs b
+-- the width with the members of a `Width`
+abbrev pub archive_width : WidthMembers → ArchiveWidth
+archive_width w = record { word = w.word; limit = w.LIMIT; most = w.MAX_CAPACITY }
 
-    -- the write of the pairs fails with `error`
-    unfoldable pub NoArchiveOf : {F : Type 0} → List (A × N) → WriteError F → Type 0
-    NoArchiveOf pairs error = ArchiveRefused limit (map_shape w k v) pairs_format
-        pairs error
+module _ {A N R : Type 0} (width : ArchiveWidth) (format : PairFormat A N R (Unit {0})) where
+  -- the format of a list of pairs as a map under the load factor 7 / 8
+  abbrev pub pairs_format : Format (List (A × N)) TableResolver
+  pairs_format = listed width.most (7, 8) (map_format width.word format.key_shape
+      format.value_shape format.key format.value format.hash (7, 8))
 
-    -- an archive of a list is valid, and represents the list
-    abbrev pub ArchivesStand : Type 0
-    ArchivesStand = (pairs : List (A × N)) (b : List ℕ) → IsArchiveOf pairs b
-        → Accepted limit (map_shape w k v) b × PairsStand (7, 8) b pairs
+  -- the shape of the header of the map
+  abbrev pub header_shape : Shape
+  header_shape = map_shape width.word format.key_shape format.value_shape
+
+  -- `b` is the archive of the pairs, in this order.
+  -- It is valid, represents them, and has no other bytes.
+  unfoldable pub IsArchiveOf : NativePairs A N → List (A × N) → List ℕ → Type 0
+  IsArchiveOf native pairs b = ArchiveOf width.limit header_shape (MapStands width.word
+      format.key_shape format.value_shape native.key native.value native.key_hash (7, 8))
+      pairs_format pairs b
+
+  -- the write of the pairs fails with `error`
+  unfoldable pub NoArchiveOf : {F : Type 0} → List (A × N) → WriteError F → Type 0
+  NoArchiveOf pairs error = ArchiveRefused width.limit header_shape pairs_format pairs error
+
+  -- an archive of a list is valid, and represents the list
+  abbrev pub ArchivesStand : NativePairs A N → Type 0
+  ArchivesStand native = (pairs : List (A × N)) (b : List ℕ) → IsArchiveOf native pairs b
+      → Accepted width.limit header_shape b
+      × PairsStand (map_in width.word format.key_shape format.value_shape b) native (7, 8) pairs

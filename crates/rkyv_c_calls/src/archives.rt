@@ -4,7 +4,7 @@ ghost use Rattle.std.specs.Prelude.{◌≡◌};
 ghost use Rattle.rkyv_base.specs.Access.{Accepted};
 ghost use Rattle.rkyv_base.specs.Shape.{Viewed};
 ghost use Rattle.rkyv_collections.specs.MapShape.{map_shape};
-ghost use Rattle.rkyv_c_calls.specs.Archives.{IsMapArchive, Opens, root};
+ghost use Rattle.rkyv_c_calls.specs.Archives.{IsMapArchive, Opens, map_in, root};
 ghost use Rattle.rkyv_c_calls.specs.Calls.{Counts};
 
 use crate::status::{DONE, refusal};
@@ -42,7 +42,7 @@ pub(crate) fn root_of<K: Element, V: Element, W: Width>(archive: &[u8]) -> u64
 #[inline]
 pub(crate) fn pair_count<K: Element, V: Value, W: Width>(archive: &[u8]) -> usize
     requires { IsMapArchive W.word W.LIMIT K.shape V.shape archive.now }
-    ensures { Counts W.word K.shape V.shape archive.now result }
+    ensures { Counts (map_in W.word K.shape V.shape archive.now) result }
 {
     let root = root_of::<K, V, W>(archive);
     ArchivedHashMap::<K, V, FxHasher64, W>::of(View::new(archive, root)).len()

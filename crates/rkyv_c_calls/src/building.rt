@@ -1,7 +1,8 @@
 //! Archives of lists of pairs.
 
 ghost use Rattle.std.specs.Prelude.{IfErr, IfOk, MatchResult, ◌≡◌};
-ghost use Rattle.rkyv_c_calls.specs.Lists.{IsArchiveOf, NoArchiveOf};
+ghost use Rattle.rkyv_c_calls.specs.Lists.{IsArchiveOf, NoArchiveOf, archive_width};
+ghost use Rattle.rkyv_c_calls.specs.Lists.{natives_of, format_of};
 
 use crate::status::DONE;
 use crate::value::Value;
@@ -20,12 +21,11 @@ pub(crate) fn archive_of<A: NativeKey<A::Archived> + Serialize<VecWriter, W>, V:
 ) -> Result<Vec<u8>, WriteError<NoMemory>>
 where
     A::Archived: KeyElement,
-    ensures made { IfOk result (λ v.
-        IsArchiveOf W.word A.Archived.shape V.shape A.Archived.stands A.Archived.key_calls
-        V.encoding W.LIMIT W.MAX_CAPACITY A.format A.calls pairs.now v.items) }
-    ensures refused { IfErr result
-        (NoArchiveOf W.word A.Archived.shape V.shape A.Archived.stands A.Archived.key_calls
-        V.encoding W.LIMIT W.MAX_CAPACITY A.format A.calls pairs.now) }
+    ensures made { IfOk result (λ v. IsArchiveOf (archive_width W.Width)
+        (format_of A.Archived.shape V.shape A.format A.calls V.encoding)
+        (natives_of A.Archived.stands A.Archived.key_calls V.encoding) pairs.now v.items) }
+    ensures refused { IfErr result (NoArchiveOf (archive_width W.Width)
+        (format_of A.Archived.shape V.shape A.format A.calls V.encoding) pairs.now) }
 {
     let list: MapPairs<'_, A, V> = MapPairs::new(pairs);
     match to_bytes_in::<W, MapPairs<'_, A, V>>(alloc, &list) {

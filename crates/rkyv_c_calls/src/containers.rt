@@ -23,7 +23,7 @@ pub struct Opened<'a> {
 
 /// Returns the contents of the container of a map.
 fn contents_of(of_texts: bool, form: Form) -> Contents
-    ensures { result ≡ contents_of of_texts form.long_values form.wide }
+    ensures { result ≡ contents_of of_texts form }
 {
     Contents {
         kind: Kind::HashMap,
@@ -82,8 +82,7 @@ fn is_wide(width: Width) -> bool
 /// - `header` has 32 bytes.
 pub fn write_header(archive: &[u8], of_texts: bool, form: Form, checked: bool, header: &mut [u8])
     requires { length header.old ≡ 32 }
-    ensures { IsWrittenContainer of_texts form.long_values form.wide checked archive.now
-        (header.new ++ archive.now) }
+    ensures { IsWrittenContainer of_texts form checked archive.now (header.new ++ archive.now) }
 {
     Header::new(contents_of(of_texts, form), archive, checked).write(header);
 }
@@ -118,9 +117,8 @@ pub fn open_container<'a>(
     form: Form,
     opened: &mut Opened<'a>,
 ) -> u32
-    ensures told { OpensContainer of_texts form.long_values form.wide bytes.now opened.old
-        result opened.new }
-    ensures opens { OpensOwnForm of_texts form.long_values form.wide bytes.now result }
+    ensures told { OpensContainer of_texts form bytes.now opened.old result opened.new }
+    ensures opens { OpensOwnForm of_texts form bytes.now result }
 {
     match open_as(bytes, contents_of(of_texts, form)) {
         Ok(archive) => {

@@ -1,6 +1,7 @@
 //! Laws of archives that represent lists of pairs, each a function whose contract is the statement.
 
-ghost use Rattle.rkyv_c_calls.specs.Lists.{ArchivesStand, WalksVisitListed};
+ghost use Rattle.rkyv_c_calls.specs.Lists.{ArchivesStand, WalksVisitListed, archive_width};
+ghost use Rattle.rkyv_c_calls.specs.Lists.{natives_of, format_of};
 
 use crate::value::Value;
 use rkyv_base::archive::Archive;
@@ -14,7 +15,8 @@ use rkyv_collections::{FxHasher64, KeyElement, NativeKey};
 /// The buckets ascend, and the n-th home bucket has the n-th pair of the list.
 /// Repeated calls for the next pair, from bucket 0 on, thus return each pair of the list once.
 pub fn walks_visit_listed<A, K: KeyElement + StandsFor<A>, V: Value, W: Width>()
-    ensures { WalksVisitListed W.word K.shape V.shape K.stands K.key_calls V.encoding }
+    ensures { WalksVisitListed W.word K.shape V.shape
+        (natives_of K.stands K.key_calls V.encoding) }
 {
     walks_give_listed::<A, V, K, V, FxHasher64, W>();
 }
@@ -23,6 +25,7 @@ pub fn walks_visit_listed<A, K: KeyElement + StandsFor<A>, V: Value, W: Width>()
 pub fn archives_stand_for_their_lists<A: NativeKey<A::Archived> + Archive<W>, V: Value, W: Width>()
 where
     A::Archived: KeyElement,
-    ensures { ArchivesStand W.word A.Archived.shape V.shape A.Archived.stands A.Archived.key_calls
-        V.encoding W.LIMIT W.MAX_CAPACITY A.format A.calls }
+    ensures { ArchivesStand (archive_width W.Width)
+        (format_of A.Archived.shape V.shape A.format A.calls V.encoding)
+        (natives_of A.Archived.stands A.Archived.key_calls V.encoding) }
 {}

@@ -4,8 +4,8 @@ ghost use Rattle.std.specs.Prelude.{IfSome, false, true, ◌≡◌};
 ghost use Rattle.rkyv_base.specs.Bytes.{number_at};
 ghost use Rattle.rkyv_base.specs.Shape.{Viewed};
 ghost use Rattle.rkyv_table.specs.Table.Reading.{pos_of_found};
-ghost use Rattle.rkyv_c_calls.specs.Archives.{Gives, IsMapArchive, Sets, value_found};
-ghost use Rattle.rkyv_c_calls.specs.Lists.{GivesFirst, PlaceOfFirst, SetsFirstOf};
+ghost use Rattle.rkyv_c_calls.specs.Archives.{Gives, IsMapArchive, Sets, map_in, value_found};
+ghost use Rattle.rkyv_c_calls.specs.Lists.{GivesFirst, PlaceOfFirst, SetsFirstOf, asked_key};
 
 use crate::archives::root_of;
 use crate::status::{DONE, NOT_FOUND, VALUE_TOO_LARGE};
@@ -38,10 +38,10 @@ fn value_place<A: NativeKey<K>, K: KeyElement + StandsFor<A>, V: Value, W: Width
     requires archive { IsMapArchive W.word W.LIMIT K.shape V.shape archive.now }
     requires query { A.can_read key.now }
     ensures viewed { IfSome result (Viewed V.shape archive.now) }
-    ensures found { result ≡ value_found W.word K.shape V.shape archive.now
+    ensures found { result ≡ value_found (map_in W.word K.shape V.shape archive.now)
         (A.calls key.now) (A.fits key.now archive.now) }
-    ensures listed { PlaceOfFirst W.word K.shape V.shape K.stands K.key_calls V.encoding
-        (A.eq key.now) archive.now result }
+    ensures listed { PlaceOfFirst (map_in W.word K.shape V.shape archive.now)
+        (asked_key K.stands K.key_calls (A.eq key.now)) V.encoding result }
 {
     lookups_find_listed::<A, V, K, V, FxHasher64, W>();
     let root = root_of::<K, V, W>(archive);
@@ -71,10 +71,10 @@ pub(crate) fn get_in<A: NativeKey<K>, K: KeyElement + StandsFor<A>, V: Value, W:
     requires archive { IsMapArchive W.word W.LIMIT K.shape V.shape archive.now }
     requires query { A.can_read key.now }
     ensures gives { Gives V.encoding.word archive.now
-        (value_found W.word K.shape V.shape archive.now (A.calls key.now)
+        (value_found (map_in W.word K.shape V.shape archive.now) (A.calls key.now)
         (A.fits key.now archive.now)) value.old result value.new }
-    ensures listed { GivesFirst W.word K.shape V.shape K.stands K.key_calls V.encoding
-        (A.eq key.now) archive.now value.old result value.new }
+    ensures listed { GivesFirst (map_in W.word K.shape V.shape archive.now)
+        (asked_key K.stands K.key_calls (A.eq key.now)) V.encoding value.old result value.new }
 {
     match value_place::<A, K, V, W>(archive, key) {
         Some(pos) => {
@@ -111,10 +111,10 @@ pub(crate) fn set_in<A: NativeKey<K>, K: KeyElement + StandsFor<A>, V: Value, W:
     requires query { A.can_read key.now }
     ensures kept { IsMapArchive W.word W.LIMIT K.shape V.shape archive.new }
     ensures sets { Sets V.encoding archive.old
-        (value_found W.word K.shape V.shape archive.old (A.calls key.now)
+        (value_found (map_in W.word K.shape V.shape archive.old) (A.calls key.now)
         (A.fits key.now archive.old)) value result archive.new }
-    ensures listed { SetsFirstOf W.word K.shape V.shape K.stands K.key_calls V.encoding
-        (A.eq key.now) archive.old value result archive.new }
+    ensures listed { SetsFirstOf (map_in W.word K.shape V.shape archive.old)
+        (asked_key K.stands K.key_calls (A.eq key.now)) V.encoding value result archive.new }
 {
     let number = match V::of_number(value) {
         Some(number) => number,

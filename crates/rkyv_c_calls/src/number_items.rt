@@ -4,6 +4,7 @@ ghost use Rattle.std.specs.Prelude.{MatchResult};
 ghost use Rattle.rkyv_c_calls.specs.Items.{IsArchiveOfNumbers, NoArchiveOfNumbers};
 ghost use Rattle.rkyv_c_calls.specs.Items.{ArePairsOfNumbers, HandsOut, NoPairsOfNumbers};
 ghost use Rattle.rkyv_c_calls.specs.Items.{NumbersMade, NumbersRefused};
+ghost use Rattle.rkyv_c_calls.specs.Lists.{archive_width};
 
 use crate::building::{Built, archive_of, hand_out};
 use crate::form::Form;
@@ -24,8 +25,7 @@ pub struct NumberItem {
 
 /// Returns the pairs of the items.
 fn pairs_of<V: Value>(alloc: Global, items: &[NumberItem]) -> Result<Vec<(u32, V)>, u32>
-    ensures { MatchResult result
-        (λ pairs. ArePairsOfNumbers V.encoding items.now pairs.items)
+    ensures { MatchResult result (λ pairs. ArePairsOfNumbers V.encoding items.now pairs.items)
         (NoPairsOfNumbers V.encoding items.now) }
 {
     let mut pairs = match Vec::with_capacity(alloc, items.len()) {
@@ -47,9 +47,9 @@ fn pairs_of<V: Value>(alloc: Global, items: &[NumberItem]) -> Result<Vec<(u32, V
 
 /// Writes the archive of the items.
 fn archive_in<V: Value, W: Width>(alloc: Global, items: &[NumberItem]) -> Result<Vec<u8>, u32>
-    ensures { MatchResult result
-        (λ v. NumbersMade W.word V.shape V.encoding W.LIMIT W.MAX_CAPACITY items.now v.items)
-        (NumbersRefused W.word V.shape V.encoding W.LIMIT W.MAX_CAPACITY items.now) }
+    ensures { let width = archive_width W.Width in MatchResult result
+        (λ v. NumbersMade width V.shape V.encoding items.now v.items)
+        (NumbersRefused width V.shape V.encoding items.now) }
 {
     let pairs = match pairs_of::<V>(alloc, items) {
         Ok(pairs) => pairs,
@@ -63,9 +63,8 @@ fn archive_in<V: Value, W: Width>(alloc: Global, items: &[NumberItem]) -> Result
 
 /// Writes the archive of the items in the form.
 fn archive_by(alloc: Global, items: &[NumberItem], form: Form) -> Result<Vec<u8>, u32>
-    ensures { MatchResult result
-        (λ v. IsArchiveOfNumbers form.long_values form.wide items.now v.items)
-        (NoArchiveOfNumbers form.long_values form.wide items.now) }
+    ensures { MatchResult result (λ v. IsArchiveOfNumbers form items.now v.items)
+        (NoArchiveOfNumbers form items.now) }
 {
     match (form.long_values, form.wide) {
         (false, false) => archive_in::<u32, Narrow>(alloc, items),
@@ -87,8 +86,8 @@ fn archive_by(alloc: Global, items: &[NumberItem], form: Form) -> Result<Vec<u8>
 ///
 /// After an error `built` is unchanged.
 pub fn build_numbers(alloc: Global, items: &[NumberItem], form: Form, built: &mut Built<'_>) -> u32
-    ensures { HandsOut (IsArchiveOfNumbers form.long_values form.wide items.now)
-        (NoArchiveOfNumbers form.long_values form.wide items.now) built.old result built.new }
+    ensures { HandsOut (IsArchiveOfNumbers form items.now)
+        (NoArchiveOfNumbers form items.now) built.old result built.new }
 {
     hand_out(archive_by(alloc, items, form), built)
 }

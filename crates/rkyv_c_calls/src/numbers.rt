@@ -6,8 +6,7 @@ ghost use Rattle.std.specs.Prelude.{◌≡◌};
 ghost use Rattle.std.specs.Int.{w32};
 ghost use Rattle.rkyv_base.specs.Bytes.{number_at};
 ghost use Rattle.rkyv_c_calls.specs.Archives.{IsMapArchive, IsNumberArchive, IsPairAt, Opens};
-ghost use Rattle.rkyv_c_calls.specs.Archives.{limit_of, number_key, number_map, value_shape};
-ghost use Rattle.rkyv_c_calls.specs.Archives.{word_of};
+ghost use Rattle.rkyv_c_calls.specs.Archives.{limit_of, map_in, number_key, number_map, numbers_in};
 ghost use Rattle.rkyv_c_calls.specs.Calls.{Counts, GivesNumber, SetsNumber, StepsNumbers};
 ghost use Rattle.rkyv_c_calls.specs.Listed.{GivesFirstNumber, SetsFirstNumber};
 ghost use Rattle.rkyv_c_calls.specs.Walking.{NextNumber};
@@ -40,9 +39,8 @@ pub struct NumberPair {
 ///
 /// - The status of the first validation error: 16 to 23.
 pub fn open_numbers(archive: &[u8], form: Form) -> u32
-    ensures told { Opens (limit_of form.wide) (number_map form.long_values form.wide) archive.now
-        result }
-    ensures accepts { IsNumberArchive form.long_values form.wide archive.now → result ≡ 0 }
+    ensures told { Opens (limit_of form.wide) (number_map form) archive.now result }
+    ensures accepts { IsNumberArchive form archive.now → result ≡ 0 }
 {
     match (form.long_values, form.wide) {
         (false, false) => open_map::<u32, u32, Narrow>(archive),
@@ -58,9 +56,8 @@ pub fn open_numbers(archive: &[u8], form: Form) -> u32
 ///
 /// - The archive is valid: `open_numbers` returned `DONE`.
 pub fn count_numbers(archive: &[u8], form: Form) -> usize
-    requires { IsNumberArchive form.long_values form.wide archive.now }
-    ensures { Counts (word_of form.wide) number_key (value_shape form.long_values) archive.now
-        result }
+    requires { IsNumberArchive form archive.now }
+    ensures { Counts (numbers_in form archive.now) result }
 {
     match (form.long_values, form.wide) {
         (false, false) => pair_count::<u32, u32, Narrow>(archive),
@@ -80,11 +77,9 @@ pub fn count_numbers(archive: &[u8], form: Form) -> usize
 ///
 /// - The archive is valid: `open_numbers` returned `DONE`.
 pub fn get_number(archive: &[u8], form: Form, key: u32, value: &mut u64) -> u32
-    requires { IsNumberArchive form.long_values form.wide archive.now }
-    ensures gives { GivesNumber form.long_values form.wide archive.now key value.old result
-        value.new }
-    ensures listed { GivesFirstNumber form.long_values form.wide archive.now key value.old result
-        value.new }
+    requires { IsNumberArchive form archive.now }
+    ensures gives { GivesNumber form archive.now key value.old result value.new }
+    ensures listed { GivesFirstNumber form archive.now key value.old result value.new }
 {
     match (form.long_values, form.wide) {
         (false, false) => get_in::<u32, u32, u32, Narrow>(archive, &key, value),
@@ -107,11 +102,10 @@ pub fn get_number(archive: &[u8], form: Form, key: u32, value: &mut u64) -> u32
 ///
 /// - The archive is valid: `open_numbers` returned `DONE`.
 pub fn set_number(archive: &mut [u8], form: Form, key: u32, value: u64) -> u32
-    requires { IsNumberArchive form.long_values form.wide archive.old }
-    ensures kept { IsNumberArchive form.long_values form.wide archive.new }
-    ensures sets { SetsNumber form.long_values form.wide archive.old key value result archive.new }
-    ensures listed { SetsFirstNumber form.long_values form.wide archive.old key value result
-        archive.new }
+    requires { IsNumberArchive form archive.old }
+    ensures kept { IsNumberArchive form archive.new }
+    ensures sets { SetsNumber form archive.old key value result archive.new }
+    ensures listed { SetsFirstNumber form archive.old key value result archive.new }
 {
     match (form.long_values, form.wide) {
         (false, false) => set_in::<u32, u32, u32, Narrow>(archive, &key, value),
@@ -133,7 +127,8 @@ fn key_in<V: Value>(archive: &[u8], pos: u64) -> u32
 /// Stores the next pair of the map at the root of an archive, or returns `END`.
 fn next_in<V: Value, W: Width>(archive: &[u8], pair: &mut NumberPair) -> u32
     requires { IsMapArchive W.word W.LIMIT number_key V.shape archive.now }
-    ensures { NextNumber W.word V.shape V.encoding archive.now pair.old result pair.new }
+    ensures { NextNumber (map_in W.word number_key V.shape archive.now) V.encoding pair.old result
+        pair.new }
 {
     let root = root_of::<u32, V, W>(archive);
     let place = match next_place::<u32, V, W>(archive, root, pair.next) {
@@ -160,8 +155,8 @@ fn next_in<V: Value, W: Width>(archive: &[u8], pair: &mut NumberPair) -> u32
 ///
 /// - The archive is valid: `open_numbers` returned `DONE`.
 pub fn next_number(archive: &[u8], form: Form, pair: &mut NumberPair) -> u32
-    requires { IsNumberArchive form.long_values form.wide archive.now }
-    ensures { StepsNumbers form.long_values form.wide archive.now pair.old result pair.new }
+    requires { IsNumberArchive form archive.now }
+    ensures { StepsNumbers form archive.now pair.old result pair.new }
 {
     match (form.long_values, form.wide) {
         (false, false) => next_in::<u32, Narrow>(archive, pair),

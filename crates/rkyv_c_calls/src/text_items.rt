@@ -4,6 +4,7 @@ ghost use Rattle.std.specs.Prelude.{MatchResult};
 ghost use Rattle.rkyv_c_calls.specs.Items.{IsArchiveOfTexts, NoArchiveOfTexts};
 ghost use Rattle.rkyv_c_calls.specs.Items.{ArePairsOfTexts, HandsOut, NoPairsOfTexts};
 ghost use Rattle.rkyv_c_calls.specs.Items.{TextsMade, TextsRefused};
+ghost use Rattle.rkyv_c_calls.specs.Lists.{archive_width};
 
 use crate::building::{Built, archive_of, hand_out};
 use crate::form::Form;
@@ -25,8 +26,7 @@ pub struct TextItem<'a> {
 
 /// Returns the pairs of the items.
 fn pairs_of<'a, V: Value>(alloc: Global, items: &[TextItem<'a>]) -> Result<Vec<(&'a str, V)>, u32>
-    ensures { MatchResult result
-        (λ pairs. ArePairsOfTexts V.encoding items.now pairs.items)
+    ensures { MatchResult result (λ pairs. ArePairsOfTexts V.encoding items.now pairs.items)
         (NoPairsOfTexts V.encoding items.now) }
 {
     let mut pairs = match Vec::with_capacity(alloc, items.len()) {
@@ -52,9 +52,9 @@ fn pairs_of<'a, V: Value>(alloc: Global, items: &[TextItem<'a>]) -> Result<Vec<(
 
 /// Writes the archive of the items.
 fn archive_in<V: Value, W: Width>(alloc: Global, items: &[TextItem<'_>]) -> Result<Vec<u8>, u32>
-    ensures { MatchResult result
-        (λ v. TextsMade W.word V.shape V.encoding W.LIMIT W.MAX_CAPACITY items.now v.items)
-        (TextsRefused W.word V.shape V.encoding W.LIMIT W.MAX_CAPACITY items.now) }
+    ensures { let width = archive_width W.Width in MatchResult result
+        (λ v. TextsMade width V.shape V.encoding items.now v.items)
+        (TextsRefused width V.shape V.encoding items.now) }
 {
     let pairs = match pairs_of::<V>(alloc, items) {
         Ok(pairs) => pairs,
@@ -68,9 +68,8 @@ fn archive_in<V: Value, W: Width>(alloc: Global, items: &[TextItem<'_>]) -> Resu
 
 /// Writes the archive of the items in the form.
 fn archive_by(alloc: Global, items: &[TextItem<'_>], form: Form) -> Result<Vec<u8>, u32>
-    ensures { MatchResult result
-        (λ v. IsArchiveOfTexts form.long_values form.wide items.now v.items)
-        (NoArchiveOfTexts form.long_values form.wide items.now) }
+    ensures { MatchResult result (λ v. IsArchiveOfTexts form items.now v.items)
+        (NoArchiveOfTexts form items.now) }
 {
     match (form.long_values, form.wide) {
         (false, false) => archive_in::<u32, Narrow>(alloc, items),
@@ -93,8 +92,8 @@ fn archive_by(alloc: Global, items: &[TextItem<'_>], form: Form) -> Result<Vec<u
 ///
 /// After an error `built` is unchanged.
 pub fn build_texts(alloc: Global, items: &[TextItem<'_>], form: Form, built: &mut Built<'_>) -> u32
-    ensures { HandsOut (IsArchiveOfTexts form.long_values form.wide items.now)
-        (NoArchiveOfTexts form.long_values form.wide items.now) built.old result built.new }
+    ensures { HandsOut (IsArchiveOfTexts form items.now)
+        (NoArchiveOfTexts form items.now) built.old result built.new }
 {
     hand_out(archive_by(alloc, items, form), built)
 }

@@ -4,11 +4,10 @@
 
 ghost use Rattle.std.specs.Prelude.{IsTrue, ◌↔◌, MatchOption, ◌≡◌};
 ghost use Rattle.std.specs.Str.{IsUtf8};
-ghost use Rattle.rkyv_base.specs.Numbers.{unsigned};
 ghost use Rattle.rkyv_base.specs.Text.{text_at, text_shape};
 ghost use Rattle.rkyv_c_calls.specs.Archives.{Gives, IsMapArchive, IsPairAt, IsTextArchive};
-ghost use Rattle.rkyv_c_calls.specs.Archives.{Opens, Sets, limit_of, text_key, text_map};
-ghost use Rattle.rkyv_c_calls.specs.Archives.{value_shape, word_of};
+ghost use Rattle.rkyv_c_calls.specs.Archives.{Opens, Sets, limit_of, map_in, text_map, texts_in};
+ghost use Rattle.rkyv_c_calls.specs.Archives.{value_encoding, word_of};
 ghost use Rattle.rkyv_c_calls.specs.Calls.{Counts, GivesText, SetsText, StepsTexts, text_found};
 ghost use Rattle.rkyv_c_calls.specs.Listed.{GivesFirstText, SetsFirstText};
 ghost use Rattle.rkyv_c_calls.specs.Walking.{NextText};
@@ -63,9 +62,8 @@ pub fn is_text(bytes: &[u8]) -> bool
 ///
 /// - The status of the first validation error: 16 to 23.
 pub fn open_texts(archive: &[u8], form: Form) -> u32
-    ensures told { Opens (limit_of form.wide) (text_map form.long_values form.wide) archive.now
-        result }
-    ensures accepts { IsTextArchive form.long_values form.wide archive.now → result ≡ 0 }
+    ensures told { Opens (limit_of form.wide) (text_map form) archive.now result }
+    ensures accepts { IsTextArchive form archive.now → result ≡ 0 }
 {
     match (form.long_values, form.wide) {
         (false, false) => open_map::<Text<Narrow>, u32, Narrow>(archive),
@@ -81,9 +79,8 @@ pub fn open_texts(archive: &[u8], form: Form) -> u32
 ///
 /// - The archive is valid: `open_texts` returned `DONE`.
 pub fn count_texts(archive: &[u8], form: Form) -> usize
-    requires { IsTextArchive form.long_values form.wide archive.now }
-    ensures { Counts (word_of form.wide) (text_key form.wide) (value_shape form.long_values)
-        archive.now result }
+    requires { IsTextArchive form archive.now }
+    ensures { Counts (texts_in form archive.now) result }
 {
     match (form.long_values, form.wide) {
         (false, false) => pair_count::<Text<Narrow>, u32, Narrow>(archive),
@@ -95,11 +92,10 @@ pub fn count_texts(archive: &[u8], form: Form) -> usize
 
 /// Looks up a text, and stores its value in `value`.
 fn get_of(archive: &[u8], form: Form, key: &str, value: &mut u64) -> u32
-    requires { IsTextArchive form.long_values form.wide archive.now }
+    requires { IsTextArchive form archive.now }
     ensures gives { Gives (word_of form.long_values) archive.now
-        (text_found form.long_values form.wide archive.now key.now) value.old result value.new }
-    ensures listed { GivesFirstText form.long_values form.wide archive.now key.now value.old result
-        value.new }
+        (text_found form archive.now key.now) value.old result value.new }
+    ensures listed { GivesFirstText form archive.now key.now value.old result value.new }
 {
     match (form.long_values, form.wide) {
         (false, false) => get_in::<&str, Text<Narrow>, u32, Narrow>(archive, &key, value),
@@ -122,11 +118,10 @@ fn get_of(archive: &[u8], form: Form, key: &str, value: &mut u64) -> u32
 ///
 /// - The archive is valid: `open_texts` returned `DONE`.
 pub fn get_text(archive: &[u8], form: Form, key: &[u8], value: &mut u64) -> u32
-    requires { IsTextArchive form.long_values form.wide archive.now }
-    ensures gives { GivesText form.long_values form.wide archive.now key.now value.old result
-        value.new }
+    requires { IsTextArchive form archive.now }
+    ensures gives { GivesText form archive.now key.now value.old result value.new }
     ensures listed { IsUtf8 key.now
-        → GivesFirstText form.long_values form.wide archive.now key.now value.old result value.new }
+        → GivesFirstText form archive.now key.now value.old result value.new }
 {
     match text_of(key) {
         Some(text) => get_of(archive, form, text, value),
@@ -136,12 +131,11 @@ pub fn get_text(archive: &[u8], form: Form, key: &[u8], value: &mut u64) -> u32
 
 /// Looks up a text, and overwrites its value in place.
 fn set_of(archive: &mut [u8], form: Form, key: &str, value: u64) -> u32
-    requires { IsTextArchive form.long_values form.wide archive.old }
-    ensures kept { IsTextArchive form.long_values form.wide archive.new }
-    ensures sets { Sets (unsigned (word_of form.long_values)) archive.old
-        (text_found form.long_values form.wide archive.old key.now) value result archive.new }
-    ensures listed { SetsFirstText form.long_values form.wide archive.old key.now value result
-        archive.new }
+    requires { IsTextArchive form archive.old }
+    ensures kept { IsTextArchive form archive.new }
+    ensures sets { Sets (value_encoding form) archive.old
+        (text_found form archive.old key.now) value result archive.new }
+    ensures listed { SetsFirstText form archive.old key.now value result archive.new }
 {
     match (form.long_values, form.wide) {
         (false, false) => set_in::<&str, Text<Narrow>, u32, Narrow>(archive, &key, value),
@@ -165,12 +159,11 @@ fn set_of(archive: &mut [u8], form: Form, key: &str, value: u64) -> u32
 ///
 /// - The archive is valid: `open_texts` returned `DONE`.
 pub fn set_text(archive: &mut [u8], form: Form, key: &[u8], value: u64) -> u32
-    requires { IsTextArchive form.long_values form.wide archive.old }
-    ensures kept { IsTextArchive form.long_values form.wide archive.new }
-    ensures sets { SetsText form.long_values form.wide archive.old key.now value result
-        archive.new }
+    requires { IsTextArchive form archive.old }
+    ensures kept { IsTextArchive form archive.new }
+    ensures sets { SetsText form archive.old key.now value result archive.new }
     ensures listed { IsUtf8 key.now
-        → SetsFirstText form.long_values form.wide archive.old key.now value result archive.new }
+        → SetsFirstText form archive.old key.now value result archive.new }
 {
     match text_of(key) {
         Some(text) => set_of(archive, form, text, value),
@@ -190,7 +183,8 @@ fn key_in<V: Value, W: Width>(archive: &[u8], pos: u64) -> &[u8]
 /// Stores the next pair of the map at the root of an archive, or returns `END`.
 fn next_in<'a, V: Value, W: Width>(archive: &'a [u8], pair: &mut TextPair<'a>) -> u32
     requires { IsMapArchive W.word W.LIMIT (text_shape W.word) V.shape archive.now }
-    ensures { NextText W.word V.shape V.encoding archive.now pair.old result pair.new }
+    ensures { NextText (map_in W.word (text_shape W.word) V.shape archive.now) V.encoding pair.old
+        result pair.new }
 {
     let root = root_of::<Text<W>, V, W>(archive);
     let place = match next_place::<Text<W>, V, W>(archive, root, pair.next) {
@@ -217,8 +211,8 @@ fn next_in<'a, V: Value, W: Width>(archive: &'a [u8], pair: &mut TextPair<'a>) -
 ///
 /// - The archive is valid: `open_texts` returned `DONE`.
 pub fn next_text<'a>(archive: &'a [u8], form: Form, pair: &mut TextPair<'a>) -> u32
-    requires { IsTextArchive form.long_values form.wide archive.now }
-    ensures { StepsTexts form.long_values form.wide archive.now pair.old result pair.new }
+    requires { IsTextArchive form archive.now }
+    ensures { StepsTexts form archive.now pair.old result pair.new }
 {
     match (form.long_values, form.wide) {
         (false, false) => next_in::<u32, Narrow>(archive, pair),

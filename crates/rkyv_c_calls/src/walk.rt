@@ -3,13 +3,15 @@
 ghost use Rattle.std.specs.Prelude.{IfSome, length, pos as int, slice_range, unsigned_abs, ℕ, ◌*◌};
 ghost use Rattle.std.specs.Prelude.{◌+ℤ◌, ◌+◌, ◌-◌, ◌<◌, ◌^◌, ◌≡◌, ◌≤◌};
 ghost use Rattle.std.specs.Int.{byte_len};
-ghost use Rattle.rkyv_base.specs.Bytes.{signed_at};
+ghost use Rattle.rkyv_base.specs.Bytes.{number_at, signed_at};
 ghost use Rattle.rkyv_base.specs.Entry.{entry_shape};
+ghost use Rattle.rkyv_base.specs.Sealing.{value_pos};
 ghost use Rattle.rkyv_base.specs.Shape.{Viewed};
 ghost use Rattle.rkyv_table.specs.Controls.Numbers.{control_count};
 ghost use Rattle.rkyv_table.specs.Table.Header.{cap_at, controls_pos};
+ghost use Rattle.rkyv_collections.specs.MapAt.{map_at};
 ghost use Rattle.rkyv_c_calls.specs.Archives.{IsMapAt, IsPairAt};
-ghost use Rattle.rkyv_c_calls.specs.Walking.{IsNextPlace, value_at};
+ghost use Rattle.rkyv_c_calls.specs.Walking.{IsNextPlace};
 
 use crate::value::Value;
 use rkyv_base::element::Element;
@@ -102,7 +104,7 @@ pub(crate) fn next_place<K: Element, V: Element, W: Width>(
     from: u64,
 ) -> Option<Place>
     requires { IsMapAt W.word K.shape V.shape archive.now root }
-    ensures next { IsNextPlace W.word K.shape V.shape archive.now root from result }
+    ensures next { IsNextPlace (map_at W.Word K.Shaped V.Shaped archive.now root) from result }
     ensures viewed { IfSome result (λ place. Viewed (entry_shape K.shape V.shape) archive.now
         place.pos) }
     ensures small { IfSome result (λ place. place.bucket + 1 < 2 ^ 64) }
@@ -127,7 +129,7 @@ pub(crate) fn next_place<K: Element, V: Element, W: Width>(
 #[inline]
 pub(crate) fn value_in<K: Element, V: Value>(archive: &[u8], pos: u64) -> u64
     requires { IsPairAt K.shape V.shape archive.now pos }
-    ensures { result ≡ value_at V.encoding archive.now K.shape V.shape pos }
+    ensures { result ≡ number_at V.encoding.word archive.now (value_pos K.shape V.shape pos) }
 {
     let entry: View<'_, Entry<K, V>> = View::new(archive, pos);
     entry.value().to_native().to_number()

@@ -13,7 +13,7 @@ use rkyv_testing::archives::{one_number, one_wide_number};
 
 // Returns whether the archive is valid in the form.
 fn is_map(archive: &[u8], form: Form) -> bool
-    ensures { IsTrue result → IsNumberArchive form.long_values form.wide archive.now }
+    ensures { IsTrue result → IsNumberArchive form archive.now }
 {
     if open_numbers(archive, form) == DONE {
         true

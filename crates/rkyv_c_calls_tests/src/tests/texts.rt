@@ -13,7 +13,7 @@ use rkyv_testing::archives::one_symbol;
 
 // Returns whether the archive is valid in the form.
 fn is_map(archive: &[u8], form: Form) -> bool
-    ensures { IsTrue result → IsTextArchive form.long_values form.wide archive.now }
+    ensures { IsTrue result → IsTextArchive form archive.now }
 {
     if open_texts(archive, form) == DONE {
         true

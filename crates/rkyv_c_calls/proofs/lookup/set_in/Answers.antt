@@ -1,11 +1,12 @@
 use Rattle.std.proofs.Common.{◌≡◌, ◌∙◌, ℕ, ◌-◌, List, ap, arith, inl, inr, length, refl, subst, sym}
 use Rattle.rkyv_scan.specs.Hash.{fx_hasher, low_halves}
+use Rattle.rkyv_base.specs.Scalar.{ScalarStands}
 use Rattle.rkyv_collections.specs.Map.{hash_at}
+use Rattle.rkyv_collections.specs.MapFormat.{MapStands}
 use Rattle.rkyv_collections.specs.MapShape.{map_shape}
 use Rattle.rkyv_c_calls.proofs.Writing.{set_kept, set_told}
 use Rattle.rkyv_collections.specs.InPlace.{with_first}
 use Rattle.rkyv_collections.specs.ListedLookups.{first_pair}
-use Rattle.rkyv_c_calls.specs.Lists.{PairsStandAt}
 use Rattle.rkyv_c_calls.proofs.First.{first_set}
 use Rattle.rkyv_c_calls.proofs.lookup.set_in.Goals as goal
 
@@ -35,7 +36,7 @@ returns-clause-listed g c = λ factor pairs stands.
     let b = c.args.archive.now in
     let set = c.set_value_of-found in
     let asks = g.A.PartialEq.eq c.args.key.now in
-    let Stands : List ℕ → ℕ → List (g.row.A.Denot × g.row.V.Denot) → Type 0 = λ d r ps. PairsStandAt g.W.Word.word g.K.Shaped.shape g.V.Shaped.shape g.K.StandsFor.stands g.K.KeyElement.key_calls e factor d r ps in
+    let Stands : List ℕ → ℕ → List (g.row.A.Denot × g.row.V.Denot) → Type 0 = λ d r ps. MapStands g.W.Word.word g.K.Shaped.shape g.V.Shaped.shape g.K.StandsFor.stands (ScalarStands e) (hash_at (fx_hasher low_halves) g.K.KeyElement.key_calls) factor d r ps in
     let at = c.root_of-root.ensures.at in
     let same : length set.new.archive ≡ length b = omega (arith, set.auto.archive) in
     let after = set.ensures.listed factor pairs (subst (λ p. Stands b p pairs) (sym at) stands) in

@@ -1,6 +1,7 @@
 use Rattle.std.proofs.Common.{◌≡◌, ℕ, ◌∙◌, List, ap, sym}
 use Rattle.std.specs.Option.{option_map}
 use Rattle.rkyv_scan.specs.Groups.{generic_kind}
+use Rattle.rkyv_scan.specs.Hash.{fx_hasher, low_halves}
 use Rattle.rkyv_base.specs.Entry.{entry_shape}
 use Rattle.rkyv_base.specs.Scalar.{ScalarStands}
 use Rattle.rkyv_base.specs.Sealing.{value_pos}
@@ -9,10 +10,10 @@ use Rattle.rkyv_table.specs.Table.Reading.{pos_of_found}
 use Rattle.rkyv_table.proofs.Moved.{moved}
 use Rattle.rkyv_collections.proofs.SealedMap.{as_read}
 use Rattle.rkyv_collections.specs.ListedLookups.{first_value}
-use Rattle.rkyv_collections.specs.Map.{map_bytes, map_pos}
+use Rattle.rkyv_collections.specs.Map.{hash_at, map_bytes, map_pos}
+use Rattle.rkyv_collections.specs.MapFormat.{MapStands}
 use Rattle.rkyv_collections.specs.MapShape.{map_shape}
 use Rattle.rkyv_c_calls.specs.Archives.{hash_by, root}
-use Rattle.rkyv_c_calls.specs.Lists.{PairsStandAt}
 use Rattle.rkyv_c_calls.proofs.First.{found_placed, found_viewed, view_stands}
 use Rattle.rkyv_c_calls.proofs.lookup.value_place.Goals as goal
 
@@ -42,7 +43,7 @@ returns-clause-listed g c = λ factor pairs stands.
     let m = c.of-map.result in
     let e = g.V.Scalar.encoding in
     let asks = g.A.PartialEq.eq c.args.key.now in
-    let Stands : List ℕ → ℕ → Type 0 = λ d r. PairsStandAt g.W.Word.word g.K.Shaped.shape g.V.Shaped.shape g.K.StandsFor.stands g.K.KeyElement.key_calls e factor d r pairs in
+    let Stands : List ℕ → ℕ → Type 0 = λ d r. MapStands g.W.Word.word g.K.Shaped.shape g.V.Shaped.shape g.K.StandsFor.stands (ScalarStands e) (hash_at (fx_hasher low_halves) g.K.KeyElement.key_calls) factor d r pairs in
     let here = moved Stands c.args.archive.now (map_bytes m) (root g.W.Word.word g.K.Shaped.shape g.V.Shaped.shape c.args.archive.now) (map_pos m) (sym bytes) (sym place) stands in
     let listed = c.lookups_find_listed.ensures m (g.A.Query.fits c.args.key.now (map_bytes m)) asks factor pairs (λ a q s there. g.met.A.NativeKey.native c.args.key.now a (map_bytes m) q s there) here in
     found_placed m c.args.archive.now bytes (ScalarStands e) c.get.result c.found_pos.result (first_value asks pairs) c.found_pos.ensures c.get.ensures.walked
