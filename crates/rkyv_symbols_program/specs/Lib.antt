@@ -1,1 +1,3 @@
 pub mod ByAddress
+pub mod Commands
+pub mod Outcomes
