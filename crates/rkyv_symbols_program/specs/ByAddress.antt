@@ -7,19 +7,29 @@ use Rattle.std.specs.Int.{w32, w64}
 use Rattle.std.specs.declared.vec.Vec.{Vec}
 use Rattle.std.proofs.Common.{nat_cmp}
 use Rattle.std.specs.List.Sorted.{IsNonDecreasingBy, IsPermutation, IsStableByKey}
+use Rattle.rkyv_scan.specs.Hash.{U64, fx_hasher, low_halves}
 use Rattle.rkyv_base.specs.Access.{Accepted, AccessFails}
+use Rattle.rkyv_base.specs.Entry.{entry_shape}
 use Rattle.rkyv_base.specs.Format.{Format}
 use Rattle.rkyv_base.specs.Numbers.{unsigned}
+use Rattle.rkyv_base.specs.Pairs.{written_as}
 use Rattle.rkyv_base.specs.Root.{ArchiveOf, ArchiveRefused}
-use Rattle.rkyv_base.specs.Scalar.{ScalarStands}
+use Rattle.rkyv_base.specs.Scalar.{ScalarStands, scalar_format, scalar_shape}
 use Rattle.rkyv_base.specs.Shape.{Shape}
 use Rattle.rkyv_base.specs.Text.{text_at}
+use Rattle.rkyv_base.specs.TextWriting.{text_format}
 use Rattle.rkyv_base.specs.View.{IsAt, StandsAt, bytes_of, pos_of}
 use Rattle.rkyv_base.specs.declared.errors.VerifyError.{VerifyError}
 use Rattle.rkyv_base.specs.declared.errors.WriteError.{WriteError}
 use Rattle.rkyv_base.specs.declared.errors.WriteError.TheVariants.{Memory}
 use Rattle.rkyv_base.specs.declared.view.View.{View}
-use Rattle.rkyv_index.specs.Index.{IsPairOf}
+use Rattle.rkyv_keys.specs.OfScalars.{one_call, scalar_calls}
+use Rattle.rkyv_keys.specs.OfTexts.{IsTextOf}
+use Rattle.rkyv_table.specs.Table.Listed.{listed}
+use Rattle.rkyv_index.specs.Index.{IsPairOf, hash_at}
+use Rattle.rkyv_index.specs.IndexFormat.{IndexStands, hash_of, index_format}
+use Rattle.rkyv_index.specs.IndexHeader.{IndexResolver}
+use Rattle.rkyv_index.specs.IndexLayout.{index_shape}
 use Rattle.rkyv_index.specs.declared.lists.OrderedPairs.{OrderedPairs}
 use Rattle.rkyv_index.specs.declared.map.ArchivedIndexMap.{ArchivedIndexMap}
 use Rattle.rkyv_symbols.specs.Table.{Symbols, address_shape, name_shape}
@@ -38,29 +48,42 @@ pub record IsAscending (entries row : Row) : Type 0 where
   pub sorted : IsNonDecreasingBy (λ entry. entry.0) row
   pub stable : IsStableByKey (λ entry. entry.0) nat_cmp entries row
 
+-- the pairs of an index
+abbrev pub Listed : Type 0
+Listed = OrderedPairs ℕ (Bor (List ℕ))
+
+-- the shape of an index's header
+abbrev pub index_header : Shape
+index_header = index_shape w32 (entry_shape address_shape name_shape)
+
+-- the index map at `p` in `b` represents the pairs
+abbrev pub PairsStandAt : List ℕ → ℕ → Listed → Type 0
+PairsStandAt b p pairs = IndexStands w32 address_shape name_shape (ScalarStands (unsigned w64))
+    (IsTextOf w32 (λ name. name.now))
+    (hash_at (fx_hasher low_halves) (scalar_calls (unsigned w64) U64)) (7, 8) b p pairs.0.items
+
+-- the format of the pairs of an index
+abbrev pub pairs_format : Format Listed IndexResolver
+pairs_format = written_as (λ pairs. pairs.0.items) (listed 4_294_967_295 (7, 8)
+    (index_format w32 (scalar_shape (unsigned w32)) (unsigned w32) address_shape name_shape
+    (scalar_format (unsigned w64)) (written_as (λ name. name.now) (text_format w32))
+    (hash_of (fx_hasher low_halves) (one_call U64)) (7, 8)))
+
 -- `index` is the archive of the symbols by ascending address
-abbrev pub IsIndexOf : {R : Type 0} → Shape
-    → (List ℕ → ℕ → OrderedPairs ℕ (Bor (List ℕ)) → Type 0)
-    → Format (OrderedPairs ℕ (Bor (List ℕ))) R → Symbols → List ℕ → Type 0
-IsIndexOf shape stands format symbols index =
-    (pairs : OrderedPairs ℕ (Bor (List ℕ))) × IsAscending (turned symbols) pairs.0.items
-    × ArchiveOf 4_294_967_295 shape stands format pairs index
+abbrev pub IsIndexOf : Symbols → List ℕ → Type 0
+IsIndexOf symbols index = (pairs : Listed) × IsAscending (turned symbols) pairs.0.items
+    × ArchiveOf 4_294_967_295 index_header PairsStandAt pairs_format pairs index
 
 -- no index is written: the sorted list fails to allocate, or the write fails with `e`
-abbrev pub NoIndexOf : {F R : Type 0} → Shape → Format (OrderedPairs ℕ (Bor (List ℕ))) R → Symbols
-    → WriteError F → Type 0
-NoIndexOf shape format symbols e = (e ≡ Memory)
-    ⊎ ((pairs : OrderedPairs ℕ (Bor (List ℕ))) × IsAscending (turned symbols) pairs.0.items
-    × ArchiveRefused 4_294_967_295 shape format pairs e)
+abbrev pub NoIndexOf : {F : Type 0} → Symbols → WriteError F → Type 0
+NoIndexOf symbols e = (e ≡ Memory)
+    ⊎ ((pairs : Listed) × IsAscending (turned symbols) pairs.0.items
+    × ArchiveRefused 4_294_967_295 index_header pairs_format pairs e)
 
 -- `result` is the archive of the symbols by ascending address, or the error of its write
-abbrev pub IndexResult : {F R Z : Type 0} → Shape
-    → (List ℕ → ℕ → OrderedPairs ℕ (Bor (List ℕ)) → Type 0)
-    → Format (OrderedPairs ℕ (Bor (List ℕ))) R → Symbols → Result (Vec ℕ Z) (WriteError F)
-    → Type 0
-IndexResult shape stands format symbols result =
-    MatchResult result (λ index. IsIndexOf shape stands format symbols index.items)
-    (NoIndexOf shape format symbols)
+abbrev pub IndexResult : {F Z : Type 0} → Symbols → Result (Vec ℕ Z) (WriteError F) → Type 0
+IndexResult symbols result =
+    MatchResult result (λ index. IsIndexOf symbols index.items) (NoIndexOf symbols)
 
 -- `result` is the index map at the root of `index`, which is valid, or the first validation error
 abbrev pub OpensIndex : {K V H W : Type 0} {ks : Shapes K} {vs : Shapes V} {wt : Words W}

@@ -6,18 +6,13 @@ ghost use Rattle.rkyv_symbols_program.specs.ByAddress.{IndexResult, IsAscending,
 ghost use Rattle.rkyv_symbols_program.specs.ByAddress.{OpensIndex, turned};
 
 use rkyv_base::access::access;
-use rkyv_base::archive::Archive;
-use rkyv_base::element::{Element, StandsFor};
+use rkyv_base::element::Element;
 use rkyv_base::errors::{VerifyError, WriteError};
 use rkyv_base::root::to_bytes;
 use rkyv_base::text::Text;
-use rkyv_base::width::Narrow;
 use rkyv_base::writer::NoMemory;
 use rkyv_index::{ArchivedIndexMap, IndexMapOf, OrderedPairs};
 use std::alloc::{AllocError, Global};
-
-/// The lists that indexes are archived from.
-type Row<'a> = OrderedPairs<u64, &'a str>;
 
 /// The root of an index.
 type Index = IndexMapOf<u64, Text>;
@@ -55,8 +50,7 @@ fn ascending<'a>(
 /// - `Memory`: the sorted list fails to allocate.
 /// - The errors of `to_bytes` for an index map.
 pub fn archive(alloc: Global, symbols: &[(&str, u64)]) -> Result<Vec<u8>, WriteError<NoMemory>>
-    ensures { IndexResult ⟦<Index as Element>⟧.shape ⟦<Index as StandsFor<Row<'static>>>⟧.stands
-        ⟦<Row<'static> as Archive<Narrow>>⟧.format symbols.now result }
+    ensures { IndexResult symbols.now result }
 {
     let row = match ascending(alloc, symbols) {
         Ok(row) => row,
