@@ -13,6 +13,7 @@ use Rattle.rkyv_base.specs.Pairs.{
 use Rattle.rkyv_base.specs.Shape.{IsElement, Shape}
 use Rattle.rkyv_keys.specs.Equality.{Comparison}
 use Rattle.rkyv_keys.specs.Keys.{IsQuery}
+use Rattle.rkyv_keys.specs.OfEntries.{entry_equals}
 
 -- the format laws of values that are written as the pair `seen x`
 pub pair_seen : {X A B R Q : Type 0} (seen : X → A × B) {k v : Shape} (kl : IsElement k)
@@ -23,6 +24,16 @@ pub pair_seen : {X A B R Q : Type 0} (seen : X → A × B) {k v : Shape} (kl : I
 pair_seen seen {k} {v} kl vl {key} {value} {kf} {vf} kw vw =
     written_as-format seen (entry_shape k v) (PairStands k v key value) (pair_format k v kf vf)
     (pair_is_format k v kl vl key value kf vf kw vw)
+
+-- the pair `seen x` is represented at `p`: the key at `p`, and the value at the value's offset
+abbrev pub SeenStands : {X A B : Type 0} → Shape → Shape → (List ℕ → ℕ → A → Type 0)
+    → (List ℕ → ℕ → B → Type 0) → (X → A × B) → List ℕ → ℕ → X → Type 0
+SeenStands k v key value seen b p x = PairStands k v key value b p (seen x)
+
+-- each part of the entry equals its part of the pair `seen x`
+abbrev pub seen_equals : {X A B : Type 0} → Shape → Shape → (List ℕ → ℕ → A → Type 0)
+    → (List ℕ → ℕ → B → Type 0) → (X → A × B) → List ℕ → ℕ → X → Type 0
+seen_equals k v key value seen b p x = entry_equals k v key value b p (seen x)
 
 -- the query laws of values that are looked up as `seen x`
 pub query_seen : {X Q : Type 0} (seen : X → Q) {s : Shape} {same : Comparison} {key_calls : List ℕ

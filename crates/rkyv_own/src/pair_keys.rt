@@ -3,12 +3,11 @@
 ghost use Rattle.std.specs.Prelude.{◌&&◌, ◌↔◌, ◌≡◌, IsTrue, MatchResult};
 ghost use Rattle.std.specs.Cmp.{and_equiv, and_per, on_equiv, on_per};
 ghost use Rattle.rkyv_base.specs.Entry.{entry_shape};
-ghost use Rattle.rkyv_base.specs.Pairs.{PairStands};
 ghost use Rattle.rkyv_base.specs.View.{IsView, StandsAt};
 ghost use Rattle.rkyv_keys.specs.Places.{at_view};
-ghost use Rattle.rkyv_keys.specs.OfEntries.{BothRead, entry_equals, entry_fits, entry_query};
+ghost use Rattle.rkyv_keys.specs.OfEntries.{BothRead, entry_fits, entry_query};
 ghost use Rattle.rkyv_keys.specs.OfEntries.{entry_fits_its_equal, entry_refuses, pair_calls};
-ghost use Rattle.rkyv_own.specs.Seeing.{query_seen};
+ghost use Rattle.rkyv_own.specs.Seeing.{SeenStands, query_seen, seen_equals};
 
 use crate::pair::{AsPair, FromPair, Seen};
 use rkyv_base::element::StandsFor;
@@ -94,13 +93,13 @@ impl<
     K: MatchesNative<A>,
     V: MatchesNative<B>,
 > MatchesNative<Seen<T>> for Entry<K, V> {
-    ghost equals = { λ b p x. entry_equals K.shape V.shape K.equals V.equals b p (T.pair x.0) };
+    ghost equals = { seen_equals K.shape V.shape K.equals V.equals (λ x. T.pair x.0) };
 
     #[inline]
     fn eq_native(view: View<'_, Entry<K, V>>, value: &Seen<T>) -> bool
         requires { IsView (entry_shape K.shape V.shape) view }
         ensures { IsTrue result ↔ StandsAt
-            (λ b p x. entry_equals K.shape V.shape K.equals V.equals b p (T.pair x.0))
+            (seen_equals K.shape V.shape K.equals V.equals (λ x. T.pair x.0))
             view.entry value.now }
     {
         K::eq_native(view.key(), value.0.first()) && V::eq_native(view.value(), value.0.second())
@@ -120,8 +119,7 @@ impl<
     fn deserialize(alloc: Global, view: View<'_, Entry<K, V>>) -> Result<Seen<T>, ReadError>
         requires { IsView (entry_shape K.shape V.shape) view }
         ensures { MatchResult result
-            (StandsAt (λ b p x. PairStands K.shape V.shape K.stands V.stands b p (T.pair x.0))
-            view.entry)
+            (StandsAt (SeenStands K.shape V.shape K.stands V.stands (λ x. T.pair x.0)) view.entry)
             (StandsAt (entry_refuses K.shape V.shape K.refuses V.refuses) view.entry) }
     {
         let first = K::deserialize(alloc, view.key())?;
