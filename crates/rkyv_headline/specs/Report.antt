@@ -1,6 +1,6 @@
 -- A table in bytes, its items, and the result of one lookup.
 use Rattle.std.specs.Prelude.{◌≡◌, ℕ, ◌+◌, ◌/◌, Bool, List, length, IfSome, MatchResult}
-use Rattle.std.specs.Prelude.{Result}
+use Rattle.std.specs.Prelude.{Option, Result}
 use Rattle.std.specs.Int.{Width}
 use Rattle.std.specs.List.{All, Contains}
 use Rattle.rkyv_base.specs.Checking.{Fails, Passes}
@@ -44,6 +44,16 @@ per_sixteen cap = (cap + 15) / 16
 abbrev pub ReadsFew : Width → List ℕ → ℕ → ℕ → Type 0
 ReadsFew w b p strides = ReadsWithin (len_at w b p) (per_sixteen (cap_at w b p)) 0 strides
 
+-- `found`: position of the item that a lookup of `hash` in the table finds
+abbrev pub LooksUpIn : {T : Type 0} → TableIn → (View T → Bool → Type 0) → ℕ → Option ℕ → Type 0
+LooksUpIn t post hash found = LooksUp post generic_kind t.word t.shape t.bytes t.pos hash found
+
+-- `count`: number of strides that a lookup of `hash` in the table reads, if the comparison depends
+-- only on positions
+abbrev pub ReadsExactlyIn : {T : Type 0} → TableIn → (View T → Bool → Type 0) → ℕ → ℕ → Type 0
+ReadsExactlyIn t post hash count =
+    ReadsExactly post generic_kind t.word t.shape t.bytes t.pos hash count
+
 -- the items of the table, and one lookup. The walk visits each item once, in bucket order,
 -- and each is valid. The lookup finds no item or an accepted one, within the bound.
 -- If the comparison is a function of the position, the number of strides is exact
@@ -53,9 +63,9 @@ pub record ReportsTable {T : Type 0} (t : TableIn) (post : View T → Bool → T
   pub count : length report.walked.items ≡ len_at t.word t.bytes t.pos
   pub checked : All (Viewed t.shape t.bytes) report.walked.items
   pub among : IfSome report.found (Contains report.walked.items)
-  pub looks : LooksUp post generic_kind t.word t.shape t.bytes t.pos hash report.found
+  pub looks : LooksUpIn t post hash report.found
   pub reads : ReadsFew t.word t.bytes t.pos report.strides
-  pub exact : ReadsExactly post generic_kind t.word t.shape t.bytes t.pos hash report.strides
+  pub exact : ReadsExactlyIn t post hash report.strides
 
 -- the bytes are not a valid table, or memory could not be allocated for a valid one
 abbrev pub LookOverFails : TableIn → PartRange → LookError → Type 0

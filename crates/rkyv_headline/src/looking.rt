@@ -3,12 +3,12 @@
 ghost use Rattle.std.specs.Prelude.{IfOk, length, ◌%◌, ◌*◌, ◌+◌, ◌≡◌, ◌≤◌};
 ghost use Rattle.std.specs.Int.{byte_len};
 ghost use Rattle.rkyv_base.specs.Shape.{Viewed};
-ghost use Rattle.rkyv_scan.specs.Groups.{generic_kind};
-ghost use Rattle.rkyv_table.specs.Table.Bare.{LooksUp, MayAskOf, ReadsExactly};
+ghost use Rattle.rkyv_table.specs.Table.Bare.{MayAskOf};
 ghost use Rattle.rkyv_table.specs.Table.Layout.{table_shape};
 ghost use Rattle.rkyv_table.specs.Table.Positions.{item_positions};
 ghost use Rattle.rkyv_table.specs.Table.Reading.{pos_of_found};
-ghost use Rattle.rkyv_headline.specs.Report.{CanCompareItems, LooksOver, ReadsFew, table_in};
+ghost use Rattle.rkyv_headline.specs.Report.{CanCompareItems, LooksOver, LooksUpIn};
+ghost use Rattle.rkyv_headline.specs.Report.{ReadsExactlyIn, ReadsFew, table_in};
 
 use rkyv_base::element::{Element, PartRange};
 use rkyv_base::errors::VerifyError;
@@ -80,10 +80,10 @@ fn look_up<W: Width, T: Element, F: Fn(View<'_, T>) -> bool>(
 ) -> Answer
     requires table { Viewed (table_shape W.word T.shape) bytes.now pos }
     requires callable { MayAskOf (F.pre cmp) W.word T.shape bytes.now pos }
-    ensures looks { LooksUp (F.post cmp) generic_kind W.word T.shape bytes.now pos hash
+    ensures looks { LooksUpIn (table_in W.Word T.Shaped bytes.now pos) (F.post cmp) hash
         result.found }
     ensures reads { ReadsFew W.word bytes.now pos result.strides }
-    ensures exact { ReadsExactly (F.post cmp) generic_kind W.word T.shape bytes.now pos hash
+    ensures exact { ReadsExactlyIn (table_in W.Word T.Shaped bytes.now pos) (F.post cmp) hash
         result.strides }
 {
     let table = ArchivedHashTable::<T, W>::of(View::new(bytes, pos));
