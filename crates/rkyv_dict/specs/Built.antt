@@ -57,11 +57,26 @@ module _ (k : Parts) {A : Type 0} (factor : ℕ × ℕ) where
     unfoldable pub NoArchiveOf : {F : Type 0} → List (A × A) → WriteError F → Type 0
     NoArchiveOf pairs e = ArchiveRefused k.limit (header_shape k) pairs_format pairs e
 
-    -- `result` is the archive of the pairs, or the error of their write
-    abbrev pub BuildsArchive : {F Z : Type 0} → (List ℕ → ℕ → A → Type 0) → List (A × A)
-        → Result (Vec ℕ Z) (WriteError F) → Type 0
-    BuildsArchive stands pairs result =
-        MatchResult result (λ v. IsArchiveOf stands pairs v.items) (NoArchiveOf pairs)
+-- Native keys and values. `format`: their format, `calls`: their hasher calls,
+-- `stands`: bytes at a position represent one
+pub record Natives (A R : Type 0) : Type 1 where
+  pub format : Format A R
+  pub calls : A → List HasherCall
+  pub stands : List ℕ → ℕ → A → Type 0
+
+-- native keys and values with these members
+abbrev pub natives : {A R : Type 0} → Format A R → (A → List HasherCall)
+    → (List ℕ → ℕ → A → Type 0) → Natives A R
+natives format calls stands = record { format = format; calls = calls; stands = stands }
+
+-- `result` is the archive of the pairs, as a map of at most `most` buckets, or the error of
+-- their write
+abbrev pub BuildsArchive : {A R F Z : Type 0} → Parts → ℕ × ℕ → ℕ → Natives A R → List (A × A)
+    → Result (Vec ℕ Z) (WriteError F) → Type 0
+BuildsArchive k factor most n pairs result =
+    MatchResult result
+    (λ v. IsArchiveOf k factor most n.format n.calls n.stands pairs v.items)
+    (NoArchiveOf k factor most n.format n.calls pairs)
 
 -- `b` is the archive of the pairs, in this order, as a map under the load factor.
 -- It is valid, its root represents the map, and it has no other bytes. The pairs are of the kind.

@@ -10,7 +10,7 @@ ghost use Rattle.rkyv_dict.specs.Archives.{IsArchive, IsMapArchive, IsRefused, M
 ghost use Rattle.rkyv_dict.specs.Archives.{entry_count, keys_misplaced, line, line_at, listing};
 ghost use Rattle.rkyv_dict.specs.Archives.{misplaced_count, pair_count, pair_lines, root};
 ghost use Rattle.rkyv_dict.specs.Archives.{value_found, value_line, value_under};
-ghost use Rattle.rkyv_dict.specs.Built.{Builds, BuildsArchive, Holds, form_of_pairs};
+ghost use Rattle.rkyv_dict.specs.Built.{Builds, BuildsArchive, Holds, form_of_pairs, natives};
 ghost use Rattle.rkyv_dict.specs.First.{FindsFirstValue, first_value};
 ghost use Rattle.rkyv_dict.specs.Forms.{Pairs, key_seen, pairs_seen};
 ghost use Rattle.rkyv_dict.specs.Parts.{parts_by};
@@ -161,10 +161,9 @@ fn build_map<A: NativeKey<A::Archived> + Serialize<VecWriter, W>, W: Width>(
 ) -> Result<Vec<u8>, WriteError<NoMemory>>
 where
     A::Archived: Part,
-    ensures { let m = parts_by W.word W.LIMIT A.Archived.shape A.Archived.text A.Archived.same
-        A.Archived.key_calls in
-        BuildsArchive m load_factor W.MAX_CAPACITY A.format A.calls A.Archived.stands pairs.now
-        result }
+    ensures { BuildsArchive (parts_by W.word W.LIMIT A.Archived.shape A.Archived.text
+        A.Archived.same A.Archived.key_calls) load_factor W.MAX_CAPACITY
+        (natives A.format A.calls A.Archived.stands) pairs.now result }
 {
     let list = MapPairs::<'_, A, A>::with_load_factor(pairs, load_factor);
     to_bytes_in::<W, MapPairs<'_, A, A>>(alloc, &list)
