@@ -4,9 +4,10 @@ ghost use Rattle.std.specs.Option.{option_map};
 ghost use Rattle.rkyv_base.specs.Sealing.{value_at, value_pos};
 ghost use Rattle.rkyv_base.specs.Shape.{Viewed};
 ghost use Rattle.rkyv_scan.specs.Hash.{hash_of_calls};
-ghost use Rattle.rkyv_collections.specs.Map.{FindsKeyAt, hash_at};
+ghost use Rattle.rkyv_collections.specs.Map.{hash_at};
+ghost use Rattle.rkyv_collections.specs.MapAt.{map_at};
 ghost use Rattle.rkyv_collections.specs.MapShape.{IsKeyPosAt, map_shape};
-ghost use Rattle.rkyv_collections.specs.ValueWrites.{KeepsMap};
+ghost use Rattle.rkyv_collections_tests.specs.InMaps.{FindsIn, KeepsIn};
 
 use crate::tests::answers::number_of;
 use rkyv_base::access::{access, access_in, access_mut};
@@ -44,8 +45,8 @@ fn value_found<K: KeyElement, V: Element, H: KeyHasher, W: Width, Q: Query<K>>(
         × IsKeyPosAt W.word K.shape V.shape bytes.now root place
         × (pos ≡ value_pos K.shape V.shape place)) }
     ensures answer { let hash = hash_of_calls H.hasher (Q.calls key.now) in
-        FindsKeyAt W.word K.shape V.shape bytes.now root hash (Q.fits key.now bytes.now) (λ place.
-        result ≡ option_map (value_pos K.shape V.shape) place) }
+        FindsIn (map_at W.Word K.Shaped V.Shaped bytes.now root) hash (Q.fits key.now)
+        (λ place. result ≡ option_map (value_pos K.shape V.shape) place) }
 {
     let map = ArchivedHashMap::<K, V, H, W>::of(View::new(bytes, root));
     match map.get(key) {
@@ -65,8 +66,7 @@ fn write_value<K: KeyElement, N: Scalar, H: KeyHasher, W: Width>(
     requires place { (place : ℕ) × IsKeyPosAt W.word K.shape N.shape bytes.old
         root place × (pos ≡ value_pos K.shape N.shape place) }
     ensures kept { let key_hash = hash_at H.hasher K.key_calls in
-        (i : ℕ) × KeepsMap W.word K.shape N.shape key_hash bytes.old bytes.new
-        root i }
+        (i : ℕ) × KeepsIn (map_at W.Word K.Shaped N.Shaped bytes.old root) key_hash bytes.new i }
     ensures reads { value_at N.encoding bytes.new pos ≡ value }
 {
     set_at(bytes, pos as usize, value);
@@ -83,8 +83,8 @@ fn stored<K: KeyElement, N: Scalar, H: KeyHasher, W: Width, Q: Query<K>>(
     requires map { Viewed (map_shape W.word K.shape N.shape) bytes.old root }
     requires query { Q.can_read key.now }
     ensures { let hash = hash_of_calls H.hasher (Q.calls key.now) in
-        FindsKeyAt W.word K.shape N.shape bytes.old root hash
-        (Q.fits key.now bytes.old) (λ at. result ≡ option_map (λ _. value) at) }
+        FindsIn (map_at W.Word K.Shaped N.Shaped bytes.old root) hash (Q.fits key.now)
+        (λ at. result ≡ option_map (λ _. value) at) }
 {
     let pos = match value_found::<K, N, H, W, Q>(&*bytes, root, key) {
         Some(pos) => pos,
