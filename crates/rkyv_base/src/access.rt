@@ -28,6 +28,17 @@ use crate::width::{Narrow, Width};
 /// - `OutOfRange`: the archive is shorter than a root, or longer than the width's limit.
 /// - `Unaligned`: the position of the root is not a multiple of its alignment.
 /// - The error of the root's own validation.
+///
+/// # Examples
+///
+/// ```rust
+/// // Returns the number at the root of a wide archive.
+/// fn number_of(archive: &[u8]) -> Result<u64, VerifyError> {
+///     Ok(access_in::<Wide, u64>(archive)?.to_native())
+/// }
+///
+/// assert_eq!(rt; number_of(&[1, 2, 0, 0, 0, 0, 0, 0]).ok(), Some(513));
+/// ```
 #[inline]
 pub fn access_in<'a, W: Width, T: Element>(bytes: &'a [u8]) -> Result<View<'a, T>, VerifyError>
     ensures root { MatchResult result
@@ -61,6 +72,22 @@ pub fn access_in<'a, W: Width, T: Element>(bytes: &'a [u8]) -> Result<View<'a, T
 /// # Errors
 ///
 /// The same as for `access_in`, with a limit of 4,294,967,295 bytes.
+///
+/// # Examples
+///
+/// ```rust
+/// use rkyv_base::access::access;
+/// use rkyv_base::entry::Entry;
+/// use rkyv_base::errors::VerifyError;
+///
+/// // Returns the key and the value of a pair in an archive.
+/// fn pair_of(archive: &[u8]) -> Result<(u8, u32), VerifyError> {
+///     let pair = access::<Entry<u8, u32>>(archive)?;
+///     Ok((pair.key().to_native(), pair.value().to_native()))
+/// }
+///
+/// assert_eq!(rt; pair_of(&[1, 0, 0, 0, 2, 0, 0, 0]).ok(), Some((1, 2)));
+/// ```
 #[inline]
 pub fn access<'a, T: Element>(bytes: &'a [u8]) -> Result<View<'a, T>, VerifyError>
     ensures root { MatchResult result
@@ -78,6 +105,16 @@ pub fn access<'a, T: Element>(bytes: &'a [u8]) -> Result<View<'a, T>, VerifyErro
 /// # Requires
 ///
 /// - The archive has a valid `T` at its end.
+///
+/// # Examples
+///
+/// ```rust
+/// let map = ArchivedHashMap::of(access_unchecked::<HashMapOf<Text, u64>>(table));
+/// match map.get(&name) {
+///     Some(address) => Some(address.to_native()),
+///     None => None,
+/// }
+/// ```
 #[inline]
 pub fn access_unchecked<'a, T: Element>(bytes: &'a [u8]) -> View<'a, T>
     requires { Viewed T.shape bytes.now (length bytes.now - T.shape.size) }
@@ -94,6 +131,24 @@ pub fn access_unchecked<'a, T: Element>(bytes: &'a [u8]) -> View<'a, T>
 /// # Errors
 ///
 /// The same as for `access_in`.
+///
+/// # Examples
+///
+/// ```rust
+/// // Writes a character over the root of a wide archive. Returns the old value and the new value.
+/// fn wide_root_replaced(bytes: &mut [u8], value: char) -> Result<(char, char), VerifyError> {
+///     let whole = access_mut_in::<Wide, char>(bytes)?;
+///     let root = whole.pos();
+///     let mut seal = whole.seal_at::<char>(root);
+///     let before = seal.to_native();
+///     seal.set(value);
+///     Ok((before, seal.to_native()))
+/// }
+///
+/// let mut bytes = [0x61, 0, 0, 0];
+/// let replaced = wide_root_replaced(&mut bytes, '€').ok();
+/// assert_eq!(rt; (replaced, bytes), (Some(('a', '€')), [0xac, 0x20, 0, 0]));
+/// ```
 #[inline]
 pub fn access_mut_in<'a, W: Width, T: Element>(
     bytes: &'a mut [u8],
@@ -119,6 +174,24 @@ pub fn access_mut_in<'a, W: Width, T: Element>(
 /// # Errors
 ///
 /// The same as for `access`.
+///
+/// # Examples
+///
+/// ```rust
+/// // Writes the number at the root of an archive, and returns the number before.
+/// fn replace_root(archive: &mut [u8], number: u32) -> Result<u32, VerifyError> {
+///     let whole = access_mut::<u32>(archive)?;
+///     let pos = whole.pos();
+///     let mut root = whole.seal_at::<u32>(pos);
+///     let before = root.to_native();
+///     root.set(number);
+///     Ok(before)
+/// }
+///
+/// let mut archive = [2, 0, 0, 0];
+/// let before = replace_root(&mut archive, 3).ok();
+/// assert_eq!(rt; (before, archive), (Some(2), [3, 0, 0, 0]));
+/// ```
 #[inline]
 pub fn access_mut<'a, T: Element>(bytes: &'a mut [u8]) -> Result<ArchiveSeal<'a, T>, VerifyError>
     ensures root { MatchResult result
@@ -142,6 +215,17 @@ pub fn access_mut<'a, T: Element>(bytes: &'a mut [u8]) -> Result<ArchiveSeal<'a,
 /// # Errors
 ///
 /// The same as for `access_in`. On an error no byte is changed.
+///
+/// # Examples
+///
+/// ```rust
+/// let mut archive = [1; 8];
+/// let pos = access_mut_with_in::<Wide, u64, u64, _>(&mut archive, |bytes: &mut [u8], pos: u64| {
+///     bytes.fill(7);
+///     pos
+/// });
+/// assert_eq!(rt; (pos.ok(), archive), (Some(0), [7; 8]));
+/// ```
 #[inline]
 pub fn access_mut_with_in<W: Width, T: Element, R, F: FnOnce(&mut [u8], u64) -> R>(
     bytes: &mut [u8],
@@ -172,6 +256,17 @@ pub fn access_mut_with_in<W: Width, T: Element, R, F: FnOnce(&mut [u8], u64) -> 
 /// # Errors
 ///
 /// The same as for `access_mut_with_in`, with a limit of 4,294,967,295 bytes.
+///
+/// # Examples
+///
+/// ```rust
+/// let mut archive = [1, 0, 0, 0];
+/// let pos = access_mut_with::<u32, u64, _>(&mut archive, |bytes: &mut [u8], pos: u64| {
+///     bytes.fill(7);
+///     pos
+/// });
+/// assert_eq!(rt; (pos.ok(), archive), (Some(0), [7; 4]));
+/// ```
 #[inline]
 pub fn access_mut_with<T: Element, R, F: FnOnce(&mut [u8], u64) -> R>(
     bytes: &mut [u8],

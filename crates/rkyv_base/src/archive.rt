@@ -2,6 +2,8 @@
 //!
 //! `Archive` names the element of a type and writes the fixed bytes of a value.
 //! `Serialize` writes the parts of a value before that.
+//!
+//! `docs/OWN_TYPES.md` has whole examples of user-defined types.
 
 ghost use Rattle.std.specs.Prelude.{◌≡◌, ◌+◌, ◌^◌, ◌<◌, length, MatchResult};
 ghost use Rattle.rkyv_base.specs.Format.{Format, IsFormat, Serializes};
@@ -51,12 +53,28 @@ pub trait Archive<W: Width> {
 }
 
 /// A type whose values can be written to a writer.
+///
+/// # Examples
+///
+/// ```rust
+/// impl<S: Writer, W: Width> Serialize<S, W> for Spot {
+///     fn serialize(
+///         &self,
+///         alloc: Global,
+///         serializer: &mut S,
+///     ) -> WriteResult<EntryResolver<(), ()>, S> {
+///         let pair = (self.x, self.y);
+///         <(i32, i32) as Serialize<S, W>>::serialize(&pair, alloc, serializer)
+///     }
+/// }
+/// ```
 pub trait Serialize<S: Writer, W: Width>: Archive<W> {
     /// Writes the parts of the value, which precede it in the archive, and returns its resolver.
     ///
     /// # Errors
     ///
-    /// The error of the first piece or value that fails.
+    /// - The error of the first piece or value that fails.
+    ///
     /// The bytes written before the call are unchanged.
     fn serialize(&self, alloc: Global, serializer: &mut S) -> WriteResult<Self::Resolver, S>
         ensures { Serializes W.LIMIT Self.format self.now

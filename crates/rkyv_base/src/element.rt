@@ -1,4 +1,9 @@
 //! Elements: the types whose values are in the bytes of an archive.
+//!
+//! - `Shaped` has the size, the alignment and the condition for valid bytes, for contracts alone.
+//! - `Element` adds the validator, `check`. It takes the `PartRange` that the value's parts
+//!   may use, and returns the rest of it.
+//! - `StandsFor` relates the bytes of an element to the native values that they represent.
 
 ghost use Rattle.std.specs.Prelude.{◌≡◌, ℕ, ◌+◌, ◌%◌, ◌≤◌, List, length, MatchResult};
 ghost use Rattle.rkyv_base.specs.Checking.{Fails, Passes};
@@ -20,6 +25,16 @@ pub struct PartRange {
 /// alone.
 ///
 /// Views of collections have this bound, so that they can hold that their bytes are valid.
+///
+/// # Examples
+///
+/// ```rust
+/// impl Shaped for ArchivedSpot {
+///     ghost shape = { spot_shape };
+///
+///     ghost laws = { spot_element };
+/// }
+/// ```
 pub trait Shaped {
     // The size and the alignment of its values, and the condition for valid bytes.
     ghost shape: { Shape };
@@ -31,6 +46,24 @@ pub trait Shaped {
 ///
 /// A value has `size` fixed bytes at a multiple of `align`.
 /// It may also have parts out of line, before it.
+///
+/// # Examples
+///
+/// ```rust
+/// impl Element for ArchivedSpot {
+///     fn size() -> usize {
+///         Entry::<i32, i32>::size()
+///     }
+///
+///     fn align() -> usize {
+///         Entry::<i32, i32>::align()
+///     }
+///
+///     fn check(bytes: &[u8], pos: u64, range: PartRange) -> Result<PartRange, VerifyError> {
+///         Entry::<i32, i32>::check(bytes, pos, range)
+///     }
+/// }
+/// ```
 pub trait Element: Shaped {
     /// Returns the size of a value in bytes: a multiple of the alignment, at most 1,073,741,824.
     fn size() -> usize
@@ -52,7 +85,7 @@ pub trait Element: Shaped {
     ///
     /// # Errors
     ///
-    /// The first fault that the validation finds.
+    /// - The first fault that the validation finds.
     fn check(bytes: &[u8], pos: u64, range: PartRange) -> Result<PartRange, VerifyError>
         requires inside { pos + Self.shape.size ≤ length bytes.now }
         requires aligned { pos % Self.shape.align ≡ 0 }
@@ -62,6 +95,16 @@ pub trait Element: Shaped {
 }
 
 /// An element whose values represent values of the type `V`.
+///
+/// # Examples
+///
+/// ```rust
+/// impl StandsFor<Spot> for ArchivedSpot {
+///     ghost stands = { SpotStands };
+///
+///     ghost near = { spot_near };
+/// }
+/// ```
 pub trait StandsFor<V>: Element {
     // The bytes at a position represent the value.
     ghost stands: { List ℕ → ℕ → V → Type 0 };

@@ -1,4 +1,7 @@
 //! Entries: a key followed by a value.
+//!
+//! The layout of an `Entry` is the key, padding up to the value's alignment, the value,
+//! and padding up to the greater alignment. `value_offset` and `whole_size` return its numbers.
 
 ghost use Rattle.std.specs.Prelude.{◌≡◌, ◌+◌, ◌<◌, ◌≤◌, ◌^◌};
 ghost use Rattle.rkyv_base.specs.Entry.{

@@ -1,4 +1,9 @@
 //! The errors of writing, of validation and of deserialization.
+//!
+//! - `WriteError` is the error of a write, with the fault of the writer.
+//! - `VerifyError` is the first fault of a validation.
+//! - `ReadError` is the error of a deserialization.
+//! - `DistanceTooLarge` is the error of `resolve` alone.
 
 use thiserror::Error;
 

@@ -1,4 +1,6 @@
 //! Items that are passed by value or by reference.
+//!
+//! Calls that write from an iterator take items of a type `Lend<K>`: `K` itself or `&K`.
 
 ghost use Rattle.std.specs.Prelude.{◌≡◌};
 

@@ -1,4 +1,7 @@
 //! A writer with a limit on its bytes.
+//!
+//! `LimitWriter` passes pieces to an inner writer. Its fault is `Full` at the limit, or the fault
+//! of the inner writer.
 
 ghost use Rattle.std.specs.Prelude.{
   IfErr,
@@ -32,6 +35,18 @@ pub enum LimitFault<F> {
 ///
 /// Its position is the inner writer's. It has a count of failures of its own. All bytes
 /// that the inner writer appends count against the limit, even those of a piece on which it fails.
+///
+/// # Examples
+///
+/// ```rust
+/// let mut writer = LimitWriter::new(VecWriter::new(alloc), 40);
+/// assert!(rt;
+///     matches!(
+///         write_root(alloc, &list, &mut writer),
+///         Err(WriteError::Writer(LimitFault::Full))
+///     )
+/// );
+/// ```
 #[derive(Drop)]
 pub struct LimitWriter<W> {
     inner: W,

@@ -1,4 +1,7 @@
 //! The implementations of `Scalar` for numbers, `bool` and `char`.
+//!
+//! A number is little-endian, in as many bytes as its type has. A `bool` is the byte 0 or 1,
+//! and a `char` is its code in four bytes.
 
 ghost use Rattle.std.specs.Prelude.{◌≡◌};
 ghost use Rattle.std.specs.Int.{w8, w16, w32, w64};

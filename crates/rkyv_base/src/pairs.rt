@@ -1,4 +1,6 @@
 //! Pairs, which are archived as entries.
+//!
+//! The parts of the key are written first, then those of the value. The fixed bytes are an `Entry`.
 
 ghost use Rattle.std.specs.Prelude.{◌≡◌, ◌+◌, ◌^◌, ◌<◌, ◌≤◌, length, MatchResult};
 ghost use Rattle.rkyv_base.specs.Entry.{entry_shape};

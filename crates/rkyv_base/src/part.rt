@@ -1,4 +1,6 @@
 //! The parts of a value, which are out of line, before it.
+//!
+//! A validator calls `part_in` with a part's begin, which is computed from untrusted numbers.
 
 ghost use Rattle.std.specs.Prelude.{◌<◌, MatchResult};
 ghost use Rattle.rkyv_base.specs.Parts.{PartFails, PartIn};

@@ -2,6 +2,10 @@
 //!
 //! `to_bytes` returns the archive of a value in a vector, and `write_root` appends it to a writer.
 //! The functions whose names end in `_in` take the width of the archive.
+//!
+//! 1. The value's parts are written.
+//! 2. Zeros are written up to the alignment of the root.
+//! 3. The root's fixed bytes are written. Their position is the result of `write_root`.
 
 ghost use Rattle.std.specs.Prelude.{MatchResult};
 ghost use Rattle.rkyv_base.specs.Root.{ArchiveOf, ArchiveRefused, WritesRoot};
@@ -61,6 +65,16 @@ pub fn write_root_in<W: Width, S: Writer, V: Serialize<S, W>>(
 /// # Errors
 ///
 /// The same as for `write_root_in` with a new `VecWriter`.
+///
+/// # Examples
+///
+/// ```rust
+/// let bytes = to_bytes_in::<Wide, &str>(rt.alloc(), &"wonderful")?;
+/// assert_eq!(rt;
+///     bytes.as_slice(),
+///     b"wonderful\xff\xff\xff\xff\xff\xff\xff".as_slice()
+/// );
+/// ```
 pub fn to_bytes_in<W: Width, V: Serialize<VecWriter, W>>(
     alloc: Global,
     value: &V,
@@ -81,6 +95,14 @@ pub fn to_bytes_in<W: Width, V: Serialize<VecWriter, W>>(
 /// # Errors
 ///
 /// The same as for `write_root_in`.
+///
+/// # Examples
+///
+/// ```rust
+/// let mut writer = VecWriter::new(rt.alloc());
+/// let root = write_root(rt.alloc(), &(1u8, 2u16), &mut writer).ok();
+/// assert_eq!(rt; (root, writer.bytes()), (Some(0), [1, 0, 2, 0].as_slice()));
+/// ```
 pub fn write_root<S: Writer, V: Serialize<S, Narrow>>(
     alloc: Global,
     value: &V,
@@ -97,6 +119,15 @@ pub fn write_root<S: Writer, V: Serialize<S, Narrow>>(
 /// # Errors
 ///
 /// The same as for `to_bytes_in`.
+///
+/// # Examples
+///
+/// ```rust
+/// use rkyv_base::root::to_bytes;
+///
+/// let bytes = to_bytes(rt.alloc(), &(1u8, 2u32))?;
+/// assert_eq!(rt; bytes.as_slice(), [1, 0, 0, 0, 2, 0, 0, 0].as_slice());
+/// ```
 pub fn to_bytes<V: Serialize<VecWriter, Narrow>>(
     alloc: Global,
     value: &V,

@@ -1,4 +1,6 @@
 //! Scalars: values of a few fixed bytes, which are one little-endian number.
+//!
+//! A scalar is an element, represents itself, is archived as itself, and has no parts.
 
 ghost use Rattle.std.specs.Prelude.{◌≡◌, ◌+◌, length, IsTrue, ◌↔◌};
 ghost use Rattle.std.specs.Int.{byte_len, from_le_bytes};

@@ -2,7 +2,18 @@
 //!
 //! A `Seal` borrows bytes with one value at a position.
 //! An `ArchiveSeal` borrows a whole archive, so other values of it can be read or sealed as well.
-//! `set_at` and `set_value` write to plain bytes.
+//!
+//! | To write | Call | Takes |
+//! |---|---|---|
+//! | a scalar at a position | `set_at` | bytes |
+//! | the value of an entry | `set_value` | bytes and the entry's position |
+//! | a scalar by its seal | `Seal::set` | a seal |
+//! | inline text in upper case | `Seal::make_ascii_uppercase` | a seal |
+//! | any bytes, by a closure | `ArchiveSeal::write_with` | a seal of the archive |
+//! | a value while its key is read | `ArchiveSeal::split_value`, `halves` | a seal, or bytes |
+//!
+//! `access_mut` validates untrusted bytes and returns the seal of the root. The modules
+//! `map::in_place` of `rkyv_collections` and of `rkyv_index` have the calls that write by a key.
 
 ghost use Rattle.std.specs.Prelude.{◌≡◌, ◌+◌, ◌≤◌, length, take, drop};
 ghost use Rattle.std.specs.Borrow.{sem};
@@ -39,6 +50,17 @@ use crate::view::View;
 use std::marker::PhantomData;
 
 /// One value that is written in place: the borrowed bytes, and the value's position in them.
+///
+/// # Examples
+///
+/// ```rust
+/// let mut bytes = [1, 2, 3];
+/// let mut seal = Seal::<u8>::over(&mut bytes, 1);
+/// let before = seal.to_native();
+/// seal.set(255);
+/// drop(seal);
+/// assert_eq!(rt; (before, bytes), (2, [1, 255, 3]));
+/// ```
 pub struct Seal<'a, T> {
     pub(crate) bytes: &'a mut [u8],
     pub(crate) pos: usize,
@@ -91,6 +113,14 @@ impl<'a, T> Seal<'a, T> {
 /// # Requires
 ///
 /// - The value's bytes end inside `bytes`.
+///
+/// # Examples
+///
+/// ```rust
+/// let mut bytes = [9; 6];
+/// set_at(&mut bytes, 1, 16_909_060u32);
+/// assert_eq!(rt; bytes, [9, 4, 3, 2, 1, 9]);
+/// ```
 #[inline]
 pub fn set_at<N: Scalar>(bytes: &mut [u8], pos: usize, value: N)
     requires { pos + N.shape.size ≤ length bytes.old }
@@ -214,6 +244,26 @@ impl<'a, T> ArchiveSeal<'a, T> {
     /// # Requires
     ///
     /// - `write` can be called with the archive and the position.
+    ///
+    /// # Examples
+    ///
+    /// ```rust
+    /// // Writes the value at a position of some bytes.
+    /// fn value_written<N: Scalar>(bytes: &mut [u8], pos: u64, value: N)
+    ///     requires { pos + N.shape.size ≤ length bytes.old }
+    ///     ensures { bytes.new ≡ with_value N.encoding bytes.old pos value }
+    /// {
+    ///     let mut whole = ArchiveSeal::<N>::new(bytes, pos);
+    ///     whole.write_with(
+    ///         |archive: &mut [u8], pos: u64|
+    ///             requires { pos + N.shape.size ≤ length archive.old }
+    ///             ensures { archive.new ≡ with_value N.encoding archive.old pos value }
+    ///         {
+    ///             set_at(archive, pos as usize, value);
+    ///         },
+    ///     );
+    /// }
+    /// ```
     #[inline]
     pub fn write_with<F: FnOnce(&mut [u8], u64)>(&mut self, write: F)
         requires { MayWrite F.pre write (archive_in self.old) (pos_in self.old) }
@@ -252,6 +302,19 @@ impl<'a, T> ArchiveSeal<'a, T> {
     /// # Requires
     ///
     /// - The archive has a valid entry at `entry_pos`.
+    ///
+    /// # Examples
+    ///
+    /// ```rust
+    /// // Writes a number over the value of an entry. Returns the key and the old value.
+    /// fn value_replaced(bytes: &mut [u8], value: u32) -> Result<(u8, u32), VerifyError> {
+    ///     let whole = access_mut::<Entry<u8, u32>>(bytes)?;
+    ///     let (key, mut seal) = whole.split_value::<u8, u32>(0);
+    ///     let before = (key.to_native(), seal.to_native());
+    ///     seal.set(value);
+    ///     Ok(before)
+    /// }
+    /// ```
     #[inline]
     pub fn split_value<K: Element, V: Element>(self, entry_pos: u64) -> (View<'a, K>, Seal<'a, V>)
         requires { Viewed (entry_shape K.shape V.shape) (archive_in self) entry_pos }
@@ -298,6 +361,16 @@ impl<'a, T: Element> ArchiveSeal<'a, T> {
 /// # Requires
 ///
 /// - The value begins inside the archive or at its end.
+///
+/// # Examples
+///
+/// ```rust
+/// let (front, back) = halves::<u32, u32>(archive, entry_pos);
+/// let key = View::<u32>::new(front, entry_pos);
+/// let mut seal = Seal::<u32>::over(back, 0);
+/// seal.set(value);
+/// key.to_native()
+/// ```
 #[inline]
 pub fn halves<K: Element, V: Element>(archive: &mut [u8], entry_pos: u64) -> (&mut [u8], &mut [u8])
     requires { value_pos K.shape V.shape entry_pos ≤ length archive.old }
@@ -314,6 +387,14 @@ pub fn halves<K: Element, V: Element>(archive: &mut [u8], entry_pos: u64) -> (&m
 /// # Requires
 ///
 /// - The archive has a valid entry at `entry_pos`.
+///
+/// # Examples
+///
+/// ```rust
+/// let mut bytes = [1, 0, 0, 0, 2, 0, 0, 0];
+///
+/// set_value::<u8, u32>(&mut bytes, 0, 7);
+/// ```
 #[inline]
 pub fn set_value<K: Element, N: Scalar>(archive: &mut [u8], entry_pos: u64, value: N)
     requires { Viewed (entry_shape K.shape N.shape) archive.old entry_pos }

@@ -1,4 +1,7 @@
 //! Text that is written in place, if it is inline.
+//!
+//! `as_str` returns the text, and `make_ascii_uppercase` writes its letters in upper case. Neither
+//! reads or writes text that is out of line.
 
 ghost use Rattle.std.specs.Prelude.{◌≡◌, ◌+◌, ◌≤◌, length, map, MatchOption};
 ghost use Rattle.std.specs.Char.{to_ascii_uppercase};
@@ -86,6 +89,16 @@ impl<'a, W: Width> Seal<'a, Text<W>> {
     /// # Requires
     ///
     /// - The fixed bytes end inside the borrowed bytes.
+    ///
+    /// # Examples
+    ///
+    /// ```rust
+    /// let mut bytes = [0x68, 0x65, 0x6c, 0x6c, 0x6f, 255, 255, 255, 97];
+    ///
+    /// let mut seal = Seal::<Text>::over(&mut bytes, 0);
+    /// let raised = seal.make_ascii_uppercase();
+    /// drop(seal);
+    /// ```
     #[inline]
     pub fn make_ascii_uppercase(&mut self) -> bool
         requires { LiesIn (text_shape W.word) self.old }

@@ -1,4 +1,7 @@
 //! The `Archive` and `Serialize` impls of `&str` and `String`, which are archived as text.
+//!
+//! Serializing writes the bytes of a text that is too long to be inline. Resolving writes the text
+//! itself, or its length and the distance to it.
 
 ghost use Rattle.std.specs.Prelude.{
   ◌≡◌,

@@ -1,4 +1,12 @@
 //! Text in an archive.
+//!
+//! | | Narrow | Wide |
+//! |---|---|---|
+//! | fixed bytes | 8 | 16 |
+//! | inline text | up to 8 bytes, then ff | up to 16 bytes, then ff |
+//! | out-of-line text | its length and a distance, 4 bytes each | the same, 8 bytes each |
+//!
+//! A view of a text has `as_str`.
 
 ghost use Rattle.std.specs.Prelude.{
   ◌≡◌,

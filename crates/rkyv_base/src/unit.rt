@@ -1,4 +1,6 @@
 //! The unit value, which has no bytes in an archive.
+//!
+//! It is the value type of a set, whose entries are therefore its keys alone.
 
 ghost use Rattle.rkyv_base.specs.Empty.{
   unit_element,

@@ -1,4 +1,8 @@
 //! Views: values that are read in place.
+//!
+//! - `to_native` returns a scalar, and `as_str` of the module `text` a text.
+//! - `key` and `value` return views of the halves of an entry.
+//! - `at` returns a view of another value of the same archive.
 
 ghost use Rattle.std.specs.Prelude.{◌≡◌, ◌+◌};
 ghost use Rattle.rkyv_base.specs.Entry.{entry_shape, value_offset};
@@ -92,6 +96,21 @@ impl<'a, K: Element, V: Element> View<'a, Entry<K, V>> {
     /// # Requires
     ///
     /// - The archive has a valid entry at the position.
+    ///
+    /// # Examples
+    ///
+    /// ```rust
+    /// // Returns the parts of a pair and of its inner pair, read in place.
+    /// fn parts(bytes: &[u8]) -> Option<(u8, i32, bool)> {
+    ///     let root = access::<Entry<u8, Entry<i32, bool>>>(bytes).ok()?;
+    ///     let inner = root.value();
+    ///     Some((
+    ///         root.key().to_native(),
+    ///         inner.key().to_native(),
+    ///         inner.value().to_native(),
+    ///     ))
+    /// }
+    /// ```
     #[inline]
     pub fn key(self) -> View<'a, K>
         requires { IsView (entry_shape K.shape V.shape) self }

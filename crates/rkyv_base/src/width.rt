@@ -1,4 +1,7 @@
 //! The two widths of an archive.
+//!
+//! A `Width` has the limit of positions, the greatest capacity of a table, and the reading
+//! and writing of counts and distances. `Narrow` has words of 32 bits, and `Wide` of 64.
 
 ghost use Rattle.std.specs.Prelude.{
   FitsSigned,

@@ -58,8 +58,10 @@ pub trait Writer {
     ///
     /// # Errors
     ///
-    /// The fault of the writer. It appended some front of the piece, maybe all of it,
-    /// and counts one more failure.
+    /// - The fault of the writer.
+    ///
+    /// On an error it appended some front of the piece, maybe all of it. It counts one more
+    /// failure.
     fn write(&mut self, bytes: &[u8]) -> Result<(), Self::Fault>
         requires { end_of (output self.old) + length bytes.now < 2 ^ 64 }
         ensures appends { OnOk result (Appends (output self.old) (output self.new) bytes.now) }
@@ -71,6 +73,15 @@ pub trait Writer {
 pub struct NoMemory;
 
 /// A writer to memory, from position 0.
+///
+/// # Examples
+///
+/// ```rust
+/// let mut writer = VecWriter::new(rt.alloc());
+/// let appended = append(&mut writer, &[1, 2, 3]).is_ok();
+/// let aligned = align_for::<u32, VecWriter>(&mut writer).ok();
+/// assert_eq!(rt; (appended, aligned, writer.pos()), (true, Some(4), 4));
+/// ```
 #[derive(Drop)]
 pub struct VecWriter {
     bytes: Vec<u8>,

@@ -2,6 +2,7 @@
 
 mod error_traits;
 mod errors;
+mod examples;
 mod lending;
 mod memory;
 mod own;

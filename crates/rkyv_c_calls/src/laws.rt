@@ -10,7 +10,7 @@ use rkyv_base::width::Width;
 use rkyv_collections::map::laws::walks_give_listed;
 use rkyv_collections::{FxHasher64, KeyElement, NativeKey};
 
-/// A walk over an archive of a list visits the home bucket of each pair once, and no other bucket.
+/// States that a walk over an archive of a list visits each pair's home bucket once, and no other.
 ///
 /// The buckets ascend, and the n-th home bucket has the n-th pair of the list.
 /// Repeated calls for the next pair, from bucket 0 on, thus return each pair of the list once.
@@ -21,7 +21,7 @@ pub fn walks_visit_listed<A, K: KeyElement + StandsFor<A>, V: Value, W: Width>()
     walks_give_listed::<A, V, K, V, FxHasher64, W>();
 }
 
-/// An archive that is written from a list of pairs is valid, and represents the list.
+/// States that an archive that is written from a list of pairs is valid, and represents the list.
 pub fn archives_stand_for_their_lists<A: NativeKey<A::Archived> + Archive<W>, V: Value, W: Width>()
 where
     A::Archived: KeyElement,

@@ -2,6 +2,7 @@
 
 mod answers;
 mod asks;
+mod examples;
 mod first;
 mod in_place;
 mod lists;

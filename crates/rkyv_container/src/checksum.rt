@@ -19,6 +19,12 @@ struct Sums {
 /// Returns the checksum Adler-32 of `bytes`, as in zlib.
 ///
 /// It detects each change of one byte. It is no protection from an attacker.
+///
+/// # Examples
+///
+/// ```rust
+/// assert_eq!(rt; adler32(b"abc"), 0x024d_0127);
+/// ```
 pub fn adler32(bytes: &[u8]) -> u32
     ensures sums { result ≡ adler32_of bytes.now }
     ensures change { DetectsChange bytes.now result }

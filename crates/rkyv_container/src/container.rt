@@ -1,4 +1,8 @@
 //! Opening and sealing a container.
+//!
+//! - `seal` writes the header over the first 32 bytes.
+//! - `open` returns the header and the archive, of any contents.
+//! - `open_as` also checks that the contents are the expected ones. Take it if they are known.
 
 ghost use Rattle.std.specs.Prelude.{
   IfOk,
@@ -38,6 +42,18 @@ use crate::header::{HEADER_LEN, Header};
 /// - The errors of `Header::read`.
 /// - `WrongLength`: the number of bytes behind the header isn't the length in the header.
 /// - `WrongChecksum`: the header has a checksum that isn't the archive's.
+///
+/// # Examples
+///
+/// ```rust
+/// // Returns whether `open` returns this header and archive.
+/// fn opens(bytes: &[u8], header: Header, archive: &[u8]) -> bool {
+///     match open(bytes) {
+///         Ok((found, rest)) => found == header && rest == archive,
+///         Err(_) => false,
+///     }
+/// }
+/// ```
 pub fn open(bytes: &[u8]) -> Result<(Header, &[u8]), ContainerError>
     ensures ok { IfOk result (λ opened. IsContainer opened.0 opened.1.now bytes.now) }
     ensures opens { (header : Header) → (archive : List ℕ) → IsContainer header archive bytes.now
@@ -58,6 +74,18 @@ pub fn open(bytes: &[u8]) -> Result<(Header, &[u8]), ContainerError>
 ///   the expected one.
 /// - `WrongLength`: the number of bytes behind the header isn't the length in the header.
 /// - `WrongChecksum`: the header has a checksum that isn't the archive's.
+///
+/// # Examples
+///
+/// ```rust
+/// // Returns whether `open_as` returns this archive.
+/// fn opens_as(bytes: &[u8], contents: Contents, archive: &[u8]) -> bool {
+///     match open_as(bytes, contents) {
+///         Ok(found) => found == archive,
+///         Err(_) => false,
+///     }
+/// }
+/// ```
 pub fn open_as(bytes: &[u8], expected: Contents) -> Result<&[u8], ContainerError>
     ensures ok { IfOk result (λ archive. IsContainerOf expected archive.now bytes.now) }
     ensures opens { (contents : Contents) → (archive : List ℕ)
@@ -74,6 +102,16 @@ pub fn open_as(bytes: &[u8], expected: Contents) -> Result<&[u8], ContainerError
 /// # Requires
 ///
 /// - `bytes` has at least the length `HEADER_LEN`.
+///
+/// # Examples
+///
+/// ```rust
+/// let mut bytes = [0; 41];
+/// bytes[32..].copy_from_slice(b"Wikipedia");
+/// let header = seal(&mut bytes, names(), true);
+/// assert_eq!(rt; header, names_header());
+/// assert_eq!(rt; bytes, NAMES);
+/// ```
 pub fn seal(bytes: &mut [u8], contents: Contents, checked: bool) -> Header
     requires { 32 ≤ length bytes.old }
     ensures header { result ≡ header_of contents (drop 32 bytes.old) checked }

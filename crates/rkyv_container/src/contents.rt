@@ -1,4 +1,6 @@
 //! The contents of a container: a kind of collection, the types of its items, and its width.
+//!
+//! Each has a code of one byte in the header. `code` and `from_code` convert it.
 
 ghost use Rattle.std.specs.Prelude.{◌≡◌, MatchOption};
 ghost use Rattle.rkyv_container.specs.Codes.{
@@ -70,6 +72,19 @@ pub enum Width {
 /// The contents of a container.
 ///
 /// The value type of a set is `ItemType::Unit`. No function of this crate requires it.
+///
+/// # Examples
+///
+/// ```rust
+/// pub(crate) fn numbers() -> Contents {
+///     Contents {
+///         kind: Kind::HashMap,
+///         key: ItemType::U32,
+///         value: ItemType::U32,
+///         width: Width::Narrow,
+///     }
+/// }
+/// ```
 #[derive(Clone, Copy, Debug, PartialEq, Eq)]
 pub struct Contents {
     /// The kind of collection.

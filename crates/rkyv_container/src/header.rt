@@ -1,4 +1,16 @@
 //! The header of a container.
+//!
+//! | Bytes | Field |
+//! |---|---|
+//! | 0 to 7 | `MAGIC` |
+//! | 8, 9 | `VERSION` |
+//! | 10 to 13 | the codes of the kind, the key type, the value type and the width |
+//! | 14, 15 | flags; the lowest bit is set if there is a checksum |
+//! | 16 to 23 | the length of the archive |
+//! | 24 to 27 | the checksum, or 0 |
+//! | 28 to 31 | zeros |
+//!
+//! Numbers are little-endian. `Header::read` checks all fields but the length, in this order.
 
 ghost use Rattle.std.specs.Prelude.{◌≡◌, ◌↔◌, ◌≤◌, MatchResult, length};
 ghost use Rattle.std.specs.Int.{from_le_bytes, w16, w32};
@@ -46,6 +58,14 @@ pub struct Header {
 
 impl Header {
     /// Returns the header of an archive. It has a checksum if `checked` is `true`.
+    ///
+    /// # Examples
+    ///
+    /// ```rust
+    /// let header = Header::new(numbers(), &[0; 60], false);
+    ///
+    /// assert_eq!(rt; header.to_bytes(), NUMBERS);
+    /// ```
     pub fn new(contents: Contents, archive: &[u8], checked: bool) -> Header
         ensures { result ≡ header_of contents archive.now checked }
     {
@@ -133,6 +153,17 @@ impl Header {
     /// - `UnknownFlags`: a flag other than the lowest bit is set.
     /// - `UnexpectedChecksum`: there is no flag, but the checksum isn't 0.
     /// - `NonzeroReserved`: the last four bytes aren't 0.
+    ///
+    /// # Examples
+    ///
+    /// ```rust
+    /// let header = Header {
+    ///     contents: numbers(),
+    ///     len: 60,
+    ///     checksum: None,
+    /// };
+    /// assert_eq!(rt; Header::read(&NUMBERS), Ok(header));
+    /// ```
     pub fn read(bytes: &[u8]) -> Result<Header, ContainerError>
         ensures ok { (header : Header) → (result ≡ Ok header) ↔ IsHeader header bytes.now }
         ensures err { (e : ContainerError) → (result ≡ Err e)

@@ -36,3 +36,8 @@ fn checksums_of_blocks(rt: HostRuntime) {
     ];
     assert_eq!(rt; found, [0x8161_f0e2, 0x7351_f1e1, 0xb623_eb2b, 0x2710_0001]);
 }
+
+#[test]
+fn a_known_checksum(rt: HostRuntime) {
+    assert_eq!(rt; adler32(b"abc"), 0x024d_0127);
+}

@@ -1,4 +1,7 @@
 //! Archives of a dictionary: validation, lookup, listing, audit and writing.
+//!
+//! Each call takes the form of the archive, and calls a function that is generic in kind
+//! and width.
 
 ghost use Rattle.std.specs.Prelude.{ℕ, ◌≡◌, ◌++◌, IfSome, MatchResult, codes, decimal};
 ghost use Rattle.std.specs.List.{flat_map};

@@ -1,4 +1,6 @@
 //! The dictionary: its state, and the output of each command.
+//!
+//! `Dict::answer` executes one line of a script, and appends its output.
 ghost use Rattle.rkyv_dict.specs.Answers.{Does, DoesLine};
 ghost use Rattle.rkyv_dict.specs.Counts.{pair_count};
 ghost use Rattle.rkyv_dict.specs.Forms.{key_seen};

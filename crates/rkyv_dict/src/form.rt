@@ -1,4 +1,6 @@
 //! The form of a dictionary's archive, its keys and its pairs.
+//!
+//! A form is a kind, numbers or texts, and a width.
 
 /// The type of keys and values.
 #[derive(Clone, Copy, Debug, PartialEq, Eq)]

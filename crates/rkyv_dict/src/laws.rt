@@ -1,17 +1,17 @@
 //! Laws of scripts, each a function whose contract is the statement.
 ghost use Rattle.rkyv_dict.specs.Once.{BuildsAreOne, ChecksAreOne, ScriptsAreOne};
 
-/// The pairs have at most one archive of a form under a load factor.
+/// States that the pairs have at most one archive of a form under a load factor.
 pub fn builds_are_one()
     ensures { BuildsAreOne }
 {}
 
-/// Bytes that fail validation are no valid archive, and fail with one error only.
+/// States that bytes that fail validation are no valid archive, and fail with one error only.
 pub fn checks_are_one()
     ensures { ChecksAreOne }
 {}
 
-/// The same lines from the same state have one output and end in one state.
+/// States that the same lines from the same state have one output and end in one state.
 pub fn scripts_are_one()
     ensures { ScriptsAreOne }
 {}

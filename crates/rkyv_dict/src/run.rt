@@ -1,4 +1,8 @@
 //! Reads a script from a reader, and writes its output to a writer.
+//!
+//! 1. The script is read to the end, in pieces.
+//! 2. Each line is executed by `dict`.
+//! 3. The held output is written when it has at least one piece, and at the end.
 ghost use Rattle.rkyv_dict.specs.Run.{AppendsAnswers, AppendsBeginning, AppendsFront, Gathers};
 ghost use Rattle.rkyv_dict.specs.Run.{MovesFront};
 ghost use Rattle.rkyv_dict.specs.Errors.{message_of};

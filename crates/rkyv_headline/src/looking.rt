@@ -114,6 +114,16 @@ fn look_up<W: Width, T: Element, F: Fn(View<'_, T>) -> bool>(
 ///
 /// - `Verify`: the bytes are not a valid table. It has the first fault.
 /// - `Memory`: the table is valid, and memory for the positions could not be allocated.
+///
+/// # Examples
+///
+/// ```rust
+/// // Looks up a hash in that table, with a comparison that accepts every item.
+/// fn look(alloc: Global, bytes: &[u8; 60], hash: u64) -> Result<TableReport, LookError> {
+///     let range = PartRange { lo: 0, hi: 48 };
+///     look_over::<Narrow, Entry<u32, u32>, _>(alloc, bytes, 48, range, hash, |_| true)
+/// }
+/// ```
 pub fn look_over<W: Width, T: Element, F: Fn(View<'_, T>) -> bool>(
     alloc: Global,
     bytes: &[u8],

@@ -33,7 +33,7 @@ pub enum ListError {
     Look(LookError),
 }
 
-/// A list that was written as a table with its header is valid in each archive that has its bytes.
+/// States that a written table with its header is valid in each archive that has its bytes.
 ///
 /// It is valid with each range around the table. Each item is in its home bucket,
 /// and the walk visits these buckets and no others.

@@ -33,6 +33,16 @@ use std::alloc::Global;
 ///
 /// The pairs are inserted in order, and pairs with equal keys are kept. A lookup finds
 /// the first of them.
+///
+/// # Examples
+///
+/// ```rust
+/// // Archives names with prices, in this order.
+/// fn write_prices(alloc: Global) -> Result<Vec<u8>, Fail> {
+///     let list = OrderedPairs(vec![in alloc; ("tea", 3u32), ("coffee", 4), ("cake", 5)]?);
+///     Ok(to_bytes(alloc, &list)?)
+/// }
+/// ```
 #[derive(Drop)]
 pub struct OrderedPairs<K, V>(pub Vec<(K, V)>);
 
@@ -104,6 +114,16 @@ where
 /// A list of keys that is archived as an index set under the load factor 7 / 8.
 ///
 /// The keys are inserted in order, and equal keys are kept. A lookup finds the first of them.
+///
+/// # Examples
+///
+/// ```rust
+/// // Archives words, in this order.
+/// fn write_words(alloc: Global) -> Result<Vec<u8>, Fail> {
+///     let list = OrderedItems(vec![in alloc; "red", "green", "blue"]?);
+///     Ok(to_bytes(alloc, &list)?)
+/// }
+/// ```
 #[derive(Drop)]
 pub struct OrderedItems<K>(pub Vec<K>);
 

@@ -4,6 +4,7 @@ mod archives;
 mod changes;
 mod checking;
 mod equality;
+mod examples;
 mod forms;
 mod interning;
 mod lookups;

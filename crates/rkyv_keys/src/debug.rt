@@ -1,4 +1,7 @@
 //! Formatting of values in archives by `Debug`.
+//!
+//! `ElementDebug` writes a valid value. `Shown` validates its value again, so formatting it
+//! has no condition.
 
 ghost use Rattle.std.specs.Prelude.{◌≡◌, MatchOption};
 ghost use Rattle.rkyv_base.specs.Entry.{entry_shape};
@@ -47,6 +50,13 @@ pub fn standing<T: Element>(bytes: &[u8], pos: u64) -> Option<View<'_, T>>
 ///
 /// Formatting validates the value again, so it has no condition.
 /// It fails if the value is not valid.
+///
+/// # Examples
+///
+/// ```rust
+/// let shown = format!(in alloc; "{:?}", Shown::new(view));
+/// matches!(shown, Ok(shown) if shown.as_str() == text)
+/// ```
 #[derive_where(Clone, Copy)]
 pub struct Shown<'a, T> {
     view: View<'a, T>,

@@ -1,4 +1,7 @@
 //! The implementations for entries and pairs.
+//!
+//! An entry is hashed and compared by its key and then its value. It is looked up by a pair
+//! of queries.
 
 ghost use Rattle.std.specs.Prelude.{◌≡◌, IsTrue, ◌↔◌, MatchResult};
 ghost use Rattle.rkyv_base.specs.Entry.{entry_shape};

@@ -17,6 +17,22 @@ use rkyv_base::view::View;
 use rkyv_base::width::Width;
 
 /// An element whose values can be compared in place, within one archive or between two.
+///
+/// # Examples
+///
+/// ```rust
+/// impl ElementEq for LowByte {
+///     ghost same = { low_same };
+///
+///     fn same(a: View<'_, LowByte>, b: View<'_, LowByte>) -> bool
+///         requires a { IsView low_shape a }
+///         requires b { IsView low_shape b }
+///         ensures { result ≡ at_views low_same a.entry b.entry }
+///     {
+///         number(a) % 256 == number(b) % 256
+///     }
+/// }
+/// ```
 pub trait ElementEq: Element {
     // The comparison of the values at two positions.
     ghost same: { Comparison };
@@ -34,6 +50,14 @@ pub trait ElementEq: Element {
 }
 
 /// An element whose comparison is an equivalence.
+///
+/// # Examples
+///
+/// ```rust
+/// impl ElementEquiv for ArchivedSpot {
+///     ghost equivalence = { spot_equivalence };
+/// }
+/// ```
 pub trait ElementEquiv: ElementEq {
     ghost equivalence: { IsEquivalence Self.shape Self.same };
 }

@@ -1,4 +1,6 @@
 //! Hashing of values by lists of hasher calls.
+//!
+//! A type implements `KeyHash`, and `hash_value` returns the hash by a new hasher.
 
 ghost use Rattle.std.specs.Prelude.{◌≡◌, List, [], ◌∷◌};
 ghost use Rattle.rkyv_scan.specs.Hash.{HasherCall, Isize, Usize, hash_of_calls};
@@ -10,6 +12,18 @@ use rkyv_scan::hash::KeyHasher;
 /// A value that is hashed by a list of calls, which is a function of the value.
 ///
 /// It replaces std's `Hash`, whose calls depend on the machine.
+///
+/// # Examples
+///
+/// ```rust
+/// impl KeyHash for EndsIn {
+///     ghost calls = { λ q. byte_call q.0 };
+///
+///     fn hash<H: KeyHasher>(&self, state: &mut H) {
+///         state.write_u8(self.0);
+///     }
+/// }
+/// ```
 pub trait KeyHash {
     // The calls, in order.
     ghost calls: { Self → List HasherCall };
@@ -32,6 +46,17 @@ pub trait KeyHash {
 /// # Requires
 ///
 /// - The value can be read.
+///
+/// # Examples
+///
+/// ```rust
+/// let hashes = [
+///     hash_value::<(), FxHasher64>(&()),
+///     hash_value::<((), u8), FxHasher64>(&((), 1)),
+///     hash_value::<(u8, ()), FxHasher64>(&(1, ())),
+/// ];
+/// assert_eq!(rt; hashes, [0, OF_ONE, OF_ONE]);
+/// ```
 #[inline]
 pub fn hash_value<Q: KeyHash, H: KeyHasher + Default>(value: &Q) -> u64
     requires { Q.can_read value.now }

@@ -18,6 +18,23 @@ use rkyv_base::view::View;
 use rkyv_scan::hash::KeyHasher;
 
 /// An element whose values are hashed in place.
+///
+/// # Examples
+///
+/// ```rust
+/// impl KeyElement for LowByte {
+///     ghost key_calls = { low_calls };
+///
+///     fn hash_view<H: KeyHasher>(view: View<'_, LowByte>, state: &mut H)
+///         requires { IsView low_shape view }
+///         ensures { state.new ≡ after_calls H.hasher state.old (at_view low_calls view.entry) }
+///     {
+///         state.write_u8((number(view) % 256) as u8);
+///     }
+///
+///     ghost key = { low_key };
+/// }
+/// ```
 pub trait KeyElement: ElementEquiv {
     // The calls of the value at a position, in order.
     ghost key_calls: { List ℕ → ℕ → List HasherCall };
@@ -35,6 +52,23 @@ pub trait KeyElement: ElementEquiv {
 }
 
 /// A value by which a key of the element `K` is looked up.
+///
+/// # Examples
+///
+/// ```rust
+/// impl Query<LowByte> for EndsIn {
+///     ghost fits = { low_fits (λ q. q.0) };
+///
+///     fn same(&self, key: View<'_, LowByte>) -> bool
+///         requires { IsView low_shape key }
+///         ensures { result ≡ at_view (low_fits (λ q. q.0) self.now) key.entry }
+///     {
+///         u32::from(self.0) == number(key) % 256
+///     }
+///
+///     ghost query = { low_query (λ q. q.0) };
+/// }
+/// ```
 pub trait Query<K: KeyElement>: KeyHash {
     // The query fits the key at a position.
     ghost fits: { Self → List ℕ → ℕ → Bool };
@@ -54,6 +88,16 @@ pub trait Query<K: KeyElement>: KeyHash {
 }
 
 /// A type whose values are archived as keys of the element `K`, and which look these up.
+///
+/// # Examples
+///
+/// ```rust
+/// impl NativeKey<ArchivedSpot> for Spot {
+///     ghost native = { spot_fits_its_equal };
+///
+///     ghost reads = { λ key. tt };
+/// }
+/// ```
 pub trait NativeKey<K: KeyElement + StandsFor<Self>>: Query<K> + Eq {
     ghost native: { FitsItsEqual K.shape K.stands Self.eq Self.fits };
 

@@ -13,22 +13,22 @@ use crate::hash::KeyHash;
 use crate::keys::{KeyElement, NativeKey, Query};
 use rkyv_base::element::StandsFor;
 
-/// A native key makes the calls of each archived key that represents it.
+/// States that a native key makes the calls of each archived key that represents it.
 pub fn native_keys_hash_as_written<K: KeyElement + StandsFor<V>, V: NativeKey<K>>()
     ensures { HashesAsWritten K.shape K.stands K.key_calls V.can_read V.calls }
 {}
 
-/// A query fits all archived keys of one native value, or none.
+/// States that a query fits all archived keys of one native value, or none.
 pub fn queries_ask_for_values<K: KeyElement + StandsFor<V>, V: NativeKey<K>, Q: Query<K>>()
     ensures { AsksForValues K.shape K.stands V.can_read Q.can_read Q.fits }
 {}
 
-/// The keys that a query fits depend only on the bytes of the keys and their parts.
+/// States that the keys that a query fits depend only on the bytes of the keys and their parts.
 pub fn queries_rest_on_keys<K: KeyElement, Q: Query<K>>()
     ensures { RestsOnKeys K.shape Q.can_read Q.fits }
 {}
 
-/// A number is hashed by the call of its own type.
+/// States that a number is hashed by the call of its own type.
 pub fn numbers_hash_by_their_types()
     ensures u8 { HashesBy ⟦<u8 as KeyHash>⟧ (λ n. U8 n ∷ []) }
     ensures u16 { HashesBy ⟦<u16 as KeyHash>⟧ (λ n. U16 n ∷ []) }
@@ -42,6 +42,8 @@ pub fn numbers_hash_by_their_types()
     ensures isize { HashesBy ⟦<isize as KeyHash>⟧ (λ z. Isize z ∷ []) }
 {}
 
+/// States how a `bool`, a `char` and the unit value are hashed.
+///
 /// A `bool` is hashed as the byte 0 or 1, a `char` as its code in a `u32`, and `()` by no call.
 pub fn marks_hash_as_numbers()
     ensures bool { HashesBy ⟦<bool as KeyHash>⟧ (λ b. bool_call b ∷ []) }
@@ -49,13 +51,13 @@ pub fn marks_hash_as_numbers()
     ensures unit { HashesBy ⟦<() as KeyHash>⟧ (λ _. []) }
 {}
 
-/// A text is hashed by its bytes, and then the byte 255.
+/// States that a text is hashed by its bytes, and then the byte 255.
 pub fn texts_hash_by_their_bytes<'a>()
     ensures slice { HashesBy ⟦<&'a str as KeyHash>⟧ (λ s. text_calls s.now) }
     ensures string { HashesBy ⟦<String as KeyHash>⟧ (λ s. text_calls (string_bytes s)) }
 {}
 
-/// A pair is hashed by the calls of its first value, and then those of its second.
+/// States that a pair is hashed by the calls of its first value, and then those of its second.
 pub fn pairs_hash_in_order<A: KeyHash, B: KeyHash>()
     ensures { (pair : _) → ⟦<(A, B) as KeyHash>⟧.calls pair ≡ A.calls pair.0 ++ B.calls pair.1 }
 {}

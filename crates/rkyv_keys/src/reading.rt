@@ -1,4 +1,6 @@
 //! Deserialization of archived values.
+//!
+//! A type implements `Deserialize` for each native type as which its values are read.
 
 ghost use Rattle.std.specs.Prelude.{MatchResult};
 ghost use Rattle.rkyv_base.specs.View.{IsView, StandsAt};
@@ -10,6 +12,22 @@ use rkyv_base::view::View;
 use std::alloc::Global;
 
 /// An element whose values can be deserialized as values of the type `V`.
+///
+/// # Examples
+///
+/// ```rust
+/// impl Deserialize<Spot> for ArchivedSpot {
+///     ghost refuses = { nothing_fails };
+///
+///     fn deserialize(_alloc: Global, view: View<'_, ArchivedSpot>) -> Result<Spot, ReadError>
+///         requires { IsView spot_shape view }
+///         ensures { MatchResult result (StandsAt SpotStands view.entry) (StandsAt nothing_fails
+///             view.entry) }
+///     {
+///         Ok(spot_of(view))
+///     }
+/// }
+/// ```
 pub trait Deserialize<V>: StandsFor<V> {
     // The errors that deserializing the value at a position can return.
     ghost refuses: { Refusals };
@@ -22,10 +40,10 @@ pub trait Deserialize<V>: StandsFor<V> {
     ///
     /// # Errors
     ///
-    /// Those that the element allows:
+    /// - `Memory`: memory could not be allocated, as for a text.
+    /// - `Refused`: the element refuses the value.
     ///
-    /// - Numbers, `bool`, `char` and `()` allow none.
-    /// - Text allows `Memory`: memory could not be allocated.
+    /// Numbers, `bool`, `char` and `()` are deserialized without an error.
     fn deserialize(alloc: Global, view: View<'_, Self>) -> Result<V, ReadError>
         requires { IsView Self.shape view }
         ensures { MatchResult result

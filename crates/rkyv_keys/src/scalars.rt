@@ -1,4 +1,7 @@
 //! The implementations for scalars.
+//!
+//! A type that implements `ScalarKey` has the traits of keys. Numbers, `bool` and `char`
+//! implement it.
 
 ghost use Rattle.std.specs.Prelude.{◌≡◌, IsTrue, ◌↔◌, MatchResult};
 ghost use Rattle.std.specs.Cmp.{booleans_Decides, signed_Decides, unsigned_Decides};

@@ -1,4 +1,6 @@
 //! The implementations for the unit value.
+//!
+//! It makes no hasher call, and all unit values are the same.
 
 ghost use Rattle.std.specs.Prelude.{◌≡◌, true, MatchResult};
 ghost use Rattle.std.proofs.Common.{refl};

@@ -1,4 +1,6 @@
 //! Views of archived keys, as queries.
+//!
+//! A key of one map is thus looked up in another, without reading it back.
 
 ghost use Rattle.std.specs.Prelude.{◌≡◌};
 ghost use Rattle.rkyv_base.specs.View.{IsView};

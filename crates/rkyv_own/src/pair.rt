@@ -1,4 +1,7 @@
 //! Types that are archived as the pair of their parts, which they return by reference.
+//!
+//! A type implements `AsPair`, and `FromPair` to be deserialized. `Seen` wraps a value
+//! to archive it.
 
 ghost use Rattle.std.specs.Prelude.{◌≡◌};
 ghost use Rattle.rkyv_base.specs.Pairs.{PairStands, pair_format, pair_near, written_as};
@@ -14,6 +17,26 @@ use rkyv_base::writer::Writer;
 use std::alloc::Global;
 
 /// A type that returns its two parts by reference.
+///
+/// # Examples
+///
+/// ```rust
+/// impl AsPair for Point {
+///     type First = i32;
+///
+///     type Second = i32;
+///
+///     ghost pair = { λ point. (point.x, point.y) };
+///
+///     fn first(&self) -> &i32 {
+///         &self.x
+///     }
+///
+///     fn second(&self) -> &i32 {
+///         &self.y
+///     }
+/// }
+/// ```
 pub trait AsPair {
     /// The type of the first part.
     type First;
@@ -34,6 +57,16 @@ pub trait AsPair {
 }
 
 /// A type that is rebuilt from its two parts by deserialization.
+///
+/// # Examples
+///
+/// ```rust
+/// impl FromPair for Point {
+///     fn from_pair(x: i32, y: i32) -> Point {
+///         Point { x, y }
+///     }
+/// }
+/// ```
 pub trait FromPair: AsPair {
     /// Returns a value with these parts.
     fn from_pair(first: Self::First, second: Self::Second) -> Self
@@ -41,6 +74,16 @@ pub trait FromPair: AsPair {
 }
 
 /// A value that is archived, hashed and compared as the pair of its parts.
+///
+/// # Examples
+///
+/// ```rust
+/// let point = Seen(Point { x: -2, y: 3 });
+///
+/// let bytes = to_bytes(rt.alloc(), &point)?;
+/// let root = access::<Entry<i32, i32>>(bytes.as_slice())?;
+/// let back: Seen<Point> = Entry::<i32, i32>::deserialize(rt.alloc(), root)?;
+/// ```
 #[derive(Clone, Copy, Debug, Drop)]
 pub struct Seen<T>(pub T);
 

@@ -1,4 +1,7 @@
 //! Types that are archived as a tuple of copies of their parts.
+//!
+//! A type implements `AsTuple`, and `FromTuple` to be deserialized. `Tupled` wraps a value
+//! to archive it. Take it for three parts and more, if they can be copied.
 
 ghost use Rattle.std.specs.Prelude.{◌≡◌};
 ghost use Rattle.rkyv_base.specs.Pairs.{PairStands, pair_format, pair_near, written_as};
@@ -13,6 +16,22 @@ use rkyv_base::writer::Writer;
 use std::alloc::Global;
 
 /// A type that returns copies of its parts as a tuple, which is `(A, (B, C))` for three parts.
+///
+/// # Examples
+///
+/// ```rust
+/// impl AsTuple for Pixel {
+///     type First = u8;
+///
+///     type Second = (u16, u16);
+///
+///     ghost tuple = { λ pixel. (pixel.level, (pixel.x, pixel.y)) };
+///
+///     fn tuple(&self) -> (u8, (u16, u16)) {
+///         (self.level, (self.x, self.y))
+///     }
+/// }
+/// ```
 pub trait AsTuple {
     /// The type of the first part.
     type First;
@@ -29,6 +48,20 @@ pub trait AsTuple {
 }
 
 /// A type that is rebuilt from its tuple by deserialization.
+///
+/// # Examples
+///
+/// ```rust
+/// impl FromTuple for Pixel {
+///     fn from_tuple(level: u8, place: (u16, u16)) -> Pixel {
+///         Pixel {
+///             level,
+///             x: place.0,
+///             y: place.1,
+///         }
+///     }
+/// }
+/// ```
 pub trait FromTuple: AsTuple {
     /// Returns a value with these parts.
     fn from_tuple(first: Self::First, second: Self::Second) -> Self
@@ -36,6 +69,14 @@ pub trait FromTuple: AsTuple {
 }
 
 /// A value that is archived, hashed and compared as the tuple of its parts.
+///
+/// # Examples
+///
+/// ```rust
+/// let bytes = to_bytes(rt.alloc(), &pixel)?;
+/// let root = access::<Entry<u8, Entry<u16, u16>>>(bytes.as_slice())?;
+/// let back: Tupled<Pixel> = Entry::<u8, Entry<u16, u16>>::deserialize(rt.alloc(), root)?;
+/// ```
 #[derive(Clone, Copy, Debug, Drop)]
 pub struct Tupled<T>(pub T);
 

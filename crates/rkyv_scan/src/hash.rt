@@ -283,9 +283,25 @@ pub struct FxHasher<S> {
 }
 
 /// The hasher of archived maps. Its words of a `usize` or an `isize` have 32 bits on every machine.
+///
+/// # Examples
+///
+/// ```rust
+/// let mut hasher = FxHasher64::default();
+/// hasher.write_u8(1);
+/// assert_eq!(rt; hasher.finish(), 0x517c_c1b7_2722_0a95);
+/// ```
 pub type FxHasher64 = FxHasher<LowHalves>;
 
 /// The variant of `FxHasher64` that feeds a `usize` or an `isize` as one word of all its 64 bits.
+///
+/// # Examples
+///
+/// ```rust
+/// let mut hasher = FxHasher64Wide::default();
+/// hasher.write_usize(4_294_967_297);
+/// assert_eq!(rt; hasher.finish(), 0x789e_cc4c_2722_0a95);
+/// ```
 pub type FxHasher64Wide = FxHasher<AllBits>;
 
 impl<S> Model for FxHasher<S> {

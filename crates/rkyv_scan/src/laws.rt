@@ -17,27 +17,27 @@ use crate::hash::{FxHasher64, FxHasher64Wide, KeyHasher};
 use crate::simd::{GroupKind, MAX_GROUP_WIDTH, Marks, bytewise, generic, lanes};
 use crate::{Bitmask, Group};
 
-/// The hash of a list of calls is the hash from 0 of the list of all words that they feed.
+/// States that a list of calls hashes as the list of all words that they feed, from 0.
 pub fn calls_hash_their_words()
     ensures { CallsHashTheirWords }
 {}
 
-/// Two writes hash as one of both joined, if the length of the first is a multiple of eight.
+/// States that two writes hash as one of both if the first's length is a multiple of eight.
 pub fn writes_join()
     ensures { WritesJoin }
 {}
 
-/// A write of eight bytes hashes as a `write_u64` of their little-endian number.
+/// States that a write of eight bytes hashes as a `write_u64` of their little-endian number.
 pub fn eight_bytes_are_one_word()
     ensures { EightBytesAreOneWord }
 {}
 
-/// A call that is no `write_usize` and no `write_isize` feeds the same words under any two rules.
+/// States that a call for no `usize` and no `isize` feeds the same words under any two rules.
 pub fn fixed_calls_agree()
     ensures { FixedCallsAgree }
 {}
 
-/// Calls that are no `write_usize` and no `write_isize` have the same hash under any two rules.
+/// States that calls for no `usize` and no `isize` have the same hash under any two rules.
 pub fn fixed_calls_hash_alike()
     ensures { FixedCallsHashAlike }
 {}
@@ -55,7 +55,7 @@ pub fn empty_masks() -> (bytewise::Bitmask, generic::Bitmask, lanes::Bitmask)
     )
 }
 
-/// The hash of each public hasher is `fx_hash` of its rule for `usize` and `isize`.
+/// States that the hash of each public hasher is `fx_hash` of its rule for `usize` and `isize`.
 ///
 /// The rule of `FxHasher64` is `low_halves`, and that of `FxHasher64Wide` is `all_bits`.
 pub fn fx_hashers()
@@ -83,7 +83,7 @@ pub fn root_group_marks(bytes: &[u8], pos: usize, byte: u8) -> Bitmask
     Group::read(bytes, pos).match_byte(byte)
 }
 
-/// `MAX_GROUP_WIDTH` is 16.
+/// States that `MAX_GROUP_WIDTH` is 16.
 pub fn widest_group()
     ensures { MAX_GROUP_WIDTH ≡ 16 }
 {}

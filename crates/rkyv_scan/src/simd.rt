@@ -76,6 +76,14 @@ pub trait Marks: Iterator<Item = usize> + Copy {
 ///
 /// A control byte with its high bit set is empty. One below 128 is full,
 /// and is the tag of its item.
+///
+/// # Examples
+///
+/// ```rust
+/// let group = generic::Group::read(&[0x28, 0xff, 0x29, 0xff, 0xff, 0xff, 0xff, 0xff], 0);
+/// let lowest = group.match_byte(0x29).lowest_set_bit();
+/// assert_eq!(rt; lowest, Some(2));
+/// ```
 pub trait GroupKind: Copy {
     /// The type of the masks that a match returns.
     type Mask: Marks;

@@ -321,3 +321,10 @@ fn a_clone_of_a_mask_has_the_indices_that_are_left(rt: HostRuntime) {
     ];
     assert_eq!(rt; right, [[true; 3]; 4]);
 }
+
+#[test]
+fn a_tag_is_matched(rt: HostRuntime) {
+    let group = generic::Group::read(&[0x28, 0xff, 0x29, 0xff, 0xff, 0xff, 0xff, 0xff], 0);
+    let lowest = group.match_byte(0x29).lowest_set_bit();
+    assert_eq!(rt; lowest, Some(2));
+}

@@ -193,3 +193,17 @@ fn all_bits_are_fed(rt: HostRuntime) {
         ]
     );
 }
+
+#[test]
+fn a_number_is_hashed(rt: HostRuntime) {
+    let mut hasher = FxHasher64::default();
+    hasher.write_u8(1);
+    assert_eq!(rt; hasher.finish(), 0x517c_c1b7_2722_0a95);
+}
+
+#[test]
+fn all_bits_of_a_usize_are_hashed(rt: HostRuntime) {
+    let mut hasher = FxHasher64Wide::default();
+    hasher.write_usize(4_294_967_297);
+    assert_eq!(rt; hasher.finish(), 0x789e_cc4c_2722_0a95);
+}

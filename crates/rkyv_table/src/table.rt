@@ -1,4 +1,13 @@
 //! Tables of items.
+//!
+//! - `serialize` writes the items and control bytes, and `resolve` writes the header.
+//! - `verify` validates a table, and `reading` opens it.
+//! - `lookup` finds an item, `raw_iter` walks over all items, and `misplaced` counts those that
+//!   a lookup of their own doesn't find.
+//! - `sealed` and `raw_iter_seal` write items in place.
+//! - `laws`, `written` and `sealed` have laws that a proof cites.
+//!
+//! `docs/FORMAT.md` has the layout of a table.
 ghost use Rattle.rkyv_base.specs.Shape.{viewed_prop};
 ghost use Rattle.rkyv_base.specs.View.{IsView};
 ghost use Rattle.rkyv_table.specs.Table.Decoded.{IsDecoded};

@@ -8,6 +8,7 @@ mod capacities;
 mod changes;
 mod cursors;
 mod distances;
+mod examples;
 mod headers;
 mod in_place;
 mod lookups;

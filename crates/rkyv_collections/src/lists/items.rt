@@ -23,6 +23,16 @@ use std::marker::PhantomData;
 /// A list of items that is archived as a set under the hasher `H` and a load factor.
 ///
 /// The items are inserted in order, and equal items are kept. A lookup finds the first of them.
+///
+/// # Examples
+///
+/// ```rust
+/// // Archives words as a set.
+/// fn write_words(alloc: Global, words: &[&str]) -> Result<Vec<u8>, WriteError<NoMemory>> {
+///     let items: SetItems<'_, &str> = SetItems::new(words);
+///     to_bytes(alloc, &items)
+/// }
+/// ```
 #[derive_where(Clone, Copy)]
 pub struct SetItems<'a, A, H = FxHasher64> {
     items: &'a [A],

@@ -23,6 +23,13 @@ use std::marker::PhantomData;
 ///
 /// The pairs are inserted in order, and pairs with equal keys are kept. A lookup finds
 /// the first of them.
+///
+/// # Examples
+///
+/// ```rust
+/// let list: MapPairs<'_, &str, u32> = MapPairs::new(&[("tea", 3), ("coffee", 4), ("cake", 5)]);
+/// to_bytes(alloc, &list)
+/// ```
 #[derive_where(Clone, Copy)]
 pub struct MapPairs<'a, A, B, H = FxHasher64> {
     pairs: &'a [(A, B)],

@@ -1,4 +1,7 @@
 //! Equality of maps.
+//!
+//! `eq_map` compares two maps by lookups, in any order of their pairs. `ElementEq` does the same
+//! for maps that are values.
 ghost use Rattle.std.specs.Prelude.{◌+◌, ◌≡◌};
 ghost use Rattle.rkyv_base.specs.Entry.{value_offset};
 ghost use Rattle.rkyv_base.specs.View.{IsAt, IsView, archive_of, pos_of};
@@ -37,6 +40,20 @@ impl<'a, K: KeyElement, V: ElementEq, H: KeyHasher, W: Width> ArchivedHashMap<'a
     ///
     /// Each pair costs a lookup in `other`. In an untrusted map, keys that share a hash make
     /// the cost quadratic in their number.
+    ///
+    /// # Examples
+    ///
+    /// ```rust
+    /// // Returns whether the maps in two archives have the same pairs.
+    /// fn equal(first: &[u8], second: &[u8]) -> Result<bool, VerifyError> {
+    ///     let first = ArchivedHashMap::of(access::<HashMapOf<i8, i8>>(first)?);
+    ///     let second = ArchivedHashMap::of(access::<HashMapOf<i8, i8>>(second)?);
+    ///     Ok(first.eq_map(second))
+    /// }
+    ///
+    /// let same = equal(&four_pairs(), &four_pairs_backwards()).ok();
+    /// assert_eq!(rt; same, Some(true));
+    /// ```
     #[inline]
     pub fn eq_map(self, other: ArchivedHashMap<'_, K, V, H, W>) -> bool
         ensures { let key_hash = hash_at H.hasher K.key_calls in

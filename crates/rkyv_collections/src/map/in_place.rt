@@ -80,6 +80,24 @@ impl<'a, K: KeyElement, V: Element, H: KeyHasher, W: Width> ArchivedHashMap<'a, 
     /// - The archive has a valid map at `root`.
     /// - The query can be read.
     /// - `write` can be called with the archive and each position at which a value fits.
+    ///
+    /// # Examples
+    ///
+    /// ```rust
+    /// type Points = HashMapOf<Text, Entry<i32, i32>>;
+    ///
+    /// let root = match access::<Points>(&*archive) {
+    ///     Ok(points) => points.pos(),
+    ///     Err(refused) => return Err(refused),
+    /// };
+    /// let found = ArchivedHashMap::<Text, Entry<i32, i32>, FxHasher64, Narrow>::found_with(
+    ///     archive,
+    ///     root,
+    ///     &name,
+    ///     |bytes: &mut [u8], pos: u64| write_point(bytes, pos, point),
+    /// );
+    /// Ok(found.is_some())
+    /// ```
     #[inline]
     pub fn found_with<Q: Query<K>, R, F: FnOnce(&mut [u8], u64) -> R>(
         archive: &mut [u8],
@@ -113,6 +131,21 @@ impl<'a, K: KeyElement, V: Element, H: KeyHasher, W: Width> ArchivedHashMap<'a, 
 ///
 /// - The archive has a valid map at `root`.
 /// - The key can be read, as each native key can.
+///
+/// # Examples
+///
+/// ```rust
+/// type Prices = HashMapOf<Text, u32>;
+///
+/// // Writes the price of a name. Returns `false` if the map has no such name.
+/// fn set_price(archive: &mut [u8], name: &str, price: u32) -> Result<bool, VerifyError> {
+///     let root = match access::<Prices>(&*archive) {
+///         Ok(prices) => prices.pos(),
+///         Err(refused) => return Err(refused),
+///     };
+///     Ok(set_value_of::<&str, Text, u32, FxHasher64, Narrow>(archive, root, &name, price))
+/// }
+/// ```
 pub fn set_value_of<
     A: NativeKey<K>,
     K: KeyElement + StandsFor<A>,

@@ -46,6 +46,19 @@ fn uppercase_at<W: Width>(bytes: &mut [u8], pos: usize) -> bool
 ///
 /// - The archive has a valid map to texts at `root`.
 /// - The key can be read, as each native key can.
+///
+/// # Examples
+///
+/// ```rust
+/// // Writes the text of a key in upper case. Returns the result of the call.
+/// fn raise(bytes: &mut [u8], key: &str) -> Result<Option<bool>, VerifyError> {
+///     let root = match access::<HashMapOf<Text, Text>>(&*bytes) {
+///         Ok(root) => root.pos(),
+///         Err(refused) => return Err(refused),
+///     };
+///     Ok(make_ascii_uppercase_of::<&str, Text, FxHasher64, Narrow>(bytes, root, &key))
+/// }
+/// ```
 pub fn make_ascii_uppercase_of<
     A: NativeKey<K>,
     K: KeyElement + StandsFor<A>,

@@ -157,6 +157,22 @@ impl<'a, K: Element, V: Element, H, W> ExactSizeIterator for Values<'a, K, V, H,
 
 impl<'a, K: Element, V: Element, H, W: Width> ArchivedHashMap<'a, K, V, H, W> {
     /// Returns an iterator over the pairs, in bucket order.
+    ///
+    /// # Examples
+    ///
+    /// ```rust
+    /// // Returns the sum of the values of a map.
+    /// fn total(archive: &[u8]) -> Result<i8, VerifyError> {
+    ///     let map = ArchivedHashMap::of(access::<HashMapOf<i8, i8>>(archive)?);
+    ///     let mut total = 0i8;
+    ///     for (_, value) in map.iter() {
+    ///         total = total.wrapping_add(value.to_native());
+    ///     }
+    ///     Ok(total)
+    /// }
+    ///
+    /// assert_eq!(rt; total(&four_pairs()).ok(), Some(20));
+    /// ```
     #[inline]
     pub fn iter(self) -> Iter<'a, K, V, H, W>
         ensures archive { result.archive ≡ map_archive self.entry }

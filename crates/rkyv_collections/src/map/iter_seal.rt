@@ -293,6 +293,24 @@ impl<'a, K: Element, V: Element, H, W: Width> ArchivedHashMap<'a, K, V, H, W> {
     /// # Requires
     ///
     /// - The archive has a valid map at the position of the seal.
+    ///
+    /// # Examples
+    ///
+    /// ```rust
+    /// type Prices = HashMapOf<Text, u32>;
+    ///
+    /// fn cap_prices(archive: &mut [u8], limit: u32, free: &str) -> Result<(), VerifyError> {
+    ///     let mut rest = ArchivedHashMap::iter_seal(access_mut::<Prices>(archive)?);
+    ///     for _ in 0..rest.len() {
+    ///         if let Some((name, mut price)) = rest.next_seal() {
+    ///             if price.to_native() > limit && name.as_str() != free {
+    ///                 price.set(limit);
+    ///             }
+    ///         }
+    ///     }
+    ///     Ok(())
+    /// }
+    /// ```
     #[inline]
     pub fn iter_seal(this: ArchiveSeal<'a, HashMapOf<K, V, H, W>>) -> IterMut<'a, K, V, H, W>
         requires map { IsMapSeal W.word K.shape V.shape this }
@@ -330,6 +348,24 @@ impl<'a, K: Element, V: Element, H, W: Width> ArchivedHashMap<'a, K, V, H, W> {
     /// # Requires
     ///
     /// - The archive has a valid map at the position of the seal.
+    ///
+    /// # Examples
+    ///
+    /// ```rust
+    /// type Prices = HashMapOf<Text, u32>;
+    ///
+    /// // Doubles each price, by a cursor over the values.
+    /// fn double_prices(archive: &mut [u8]) -> Result<(), VerifyError> {
+    ///     let mut rest = ArchivedHashMap::values_seal(access_mut::<Prices>(archive)?);
+    ///     for _ in 0..rest.len() {
+    ///         if let Some(mut price) = rest.next_seal() {
+    ///             let doubled = price.to_native().wrapping_mul(2);
+    ///             price.set(doubled);
+    ///         }
+    ///     }
+    ///     Ok(())
+    /// }
+    /// ```
     #[inline]
     pub fn values_seal(this: ArchiveSeal<'a, HashMapOf<K, V, H, W>>) -> ValuesMut<'a, K, V, H, W>
         requires map { IsMapSeal W.word K.shape V.shape this }
@@ -349,6 +385,17 @@ impl<'a, K: Element, V: Element, H, W: Width> ArchivedHashMap<'a, K, V, H, W> {
     /// # Requires
     ///
     /// - The archive has a valid map at `pos`.
+    ///
+    /// # Examples
+    ///
+    /// ```rust
+    /// let mut rest = ArchivedHashMap::<K, N, H, W>::values_over(bytes, root);
+    /// for value in values {
+    ///     if let Some(pos) = rest.next_pos() {
+    ///         rest.set_at(pos, *value);
+    ///     }
+    /// }
+    /// ```
     #[inline]
     pub fn values_over(archive: &'a mut [u8], pos: u64) -> ValuesMut<'a, K, V, H, W>
         requires map { Viewed (map_shape W.word K.shape V.shape) archive.old pos }

@@ -13,7 +13,7 @@ use rkyv_keys::equality::ElementEquiv;
 use rkyv_keys::keys::{FixedKey, KeyElement, Query};
 use rkyv_scan::hash::KeyHasher;
 
-/// Two written maps of distinct keys are equal if and only if they have the same pairs.
+/// States that written maps of distinct keys are equal if and only if they have the same pairs.
 ///
 /// They have the same pairs if each pair of either is the same as one of the other.
 pub fn equal_maps_have_the_same_pairs<K: KeyElement, V: ElementEquiv, H: KeyHasher, W: Width>()
@@ -21,15 +21,15 @@ pub fn equal_maps_have_the_same_pairs<K: KeyElement, V: ElementEquiv, H: KeyHash
         V.same }
 {}
 
-/// In a written map, `misplaced` is the number of keys that are the same as an earlier key.
+/// States that `misplaced` is the number of keys that are the same as an earlier key.
 ///
-/// Earlier keys are those that were inserted before.
+/// The map is a written one. Earlier keys are those that were inserted before.
 pub fn repeated_keys_are_misplaced<K: KeyElement, V: Element, H: KeyHasher, W: Width>()
     ensures { RepeatedKeysAreMisplaced W.word K.shape V.shape (hash_at H.hasher K.key_calls)
         K.same }
 {}
 
-/// In a map that represents a list of pairs, a lookup finds the first pair with an accepted key.
+/// States that a lookup finds the first pair of the represented list with an accepted key.
 ///
 /// It finds none if the list has no such pair. The clause `first` of a lookup is about this pair.
 ///
@@ -47,7 +47,7 @@ pub fn lookups_find_listed<
         (native_pairs K.stands V.stands H.hasher K.key_calls) }
 {}
 
-/// In a map that represents a list of pairs, `iter`, `keys` and `values` return each pair once.
+/// States that `iter`, `keys` and `values` return each pair of the represented list once.
 ///
 /// - `homes`: a walk visits the home bucket of each pair once, and no other bucket.
 ///   The buckets are in ascending order, and the n-th home bucket has the n-th pair.
@@ -66,7 +66,7 @@ pub fn walks_give_listed<
         (hash_at H.hasher K.key_calls) }
 {}
 
-/// A map whose keys hash no `usize` and no `isize` is looked up alike under both hashers.
+/// States that a map whose keys hash no `usize` or `isize` is looked up alike by both hashers.
 ///
 /// `FxHasher64` and `FxHasher64Wide` differ in the calls for `usize` and `isize` alone.
 /// A `FixedKey` makes none of them, and all keys of `rkyv_keys` implement it.

@@ -9,7 +9,7 @@ use rkyv_base::width::Width;
 use rkyv_keys::keys::{KeyElement, NativeKey};
 use rkyv_scan::hash::KeyHasher;
 
-/// In a root map of scalars, `get` of a native key finds the value of the first equal key.
+/// States that `get` in a root map of scalars finds the value of the first equal key.
 ///
 /// The map represents a list of pairs. The result is the value of the first pair whose key equals
 /// the native key, and `None` if the list has no such pair.

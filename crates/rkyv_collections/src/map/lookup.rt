@@ -127,7 +127,9 @@ impl<'a, K: KeyElement, V: Element, H: KeyHasher, W: Width> ArchivedHashMap<'a, 
         found_pair(self.find(key, cmp))
     }
 
-    /// Returns the value of the pair that `get_key_value_with` returns.
+    /// Returns the value of a pair whose key the comparison accepts, or `None`.
+    ///
+    /// It looks up as `get_key_value_with` does.
     ///
     /// A lookup in an untrusted map may read every group of its control bytes once.
     ///
@@ -187,13 +189,28 @@ impl<'a, K: KeyElement, V: Element, H: KeyHasher, W: Width> ArchivedHashMap<'a, 
         found_pair(self.find_key(key))
     }
 
-    /// Returns the value of the pair that `get_key_value` returns, or `None`.
+    /// Returns the value of the key that the query finds, or `None`.
+    ///
+    /// It looks up as `get_key_value` does.
     ///
     /// A lookup in an untrusted map may read every group of its control bytes once.
     ///
     /// # Requires
     ///
     /// - The query can be read.
+    ///
+    /// # Examples
+    ///
+    /// ```rust
+    /// type Prices = HashMapOf<Text, u32>;
+    ///
+    /// fn price_of(archive: &[u8], name: &str) -> Result<Option<u32>, VerifyError> {
+    ///     match ArchivedHashMap::of(access::<Prices>(archive)?).get(&name) {
+    ///         Some(price) => Ok(Some(price.to_native())),
+    ///         None => Ok(None),
+    ///     }
+    /// }
+    /// ```
     #[inline]
     pub fn get<Q: Query<K>>(self, key: &Q) -> Option<View<'a, V>>
         requires query { Q.can_read key.now }
@@ -228,6 +245,20 @@ impl<'a, K: KeyElement, V: Element, H: KeyHasher, W: Width> ArchivedHashMap<'a, 
     ///
     /// - The query can be read.
     /// - The query finds a key. `contains_key` then returns `true`.
+    ///
+    /// # Examples
+    ///
+    /// ```rust
+    /// // Returns the value of a key by `index`, if the map has the key.
+    /// fn indexed(bytes: &[u8], key: u32) -> Result<Option<u32>, VerifyError> {
+    ///     let root = access_in::<Wide, HashMapOf<u32, u32, FxHasher64, Wide>>(bytes)?;
+    ///     let map = ArchivedHashMap::of(root);
+    ///     if map.contains_key(&key) {
+    ///         return Ok(Some(map.index(&key).to_native()));
+    ///     }
+    ///     Ok(None)
+    /// }
+    /// ```
     #[inline]
     pub fn index<Q: Query<K>>(self, key: &Q) -> View<'a, V>
         requires query { Q.can_read key.now }

@@ -1,4 +1,9 @@
 //! Counting the keys of a map that a lookup of their own doesn't find.
+//!
+//! - `misplaced` looks up each key. Its cost on an untrusted map may be quadratic.
+//! - `misplaced_up_to` ends at a limit on the strides that are read.
+//!
+//! If the number is 0, each lookup is exact: it finds the one key that the query fits, or none.
 ghost use Rattle.std.specs.Prelude.{◌≡◌};
 ghost use Rattle.rkyv_base.specs.Entry.{entry_shape};
 ghost use Rattle.rkyv_base.specs.View.{IsView, bytes_of, pos_of};
@@ -26,6 +31,17 @@ impl<'a, K: KeyElement, V: Element, H: KeyHasher, W: Width> ArchivedHashMap<'a, 
     /// Each key is looked up once, and each lookup may read every group of the control bytes.
     /// Keys that share a hash cost a number of comparisons that is quadratic in their number.
     /// `FxHasher64` takes no secret key, so chosen keys can share one.
+    ///
+    /// # Examples
+    ///
+    /// ```rust
+    /// // Returns the number of keys of a map that a lookup of their own doesn't find.
+    /// fn misplaced(archive: &[u8]) -> Result<usize, VerifyError> {
+    ///     Ok(ArchivedHashMap::of(access::<HashMapOf<i8, i8>>(archive)?).misplaced())
+    /// }
+    ///
+    /// assert_eq!(rt; misplaced(&one_key_twice()).ok(), Some(1));
+    /// ```
     pub fn misplaced(self) -> usize
         ensures { result ≡ misplaced_keys self.entry (hash_at H.hasher K.key_calls) K.same }
     {
@@ -43,7 +59,9 @@ impl<'a, K: KeyElement, V: Element, H: KeyHasher, W: Width> ArchivedHashMap<'a, 
             { K::same(own.key(), other.key()) },
         )
     }
-    /// Returns the number of misplaced keys as `misplaced` does, or `None` at a limit.
+    /// Returns the number of misplaced keys, or `None` at a limit on the strides that it reads.
+    ///
+    /// The number is the result of `misplaced`.
     ///
     /// The result is `None` if the lookups of all keys read more than `limit` strides of sixteen
     /// control bytes, or more than 2^63. Otherwise the number is exact.
@@ -53,6 +71,20 @@ impl<'a, K: KeyElement, V: Element, H: KeyHasher, W: Width> ArchivedHashMap<'a, 
     /// without repeated hashes takes about one stride for each key.
     ///
     /// [`ArchivedHashTable::misplaced_up_to_by`]: rkyv_table::table::ArchivedHashTable
+    ///
+    /// # Examples
+    ///
+    /// ```rust
+    /// fn misplaced_within(archive: &[u8], limit: u64) -> Result<Option<usize>, VerifyError> {
+    ///     Ok(ArchivedHashMap::of(access::<HashMapOf<i8, i8>>(archive)?).misplaced_up_to(limit))
+    /// }
+    ///
+    /// let counted = [
+    ///     misplaced_within(&four_pairs(), 4).ok(),
+    ///     misplaced_within(&four_pairs(), 3).ok(),
+    /// ];
+    /// assert_eq!(rt; counted, [Some(Some(0)), Some(None)]);
+    /// ```
     pub fn misplaced_up_to(self, limit: u64) -> Option<usize>
         ensures { CountsKeysUpTo self.entry (hash_at H.hasher K.key_calls) K.same limit result }
     {

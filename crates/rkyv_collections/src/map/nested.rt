@@ -12,14 +12,14 @@ use rkyv_base::width::Width;
 use rkyv_keys::keys::{KeyElement, NativeKey};
 use rkyv_scan::hash::KeyHasher;
 
-/// A write of one value in place that keeps it valid is a write among the parts of its map.
+/// States that a write of one value that keeps it valid is a write among its map's parts.
 ///
 /// So the map may itself be the value of another map.
 pub fn value_writes_are_nested<K: KeyElement, V: Element, W: Width>()
     ensures { ValueWritesAreNested W.word K.shape V.shape }
 {}
 
-/// A write among the parts of a value that keeps it valid keeps the map.
+/// States that a write among the parts of a value that keeps it valid keeps the map.
 ///
 /// - The map is valid. All keys and all other values are unchanged.
 /// - A written map is still one.
@@ -28,7 +28,7 @@ pub fn nested_writes_keep_maps<K: KeyElement, V: Element, H: KeyHasher, W: Width
     ensures { NestedWritesKeepMaps W.word K.shape V.shape (hash_at H.hasher K.key_calls) }
 {}
 
-/// A write among the parts of the value that a lookup finds replaces it in the represented list.
+/// States that a write among the parts of a found value replaces it in the represented list.
 ///
 /// The map represents the list with the new value in the first pair with an equal key.
 pub fn nested_writes_stand<

@@ -1,4 +1,7 @@
 //! Opening a map, and the numbers of its header.
+//!
+//! `of` decodes the header once. The map is a copy of the view and the numbers, so it can be passed
+//! by value.
 ghost use Rattle.std.specs.Prelude.{IsTrue, ◌↔◌, ◌≡◌};
 ghost use Rattle.rkyv_base.specs.View.{IsAt, IsView};
 ghost use Rattle.rkyv_collections.specs.Map.{map_archive, map_cap, map_len, map_pos};
@@ -17,6 +20,25 @@ impl<'a, K: Element, V: Element, H, W: Width> ArchivedHashMap<'a, K, V, H, W> {
     /// # Requires
     ///
     /// - The view is of a valid map.
+    ///
+    /// # Examples
+    ///
+    /// ```rust
+    /// use rkyv_base::access::access;
+    /// use rkyv_base::errors::VerifyError;
+    /// use rkyv_collections::map::{ArchivedHashMap, HashMapOf};
+    ///
+    /// // Returns the number of pairs of a map, and the value of a key.
+    /// fn look_up(archive: &[u8], key: i8) -> Result<(usize, Option<i8>), VerifyError> {
+    ///     let map = ArchivedHashMap::of(access::<HashMapOf<i8, i8>>(archive)?);
+    ///     match map.get(&key) {
+    ///         Some(value) => Ok((map.len(), Some(value.to_native()))),
+    ///         None => Ok((map.len(), None)),
+    ///     }
+    /// }
+    ///
+    /// assert_eq!(rt; look_up(&four_pairs(), 3).ok(), Some((4, Some(4))));
+    /// ```
     #[inline]
     pub fn of(view: View<'a, HashMapOf<K, V, H, W>>) -> ArchivedHashMap<'a, K, V, H, W>
         requires { IsView (map_shape W.word K.shape V.shape) view }

@@ -135,7 +135,9 @@ impl<'a, K: KeyElement, V: Element, H: KeyHasher, W: Width> ArchivedHashMap<'a, 
 }
 
 impl<'a, K: KeyElement, V: Element, H: KeyHasher, W: Width> ArchivedHashMap<'a, K, V, H, W> {
-    /// Looks up as `get_key_value_with` does, and returns the key and a seal of the value.
+    /// Returns a key that the comparison accepts and a seal of its value, or `None`.
+    ///
+    /// It looks up as `get_key_value_with` does.
     ///
     /// The archive is cut in two at the start of the value. The view is of the front,
     /// and the seal is at the start of the back.
@@ -165,7 +167,9 @@ impl<'a, K: KeyElement, V: Element, H: KeyHasher, W: Width> ArchivedHashMap<'a, 
         Self::lend_pair(this, found)
     }
 
-    /// Looks up as `get_key_value` does, and returns the key and a seal of the value.
+    /// Returns the key that the query finds and a seal of its value, or `None`.
+    ///
+    /// It looks up as `get_key_value` does.
     ///
     /// The archive is cut in two at the start of the value. The view is of the front,
     /// and the seal is at the start of the back.
@@ -174,6 +178,22 @@ impl<'a, K: KeyElement, V: Element, H: KeyHasher, W: Width> ArchivedHashMap<'a, 
     ///
     /// - The archive has a valid map at the position of the seal.
     /// - The query can be read.
+    ///
+    /// # Examples
+    ///
+    /// ```rust
+    /// type Numbers = HashMapOf<u32, u32>;
+    ///
+    /// let whole = access_mut::<Numbers>(bytes)?;
+    /// match ArchivedHashMap::get_key_value_seal(whole, &key) {
+    ///     Some((found, mut seal)) => {
+    ///         let before = (found.to_native(), seal.to_native());
+    ///         seal.set(value);
+    ///         Ok(Some(before))
+    ///     }
+    ///     None => Ok(None),
+    /// }
+    /// ```
     #[inline]
     pub fn get_key_value_seal<Q: Query<K>>(
         this: ArchiveSeal<'a, HashMapOf<K, V, H, W>>,
@@ -192,7 +212,9 @@ impl<'a, K: KeyElement, V: Element, H: KeyHasher, W: Width> ArchivedHashMap<'a, 
         Self::lend_pair(this, found)
     }
 
-    /// Looks up as `get_with` does, and returns a seal of the value.
+    /// Returns a seal of the value of a key that the comparison accepts, or `None`.
+    ///
+    /// It looks up as `get_with` does.
     ///
     /// The contract of `found_with` also covers the bytes of the archive afterwards.
     ///
@@ -221,7 +243,9 @@ impl<'a, K: KeyElement, V: Element, H: KeyHasher, W: Width> ArchivedHashMap<'a, 
         Self::lend_value(this, found)
     }
 
-    /// Looks up as `get` does, and returns a seal of the value.
+    /// Returns a seal of the value of the key that the query finds, or `None`.
+    ///
+    /// It looks up as `get` does.
     ///
     /// The contract of `found_with` also covers the bytes of the archive afterwards.
     ///
@@ -229,6 +253,25 @@ impl<'a, K: KeyElement, V: Element, H: KeyHasher, W: Width> ArchivedHashMap<'a, 
     ///
     /// - The archive has a valid map at the position of the seal.
     /// - The query can be read.
+    ///
+    /// # Examples
+    ///
+    /// ```rust
+    /// type Prices = HashMapOf<Text, u32>;
+    ///
+    /// // Adds 1 to the price of a name, by a seal. Returns the price before.
+    /// fn raise_price(archive: &mut [u8], name: &str) -> Result<Option<u32>, VerifyError> {
+    ///     let prices = access_mut::<Prices>(archive)?;
+    ///     match ArchivedHashMap::get_seal(prices, &name) {
+    ///         Some(mut price) => {
+    ///             let before = price.to_native();
+    ///             price.set(before.wrapping_add(1));
+    ///             Ok(Some(before))
+    ///         }
+    ///         None => Ok(None),
+    ///     }
+    /// }
+    /// ```
     #[inline]
     pub fn get_seal<Q: Query<K>>(
         this: ArchiveSeal<'a, HashMapOf<K, V, H, W>>,
@@ -248,7 +291,7 @@ impl<'a, K: KeyElement, V: Element, H: KeyHasher, W: Width> ArchivedHashMap<'a, 
     }
 }
 
-/// A write of one value in place that keeps it valid keeps the map.
+/// States that a write of one value in place that keeps it valid keeps the map.
 ///
 /// - The map is valid. All keys and all other values are unchanged.
 /// - Each lookup whose comparison depends only on the key finds the same key.
@@ -258,13 +301,13 @@ pub fn value_writes_keep_maps<K: KeyElement, V: Element, H: KeyHasher, W: Width>
         (hash_at H.hasher K.key_calls) }
 {}
 
-/// After a write of one value in place that keeps it valid, each query finds the same key.
+/// States that each query finds the same key after a write of one value that keeps it valid.
 pub fn value_writes_keep_answers<K: KeyElement, V: Element, Q: Query<K>, H: KeyHasher, W: Width>()
     ensures { let hash = hash_of H.hasher Q.calls in
         ValueWritesKeepAnswers W.word K.shape V.shape Q.can_read hash Q.fits }
 {}
 
-/// A write of one value in place replaces it in the list of pairs that the map represents.
+/// States that a write of one value in place replaces it in the represented list of pairs.
 pub fn values_written_stand<A, B, K: KeyElement, V: StandsFor<B>, H: KeyHasher, W: Width>()
 where
     K: StandsFor<A>,

@@ -54,6 +54,21 @@ impl<'a, K: KeyElement, V: Shaped, H: KeyHasher, W: Width> ArchivedHashMap<'a, K
     ///
     /// Nothing is written with the first four errors. The bytes written before the call
     /// are unchanged.
+    ///
+    /// # Examples
+    ///
+    /// ```rust
+    /// type Numbers = ArchivedHashMap<'static, i8, i8, FxHasher64, Narrow>;
+    ///
+    /// let mut writer = VecWriter::new(alloc);
+    /// let resolver = Numbers::serialize_from_iter::<VecWriter, i8, i8, i8, i8, _>(
+    ///     alloc,
+    ///     pairs.iter().copied(),
+    ///     pairs.len(),
+    ///     (7, 8),
+    ///     &mut writer,
+    /// )?;
+    /// ```
     pub fn serialize_from_iter<
         S: Writer,
         A: NativeKey<K> + Serialize<S, W, Archived = K>,

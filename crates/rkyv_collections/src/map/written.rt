@@ -9,7 +9,7 @@ use rkyv_base::width::Width;
 use rkyv_keys::keys::{KeyElement, NativeKey};
 use rkyv_scan::hash::KeyHasher;
 
-/// Written bytes of a map and its header are a valid map in any archive that has them.
+/// States that a written map with its header is valid in any archive that has its bytes.
 ///
 /// The header is aligned and after the written bytes. It has the length and the capacity
 /// of the map. The entries are under the hashes of their keys in insertion order.

@@ -51,7 +51,9 @@ impl<'a, K: KeyElement, H: KeyHasher, W: Width> ArchivedHashSet<'a, K, H, W> {
         self.map.misplaced()
     }
 
-    /// Returns the number of misplaced keys as `misplaced` does, or `None` at a limit.
+    /// Returns the number of misplaced keys, or `None` at a limit on the strides that it reads.
+    ///
+    /// The number is the result of `misplaced`.
     ///
     /// The result is `None` if the lookups of all keys read more than `limit` strides of sixteen
     /// control bytes, or more than 2^63. Otherwise the number is exact.

@@ -8,7 +8,7 @@ use rkyv_base::width::Width;
 use rkyv_keys::keys::KeyElement;
 use rkyv_scan::hash::KeyHasher;
 
-/// In a set that represents a list of keys, `iter` returns each key of the list once.
+/// States that `iter` returns each key of the list that a set represents once.
 ///
 /// The positions of a walk have the keys of the list, each once, in some order.
 pub fn walks_give_listed<A, K: KeyElement + StandsFor<A>, H: KeyHasher, W: Width>()

@@ -54,6 +54,16 @@ impl<'a, K: Element, H, W: Width> ArchivedHashSet<'a, K, H, W> {
     /// # Requires
     ///
     /// - The view is of a valid set.
+    ///
+    /// # Examples
+    ///
+    /// ```rust
+    /// // Returns the number of words, and whether one is among them.
+    /// fn has_word(archive: &[u8], word: &str) -> Result<(usize, bool), VerifyError> {
+    ///     let words = ArchivedHashSet::of(access::<HashSetOf<Text>>(archive)?);
+    ///     Ok((words.len(), words.contains(&word)))
+    /// }
+    /// ```
     #[inline]
     pub fn of(view: View<'a, HashSetOf<K, H, W>>) -> ArchivedHashSet<'a, K, H, W>
         requires { IsView (set_shape W.word K.shape) view }
@@ -81,6 +91,22 @@ impl<'a, K: Element, H, W: Width> ArchivedHashSet<'a, K, H, W> {
     }
 
     /// Returns an iterator over the keys, in bucket order.
+    ///
+    /// # Examples
+    ///
+    /// ```rust
+    /// // Returns the sum of the keys of a set.
+    /// fn sum(archive: &[u8]) -> Result<u8, VerifyError> {
+    ///     let set = ArchivedHashSet::of(access::<HashSetOf<u8>>(archive)?);
+    ///     let mut sum = 0u8;
+    ///     for key in set.iter() {
+    ///         sum = sum.wrapping_add(key.to_native());
+    ///     }
+    ///     Ok(sum)
+    /// }
+    ///
+    /// assert_eq!(rt; sum(&three_keys()).ok(), Some(6));
+    /// ```
     #[inline]
     pub fn iter(self) -> Keys<'a, K, (), H, W>
         ensures archive { result.archive ≡ set_archive self.entry }
@@ -135,6 +161,22 @@ impl<'a, K: KeyElement, H: KeyHasher, W: Width> ArchivedHashSet<'a, K, H, W> {
     /// # Requires
     ///
     /// - The query can be read.
+    ///
+    /// # Examples
+    ///
+    /// ```rust
+    /// // Returns the key of a set that a query finds.
+    /// fn stored(archive: &[u8], key: u8) -> Result<Option<u8>, VerifyError> {
+    ///     let set = ArchivedHashSet::of(access::<HashSetOf<u8>>(archive)?);
+    ///     match set.get(&key) {
+    ///         Some(stored) => Ok(Some(stored.to_native())),
+    ///         None => Ok(None),
+    ///     }
+    /// }
+    ///
+    /// let found = [stored(&three_keys(), 3).ok(), stored(&three_keys(), 4).ok()];
+    /// assert_eq!(rt; found, [Some(Some(3)), Some(None)]);
+    /// ```
     #[inline]
     pub fn get<Q: Query<K>>(self, key: &Q) -> Option<View<'a, K>>
         requires query { Q.can_read key.now }
@@ -154,6 +196,16 @@ impl<'a, K: KeyElement, H: KeyHasher, W: Width> ArchivedHashSet<'a, K, H, W> {
     /// # Requires
     ///
     /// - The query can be read.
+    ///
+    /// # Examples
+    ///
+    /// ```rust
+    /// // Returns the number of words, and whether one is among them.
+    /// fn has_word(archive: &[u8], word: &str) -> Result<(usize, bool), VerifyError> {
+    ///     let words = ArchivedHashSet::of(access::<HashSetOf<Text>>(archive)?);
+    ///     Ok((words.len(), words.contains(&word)))
+    /// }
+    /// ```
     #[inline]
     pub fn contains<Q: Query<K>>(self, key: &Q) -> bool
         requires query { Q.can_read key.now }

@@ -47,6 +47,18 @@ impl<'a, K: KeyElement, H: KeyHasher, W: Width> ArchivedHashSet<'a, K, H, W> {
     ///
     /// Nothing is written with the first four errors. The bytes written before the call
     /// are unchanged.
+    ///
+    /// # Examples
+    ///
+    /// ```rust
+    /// let mut writer = VecWriter::new(alloc);
+    /// let resolver = ArchivedHashSet::<K, FxHasher64, Narrow>::serialize_from_iter::<
+    ///     VecWriter,
+    ///     K,
+    ///     &K,
+    ///     _,
+    /// >(alloc, keys.iter(), keys.len(), (7, 8), &mut writer)?;
+    /// ```
     pub fn serialize_from_iter<
         S: Writer,
         A: NativeKey<K> + Serialize<S, W, Archived = K>,

@@ -10,7 +10,7 @@ use rkyv_base::width::Width;
 use rkyv_keys::keys::{KeyElement, NativeKey};
 use rkyv_scan::hash::KeyHasher;
 
-/// Written bytes of a set and its header are a valid set in any archive that has them.
+/// States that a written set with its header is valid in any archive that has its bytes.
 ///
 /// The header is aligned and after the written bytes. It has the length and the capacity
 /// of the set. The keys are under their hashes in insertion order. Each key is in its home bucket.

@@ -1,4 +1,8 @@
 //! Comparing archived maps with maps of std.
+//!
+//! - `ArchivedHashMap::eq_std` takes a map of std.
+//! - `EqArchived::eq_archived` is the same call from the side of the map of std.
+//! - `MatchesNative` compares maps that are values.
 
 ghost use Rattle.std.specs.Prelude.{IsTrue, ◌↔◌};
 ghost use Rattle.rkyv_base.specs.Pairs.{written_as-format};
@@ -72,6 +76,16 @@ impl<'a, K: KeyElement, V: Shaped, H: KeyHasher, W: Width> ArchivedHashMap<'a, K
     ///
     /// Each pair of `other` costs a lookup. In an untrusted map, a lookup may read every group
     /// of control bytes once.
+    ///
+    /// # Examples
+    ///
+    /// ```rust
+    /// // Returns whether an archived map equals a map of std's, by the calls of both sides.
+    /// fn equals_small(bytes: &[u8], map: &HashMap<i8, i8>) -> Result<(bool, bool), VerifyError> {
+    ///     let root = ArchivedHashMap::of(access::<HashMapOf<i8, i8>>(bytes)?);
+    ///     Ok((root.eq_std(map), map.eq_archived(root)))
+    /// }
+    /// ```
     #[inline]
     pub fn eq_std<A: NativeKey<K> + Hash, B, T: BuildHasher>(self, other: &HashMap<A, B, T>) -> bool
     where

@@ -131,11 +131,22 @@ impl<'a, K: Element, H, W: Width> ArchivedHashSet<'a, K, H, W> {
     ///
     /// The keys are inserted in bucket order.
     ///
-    ///
     /// # Errors
     ///
     /// - The error of deserializing a key.
     /// - `Memory`: memory for an insertion could not be allocated.
+    ///
+    /// # Examples
+    ///
+    /// ```rust
+    /// let mut primes = HashSet::new(alloc);
+    /// primes.insert(2)?;
+    /// primes.insert(3)?;
+    /// let primes: Hashed<HashSet<u32>> = Hashed::new(primes);
+    /// let archive = to_bytes(alloc, &primes)?;
+    /// let set = ArchivedHashSet::of(access::<HashSetOf<u32>>(archive.as_slice())?);
+    /// Ok(set.deserialize_std(alloc, state)?)
+    /// ```
     pub fn deserialize_std<A: Eq + Hash + Drop, T: BuildHasher + Drop>(
         self,
         alloc: Global,

@@ -1,4 +1,6 @@
 //! The wrapper for archiving a map or set of std.
+//!
+//! std's types have no hasher of archived maps, so `Hashed` names it.
 
 ghost use Rattle.std.specs.Prelude.{◌≡◌};
 
@@ -9,6 +11,22 @@ use std::marker::PhantomData;
 /// A map or set of std that is archived under the hasher `H`, with the load factor 7 / 8.
 ///
 /// Its pairs or keys are inserted in the order of its own iterator.
+///
+/// # Examples
+///
+/// ```rust
+/// fn comes_through(alloc: Global) -> Result<bool, Fail> {
+///     let mut map = HashMap::new(alloc);
+///     map.insert(1, 2)?;
+///     let map: Hashed<HashMap<i8, i8>> = Hashed::new(map);
+///     let bytes = to_bytes(alloc, &map)?;
+///     let root = ArchivedHashMap::of(access::<HashMapOf<i8, i8>>(bytes.as_slice())?);
+///     match root.get(&1i8) {
+///         Some(value) => Ok(value.to_native() == 2 && root.eq_std(map.get())),
+///         None => Ok(false),
+///     }
+/// }
+/// ```
 #[derive(Drop)]
 pub struct Hashed<M, H = FxHasher64> {
     pub(crate) map: M,

@@ -11,7 +11,7 @@ use rkyv_scan::hash::KeyHasher;
 use std::collections::{HashMap, HashSet};
 use std::hash::{BuildHasher, Hash};
 
-/// In an archive of a map of std, a lookup agrees with that map.
+/// States that a lookup in an archive of a map of std agrees with that map.
 ///
 /// It finds the value of the accepted key, and no key if and only if the map has none.
 /// The law is about any archive that has the written bytes, and about any query that can be read.
@@ -34,7 +34,9 @@ where
         (queried H.hasher Q.calls Q.fits) Q.can_read format }
 {}
 
-/// In an archive of a set of std, a lookup finds a key if and only if the set has an accepted key.
+/// States that a lookup in an archive of a set of std agrees with that set.
+///
+/// It finds a key if and only if the set has an accepted key.
 ///
 /// The law is about any archive that has the written bytes, and about any query that can be read.
 ///

@@ -1,4 +1,6 @@
 //! Deserializing archived maps as maps of std.
+//!
+//! `deserialize_std` takes the hash state of the new map. `Deserialize` takes the default one.
 
 ghost use Rattle.std.specs.Prelude.{MatchResult, ◌+◌};
 ghost use Rattle.rkyv_base.specs.Entry.{value_offset};
@@ -50,11 +52,24 @@ impl<'a, K: Element, V: Element, H, W: Width> ArchivedHashMap<'a, K, V, H, W> {
     /// The pairs are inserted in bucket order. Of pairs with equal keys,
     /// the value of the last is kept.
     ///
-    ///
     /// # Errors
     ///
     /// - The error of deserializing a key or a value.
     /// - `Memory`: memory for an insertion could not be allocated.
+    ///
+    /// # Examples
+    ///
+    /// ```rust
+    /// type Ages = HashMap<String, u8>;
+    ///
+    /// // Archives a map of std's, and reads it back.
+    /// fn ages_come_back(alloc: Global, ages: Ages) -> Result<Ages, Fail> {
+    ///     let ages: Hashed<Ages> = Hashed::new(ages);
+    ///     let archive = to_bytes(alloc, &ages)?;
+    ///     let map = ArchivedHashMap::of(access::<HashMapOf<Text, u8>>(archive.as_slice())?);
+    ///     Ok(map.deserialize_std(alloc, BuildHasherDefault::new())?)
+    /// }
+    /// ```
     pub fn deserialize_std<A: Eq + Hash + Drop, B: Drop, T: BuildHasher + Drop>(
         self,
         alloc: Global,

@@ -1,4 +1,8 @@
 //! Round trips: values that are written, opened, compared and deserialized.
+//!
+//! - `comes_back` writes a value, opens and deserializes it, and compares both.
+//! - `lookups_agree` compares a lookup in the archive with one in the map of std.
+//! - `archives_come_back` is the law behind `comes_back`.
 
 ghost use Rattle.std.specs.Prelude.{◌≡◌, IfOk, true};
 ghost use Rattle.rkyv_collections.specs.RoundTrips.{ArchivesComeBack};
@@ -28,7 +32,9 @@ pub enum Lost {
     Read(ReadError),
 }
 
-/// The root of an archive of a value equals the value, and so does each value that it represents.
+/// States that the root of an archive of a value equals the value.
+///
+/// Each value that the root represents equals it too.
 ///
 /// The archive is one that `to_bytes` makes. The root equals the value in place.
 /// A deserialized value is represented by the root, and so it is `==` to the value.

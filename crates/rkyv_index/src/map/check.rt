@@ -1,4 +1,9 @@
 //! Validating an index map in untrusted bytes.
+//!
+//! 1. The table of indices is valid.
+//! 2. Each index in the table is below the length.
+//! 3. The entries are in the range, and aligned.
+//! 4. Each entry is valid, in order.
 ghost use Rattle.std.specs.Prelude.{IfErr, IfOk, MatchResult, length, pos as int, ◌%◌, ◌*◌, ◌+ℤ◌};
 ghost use Rattle.std.specs.Prelude.{◌+◌, ◌<◌, ◌≡◌, ◌≤◌};
 ghost use Rattle.std.specs.Int.{byte_len};

@@ -32,6 +32,18 @@ impl<'a, K: Element, V: Element, H, W: Width> ArchivedIndexMap<'a, K, V, H, W> {
     ///
     /// - `Memory`: the list could not be allocated.
     /// - The error of deserializing a key or a value.
+    ///
+    /// # Examples
+    ///
+    /// ```rust
+    /// // Returns the pairs in the archive of an index map, if it is valid and no allocation fails.
+    /// fn read<W: Width>(alloc: Global, bytes: &[u8]) -> Option<Vec<(i8, i8)>> {
+    ///     match access_in::<W, IndexMapOf<i8, i8, FxHasher64, W>>(bytes) {
+    ///         Ok(root) => ArchivedIndexMap::of(root).deserialize_pairs(alloc).ok(),
+    ///         Err(_) => None,
+    ///     }
+    /// }
+    /// ```
     pub fn deserialize_pairs<A: Drop, B: Drop>(
         self,
         alloc: Global,

@@ -1,4 +1,7 @@
 //! Equality of index maps.
+//!
+//! `==` and `eq_index` compare the pairs in order. `ElementEq` does the same for index maps
+//! that are values.
 ghost use Rattle.std.specs.Cmp.{partial_equiv_from_equiv};
 ghost use Rattle.std.specs.Prelude.{◌<◌, ◌≡◌};
 ghost use Rattle.rkyv_base.specs.Entry.{entry_element, entry_shape};
@@ -18,6 +21,18 @@ use rkyv_keys::equality::{ElementEq, ElementEquiv};
 
 impl<'a, K: ElementEq, V: ElementEq, H, W: Width> ArchivedIndexMap<'a, K, V, H, W> {
     /// Returns `true` if and only if both maps have the same length and the same pairs in order.
+    ///
+    /// # Examples
+    ///
+    /// ```rust
+    /// let bytes = four_entries();
+    /// let map = ArchivedIndexMap::of(access::<Small>(&bytes)?);
+    /// let backwards = narrow(rt.alloc(), &[(7, 8), (5, 6), (3, 4), (1, 2)])?;
+    /// let other = ArchivedIndexMap::of(access::<Small>(backwards.as_slice())?);
+    /// let own = map.eq_index(map);
+    /// let turned = map.eq_index(other);
+    /// assert_eq!(rt; (own, turned, map.misplaced()), (true, false, 0));
+    /// ```
     pub fn eq_index(self, other: ArchivedIndexMap<'_, K, V, H, W>) -> bool
         ensures { result ≡ index_maps_equal K.same V.same self.entry other.entry }
     {

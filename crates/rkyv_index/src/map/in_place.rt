@@ -55,6 +55,18 @@ fn value_pos_at<K: Element, V: Element, H, W: Width>(archive: &[u8], root: u64, 
 ///
 /// - The archive has a valid index map at `root`.
 /// - `place` is below the length of the map.
+///
+/// # Examples
+///
+/// ```rust
+/// match place_of::<K, N, H, W, Q>(&*bytes, root, key) {
+///     Some(place) => {
+///         set_value_at::<A, K, N, H, W>(bytes, root, place, value);
+///         Ok(Some(place))
+///     }
+///     None => Ok(None),
+/// }
+/// ```
 pub fn set_value_at<A, K: KeyElement + StandsFor<A>, N: Scalar, H: KeyHasher, W: Width>(
     archive: &mut [u8],
     root: u64,

@@ -166,6 +166,22 @@ impl<'a, K: Element, V: Element> ExactSizeIterator for Values<'a, K, V> {
 
 impl<'a, K: Element, V: Element, H, W: Width> ArchivedIndexMap<'a, K, V, H, W> {
     /// Returns an iterator over the pairs, in order.
+    ///
+    /// # Examples
+    ///
+    /// ```rust
+    /// type Prices = IndexMapOf<Text, u32>;
+    ///
+    /// // Returns the prices in insertion order.
+    /// fn all_prices(alloc: Global, archive: &[u8]) -> Result<Vec<u32>, Fail> {
+    ///     let prices = ArchivedIndexMap::of(access::<Prices>(archive)?);
+    ///     let mut all = Vec::new(alloc);
+    ///     for (_, price) in &prices {
+    ///         all.push(price.to_native())?;
+    ///     }
+    ///     Ok(all)
+    /// }
+    /// ```
     #[inline]
     pub fn iter(self) -> Iter<'a, K, V>
         ensures archive { result.archive ≡ index_archive self.entry }

@@ -13,7 +13,7 @@ use rkyv_keys::equality::StandsAlone;
 use rkyv_keys::keys::{KeyElement, Query};
 use rkyv_scan::hash::KeyHasher;
 
-/// A write of one value in place that keeps it valid keeps the index map.
+/// States that a write of one value in place that keeps it valid keeps the index map.
 ///
 /// - The length, the positions of the pairs, all keys and all other values are unchanged.
 /// - Each lookup whose comparison depends only on the key finds the same index.
@@ -23,13 +23,13 @@ pub fn value_writes_keep_index_maps<K: KeyElement, V: Element, H: KeyHasher, W: 
         (hash_at H.hasher K.key_calls) }
 {}
 
-/// After a write of one value in place that keeps it valid, each query finds the same index.
+/// States that each query finds the same index after a write of one value that keeps it valid.
 pub fn value_writes_keep_answers<K: KeyElement, V: Element, Q: Query<K>, H: KeyHasher, W: Width>()
     ensures { let hash = hash_of H.hasher Q.calls in
         ValueWritesKeepAnswers W.word K.shape V.shape Q.can_read hash Q.fits }
 {}
 
-/// A write of one value in place replaces it in the list of pairs that the index map represents.
+/// States that a write of one value in place replaces it in the represented list of pairs.
 pub fn values_written_stand<A, B, K: KeyElement, V: StandsFor<B>, H: KeyHasher, W: Width>()
 where
     K: StandsFor<A>,
@@ -37,7 +37,7 @@ where
         (hash_at H.hasher K.key_calls) }
 {}
 
-/// If an index map represents a list of pairs, a list that is deserialized from it is `==` to it.
+/// States that a list deserialized from an index map is `==` to the list that it represents.
 ///
 /// The bytes that are written of a list represent that list. `deserialize_pairs` deserializes.
 pub fn pairs_read_back_are_listed<

@@ -137,6 +137,21 @@ impl<'a, K: KeyElement, V: Element, H: KeyHasher, W: Width> ArchivedIndexMap<'a,
     /// # Requires
     ///
     /// - The query can be read.
+    ///
+    /// # Examples
+    ///
+    /// ```rust
+    /// type Prices = IndexMapOf<Text, u32>;
+    ///
+    /// // Returns the index of a name, and its price.
+    /// fn find(archive: &[u8], name: &str) -> Result<Option<(usize, u32)>, VerifyError> {
+    ///     let prices = ArchivedIndexMap::of(access::<Prices>(archive)?);
+    ///     match prices.get_full(&name) {
+    ///         Some((index, _, price)) => Ok(Some((index, price.to_native()))),
+    ///         None => Ok(None),
+    ///     }
+    /// }
+    /// ```
     #[inline]
     pub fn get_full<Q: Query<K>>(self, key: &Q) -> Option<(usize, View<'a, K>, View<'a, V>)>
         requires query { Q.can_read key.now }
@@ -176,7 +191,9 @@ impl<'a, K: KeyElement, V: Element, H: KeyHasher, W: Width> ArchivedIndexMap<'a,
         }
     }
 
-    /// Returns the key and the value of the pair that `get_full_with` returns, or `None`.
+    /// Returns a pair whose key the comparison accepts, or `None`.
+    ///
+    /// It looks up as `get_full_with` does.
     ///
     /// A lookup in an untrusted map may read every group of its control bytes once.
     ///
@@ -196,7 +213,9 @@ impl<'a, K: KeyElement, V: Element, H: KeyHasher, W: Width> ArchivedIndexMap<'a,
         self.pair_of(self.find(key, cmp, &mut Strides::new()))
     }
 
-    /// Returns the key and the value of the pair that `get_full` returns, or `None`.
+    /// Returns the pair of the key that the query finds, or `None`.
+    ///
+    /// It looks up as `get_full` does.
     ///
     /// A lookup in an untrusted map may read every group of its control bytes once.
     ///
@@ -212,7 +231,9 @@ impl<'a, K: KeyElement, V: Element, H: KeyHasher, W: Width> ArchivedIndexMap<'a,
         self.pair_of(self.find_key(key))
     }
 
-    /// Returns the value of the pair that `get_full_with` returns, or `None`.
+    /// Returns the value of a pair whose key the comparison accepts, or `None`.
+    ///
+    /// It looks up as `get_full_with` does.
     ///
     /// A lookup in an untrusted map may read every group of its control bytes once.
     ///
@@ -232,13 +253,30 @@ impl<'a, K: KeyElement, V: Element, H: KeyHasher, W: Width> ArchivedIndexMap<'a,
         self.value_of(self.find(key, cmp, &mut Strides::new()))
     }
 
-    /// Returns the value of the pair that `get_full` returns, or `None`.
+    /// Returns the value of the key that the query finds, or `None`.
+    ///
+    /// It looks up as `get_full` does.
     ///
     /// A lookup in an untrusted map may read every group of its control bytes once.
     ///
     /// # Requires
     ///
     /// - The query can be read.
+    ///
+    /// # Examples
+    ///
+    /// ```rust
+    /// type Prices = IndexMapOf<Text, u32>;
+    ///
+    /// // Returns the price of a name.
+    /// fn price_of(archive: &[u8], name: &str) -> Result<Option<u32>, VerifyError> {
+    ///     let prices = ArchivedIndexMap::of(access::<Prices>(archive)?);
+    ///     match prices.get(&name) {
+    ///         Some(price) => Ok(Some(price.to_native())),
+    ///         None => Ok(None),
+    ///     }
+    /// }
+    /// ```
     #[inline]
     pub fn get<Q: Query<K>>(self, key: &Q) -> Option<View<'a, V>>
         requires query { Q.can_read key.now }
@@ -248,7 +286,9 @@ impl<'a, K: KeyElement, V: Element, H: KeyHasher, W: Width> ArchivedIndexMap<'a,
         self.value_of(self.find_key(key))
     }
 
-    /// Returns the index of the pair that `get_full_with` returns, or `None`.
+    /// Returns the index of a pair whose key the comparison accepts, or `None`.
+    ///
+    /// It looks up as `get_full_with` does.
     ///
     /// A lookup in an untrusted map may read every group of its control bytes once.
     ///
@@ -268,7 +308,9 @@ impl<'a, K: KeyElement, V: Element, H: KeyHasher, W: Width> ArchivedIndexMap<'a,
         self.find(key, cmp, &mut Strides::new())
     }
 
-    /// Looks up as `get_index_of_with` does, and counts the strides of sixteen control bytes.
+    /// Returns the index of a key that the comparison accepts, and counts the strides it reads.
+    ///
+    /// It looks up as `get_index_of_with` does. A stride has sixteen control bytes.
     ///
     /// It reads no stride in an empty map, else at least one and at most ceil(n / 16),
     /// where n is the number of buckets.
@@ -278,6 +320,14 @@ impl<'a, K: KeyElement, V: Element, H: KeyHasher, W: Width> ArchivedIndexMap<'a,
     /// - `key` can be read.
     /// - `strides` has at most 9,223,372,036,854,775,808 strides.
     /// - The comparison can be called with `key` and each key of the map.
+    ///
+    /// # Examples
+    ///
+    /// ```rust
+    /// let mut strides = Strides::new();
+    /// let found = map.get_index_of_counted(&5i8, |_: &i8, _: View<'_, i8>| true, &mut strides);
+    /// let one = strides.count();
+    /// ```
     #[inline]
     pub fn get_index_of_counted<Q: KeyHash, F>(
         self,
@@ -297,7 +347,9 @@ impl<'a, K: KeyElement, V: Element, H: KeyHasher, W: Width> ArchivedIndexMap<'a,
         self.find(key, cmp, strides)
     }
 
-    /// Returns the index of the pair that `get_full` returns, or `None`.
+    /// Returns the index of the pair whose key the query finds, or `None`.
+    ///
+    /// It looks up as `get_full` does.
     ///
     /// A lookup in an untrusted map may read every group of its control bytes once.
     ///

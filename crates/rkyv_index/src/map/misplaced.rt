@@ -51,6 +51,17 @@ impl<'a, K: KeyElement, V: Element, H: KeyHasher, W: Width> ArchivedIndexMap<'a,
     /// Each key is looked up once, and each lookup may read every group of the control bytes.
     /// Keys that share a hash cost a number of comparisons that is quadratic in their number.
     /// `FxHasher64` takes no secret key, so chosen keys can share one.
+    ///
+    /// # Examples
+    ///
+    /// ```rust
+    /// // Returns the number of keys of an index map that a lookup of their own doesn't find.
+    /// fn misplaced(archive: &[u8]) -> Result<usize, VerifyError> {
+    ///     Ok(ArchivedIndexMap::of(access::<IndexMapOf<i8, i8>>(archive)?).misplaced())
+    /// }
+    ///
+    /// assert_eq!(rt; misplaced(&one_key_twice()).ok(), Some(1));
+    /// ```
     pub fn misplaced(self) -> usize
         ensures told { result ≡ index_misplaced (index_of self.entry)
             (hash_at H.hasher K.key_calls) K.same }

@@ -1,4 +1,6 @@
 //! Opening an index map, the number of its pairs, and the pair at an index.
+//!
+//! `of` decodes the header once. `get_index` reads no control bytes.
 ghost use Rattle.std.specs.Prelude.{IsTrue, MatchOption, pos as int, unsigned_abs, ℕ, ◌<◌, ◌^◌};
 ghost use Rattle.std.specs.Prelude.{◌↔◌, ◌≡◌, ◌≤◌};
 ghost use Rattle.rkyv_base.specs.Entry.{entry_shape};
@@ -48,6 +50,25 @@ impl<'a, K: Element, V: Element, H, W: Width> ArchivedIndexMap<'a, K, V, H, W> {
     /// # Requires
     ///
     /// - The view is of a valid index map.
+    ///
+    /// # Examples
+    ///
+    /// ```rust
+    /// use rkyv_base::access::access;
+    /// use rkyv_base::errors::VerifyError;
+    /// use rkyv_index::{ArchivedIndexMap, IndexMapOf};
+    ///
+    /// // Returns the number of pairs of an index map, and the value of a key.
+    /// fn look_up(archive: &[u8], key: i8) -> Result<(usize, Option<i8>), VerifyError> {
+    ///     let map = ArchivedIndexMap::of(access::<IndexMapOf<i8, i8>>(archive)?);
+    ///     match map.get(&key) {
+    ///         Some(value) => Ok((map.len(), Some(value.to_native()))),
+    ///         None => Ok((map.len(), None)),
+    ///     }
+    /// }
+    ///
+    /// assert_eq!(rt; look_up(&four_entries(), 3).ok(), Some((4, Some(4))));
+    /// ```
     #[inline]
     pub fn of(view: View<'a, IndexMapOf<K, V, H, W>>) -> ArchivedIndexMap<'a, K, V, H, W>
         requires { IsView (index_shape W.word (entry_shape K.shape V.shape)) view }
@@ -77,6 +98,21 @@ impl<'a, K: Element, V: Element, H, W: Width> ArchivedIndexMap<'a, K, V, H, W> {
     }
 
     /// Returns the key and the value at an index, or `None` if the index isn't below the length.
+    ///
+    /// # Examples
+    ///
+    /// ```rust
+    /// type Prices = IndexMapOf<Text, u32>;
+    ///
+    /// // Returns the name at an index, borrowed from the archive.
+    /// fn name_at(archive: &[u8], index: usize) -> Result<Option<&str>, VerifyError> {
+    ///     let prices = ArchivedIndexMap::of(access::<Prices>(archive)?);
+    ///     match prices.get_index(index) {
+    ///         Some((name, _)) => Ok(Some(name.as_str())),
+    ///         None => Ok(None),
+    ///     }
+    /// }
+    /// ```
     #[inline]
     pub fn get_index(self, place: usize) -> Option<PairView<'a, K, V>>
         ensures { MatchOption result

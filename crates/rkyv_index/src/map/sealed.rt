@@ -221,7 +221,9 @@ impl<'a, K: KeyElement, V: Element, H: KeyHasher, W: Width> ArchivedIndexMap<'a,
 }
 
 impl<'a, K: KeyElement, V: Element, H: KeyHasher, W: Width> ArchivedIndexMap<'a, K, V, H, W> {
-    /// Looks up as `get_full_with` does, and returns the index, the key and a seal of the value.
+    /// Returns the index, the key and a seal of the value that the comparison finds, or `None`.
+    ///
+    /// It looks up as `get_full_with` does.
     ///
     /// The archive is cut in two at the start of the value. The view is of the front,
     /// and the seal is at the start of the back.
@@ -256,7 +258,9 @@ impl<'a, K: KeyElement, V: Element, H: KeyHasher, W: Width> ArchivedIndexMap<'a,
         Self::full_seal_of(this, place)
     }
 
-    /// Looks up as `get_full` does, and returns the index, the key and a seal of the value.
+    /// Returns the index, the key and a seal of the value that the query finds, or `None`.
+    ///
+    /// It looks up as `get_full` does.
     ///
     /// The archive is cut in two at the start of the value. The view is of the front,
     /// and the seal is at the start of the back.
@@ -267,6 +271,22 @@ impl<'a, K: KeyElement, V: Element, H: KeyHasher, W: Width> ArchivedIndexMap<'a,
     ///
     /// - The archive has a valid index map at the position of the seal.
     /// - The query can be read.
+    ///
+    /// # Examples
+    ///
+    /// ```rust
+    /// type Small = IndexMapOf<i8, i8>;
+    ///
+    /// let whole = access_mut::<Small>(bytes)?;
+    /// match ArchivedIndexMap::get_full_seal(whole, &key) {
+    ///     Some((place, stored, mut seal)) => {
+    ///         let before = (place, stored.to_native(), seal.to_native());
+    ///         seal.set(value);
+    ///         Ok(Some(before))
+    ///     }
+    ///     None => Ok(None),
+    /// }
+    /// ```
     #[inline]
     pub fn get_full_seal<Q: Query<K>>(
         this: ArchiveSeal<'a, IndexMapOf<K, V, H, W>>,
@@ -286,7 +306,9 @@ impl<'a, K: KeyElement, V: Element, H: KeyHasher, W: Width> ArchivedIndexMap<'a,
         Self::full_seal_of(this, place)
     }
 
-    /// Looks up as `get_key_value_with` does, and returns the key and a seal of the value.
+    /// Returns a key that the comparison accepts and a seal of its value, or `None`.
+    ///
+    /// It looks up as `get_key_value_with` does.
     ///
     /// The archive is cut in two at the start of the value. The view is of the front,
     /// and the seal is at the start of the back.
@@ -323,7 +345,9 @@ impl<'a, K: KeyElement, V: Element, H: KeyHasher, W: Width> ArchivedIndexMap<'a,
         Self::pair_seal_of(this, place)
     }
 
-    /// Looks up as `get_key_value` does, and returns the key and a seal of the value.
+    /// Returns the key that the query finds and a seal of its value, or `None`.
+    ///
+    /// It looks up as `get_key_value` does.
     ///
     /// The archive is cut in two at the start of the value. The view is of the front,
     /// and the seal is at the start of the back.
@@ -355,7 +379,9 @@ impl<'a, K: KeyElement, V: Element, H: KeyHasher, W: Width> ArchivedIndexMap<'a,
         Self::pair_seal_of(this, place)
     }
 
-    /// Looks up as `get_with` does, and returns a seal of the value in the whole archive.
+    /// Returns a seal of the value of a key that the comparison accepts, or `None`.
+    ///
+    /// It looks up as `get_with` does. The seal is over the whole archive.
     ///
     /// A lookup in an untrusted map may read every group of its control bytes once.
     ///
@@ -389,7 +415,9 @@ impl<'a, K: KeyElement, V: Element, H: KeyHasher, W: Width> ArchivedIndexMap<'a,
         Self::value_seal_of(this, place)
     }
 
-    /// Looks up as `get` does, and returns a seal of the value in the whole archive.
+    /// Returns a seal of the value of the key that the query finds, or `None`.
+    ///
+    /// It looks up as `get` does. The seal is over the whole archive.
     ///
     /// A lookup in an untrusted map may read every group of its control bytes once.
     ///
@@ -397,6 +425,22 @@ impl<'a, K: KeyElement, V: Element, H: KeyHasher, W: Width> ArchivedIndexMap<'a,
     ///
     /// - The archive has a valid index map at the position of the seal.
     /// - The query can be read.
+    ///
+    /// # Examples
+    ///
+    /// ```rust
+    /// type Small = IndexMapOf<i8, i8>;
+    ///
+    /// let whole = access_mut::<Small>(bytes)?;
+    /// match ArchivedIndexMap::get_seal(whole, &key) {
+    ///     Some(mut seal) => {
+    ///         let before = seal.to_native();
+    ///         seal.set(value);
+    ///         Ok(Some((before, seal.to_native())))
+    ///     }
+    ///     None => Ok(None),
+    /// }
+    /// ```
     #[inline]
     pub fn get_seal<Q: Query<K>>(
         this: ArchiveSeal<'a, IndexMapOf<K, V, H, W>>,

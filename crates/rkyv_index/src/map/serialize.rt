@@ -86,6 +86,19 @@ impl<'a, K: KeyElement, V: Element, H: KeyHasher, W: PlaceWidth> ArchivedIndexMa
     ///
     /// Nothing is written with the first four errors. The bytes written before the call
     /// are unchanged.
+    ///
+    /// # Examples
+    ///
+    /// ```rust
+    /// let resolver = ArchivedIndexMap::<i8, i8, FxHasher64, Narrow>::serialize_from_iter::<
+    ///     VecWriter,
+    ///     i8,
+    ///     i8,
+    ///     i8,
+    ///     i8,
+    ///     _,
+    /// >(alloc, pairs.into_iter(), len, load_factor, &mut writer)?;
+    /// ```
     pub fn serialize_from_iter<
         S: Writer,
         A: NativeKey<K> + Serialize<S, W, Archived = K>,

@@ -1,4 +1,9 @@
 //! Writing the bytes of an index map, from a slice of its entries.
+//!
+//! 1. The table of indices is written, each under the hash of its entry.
+//! 2. The parts of the entries are written, in order.
+//! 3. Zeros are written up to the alignment of the entries.
+//! 4. The entries are written in a row.
 
 ghost use Rattle.std.specs.Prelude.{◌≡◌, ◌<◌, ◌≤◌, [], length, vec_capacity};
 ghost use Rattle.rkyv_table.specs.Table.Serializing.{HasCapacity};

@@ -10,7 +10,7 @@ use rkyv_base::element::StandsFor;
 use rkyv_keys::keys::{KeyElement, NativeKey};
 use rkyv_scan::hash::KeyHasher;
 
-/// Written bytes of an index map and its header are a valid index map in any archive that has them.
+/// States that a written index map with its header is valid in any archive with its bytes.
 ///
 /// The header is aligned and after the written bytes. It has the length and the capacity
 /// of the map. The table has the indices in order, each under the hash of its key.

@@ -31,6 +31,16 @@ impl<'a, K: Element, H, W: Width> ArchivedIndexSet<'a, K, H, W> {
     ///
     /// - `Memory`: the list could not be allocated.
     /// - The error of deserializing a key.
+    ///
+    /// # Examples
+    ///
+    /// ```rust
+    /// // Reads the list of words back.
+    /// fn read_words(alloc: Global, archive: &[u8]) -> Result<Vec<String>, Fail> {
+    ///     let words = ArchivedIndexSet::of(access::<IndexSetOf<Text>>(archive)?);
+    ///     Ok(words.deserialize_items(alloc)?)
+    /// }
+    /// ```
     pub fn deserialize_items<A: Drop>(self, alloc: Global) -> Result<Vec<A>, ReadError>
     where
         K: Deserialize<A>,

@@ -7,7 +7,7 @@ use rkyv_keys::equality::StandsAlone;
 use rkyv_keys::keys::KeyElement;
 use rkyv_scan::hash::KeyHasher;
 
-/// If an index set represents a list of keys, a list that is deserialized from it is `==` to it.
+/// States that a list deserialized from an index set is `==` to the list that it represents.
 ///
 /// The bytes that are written of a list represent that list. `deserialize_items` deserializes.
 pub fn items_read_back_are_listed<

@@ -72,6 +72,19 @@ impl<'a, K: Element, H, W: Width> ArchivedIndexSet<'a, K, H, W> {
     }
 
     /// Returns the key at an index, or `None` if the index isn't below the length.
+    ///
+    /// # Examples
+    ///
+    /// ```rust
+    /// // Returns whether the text with this number is `text`.
+    /// fn has_number(table: &[u8], number: usize, text: &str) -> Result<bool, VerifyError> {
+    ///     let set = ArchivedIndexSet::of(access::<IndexSetOf<Text>>(table)?);
+    ///     match set.get_index(number) {
+    ///         Some(stored) => Ok(stored.as_str() == text),
+    ///         None => Ok(false),
+    ///     }
+    /// }
+    /// ```
     #[inline]
     pub fn get_index(self, place: usize) -> Option<View<'a, K>>
         ensures { MatchOption result
@@ -144,13 +157,25 @@ impl<'a, K: KeyElement, H: KeyHasher, W: Width> ArchivedIndexSet<'a, K, H, W> {
         }
     }
 
-    /// Returns the key that `get_full` returns, or `None`.
+    /// Returns the key that the query finds, or `None`.
+    ///
+    /// It looks up as `get_full` does.
     ///
     /// A lookup in an untrusted set may read every group of its control bytes once.
     ///
     /// # Requires
     ///
     /// - The query can be read.
+    ///
+    /// # Examples
+    ///
+    /// ```rust
+    /// let set = ArchivedIndexSet::of(access::<Keys>(bytes.as_slice())?);
+    /// let stored = match set.get(&3) {
+    ///     Some(key) => key.to_native(),
+    ///     None => 0,
+    /// };
+    /// ```
     #[inline]
     pub fn get<Q: Query<K>>(self, key: &Q) -> Option<View<'a, K>>
         requires query { Q.can_read key.now }
@@ -172,13 +197,25 @@ impl<'a, K: KeyElement, H: KeyHasher, W: Width> ArchivedIndexSet<'a, K, H, W> {
         }
     }
 
-    /// Returns the index of the key that `get_full` returns, or `None`.
+    /// Returns the index of the key that the query finds, or `None`.
+    ///
+    /// It looks up as `get_full` does.
     ///
     /// A lookup in an untrusted set may read every group of its control bytes once.
     ///
     /// # Requires
     ///
     /// - The query can be read.
+    ///
+    /// # Examples
+    ///
+    /// ```rust
+    /// // Returns the index of a word.
+    /// fn index_of(archive: &[u8], word: &str) -> Result<Option<usize>, VerifyError> {
+    ///     let words = ArchivedIndexSet::of(access::<IndexSetOf<Text>>(archive)?);
+    ///     Ok(words.get_index_of(&word))
+    /// }
+    /// ```
     #[inline]
     pub fn get_index_of<Q: Query<K>>(self, key: &Q) -> Option<usize>
         requires query { Q.can_read key.now }

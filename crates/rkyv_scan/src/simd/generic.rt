@@ -1,4 +1,7 @@
 //! The group of eight control bytes in one word. It is the kind at the crate's root.
+//!
+//! The first control byte is in the lowest bits. The marks of a mask are the high bits
+//! of the word's bytes. `match_byte` may also mark a byte right after a marked one.
 ghost use Rattle.std.specs.Prelude.{◌≡◌, ℕ, ◌*◌, bit_and};
 ghost use Rattle.std.specs.Iterator.{YieldsFirst, item_count};
 ghost use Rattle.std.specs.Int.{w64, to_le_bytes};

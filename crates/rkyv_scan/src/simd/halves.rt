@@ -1,4 +1,6 @@
 //! The group of sixteen control bytes that marks each half as the group of eight marks it.
+//!
+//! It compares sixteen bytes at once. The lookups of `rkyv_table` use it.
 ghost use Rattle.std.specs.Prelude.{
   ◌≡◌,
   ℕ,

@@ -1,4 +1,6 @@
 //! The group of sixteen control bytes in one vector.
+//!
+//! A match marks the equal bytes and no others. The mask has one bit for each index.
 ghost use Rattle.std.specs.Prelude.{◌≡◌, ℕ, length};
 ghost use Rattle.std.specs.Iterator.{YieldsFirst, item_count};
 ghost use Rattle.rkyv_scan.specs.Groups.{mask_places, lanes_kind};

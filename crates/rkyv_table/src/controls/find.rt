@@ -143,7 +143,9 @@ fn scan<G: GroupKind, F: Fn(usize) -> bool>(
     if empty { Seen::Empty } else { Seen::Full }
 }
 
-/// Looks up as `find` does, with the start of the probe sequence.
+/// Returns the bucket of an item that the comparison accepts, by a given start, or `None`.
+///
+/// It looks up as `find` does. The start is that of the probe sequence.
 ///
 /// `start` has no meaning if there are no buckets.
 ///

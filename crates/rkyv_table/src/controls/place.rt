@@ -47,7 +47,9 @@ pub fn place_one<G: GroupKind>(controls: &mut [u8], cap: usize, hash: u64) -> us
     place_from::<G>(controls, cap, (hash % cap as u64) as usize, hash)
 }
 
-/// Places as `place_one` does, with the start of the probe sequence.
+/// Places an item by its hash and a given start, and returns its home bucket.
+///
+/// It places as `place_one` does. The start is that of the probe sequence.
 ///
 /// # Requires
 ///

@@ -1,4 +1,6 @@
 //! Writing the buckets of a table, from the highest to bucket 0.
+//!
+//! Each bucket is one piece. An empty bucket is zeros.
 
 ghost use Rattle.std.specs.Prelude.{◌≡◌, ◌+◌, ◌<◌, ◌≤◌, ◌^◌, IfSome, length};
 ghost use Rattle.rkyv_base.specs.Pairs.{written_as};

@@ -1,4 +1,9 @@
 //! Writing the bytes of a table whose items are placed: parts, buckets and control bytes.
+//!
+//! 1. The parts of the items are written, in bucket order.
+//! 2. Zeros are written up to the alignment of the items.
+//! 3. The buckets are written, from the highest to bucket 0.
+//! 4. The control bytes are written.
 
 ghost use Rattle.std.specs.Prelude.{◌≡◌, ◌≤◌, [], length, vec_capacity};
 ghost use Rattle.rkyv_base.specs.Pairs.{written_as};

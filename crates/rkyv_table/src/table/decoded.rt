@@ -1,4 +1,7 @@
 //! Headers of tables, decoded.
+//!
+//! A table, map or set decodes its header once. The reciprocal of the capacity then replaces
+//! a division in each lookup.
 ghost use Rattle.std.specs.Prelude.{◌≡◌};
 
 use crate::controls::reciprocal::Reciprocal;

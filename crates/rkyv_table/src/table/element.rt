@@ -1,4 +1,6 @@
 //! The header of a table as an element.
+//!
+//! Its validator is `ArchivedHashTable::verify`.
 ghost use Rattle.rkyv_table.specs.Table.Layout.{table_shape};
 ghost use Rattle.rkyv_table.specs.Lemmas.TableLaws.{table_element};
 

@@ -1,4 +1,6 @@
 //! Reading the header of a table, and the positions that it leads to.
+//!
+//! A header has three words: the distance to the control bytes, the length and the capacity.
 ghost use Rattle.std.specs.Prelude.{length, pos as int, slice_range, unsigned_abs, ℕ, ◌*◌, ◌+ℤ◌};
 ghost use Rattle.std.specs.Prelude.{◌+◌, ◌-ℤ◌, ◌<◌, ◌^◌, ◌≡◌, ◌≤◌};
 ghost use Rattle.std.specs.Int.{byte_len};

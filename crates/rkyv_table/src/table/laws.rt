@@ -15,14 +15,14 @@ use rkyv_base::lend::Lend;
 use rkyv_base::scalars::Scalar;
 use rkyv_base::width::Width;
 
-/// A walk over written control bytes visits each home bucket once, and no other bucket.
+/// States that a walk over written control bytes visits each home bucket once, and no other.
 ///
 /// The buckets are in ascending order.
 pub fn walk_visits_homes()
     ensures { WalkVisitsHomes }
 {}
 
-/// A lookup in a written table finds the first accepted item of the input pairs.
+/// States that a lookup in a written table finds the first accepted item of the input pairs.
 ///
 /// It returns `None` if and only if no item is accepted. Each accepted item is under the hash
 /// of the lookup.
@@ -31,7 +31,7 @@ pub fn lookups_answer_the_first<W: Width, U: Archive<W>, X: Lend<U>>()
         AnswersFirst W.word U.Archived.shape (lent_stands X.lent U.Archived.stands) load_factor }
 {}
 
-/// If items are written in one way, so is a table of them.
+/// States that if items are written in one way, so is a table of them.
 ///
 /// An item is written in one way if its bytes and its parts are functions of the item
 /// and the position. The kind of group that places the items makes no difference.
@@ -41,7 +41,7 @@ pub fn tables_are_written_one_way<W: Width, U: Archive<W>, X: Lend<U>>()
         load_factor) }
 {}
 
-/// Scalars, texts and the unit value are written in one way, and so are pairs of such values.
+/// States that scalars, texts, the unit value and pairs of such values are written in one way.
 pub fn ready_elements_are_written_one_way<W: Width, N: Scalar, A: Archive<W>, B: Archive<W>>()
     ensures scalars { WritesOneWay (scalar_format N.encoding) }
     ensures texts { WritesOneWay (text_format W.word) }

@@ -47,6 +47,22 @@ impl<'a, T: Element, W: Width> ArchivedHashTable<'a, T, W> {
     /// # Requires
     ///
     /// - The comparison can be called with each item of the table.
+    ///
+    /// # Examples
+    ///
+    /// ```rust
+    /// // Returns the value of a key, which is looked up under its hash.
+    /// fn value_of(archive: &[u8], hash: u64, key: i8) -> Result<Option<i8>, VerifyError> {
+    ///     let table = ArchivedHashTable::of(access::<TableOf<Entry<i8, i8>>>(archive)?);
+    ///     match table.get_with(hash, |pair| pair.key().to_native() == key) {
+    ///         Some(pair) => Ok(Some(pair.value().to_native())),
+    ///         None => Ok(None),
+    ///     }
+    /// }
+    ///
+    /// let found = value_of(&four_pairs(), hash_of_i8(5), 5).ok();
+    /// assert_eq!(rt; found, Some(Some(6)));
+    /// ```
     #[inline]
     pub fn get_with<F: Fn(View<'a, T>) -> bool>(self, hash: u64, cmp: F) -> Option<View<'a, T>>
         requires callable { MayAsk (F.pre cmp) self }
@@ -55,11 +71,22 @@ impl<'a, T: Element, W: Width> ArchivedHashTable<'a, T, W> {
         self.get_by::<Group, F>(hash, cmp)
     }
 
-    /// Looks up as `get_with` does, by groups of the kind `G`.
+    /// Returns an item that the comparison accepts, by groups of the kind `G`, or `None`.
+    ///
+    /// It looks up as `get_with` does.
     ///
     /// # Requires
     ///
     /// - The comparison can be called with each item of the table.
+    ///
+    /// # Examples
+    ///
+    /// ```rust
+    /// match table.get_by::<G, _>(hash, |item| is_accepted(item.to_native(), wanted)) {
+    ///     Some(item) => Ok(Some(item.to_native())),
+    ///     None => Ok(None),
+    /// }
+    /// ```
     #[inline]
     pub fn get_by<G: GroupKind, F: Fn(View<'a, T>) -> bool>(
         self,
@@ -73,11 +100,23 @@ impl<'a, T: Element, W: Width> ArchivedHashTable<'a, T, W> {
         items.find::<G, F>(self.start(hash), hash, cmp, &mut Strides::new())
     }
 
-    /// Looks up as `get_with` does, and returns the position of the item.
+    /// Returns the position of an item that the comparison accepts, or `None`.
+    ///
+    /// It looks up as `get_with` does.
     ///
     /// # Requires
     ///
     /// - The comparison can be called with each item of the table.
+    ///
+    /// # Examples
+    ///
+    /// ```rust
+    /// // Returns the position of a number that is found under a hash.
+    /// fn pos_of_number(bytes: &[u8], hash: u64, wanted: u8) -> Result<Option<u64>, VerifyError> {
+    ///     let table = ArchivedHashTable::of(access::<TableOf<u8>>(bytes)?);
+    ///     Ok(table.get_pos_with(hash, |item| item.to_native() == wanted))
+    /// }
+    /// ```
     #[inline]
     pub fn get_pos_with<F: Fn(View<'a, T>) -> bool>(self, hash: u64, cmp: F) -> Option<u64>
         requires callable { MayAsk (F.pre cmp) self }
@@ -86,7 +125,9 @@ impl<'a, T: Element, W: Width> ArchivedHashTable<'a, T, W> {
         found_pos(self.get_with(hash, cmp))
     }
 
-    /// Looks up as `get_with` does, and counts the strides of sixteen control bytes that are read.
+    /// Returns an item that the comparison accepts, or `None`, and counts the strides it reads.
+    ///
+    /// It looks up as `get_with` does. A stride has sixteen control bytes.
     ///
     /// It reads no stride of an empty table, else at least one and at most ceil(capacity / 16).
     ///
@@ -94,6 +135,13 @@ impl<'a, T: Element, W: Width> ArchivedHashTable<'a, T, W> {
     ///
     /// - `strides` has at most 9,223,372,036,854,775,808 strides.
     /// - The comparison can be called with each item of the table.
+    ///
+    /// # Examples
+    ///
+    /// ```rust
+    /// let mut strides = Strides::new();
+    /// let found = table.get_counted(hash, |pair| pair.key().to_native() == key, &mut strides);
+    /// ```
     #[inline]
     pub fn get_counted<F>(self, hash: u64, cmp: F, strides: &mut Strides) -> Option<View<'a, T>>
     where

@@ -1,4 +1,7 @@
 //! Counting the items of a table that a lookup of their own doesn't find.
+//!
+//! - `misplaced_by` looks up each item. Its cost on untrusted bytes may be quadratic.
+//! - `misplaced_up_to_by` ends at a limit on the strides that are read.
 ghost use Rattle.std.specs.Prelude.{false, not, true, ◌+◌, ◌<◌, ◌^◌, ◌≡◌, ◌≤◌, ◌⊎◌};
 ghost use Rattle.rkyv_scan.specs.Groups.{generic_kind};
 ghost use Rattle.rkyv_table.specs.Table.Misplaced.{is_answer, NoneMisplacedIsComplete};
@@ -90,6 +93,21 @@ impl<'a, T: Element, W: Width> ArchivedHashTable<'a, T, W> {
     /// # Requires
     ///
     /// - `hash_of` can be called with each item, and `same` with any two items.
+    ///
+    /// # Examples
+    ///
+    /// ```rust
+    /// // Returns the number of misplaced pairs of a table. Pairs with one key are the same.
+    /// fn misplaced_small(bytes: &[u8]) -> Result<usize, VerifyError> {
+    ///     let table = ArchivedHashTable::of(access::<TableOf<Entry<i8, i8>>>(bytes)?);
+    ///     Ok(table.misplaced_by(
+    ///         |pair| hash_of_i8(pair.key().to_native()),
+    ///         |own, other| own.key().to_native() == other.key().to_native(),
+    ///     ))
+    /// }
+    ///
+    /// assert_eq!(rt; misplaced_small(&one_key_twice()).ok(), Some(1));
+    /// ```
     pub fn misplaced_by<H: Fn(View<'a, T>) -> u64, S: Fn(View<'a, T>, View<'a, T>) -> bool>(
         self,
         hash_of: H,
@@ -112,7 +130,9 @@ impl<'a, T: Element, W: Width> ArchivedHashTable<'a, T, W> {
         count
     }
 
-    /// Returns the number of misplaced items as `misplaced_by` does, or `None` at a limit.
+    /// Returns the number of misplaced items, or `None` at a limit on the strides that it reads.
+    ///
+    /// The number is the result of `misplaced_by`.
     ///
     /// The result is `None` if the lookups of all items read more than `limit` strides of sixteen
     /// control bytes, or if `strides` counts more than 2^63 then. Otherwise the number is exact.
@@ -125,6 +145,22 @@ impl<'a, T: Element, W: Width> ArchivedHashTable<'a, T, W> {
     ///
     /// - `hash_of` can be called with each item, and `same` with any two items.
     /// - `strides` has at most 2^63 strides.
+    ///
+    /// # Examples
+    ///
+    /// ```rust
+    /// fn counted_up_to(bytes: &[u8], limit: u64) -> Result<(Option<usize>, u64), VerifyError> {
+    ///     let table = ArchivedHashTable::of(access::<TableOf<Entry<i8, i8>>>(bytes)?);
+    ///     let mut strides = Strides::new();
+    ///     let misplaced = table.misplaced_up_to_by(
+    ///         |pair| hash_of_i8(pair.key().to_native()),
+    ///         |own, other| own.key().to_native() == other.key().to_native(),
+    ///         limit,
+    ///         &mut strides,
+    ///     );
+    ///     Ok((misplaced, strides.count()))
+    /// }
+    /// ```
     pub fn misplaced_up_to_by<H, S>(
         self,
         hash_of: H,
@@ -159,15 +195,18 @@ impl<'a, T: Element, W: Width> ArchivedHashTable<'a, T, W> {
     }
 }
 
-/// On written control bytes, as many items are misplaced as are the same as an earlier item.
+/// States that the number of misplaced items is that of items that are the same as an earlier one.
 ///
+/// The control bytes are written ones.
 /// Each item has the hash under which it was written. The relation is an equivalence on the items,
 /// and related items have the same hash.
 pub fn repeated_are_misplaced()
     ensures { RepeatedAreMisplaced }
 {}
 
-/// If no item is misplaced, a lookup finds the only accepted item, or `None` if there is none.
+/// States that a lookup finds the only accepted item if no item is misplaced.
+///
+/// It finds `None` if there is no accepted item.
 ///
 /// Each accepted item has the hash of the lookup, and the items that are the same as it are those
 /// that are accepted.

@@ -151,6 +151,20 @@ impl<'a, T> ExactSizeIterator for RawIter<'a, T> {
 
 impl<'a, T: Element, W: Width> ArchivedHashTable<'a, T, W> {
     /// Returns a walk over the positions of the items, in bucket order.
+    ///
+    /// # Examples
+    ///
+    /// ```rust
+    /// // Returns the first four results of a walk.
+    /// fn four_asks<T: Element>(bytes: &[u8]) -> Result<[Option<u64>; 4], VerifyError> {
+    ///     let table = ArchivedHashTable::of(access::<TableOf<T>>(bytes)?);
+    ///     let mut rest = table.raw_iter();
+    ///     Ok([rest.next(), rest.next(), rest.next(), rest.next()])
+    /// }
+    ///
+    /// let given = four_asks::<u8>(&two_archived()).ok();
+    /// assert_eq!(rt; given, Some([Some(2), Some(0), None, None]));
+    /// ```
     #[inline]
     pub fn raw_iter(self) -> RawIter<'a, T>
         ensures archive { result.archive ≡ archive_of self.entry.view }

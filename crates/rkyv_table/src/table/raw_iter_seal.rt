@@ -310,6 +310,21 @@ impl<'a, T: Element, W: Width> ArchivedHashTable<'a, T, W> {
     /// # Requires
     ///
     /// - The archive has a valid table at the position of the seal.
+    ///
+    /// # Examples
+    ///
+    /// ```rust
+    /// fn write_stepping(bytes: &mut [u8]) -> Result<([Option<u64>; 3], usize), VerifyError> {
+    ///     let whole = access_mut::<TableOf<u8>>(bytes)?;
+    ///     let mut rest = ArchivedHashTable::raw_iter_seal(whole);
+    ///     let places = [
+    ///         rest.next_with(|archive: &mut [u8], pos: u64| change(archive, pos, 7)),
+    ///         rest.next_with(|archive: &mut [u8], pos: u64| change(archive, pos, 9)),
+    ///         rest.next_with(|archive: &mut [u8], pos: u64| change(archive, pos, 11)),
+    ///     ];
+    ///     Ok((places, rest.len()))
+    /// }
+    /// ```
     #[inline]
     pub fn raw_iter_seal(this: ArchiveSeal<'a, TableOf<T, W>>) -> RawIterSeal<'a, T>
         requires table { IsTableSeal W.word T.shape this }
@@ -330,6 +345,21 @@ impl<'a, T: Element, W: Width> ArchivedHashTable<'a, T, W> {
     /// # Requires
     ///
     /// - The archive has a valid table at `pos`.
+    ///
+    /// # Examples
+    ///
+    /// ```rust
+    /// // Sets each item of a table, which stays valid.
+    /// fn set_all<N: Scalar, W: Width>(archive: &mut [u8], pos: u64, value: N)
+    ///     requires { Viewed (table_shape W.word N.shape) archive.old pos }
+    ///     ensures { Viewed (table_shape W.word N.shape) archive.new pos }
+    /// {
+    ///     let mut rest = ArchivedHashTable::<N, W>::raw_iter_over(archive, pos);
+    ///     while let Some(next) = rest.next_pos() {
+    ///         rest.set_at(next, value);
+    ///     }
+    /// }
+    /// ```
     #[inline]
     pub fn raw_iter_over(archive: &'a mut [u8], pos: u64) -> RawIterSeal<'a, T>
         requires table { Viewed (table_shape W.word T.shape) archive.old pos }
@@ -364,6 +394,23 @@ impl<'a, T: Element, W: Width> ArchivedHashTable<'a, T, W> {
     /// - The archive has a valid table at `pos`.
     /// - The comparison can be called with each item of the table.
     /// - `write` can be called with a seal of each item that fits in the archive.
+    ///
+    /// # Examples
+    ///
+    /// ```rust
+    /// ArchivedHashTable::<N, W>::found_with(
+    ///     archive,
+    ///     pos,
+    ///     hash,
+    ///     accepts,
+    ///     |seal: &mut Seal<'_, N>|
+    ///         requires { LiesIn N.shape seal.old }
+    ///     {
+    ///         seal.set(value);
+    ///         seal.to_native()
+    ///     },
+    /// )
+    /// ```
     #[inline]
     pub fn found_with<R, F: Fn(View<'_, T>) -> bool, G: FnOnce(&mut Seal<'_, T>) -> R>(
         archive: &mut [u8],

@@ -1,4 +1,8 @@
 //! Reading a table in place.
+//!
+//! - `verify` validates a table for the validator of an element.
+//! - `of` decodes the header at a view of a valid table.
+//! - `len`, `capacity` and `is_empty` return its numbers.
 ghost use Rattle.std.specs.Prelude.{IsTrue, MatchResult, length, ◌%◌, ◌*◌, ◌+◌, ◌<◌, ◌↔◌, ◌≡◌, ◌≤◌};
 ghost use Rattle.std.specs.Int.{byte_len};
 ghost use Rattle.rkyv_base.specs.Checking.{Fails, Passes};
@@ -42,6 +46,16 @@ impl<'a, T: Element, W: Width> ArchivedHashTable<'a, T, W> {
     /// - `WrongNumberOfElements`: the length isn't the number of full buckets.
     /// - `UnwrappedControlByte`: the lowest index from the capacity on whose control byte
     ///   isn't as it must be.
+    ///
+    /// # Examples
+    ///
+    /// ```rust
+    /// let whole = PartRange { lo: 0, hi: 48 };
+    /// let accepted = matches!(
+    ///     ArchivedHashTable::<Entry<u32, u32>, Narrow>::verify(&one_number(), 48, whole),
+    ///     Ok(PartRange { lo: 47, hi: 48 })
+    /// );
+    /// ```
     #[inline]
     pub fn verify(bytes: &[u8], pos: u64, range: PartRange) -> Result<PartRange, VerifyError>
         requires inside { pos + 3 * byte_len W.word ≤ length bytes.now }

@@ -1,4 +1,7 @@
 //! The resolver of a written table, and writing the header of the table.
+//!
+//! `HashTableResolver::resolve` writes the header. `resolve_from_len` does so too, and takes
+//! the length and the load factor again, as in rkyv.
 
 ghost use Rattle.std.specs.Prelude.{◌≡◌, ◌+◌, ◌<◌, ◌≤◌, ◌^◌, FitsSigned, length};
 ghost use mir.Val.{bits};

@@ -1,4 +1,7 @@
 //! Lookups that return a seal, and laws of writes in place.
+//!
+//! - `get_seal_with` takes a seal of the table. Its contract doesn't cover the bytes afterwards.
+//! - `found_with` of `raw_iter_seal` takes bytes and a closure.
 ghost use Rattle.std.specs.Prelude.{IfSome, List, ℕ};
 ghost use Rattle.rkyv_base.specs.Entry.{entry_shape};
 ghost use Rattle.rkyv_base.specs.Seal.{LiesIn};
@@ -18,7 +21,9 @@ use rkyv_base::view::View;
 use rkyv_base::width::Width;
 
 impl<'a, T: Element, W: Width> ArchivedHashTable<'a, T, W> {
-    /// Looks up as `get_with` does, and returns a seal of the item.
+    /// Returns a seal of an item that the comparison accepts, or `None`.
+    ///
+    /// It looks up as `get_with` does.
     ///
     /// The contract of `found_with` also covers the bytes of the archive afterwards.
     ///
@@ -26,6 +31,19 @@ impl<'a, T: Element, W: Width> ArchivedHashTable<'a, T, W> {
     ///
     /// - The archive has a valid table at the position of the seal.
     /// - The comparison can be called with each item of the table.
+    ///
+    /// # Examples
+    ///
+    /// ```rust
+    /// match ArchivedHashTable::get_seal_with(whole, hash, |item| item.to_native() == wanted) {
+    ///     Some(mut seal) => {
+    ///         let before = seal.to_native();
+    ///         seal.set(number);
+    ///         Ok(Some((before, seal.to_native())))
+    ///     }
+    ///     None => Ok(None),
+    /// }
+    /// ```
     #[inline]
     pub fn get_seal_with<F: Fn(View<'_, T>) -> bool>(
         this: ArchiveSeal<'a, TableOf<T, W>>,
@@ -48,7 +66,7 @@ impl<'a, T: Element, W: Width> ArchivedHashTable<'a, T, W> {
     }
 }
 
-/// If a write changes one item alone and keeps it valid, the table stays valid.
+/// States that if a write changes one item alone and keeps it valid, the table stays valid.
 ///
 /// The header, the control bytes and the bytes of the other items are unchanged.
 pub fn writes_keep_the_table<T: Element, W: Width>()
@@ -57,7 +75,7 @@ pub fn writes_keep_the_table<T: Element, W: Width>()
         → KeptByWrites W.word T.shape b p i }
 {}
 
-/// If a write changes the value of one entry alone and keeps it valid, the table stays valid.
+/// States that a table stays valid if a write changes one entry's value and keeps it valid.
 ///
 /// The header, the control bytes, the other entries and the key of this one are unchanged.
 pub fn value_writes_keep_the_table<K: Element, V: Element, W: Width>()
@@ -66,7 +84,7 @@ pub fn value_writes_keep_the_table<K: Element, V: Element, W: Width>()
         → KeptByValueWrites W.word K.shape V.shape b p i }
 {}
 
-/// A lookup in a kept table finds the same bucket at the same position as before.
+/// States that a lookup in a kept table finds the same bucket at the same position as before.
 ///
 /// A written table is still one.
 pub fn writes_keep_lookups<T: Element, W: Width>()

@@ -200,6 +200,19 @@ impl<'a, T: Shaped, W: Width> ArchivedHashTable<'a, T, W> {
     ///
     /// Nothing is written with the first four errors. The bytes written before the call
     /// are unchanged.
+    ///
+    /// # Examples
+    ///
+    /// ```rust
+    /// ArchivedHashTable::<U::Archived, Narrow>::serialize_from_iter::<VecWriter, U, &U, _, _>(
+    ///     alloc,
+    ///     items.iter(),
+    ///     hashes.iter().copied(),
+    ///     items.len(),
+    ///     load_factor,
+    ///     writer,
+    /// )
+    /// ```
     pub fn serialize_from_iter<
         S: Writer,
         U: Serialize<S, W, Archived = T>,
@@ -242,6 +255,24 @@ impl<'a, T: Shaped, W: Width> ArchivedHashTable<'a, T, W> {
     ///
     /// The same as for `serialize_from_iter`. The number of `IteratorLengthMismatch`
     /// is that of pairs.
+    ///
+    /// # Examples
+    ///
+    /// ```rust
+    /// let mut writer = VecWriter::new(alloc);
+    /// let pairs = hashes.iter().copied().zip(items.iter());
+    ///
+    /// match ArchivedHashTable::<U::Archived, Narrow>::serialize_by::<G, VecWriter, U, &U, _>(
+    ///     alloc,
+    ///     pairs,
+    ///     items.len(),
+    ///     load_factor,
+    ///     &mut writer,
+    /// ) {
+    ///     Ok(resolver) => resolver.pos() == pos && writer.bytes() == bytes,
+    ///     Err(_) => false,
+    /// }
+    /// ```
     pub fn serialize_by<
         G: GroupKind,
         S: Writer,

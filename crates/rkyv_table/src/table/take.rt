@@ -1,4 +1,6 @@
 //! Taking items from one iterator of pairs, each into its home bucket.
+//!
+//! The number of pairs is counted up to one more than claimed.
 
 ghost use Rattle.std.specs.Prelude.{◌≡◌, ℕ, ◌%◌, ◌+◌, ◌<◌, ◌∷◌, ◌++◌, List, []};
 ghost use Rattle.std.specs.Prelude.{MatchResult, None, Some, replicate, IfSome, length, slice_set};
@@ -13,6 +15,10 @@ use crate::controls::reciprocal::Reciprocal;
 use rkyv_scan::simd::GroupKind;
 
 /// Returns the next item of an iterator, which need not end.
+///
+/// # Requires
+///
+/// - The iterator can be called.
 #[inline]
 pub fn next_item<I: Iterator>(rest: &mut I) -> Option<I::Item>
     requires { I.can_next rest.old }

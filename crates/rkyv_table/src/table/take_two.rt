@@ -1,4 +1,6 @@
 //! Taking items and their hashes from two iterators, each item into its home bucket.
+//!
+//! The number of items is counted up to one more than claimed, and then that of hashes.
 
 ghost use Rattle.std.specs.Prelude.{◌≡◌, ◌+◌, ◌<◌, ◌≤◌, ◌^◌, None, replicate};
 ghost use Rattle.rkyv_table.specs.Controls.Shown.{fresh_controls};

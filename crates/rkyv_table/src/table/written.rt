@@ -13,7 +13,7 @@ use rkyv_base::archive::Archive;
 use rkyv_base::lend::Lend;
 use rkyv_base::width::Width;
 
-/// Written bytes of a table and its header are a valid table in any archive that has them.
+/// States that a written table with its header is valid in any archive that has its bytes.
 ///
 /// The header is aligned and after the written bytes. It has the length and the capacity
 /// of the table. The control bytes are those of the hashes, and each item is in its home bucket.
@@ -22,7 +22,7 @@ pub fn written_tables_stand<W: Width, U: Archive<W>, X: Lend<U>>()
         (lent_stands X.lent U.Archived.stands) (written_as X.lent U.format) load_factor }
 {}
 
-/// The written table is valid in each range around the written bytes.
+/// States that the written table is valid in each range around the written bytes.
 ///
 /// Such a range begins at or before the first written byte, and ends at or after the last.
 pub fn written_tables_pass<W: Width, U: Archive<W>, X: Lend<U>>()
@@ -30,16 +30,16 @@ pub fn written_tables_pass<W: Width, U: Archive<W>, X: Lend<U>>()
         WrittenTablesPass W.word U.Archived.shape (written_as X.lent U.format) load_factor }
 {}
 
-/// The represented items depend only on the bytes on which the validity of the table depends.
+/// States that the represented items depend only on the bytes that decide the table's validity.
 pub fn tables_stand_nearby<W: Width, U: Archive<W>, X: Lend<U>>()
     ensures { (load_factor : ℕ × ℕ) → let s = U.Archived.shape in
         StandsNear (table_shape W.word s)
         (TableStands W.word s (lent_stands X.lent U.Archived.stands) load_factor) }
 {}
 
-/// A table that represents items was written from them, in order and under their hashes.
+/// States that a table that represents items was written from them, in order.
 ///
-/// Each item is in its home bucket, and so a lookup finds the first accepted item.
+/// Each item is under its hash and in its home bucket. So a lookup finds the first accepted item.
 pub fn standing_tables_were_written<W: Width, U: Archive<W>, X: Lend<U>>()
     ensures { (load_factor : ℕ × ℕ) →
         StandingWereWritten W.word U.Archived.shape (lent_stands X.lent U.Archived.stands)
