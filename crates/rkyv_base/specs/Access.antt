@@ -15,11 +15,9 @@ use Rattle.std.specs.Prelude.{
   pos,
   ◌-ℤ◌,
 }
-use Rattle.std.specs.Borrow.{MutBor}
 use Rattle.std.proofs.Common.{arith}
 use Rattle.rkyv_base.specs.declared.errors.VerifyError.{VerifyError}
 use Rattle.rkyv_base.specs.declared.errors.VerifyError.TheVariants.{OutOfRange, Unaligned}
-use Rattle.rkyv_base.specs.Lending.{Wrote}
 use Rattle.rkyv_base.specs.Shape.{Shape, Standing, Viewed}
 
 -- `b`: archive within `limit`, with a valid and aligned root at its end
@@ -39,13 +37,12 @@ AccessFails limit s b e =
     ⊎ ((s.size ≤ length b) × (length b ≤ limit) × ((length b - s.size) % s.align ≡ 0)
     × s.fails b (length b - s.size) 0 (length b - s.size) e)
 
--- `result`: result of validating `b` and calling `write` with it,
--- `c`: bytes after that. On an error `c` is `b`
-abbrev pub AccessWrites : {F R : Type 0} → ℕ → Shape
-    → (F → MutBor (List ℕ) → ℕ → R → MutBor (List ℕ) → Type 0) → F → List ℕ → List ℕ
-    → Result R VerifyError → Type 0
-AccessWrites limit s post write b c result = MatchResult result
-    (λ r. Accepted limit s b × Wrote post write r b (length b - s.size) c)
+-- `result`: result of validating `b` and writing at its root, `c`: bytes after that.
+-- `Writes r b p c`: a write at `p` changed `b` to `c` and returned `r`. On an error `c` is `b`
+abbrev pub AccessWrites : {R : Type 0} → ℕ → Shape → (R → List ℕ → ℕ → List ℕ → Type 0)
+    → List ℕ → List ℕ → Result R VerifyError → Type 0
+AccessWrites limit s Writes b c result = MatchResult result
+    (λ r. Accepted limit s b × Writes r b (length b - s.size) c)
     (λ e. AccessFails limit s b e × (c ≡ b))
 
 -- the root of an accepted archive

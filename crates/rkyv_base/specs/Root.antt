@@ -68,11 +68,21 @@ abbrev pub RootGaveUp : {F V R : Type 0} → ℕ → ℕ → Format V R → V �
     → Type 0
 RootGaveUp limit align f v o o' e = Told limit (RootNext align f v (end_of o)) o o' e
 
--- `result`: the position of the root that was appended, or the error
-abbrev pub WritesRoot : {F V R : Type 0} → ℕ → ℕ → Format V R → V → Output → Output
+-- how a root is written. `align`: alignment of its element, `format`: format of its value
+pub record RootFormat (V R : Type 0) : Type 1 where
+  pub align : ℕ
+  pub format : Format V R
+
+-- the format of a root with this alignment
+abbrev pub root_format : {V R : Type 0} → ℕ → Format V R → RootFormat V R
+root_format align format = record { align = align; format = format }
+
+-- `result`: the position of the root of the value `v` that was appended, or the error
+abbrev pub WritesRoot : {F V R : Type 0} → ℕ → RootFormat V R → V → Output → Output
     → Result ℕ (WriteError F) → Type 0
-WritesRoot limit align f v o o' result =
-    MatchResult result (WroteRoot limit align f v o o') (RootGaveUp limit align f v o o')
+WritesRoot limit root v o o' result = MatchResult result
+    (WroteRoot limit root.align root.format v o o')
+    (RootGaveUp limit root.align root.format v o o')
 
 -- the output of a new writer to memory
 abbrev pub fresh : Output

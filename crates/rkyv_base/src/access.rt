@@ -10,7 +10,7 @@
 
 ghost use Rattle.std.specs.Prelude.{◌-◌, length, IfOk, IsOk, MatchResult};
 ghost use Rattle.rkyv_base.specs.Access.{AccessFails, AccessWrites, Accepted};
-ghost use Rattle.rkyv_base.specs.Lending.{MayWrite};
+ghost use Rattle.rkyv_base.specs.Lending.{MayWrite, Wrote};
 ghost use Rattle.rkyv_base.specs.Seal.{ArchiveAt, archive_in, pos_in};
 ghost use Rattle.rkyv_base.specs.Shape.{Viewed};
 ghost use Rattle.rkyv_base.specs.View.{IsAt, IsView};
@@ -233,7 +233,7 @@ pub fn access_mut_with_in<W: Width, T: Element, R, F: FnOnce(&mut [u8], u64) -> 
 ) -> Result<R, VerifyError>
     requires { Accepted W.LIMIT T.shape bytes.old
         → MayWrite F.pre write bytes.old (length bytes.old - T.shape.size) }
-    ensures root { AccessWrites W.LIMIT T.shape F.post write bytes.old bytes.new result }
+    ensures root { AccessWrites W.LIMIT T.shape (Wrote F.post write) bytes.old bytes.new result }
     ensures accepts { Accepted W.LIMIT T.shape bytes.old → IsOk result }
 {
     match access_in::<W, T>(&*bytes) {
@@ -274,7 +274,7 @@ pub fn access_mut_with<T: Element, R, F: FnOnce(&mut [u8], u64) -> R>(
 ) -> Result<R, VerifyError>
     requires { Accepted 4294967295 T.shape bytes.old
         → MayWrite F.pre write bytes.old (length bytes.old - T.shape.size) }
-    ensures root { AccessWrites 4294967295 T.shape F.post write bytes.old bytes.new result }
+    ensures root { AccessWrites 4294967295 T.shape (Wrote F.post write) bytes.old bytes.new result }
     ensures accepts { Accepted 4294967295 T.shape bytes.old → IsOk result }
 {
     access_mut_with_in::<Narrow, T, R, F>(bytes, write)

@@ -8,7 +8,7 @@
 //! 3. The root's fixed bytes are written. Their position is the result of `write_root`.
 
 ghost use Rattle.std.specs.Prelude.{MatchResult};
-ghost use Rattle.rkyv_base.specs.Root.{ArchiveOf, ArchiveRefused, WritesRoot};
+ghost use Rattle.rkyv_base.specs.Root.{ArchiveOf, ArchiveRefused, WritesRoot, root_format};
 
 use crate::archive::{Serialize, WriteResult};
 use crate::element::Element;
@@ -33,7 +33,7 @@ pub fn write_root_in<W: Width, S: Writer, V: Serialize<S, W>>(
     value: &V,
     serializer: &mut S,
 ) -> WriteResult<u64, S>
-    ensures { WritesRoot W.LIMIT V.Archived.shape.align V.format value.now
+    ensures { WritesRoot W.LIMIT (root_format V.Archived.shape.align V.format) value.now
         (S.output serializer.old) (S.output serializer.new) result }
 {
     let size = <V::Archived as Element>::size();
@@ -108,7 +108,7 @@ pub fn write_root<S: Writer, V: Serialize<S, Narrow>>(
     value: &V,
     serializer: &mut S,
 ) -> WriteResult<u64, S>
-    ensures { WritesRoot 4294967295 V.Archived.shape.align V.format value.now
+    ensures { WritesRoot 4294967295 (root_format V.Archived.shape.align V.format) value.now
         (S.output serializer.old) (S.output serializer.new) result }
 {
     write_root_in::<Narrow, S, V>(alloc, value, serializer)

@@ -7,11 +7,10 @@ use Rattle.rkyv_base.specs.Pairs.{written_as}
 use Rattle.rkyv_base.specs.Writing.{Output}
 use Rattle.rkyv_base.specs.declared.errors.WriteError.{WriteError}
 use Rattle.rkyv_base.specs.declared.lend.Lend.{Ghosts as Lends}
-use Rattle.rkyv_table.specs.Table.Header.{WritesHeader}
 use Rattle.rkyv_table.specs.Table.Input.{Input, from_iter}
 use Rattle.rkyv_table.specs.Table.Lent.{lent_keys, lent_pairs}
 use Rattle.rkyv_table.specs.Table.Serializing.{WritesItems}
-use Rattle.rkyv_table.specs.Table.TableFormat.{TableResolver}
+use Rattle.rkyv_table.specs.Table.TableFormat.{TableResolver, WritesHeader}
 use Rattle.rkyv_collections.specs.MapFormat.{map_format}
 use Rattle.rkyv_collections.specs.Natives.{KeyFormat, PairFormat, WidthMembers}
 use Rattle.rkyv_collections.specs.SetFormat.{set_format}
@@ -67,13 +66,8 @@ module _ {F : Type 0} (w : WidthMembers) where
   WritesSet key items o o' result =
       WritesLent (set_format w.word key.shape key.format key.hash) items o o' result
 
--- the resolver of `len` items under a load factor, with the first control byte at `pos`
-abbrev pub resolver_of : ℕ → ℕ × ℕ → ℕ → TableResolver
-resolver_of len load_factor pos = record { pos = pos; len = len; load_factor = load_factor }
-
 -- the bytes became the header at `p` of the resolved map. Or the distance doesn't fit,
 -- and they are unchanged
 abbrev pub ResolvesMap : {T E : Type 0} → Width → TableResolver → ℕ → List ℕ → List ℕ → Result T E
     → Type 0
-ResolvesMap w r p before after result =
-    WritesHeader w r.len r.load_factor r.pos p before after result
+ResolvesMap w r p before after result = WritesHeader w r p before after result

@@ -24,6 +24,7 @@ use Rattle.rkyv_base.specs.declared.width.Width.{Ghosts as Widths}
 use Rattle.rkyv_base.specs.declared.width.Word.{Ghosts as Words}
 use Rattle.rkyv_base.proofs.GivingUp.{appends_after, end-appends, told_as}
 use Rattle.rkyv_table.specs.Lemmas.TableLaws.{table_element}
+use Rattle.rkyv_table.specs.Table.Bare.{TableIn}
 use Rattle.rkyv_table.specs.Table.Layout.{table_shape}
 use Rattle.rkyv_table.specs.Table.Passing.{HoldsAround, WrittenTablesPass}
 use Rattle.rkyv_table.specs.Table.Serializing.{NoItems}
@@ -55,7 +56,7 @@ use Rattle.rkyv_headline.specs.Listing.{
   list_format,
   table_of,
 }
-use Rattle.rkyv_headline.specs.Report.{LookOverFails, ReportsTable, TableIn}
+use Rattle.rkyv_headline.specs.Report.{LookOverFails, ReportsTable}
 use Rattle.rkyv_headline.specs.declared.looking.LookError.{LookError}
 use Rattle.rkyv_headline.specs.declared.looking.LookError.TheVariants.{Memory, Verify}
 use Rattle.rkyv_headline.specs.declared.looking.TableReport.{TableReport}

@@ -16,7 +16,7 @@ use Rattle.rkyv_base.specs.declared.archive.Archive.{Ghosts as Archives}
 use Rattle.rkyv_base.specs.declared.errors.WriteError.{WriteError}
 use Rattle.rkyv_base.specs.declared.lend.Lend.{Ghosts as Lends}
 use Rattle.rkyv_base.specs.declared.view.View.{View}
-use Rattle.rkyv_table.specs.Table.Bare.{AnswersOf}
+use Rattle.rkyv_table.specs.Table.Bare.{AnswersOf, TableIn}
 use Rattle.rkyv_table.specs.Table.FirstItem.{AreUnder, IsFirstOf}
 use Rattle.rkyv_table.specs.Table.Header.{cap_at}
 use Rattle.rkyv_table.specs.Table.Input.{Input, from_both}
@@ -28,7 +28,7 @@ use Rattle.rkyv_table.specs.Table.Serializing.{Came, HasCapacity, OwnCause}
 use Rattle.rkyv_table.specs.Table.TableFormat.{TableResolver, TableStands, table_format}
 use Rattle.rkyv_table.specs.Table.Taking.{hashes_of, items_of}
 use Rattle.rkyv_table.specs.Table.WalkLaws.{VisitsHomes}
-use Rattle.rkyv_headline.specs.Report.{ReportsTable, TableIn}
+use Rattle.rkyv_headline.specs.Report.{ReportsTable}
 use Rattle.rkyv_headline.specs.declared.looking.LookError.TheVariants.{Memory, Verify}
 use Rattle.rkyv_headline.specs.declared.looking.TableReport.{TableReport}
 use Rattle.rkyv_headline.specs.declared.whole.ListError.{ListError}

@@ -4,32 +4,18 @@ use Rattle.std.specs.Prelude.{Option, Result}
 use Rattle.std.specs.Int.{Width}
 use Rattle.std.specs.List.{All, Contains}
 use Rattle.rkyv_base.specs.Checking.{Fails, Passes}
-use Rattle.rkyv_base.specs.Shape.{Shape, Viewed}
-use Rattle.rkyv_base.specs.declared.element.Shaped.{Ghosts as Shapes}
+use Rattle.rkyv_base.specs.Shape.{Viewed}
 use Rattle.rkyv_base.specs.declared.element.PartRange.{PartRange}
 use Rattle.rkyv_base.specs.declared.view.View.{View}
-use Rattle.rkyv_base.specs.declared.width.Word.{Ghosts as Words}
 use Rattle.rkyv_scan.specs.Groups.{generic_kind}
 use Rattle.rkyv_table.specs.Controls.Finding.{ReadsWithin}
-use Rattle.rkyv_table.specs.Table.Bare.{LooksUp, MayAskOf, ReadsExactly}
+use Rattle.rkyv_table.specs.Table.Bare.{LooksUp, MayAskOf, ReadsExactly, TableIn}
 use Rattle.rkyv_table.specs.Table.Header.{cap_at, len_at}
 use Rattle.rkyv_table.specs.Table.Layout.{table_shape}
 use Rattle.rkyv_table.specs.Table.Positions.{item_positions}
 use Rattle.rkyv_headline.specs.declared.looking.LookError.{LookError}
 use Rattle.rkyv_headline.specs.declared.looking.LookError.TheVariants.{Memory, Verify}
 use Rattle.rkyv_headline.specs.declared.looking.TableReport.{TableReport}
-
--- a table in bytes. `word`: width of the archive, `shape`: shape of the items,
--- `bytes`: the archive, `pos`: position of the header
-pub record TableIn : Type 1 where
-  pub word : Width
-  pub shape : Shape
-  pub bytes : List ℕ
-  pub pos : ℕ
-
--- the table of elements `t` in the width `w` whose header is at `pos`
-abbrev pub table_in : {W T : Type 0} → Words W → Shapes T → List ℕ → ℕ → TableIn
-table_in w t bytes pos = record { word = w.word; shape = t.shape; bytes = bytes; pos = pos }
 
 -- the comparison can be called on each item of the table
 abbrev pub CanCompareItems : {T : Type 0} → TableIn → (View T → Type 0) → Type 0

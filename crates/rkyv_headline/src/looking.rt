@@ -3,12 +3,12 @@
 ghost use Rattle.std.specs.Prelude.{IfOk, length, ◌%◌, ◌*◌, ◌+◌, ◌≡◌, ◌≤◌};
 ghost use Rattle.std.specs.Int.{byte_len};
 ghost use Rattle.rkyv_base.specs.Shape.{Viewed};
-ghost use Rattle.rkyv_table.specs.Table.Bare.{MayAskOf};
+ghost use Rattle.rkyv_table.specs.Table.Bare.{MayAskOf, table_in};
 ghost use Rattle.rkyv_table.specs.Table.Layout.{table_shape};
 ghost use Rattle.rkyv_table.specs.Table.Positions.{item_positions};
 ghost use Rattle.rkyv_table.specs.Table.Reading.{pos_of_found};
 ghost use Rattle.rkyv_headline.specs.Report.{CanCompareItems, LooksOver, LooksUpIn};
-ghost use Rattle.rkyv_headline.specs.Report.{ReadsExactlyIn, ReadsFew, table_in};
+ghost use Rattle.rkyv_headline.specs.Report.{ReadsExactlyIn, ReadsFew};
 
 use rkyv_base::element::{Element, PartRange};
 use rkyv_base::errors::VerifyError;

@@ -7,7 +7,7 @@ use Rattle.rkyv_scan.specs.Groups.{IsKind, Kind, generic_kind}
 use Rattle.rkyv_scan.specs.Halves.{halves_kind}
 use Rattle.rkyv_base.specs.Shape.{IsElement}
 use Rattle.rkyv_base.specs.declared.view.View.{View}
-use Rattle.rkyv_table.specs.Controls.Finding.{FindsBucket}
+use Rattle.rkyv_table.specs.Controls.Finding.{FindsBucket, lookup}
 use Rattle.rkyv_table.specs.Table.Header.{cap_at, len_at}
 use Rattle.rkyv_table.specs.Table.Positions.{bucket_found, item_at, table_controls}
 use Rattle.rkyv_table.specs.Table.Reading.{Answers, AreItems, CountsStrides, FindsFirst, FindsFound}
@@ -63,7 +63,7 @@ module _ {T W : Type 0} {ts : Shapes T} {wt : Words W} (post : View T → Bool �
 module _ {T W : Type 0} {ts : Shapes T} {wt : Words W} (post : View T → Bool → Type 0) (kind : Kind) (law : IsKind kind) (element : IsElement ts.shape) (items : Items T W ts wt) (are : AreItems items)
     (hash : ℕ) (fits : hash < 2 ^ 64) (before after : ℕ)
     (asked : ℕ → Bool → Type 0) (meets : (i : ℕ) (r : Bool) → asked i r → (v : View T) × IsItemIn items.table i v × post v r) (found : Option ℕ)
-    (finds : FindsBucket kind asked items.controls.now items.cap items.len hash before after found) where
+    (finds : FindsBucket (lookup kind items.controls.now items.cap items.len hash) asked before after found) where
   abbrev place : ℕ → ℕ
   place = item_at wt.word ts.shape.size (table_bytes items.table) (table_pos items.table)
 

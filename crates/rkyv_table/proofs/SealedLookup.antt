@@ -8,7 +8,7 @@ use Rattle.rkyv_base.specs.Shape.{IsElement, Viewed}
 use Rattle.rkyv_base.specs.declared.seal.ArchiveSeal.{ArchiveSeal}
 use Rattle.rkyv_base.specs.declared.seal.Seal.{Seal}
 use Rattle.rkyv_base.specs.declared.view.View.{View}
-use Rattle.rkyv_scan.specs.Groups.{Kind}
+use Rattle.rkyv_scan.specs.Groups.{generic_kind}
 use Rattle.rkyv_table.specs.Controls.Laws.{IsUnderHash}
 use Rattle.rkyv_table.specs.Table.Positions.{IsWalked, WrittenAt, home_positions, item_at}
 use Rattle.rkyv_table.specs.Table.Positions.{pos_found}
@@ -42,9 +42,9 @@ module _ {T W : Type 0} {ts : Shapes T} {wt : Words W} (law : IsElement ts.shape
       }
 
   module _ (post : View T → Bool → Type 0) (hash : ℕ) (result : Option ℕ) where
-    pub seals_found : (kind : Kind) → FindsFound post kind t hash result → SealsFound post kind wt.word ts.shape a hash result
-    seals_found kind found accept answers =
-        let P = λ (b : List ℕ) (p : ℕ). result ≡ pos_found kind wt.word ts.shape.size b p hash accept in
+    pub seals_found : FindsFound post generic_kind t hash result → SealsFound post wt.word ts.shape a hash result
+    seals_found found accept answers =
+        let P = λ (b : List ℕ) (p : ℕ). result ≡ pos_found generic_kind wt.word ts.shape.size b p hash accept in
         subst (P (archive_in a)) read.1 (subst (λ b. P b t.view.pos) read.0 (found accept (answers_of (archive_in a) (pos_in a) t read.0 read.1 post accept answers)))
 
     pub seals_first : FindsFirst post t hash result → SealsFirst post wt.word ts.shape a hash result

@@ -4,8 +4,9 @@
 //! the header.
 
 ghost use Rattle.std.specs.Prelude.{◌≡◌, ◌+◌, ◌<◌, ◌^◌, length};
+ghost use Rattle.rkyv_table.specs.Table.TableFormat.{resolver_of};
 ghost use Rattle.rkyv_collections.specs.Natives.{key_format};
-ghost use Rattle.rkyv_collections.specs.Writing.{ResolvesMap, WritesSet, keys_in, resolver_of};
+ghost use Rattle.rkyv_collections.specs.Writing.{ResolvesMap, WritesSet, keys_in};
 
 use crate::map::ArchivedHashMap;
 use crate::map::writing::HashMapResolver;

@@ -53,15 +53,34 @@ pub record ReadsWithin (len bound before after : ℕ) : Type 0 where
   pub some : 0 < len → before < after
   pub most : after ≤ before + bound
 
--- `result`: bucket that a lookup under `hash` finds, `before` and `after`: counts of strides.
+-- a lookup in control bytes. `kind`: kind of group, `controls`: control bytes of `len` items
+-- in `cap` buckets, `hash`: hash that is looked up
+pub record Lookup : Type 0 where
+  pub kind : Kind
+  pub controls : List ℕ
+  pub cap : ℕ
+  pub len : ℕ
+  pub hash : ℕ
+
+-- the lookup of `hash` in these control bytes
+abbrev pub lookup : Kind → List ℕ → ℕ → ℕ → ℕ → Lookup
+lookup kind controls cap len hash = record {
+  kind = kind;
+  controls = controls;
+  cap = cap;
+  len = len;
+  hash = hash;
+}
+
+-- `result`: bucket that the lookup `l` finds, `before` and `after`: counts of strides.
 -- For any comparison, the bucket is full and accepted, and the strides are bounded.
 -- If the comparison depends only on the bucket, both are exact
-pub record FindsBucket (kind : Kind) (post : ℕ → Bool → Type 0) (controls : List ℕ)
-    (cap len hash before after : ℕ) (result : Option ℕ) : Type 0 where
-  pub walked : IfSome result (IsFullBucket cap controls)
+pub record FindsBucket (l : Lookup) (post : ℕ → Bool → Type 0) (before after : ℕ)
+    (result : Option ℕ) : Type 0 where
+  pub walked : IfSome result (IsFullBucket l.cap l.controls)
   pub accepted : IfSome result (λ b. post b true)
-  pub bounded : ReadsWithin len (probe_capacity cap / 16) before after
-  pub answer : (accept : ℕ → Bool) → AnswersAs post (IsFullBucket cap controls) accept
-      → result ≡ found kind controls cap len hash accept
-  pub counted : (accept : ℕ → Bool) → AnswersAs post (IsFullBucket cap controls) accept
-      → after ≡ before + end kind controls cap len hash accept
+  pub bounded : ReadsWithin l.len (probe_capacity l.cap / 16) before after
+  pub answer : (accept : ℕ → Bool) → AnswersAs post (IsFullBucket l.cap l.controls) accept
+      → result ≡ found l.kind l.controls l.cap l.len l.hash accept
+  pub counted : (accept : ℕ → Bool) → AnswersAs post (IsFullBucket l.cap l.controls) accept
+      → after ≡ before + end l.kind l.controls l.cap l.len l.hash accept

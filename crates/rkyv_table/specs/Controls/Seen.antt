@@ -2,8 +2,7 @@
 use Rattle.std.specs.Prelude.{◌≡◌, ℕ, ◌+◌, ◌%◌, ◌<◌, ⊤, List, Bool, true, false, length}
 use Rattle.std.specs.Prelude.{slice_index, Some, None}
 use Rattle.std.specs.List.{find}
-use Rattle.rkyv_scan.specs.Groups.{Kind}
-use Rattle.rkyv_table.specs.Controls.Finding.{candidates, shows_empty}
+use Rattle.rkyv_table.specs.Controls.Finding.{AnswersAs}
 use Rattle.rkyv_table.specs.declared.controls.find.Seen.{Seen}
 use Rattle.rkyv_table.specs.declared.controls.find.Seen.TheVariants.{Accepted, Empty, Full}
 
@@ -21,15 +20,18 @@ IsShownIfAccepted stride p cap (Accepted b) = IsShown stride p cap b
 IsShownIfAccepted stride p cap Empty = ⊤
 IsShownIfAccepted stride p cap Full = ⊤
 
--- the first accepted candidate of the stride; without one, `Empty` if the stride shows
--- an empty control byte, else `Full`
-abbrev pub IsSeen : Kind → List ℕ → ℕ → ℕ → ℕ → (ℕ → Bool) → Seen → Type 0
-IsSeen kind controls cap t p accept (Accepted b) =
-    find accept (candidates kind controls cap t p) ≡ Some b
-IsSeen kind controls cap t p accept Empty =
-    (find accept (candidates kind controls cap t p) ≡ None) × (shows_empty controls p ≡ true)
-IsSeen kind controls cap t p accept Full =
-    (find accept (candidates kind controls cap t p) ≡ None) × (shows_empty controls p ≡ false)
+-- the first accepted bucket of `buckets`, the candidates of the stride; without one, `Empty`
+-- if the stride shows an empty control byte, as `empty` says, else `Full`
+abbrev pub IsSeen : List ℕ → Bool → (ℕ → Bool) → Seen → Type 0
+IsSeen buckets empty accept (Accepted b) = find accept buckets ≡ Some b
+IsSeen buckets empty accept Empty = (find accept buckets ≡ None) × (empty ≡ true)
+IsSeen buckets empty accept Full = (find accept buckets ≡ None) × (empty ≡ false)
+
+-- `seen`: outcome of the stride with the candidates `buckets`, if the comparison depends only
+-- on the bucket
+abbrev pub SeesFirst : (ℕ → Bool → Type 0) → (ℕ → Type 0) → List ℕ → Bool → Seen → Type 0
+SeesFirst post asked buckets empty seen =
+    (accept : ℕ → Bool) → AnswersAs post asked accept → IsSeen buckets empty accept seen
 
 -- an accepted bucket is one for which the comparison returned `true`
 abbrev pub IsAcceptedBy : (ℕ → Bool → Type 0) → Seen → Type 0

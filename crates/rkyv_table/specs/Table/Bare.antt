@@ -3,13 +3,27 @@ use Rattle.std.specs.Prelude.{◌≡◌, ℕ, Bool, true, List, Option, None, So
 use Rattle.std.specs.Int.{Width}
 use Rattle.std.specs.List.{find}
 use Rattle.rkyv_base.specs.Shape.{Shape, Viewed}
+use Rattle.rkyv_base.specs.declared.element.Shaped.{Ghosts as Shapes}
 use Rattle.rkyv_base.specs.declared.view.View.{View}
-use Rattle.rkyv_scan.specs.Groups.{Kind}
+use Rattle.rkyv_base.specs.declared.width.Word.{Ghosts as Words}
+use Rattle.rkyv_scan.specs.Groups.{Kind, generic_kind}
 use Rattle.rkyv_table.specs.Controls.Laws.{IsUnderHash}
 use Rattle.rkyv_table.specs.Table.Positions.{IsWalked, WrittenAt, home_positions, item_at}
 use Rattle.rkyv_table.specs.Table.Positions.{lookup_end}
 use Rattle.rkyv_table.specs.Table.Positions.{pos_found}
 use Rattle.rkyv_table.specs.Table.SealedItems.{IsItemAt}
+
+-- a table in bytes. `word`: width of the archive, `shape`: shape of the items,
+-- `bytes`: the archive, `pos`: position of the header
+pub record TableIn : Type 1 where
+  pub word : Width
+  pub shape : Shape
+  pub bytes : List ℕ
+  pub pos : ℕ
+
+-- the table of elements `t` in the width `w` whose header is at `pos`
+abbrev pub table_in : {W T : Type 0} → Words W → Shapes T → List ℕ → ℕ → TableIn
+table_in w t bytes pos = record { word = w.word; shape = t.shape; bytes = bytes; pos = pos }
 
 -- `v`: view of an item of the table whose header is at `p` in `b`
 pub record IsItemOf {T : Type 0} (w : Width) (s : Shape) (b : List ℕ) (p : ℕ)
@@ -63,12 +77,13 @@ WritesFound {R} Writes b found result c =
     MatchOption found ((result ≡ None) × (c ≡ b))
     (λ q. (r : R) × (result ≡ Some r) × Writes r b q c)
 
--- a writer was called with the item that a lookup finds. A write of the item alone that keeps
--- it valid keeps the table. If nothing is found, the bytes are unchanged
-pub record LendsFound {T R : Type 0} (post : View T → Bool → Type 0)
-    (Writes : R → List ℕ → ℕ → List ℕ → Type 0) (kind : Kind) (w : Width) (s : Shape) (b : List ℕ)
-    (p hash : ℕ) (result : Option R) (c : List ℕ) : Type 0 where
+-- a writer was called with the item that a lookup under `hash` finds in the table `t`. A write
+-- of the item alone that keeps it valid keeps the table. If nothing is found, the bytes `c`
+-- afterwards are those of the table
+pub record LendsFound {T R : Type 0} (t : TableIn) (post : View T → Bool → Type 0)
+    (Writes : R → List ℕ → ℕ → List ℕ → Type 0) (hash : ℕ) (result : Option R)
+    (c : List ℕ) : Type 0 where
   pub found : Option ℕ
-  pub looks : LooksUp post kind w s b p hash found
-  pub item : IfSome found (λ q. (i : ℕ) × IsItemAt w s b p i q)
-  pub writes : WritesFound Writes b found result c
+  pub looks : LooksUp post generic_kind t.word t.shape t.bytes t.pos hash found
+  pub item : IfSome found (λ q. (i : ℕ) × IsItemAt t.word t.shape t.bytes t.pos i q)
+  pub writes : WritesFound Writes t.bytes found result c

@@ -1,10 +1,9 @@
 -- The header of a table: a distance, the length and the capacity, each of one word.
 use Rattle.std.specs.Prelude.{◌≡◌, ℕ, ◌+◌, ◌*◌, ◌<◌, ◌⊎◌, ℤ, pos, unsigned_abs, ◌+ℤ◌, ◌-ℤ◌}
 use Rattle.std.specs.Prelude.{FitsSigned, List}
-use Rattle.std.specs.Prelude.{◌++◌, MatchResult, Result}
+use Rattle.std.specs.Prelude.{◌++◌}
 use Rattle.std.specs.Int.{Width, byte_len, to_le_bytes, cast_unsigned}
 use Rattle.rkyv_base.specs.Bytes.{number_at, signed_at}
-use Rattle.rkyv_table.specs.Controls.Numbers.{capacity}
 
 -- the number of items, as in the header at `p`
 abbrev pub len_at : Width → List ℕ → ℕ → ℕ
@@ -39,11 +38,3 @@ pub record IsHeader (w : Width) (len cap z p : ℕ) (out : List ℕ) : Type 0 wh
 -- isn't empty
 abbrev pub HeaderFar : Width → ℕ → ℕ → ℕ → Type 0
 HeaderFar w len z p = (0 < len) × (FitsSigned w (pos z -ℤ pos p) → ⊥)
-
--- the bytes became the header at `p` of a table whose first control byte is at `z`; or the distance
--- doesn't fit, and they are unchanged
-abbrev pub WritesHeader : {T E : Type 0} → Width → ℕ → ℕ × ℕ → ℕ → ℕ → List ℕ → List ℕ
-    → Result T E → Type 0
-WritesHeader w len load_factor z p before after result = MatchResult result
-    (λ _. IsHeader w len (capacity len load_factor) z p after)
-    (λ _. HeaderFar w len z p × (after ≡ before))

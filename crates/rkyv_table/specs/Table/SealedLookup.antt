@@ -10,7 +10,7 @@ use Rattle.rkyv_base.specs.Shape.{Shape, Viewed}
 use Rattle.rkyv_base.specs.declared.seal.ArchiveSeal.{ArchiveSeal}
 use Rattle.rkyv_base.specs.declared.seal.Seal.{Seal}
 use Rattle.rkyv_base.specs.declared.view.View.{View}
-use Rattle.rkyv_scan.specs.Groups.{Kind}
+use Rattle.rkyv_scan.specs.Groups.{generic_kind}
 use Rattle.rkyv_table.specs.Controls.Laws.{IsUnderHash}
 use Rattle.rkyv_table.specs.Table.Positions.{IsWalked, WrittenAt, home_positions}
 use Rattle.rkyv_table.specs.Table.Bare.{AnswersOf, MayAskOf}
@@ -55,11 +55,11 @@ abbrev pub pos_of_seal : {T : Type 0} → Option (Seal T) → Option ℕ
 pos_of_seal seal = option_map seal_pos seal
 
 -- the position that a lookup finds in any valid table, if the comparison depends only on positions
-abbrev pub SealsFound : {T W : Type 0} → (View T → Bool → Type 0) → Kind → Width → Shape
+abbrev pub SealsFound : {T W : Type 0} → (View T → Bool → Type 0) → Width → Shape
     → ArchiveSeal (TableOf T W) → ℕ → Option ℕ → Type 0
-SealsFound post kind w s a hash result =
+SealsFound post w s a hash result =
     (accept : ℕ → Bool) → AnswersAt post w s a accept
-    → result ≡ pos_found kind w s.size (archive_in a) (pos_in a) hash accept
+    → result ≡ pos_found generic_kind w s.size (archive_in a) (pos_in a) hash accept
 
 -- the position that a lookup finds in a written table: that of the first accepted item
 -- in insertion order. This is for a comparison by positions that accepts only items under `hash`

@@ -9,14 +9,28 @@ use Rattle.rkyv_base.specs.declared.errors.WriteError.TheVariants.{PositionTooLa
 use Rattle.rkyv_base.specs.declared.errors.WriteError.TheVariants.{DistanceTooLarge, TextTooLong}
 use Rattle.rkyv_base.specs.declared.errors.WriteError.TheVariants.{Writer, Memory, Refused}
 use Rattle.rkyv_base.specs.Format.{Format, GaveUp, Serialized}
-use Rattle.rkyv_base.specs.Pairs.{written_as}
 use Rattle.rkyv_base.specs.Shape.{Shape}
+use Rattle.rkyv_base.specs.Text.{IsArchiveWord}
 use Rattle.rkyv_base.specs.Writing.{Appended, Output, Told, end_of}
 use Rattle.rkyv_table.specs.Controls.Numbers.{IsLoadFactor, capacity}
 use Rattle.rkyv_table.specs.Table.Input.{Input}
-use Rattle.rkyv_table.specs.Table.Slots.{TableBytes, TableNext}
+use Rattle.rkyv_table.specs.Table.Slots.{ItemFormat, TableBytes, TableNext}
 use Rattle.rkyv_table.specs.Table.TableFormat.{TableResolver, table_format}
 use Rattle.rkyv_table.specs.Table.Taking.{Placed}
+
+-- the members of a `Width` and its `Word`
+abbrev pub WidthMembers : Type 0
+WidthMembers = record {
+  word : Width;
+  kind : IsArchiveWord word;
+  LIMIT : ℕ;
+  ALIGN : ℕ;
+  MAX_CAPACITY : ℕ;
+  TABLE_SIZE : ℕ;
+  INDEX_SIZE : ℕ;
+  TEXT_SIZE : ℕ;
+  TEXT_LIMIT : ℕ;
+}
 
 -- `len` items have a capacity of at most `max`
 abbrev pub HasCapacity : ℕ → ℕ × ℕ → ℕ → Type 0
@@ -63,13 +77,25 @@ WritesItems input len load_factor max limit f o o' result = MatchResult result
     (WroteItems input.gave len load_factor max f o o' limit)
     (NoItems input.gave len load_factor max f o o' limit (input.gave_other len))
 
--- `len` pairs of hash and item are written as a table, with the values of the items in the format
--- `f`
-abbrev pub WritesTable : {X V R F : Type 0} → Width → ℕ → ℕ → Shape → (X → V) → Format V R
-    → Input (ℕ × X) → ℕ → ℕ × ℕ → Output → Output → Result TableResolver (WriteError F) → Type 0
-WritesTable w max limit s lent f input len load_factor o o' result =
-    WritesItems input len load_factor max limit
-    (table_format w s (written_as lent f) load_factor) o o' result
+-- items to be written as a table. `input`: input pairs of hash and item, `len`: their claimed
+-- number, `load_factor`: the load factor
+pub record TableInput (X : Type 0) : Type 1 where
+  pub input : Input (ℕ × X)
+  pub len : ℕ
+  pub load_factor : ℕ × ℕ
+
+-- `len` pairs of the input, for a table under the load factor
+abbrev pub table_input : {X : Type 0} → Input (ℕ × X) → ℕ → ℕ × ℕ → TableInput X
+table_input input len load_factor =
+    record { input = input; len = len; load_factor = load_factor }
+
+-- the input pairs of `given` are written as a table of the width `w`, with items in the format
+-- `items`. The result is its resolver, or an error
+abbrev pub WritesTable : {X R F : Type 0} → WidthMembers → ItemFormat X R → TableInput X → Output
+    → Output → Result TableResolver (WriteError F) → Type 0
+WritesTable w items given o o' result =
+    WritesItems given.input given.len given.load_factor w.MAX_CAPACITY w.LIMIT
+    (table_format w.word items.shape items.format given.load_factor) o o' result
 
 -- the errors with which the items are not placed
 abbrev pub NotPlaced : {F : Type 0} → ℕ → (ℕ → Type 0) → WriteError F → Type 0
@@ -106,10 +132,22 @@ module _ {X R : Type 0} (gave : List (ℕ × X) → Type 0) where
         × Taken gave len cap slots controls pairs
         × Told limit (TableNext s f slots controls (end_of o)) o o' e)
 
--- `len` pairs of hash and item are placed in `cap` buckets and written. The result is the position
--- of the first control byte, or an error
-abbrev pub WritesFilled : {X R F : Type 0} → Input (ℕ × X) → ℕ → ℕ → Shape → Format X R → ℕ
-    → Output → Output → Result ℕ (WriteError F) → Type 0
-WritesFilled input len cap s f limit o o' result = MatchResult result
-    (WroteFilled input.gave len cap s f o o' limit)
-    (NoFilled input.gave len cap s f o o' limit (input.gave_other len))
+-- items to be placed in buckets. `input`: input pairs of hash and item,
+-- `len`: their claimed number, `cap`: number of buckets
+pub record BucketInput (X : Type 0) : Type 1 where
+  pub input : Input (ℕ × X)
+  pub len : ℕ
+  pub cap : ℕ
+
+-- `len` pairs of the input, for `cap` buckets
+abbrev pub bucket_input : {X : Type 0} → Input (ℕ × X) → ℕ → ℕ → BucketInput X
+bucket_input input len cap = record { input = input; len = len; cap = cap }
+
+-- the input pairs of `given` are placed in its buckets and written, with items in the format
+-- `items`. The result is the position of the first control byte, or an error
+abbrev pub WritesFilled : {X R F : Type 0} → ℕ → ItemFormat X R → BucketInput X → Output → Output
+    → Result ℕ (WriteError F) → Type 0
+WritesFilled limit items given o o' result = MatchResult result
+    (WroteFilled given.input.gave given.len given.cap items.shape items.format o o' limit)
+    (NoFilled given.input.gave given.len given.cap items.shape items.format o o' limit
+    (given.input.gave_other given.len))

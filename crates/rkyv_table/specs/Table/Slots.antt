@@ -3,6 +3,7 @@ use Rattle.std.specs.Prelude.{◌≡◌, ℕ, suc, ◌+◌, ◌-◌, ◌*◌, �
 use Rattle.std.specs.Prelude.{drop, MatchResult, Option, Result, Some, None, slice_get}
 use Rattle.rkyv_base.specs.Entry.{round_up}
 use Rattle.rkyv_base.specs.Format.{Format}
+use Rattle.rkyv_base.specs.Pairs.{written_as}
 use Rattle.rkyv_base.specs.Shape.{Shape}
 use Rattle.rkyv_base.specs.Writing.{Appended, Appends, Output, Step, Told, Within, distance, end_of}
 use Rattle.rkyv_base.specs.Writing.{padding, piece, refusal, zeros}
@@ -13,6 +14,33 @@ abbrev pub filled : {X : Type 0} → List (Option X) → ℕ
 filled [] = 0
 filled (None ∷ ss) = filled ss
 filled (Some x ∷ ss) = suc (filled ss)
+
+-- how items are written. `shape`: shape of their elements, `format`: their format
+pub record ItemFormat (X R : Type 0) : Type 1 where
+  pub shape : Shape
+  pub format : Format X R
+
+-- the format of items that lend values in the format `f`, as `lent` says
+abbrev pub item_format : {X V R : Type 0} → Shape → (X → V) → Format V R → ItemFormat X R
+item_format s lent f = record { shape = s; format = written_as lent f }
+
+-- `slots`: a slot for each bucket, `resolvers`: resolvers of their items, in bucket order
+pub record ResolvedSlots (X R : Type 0) : Type 0 where
+  pub slots : List (Option X)
+  pub resolvers : List R
+
+-- the slots with the resolvers of their items
+abbrev pub slots_with : {X R : Type 0} → List (Option X) → List R → ResolvedSlots X R
+slots_with slots resolvers = record { slots = slots; resolvers = resolvers }
+
+-- `slots`: a slot for each bucket, `controls`: control bytes of the buckets
+pub record PlacedSlots (X : Type 0) : Type 0 where
+  pub slots : List (Option X)
+  pub controls : List ℕ
+
+-- the slots with their control bytes
+abbrev pub placed_slots : {X : Type 0} → List (Option X) → List ℕ → PlacedSlots X
+placed_slots slots controls = record { slots = slots; controls = controls }
 
 module _ {X R : Type 0} (f : Format X R) where
   -- `part`: parts of the items in bucket order, serialized at `p`, `rs`: their resolvers
@@ -29,13 +57,14 @@ module _ {X R : Type 0} (f : Format X R) where
         × (slice_get slots i ≡ Some (Some x)) × SlotParts (take i slots) p a rs
         × f.next x (p + length a) rest step × (front ≡ a ++ rest)
 
--- the parts of the items are written in bucket order, with the resolvers `rs`; or writing failed
-abbrev pub WritesParts : {X R U F : Type 0} → Format X R → ℕ → List (Option X) → List R → Output
+-- the parts of the items in the slots `x` are written in bucket order, with their resolvers;
+-- or writing failed
+abbrev pub WritesParts : {X R U F : Type 0} → ℕ → Format X R → ResolvedSlots X R → Output
     → Output → Result U (WriteError F) → Type 0
-WritesParts f limit slots rs o o' result = MatchResult result
-    (λ _. (part : List ℕ) × Appends o o' part × SlotParts f slots (end_of o) part rs
+WritesParts limit f x o o' result = MatchResult result
+    (λ _. (part : List ℕ) × Appends o o' part × SlotParts f x.slots (end_of o) part x.resolvers
     × Within limit o' part)
-    (Told limit (PartsNext f slots (end_of o)) o o')
+    (Told limit (PartsNext f x.slots (end_of o)) o o')
 
 module _ {X R : Type 0} (size : ℕ) (f : Format X R) where
   -- `out`: buckets before position `z`, from the highest to bucket 0
@@ -56,12 +85,6 @@ module _ {X R : Type 0} (size : ℕ) (f : Format X R) where
   abbrev pub TooFar : Option X → List R → ℕ → Type 0
   TooFar None left p = ⊥
   TooFar (Some x) left p = (r : R) × (more : List R) × (left ≡ more ++ r ∷ []) × f.far x r p
-
-  -- one bucket is filled, or a distance of its item is too large
-  abbrev pub FillsBucket : {U E : Type 0} → Option X → List R → List R → ℕ → List ℕ → Result U E
-      → Type 0
-  FillsBucket s left more p out result =
-      MatchResult result (λ _. Filled s left more p out) (λ _. TooFar s left p)
 
   -- `step`: step of writing one bucket at position `p`, its bytes or the error for its distance
   abbrev pub BucketStep : Option X → List R → ℕ → Step → Type 0
@@ -85,12 +108,29 @@ module _ {X R : Type 0} (size : ℕ) (f : Format X R) where
   WroteBuckets limit slots rs o o' =
       (out : List ℕ) × Appended limit out o o' × SlotImages slots rs (end_of o') out
 
-  -- the buckets are written within the limit, or writing failed
-  abbrev pub WritesBuckets : {U F : Type 0} → ℕ → List (Option X) → List R → Output → Output
-      → Result U (WriteError F) → Type 0
-  WritesBuckets limit slots rs o o' result = MatchResult result
-      (λ _. WroteBuckets limit slots rs o o')
-      (Told limit (BucketNext slots rs (end_of o)) o o')
+-- a bucket. `pos`: its position, `bytes`: its bytes
+pub record Bucket : Type 0 where
+  pub pos : ℕ
+  pub bytes : List ℕ
+
+-- the bucket at `pos` with these bytes
+abbrev pub bucket_with : ℕ → List ℕ → Bucket
+bucket_with pos bytes = record { pos = pos; bytes = bytes }
+
+-- the bucket `b` is filled for the slot `s`: with zeros, or with the item by the last resolver
+-- of `left`. Or a distance of the item is too large. `more`: the resolvers that remain
+abbrev pub FillsBucket : {X R U E : Type 0} → ItemFormat X R → Option X → List R → List R → Bucket
+    → Result U E → Type 0
+FillsBucket items s left more b result = MatchResult result
+    (λ _. Filled items.shape.size items.format s left more b.pos b.bytes)
+    (λ _. TooFar items.shape.size items.format s left b.pos)
+
+-- the buckets of the slots `x` are written within the limit, or writing failed
+abbrev pub WritesBuckets : {X R U F : Type 0} → ℕ → ItemFormat X R → ResolvedSlots X R → Output
+    → Output → Result U (WriteError F) → Type 0
+WritesBuckets limit items x o o' result = MatchResult result
+    (λ _. WroteBuckets items.shape.size items.format limit x.slots x.resolvers o o')
+    (Told limit (BucketNext items.shape.size items.format x.slots x.resolvers (end_of o)) o o')
 
 module _ {X R : Type 0} (s : Shape) (f : Format X R) (slots : List (Option X)) (controls : List ℕ)
     (p : ℕ) where
@@ -123,11 +163,11 @@ module _ {X R : Type 0} (s : Shape) (f : Format X R) (slots : List (Option X)) (
       × SlotImages s.size f slots rs (p + length front) g × (front ≡ b ++ g)
       × (step ≡ piece controls))
 
--- the parts, the buckets and the control bytes of a table are written. The result is the position
--- of the first control byte, or an error
-abbrev pub WritesSlots : {X R F : Type 0} → Shape → Format X R → ℕ → List (Option X) → List ℕ
-    → Output → Output → Result ℕ (WriteError F) → Type 0
-WritesSlots s f limit slots controls o o' result = MatchResult result
+-- the parts, the buckets and the control bytes of the slots `x` are written. The result is
+-- the position of the first control byte, or an error
+abbrev pub WritesSlots : {X R F : Type 0} → ℕ → ItemFormat X R → PlacedSlots X → Output → Output
+    → Result ℕ (WriteError F) → Type 0
+WritesSlots limit items x o o' result = MatchResult result
     (λ z. (bytes : List ℕ) × Appended limit bytes o o'
-    × TableBytes s f slots controls (end_of o) z bytes)
-    (Told limit (TableNext s f slots controls (end_of o)) o o')
+    × TableBytes items.shape items.format x.slots x.controls (end_of o) z bytes)
+    (Told limit (TableNext items.shape items.format x.slots x.controls (end_of o)) o o')

@@ -1,6 +1,6 @@
 -- The format of a table of a list of pairs of hash and item, and the list that a table represents.
 use Rattle.std.specs.Prelude.{◌≡◌, ℕ, ◌^◌, ◌<◌, ◌⊎◌, pos, List, [], length, slice_get, slice_index}
-use Rattle.std.specs.Prelude.{Option, Some}
+use Rattle.std.specs.Prelude.{MatchResult, Option, Result, Some}
 use Rattle.std.specs.Int.{Width}
 use mir.Val.{bits}
 use Rattle.rkyv_base.specs.Format.{Format, IsFormat}
@@ -20,9 +20,21 @@ pub record TableResolver : Type 0 where
   pub len : ℕ
   pub load_factor : ℕ × ℕ
 
+-- the resolver of `len` items under a load factor, with the first control byte at `z`
+abbrev pub resolver_of : ℕ → ℕ × ℕ → ℕ → TableResolver
+resolver_of len load_factor z = record { pos = z; len = len; load_factor = load_factor }
+
 -- the number of buckets of the resolved table
 abbrev pub resolved_capacity : TableResolver → ℕ
 resolved_capacity r = capacity r.len r.load_factor
+
+-- the bytes became the header at `p` of the table that `r` resolves; or the distance doesn't fit,
+-- and they are unchanged
+abbrev pub WritesHeader : {T E : Type 0} → Width → TableResolver → ℕ → List ℕ → List ℕ → Result T E
+    → Type 0
+WritesHeader w r p before after result = MatchResult result
+    (λ _. IsHeader w r.len (resolved_capacity r) r.pos p after)
+    (λ _. HeaderFar w r.len r.pos p × (after ≡ before))
 
 -- the pairs are placed in as many buckets as they need
 abbrev pub InBuckets : {X : Type 0} → ℕ × ℕ → List (ℕ × X) → List (Option X) → List ℕ → Type 0

@@ -6,10 +6,11 @@ ghost use Rattle.std.specs.Prelude.{Bool, IfSome, List, drop, length, map, slice
 ghost use Rattle.std.specs.Prelude.{ℕ, ◌%◌, ◌*◌, ◌+◌, ◌<◌, ◌^◌, ◌≡◌, ◌≤◌};
 ghost use Rattle.std.specs.List.{find};
 ghost use Rattle.rkyv_table.specs.Controls.Shown.{IsFullBucket};
-ghost use Rattle.rkyv_table.specs.Controls.Finding.{AnswersAs, FindsBucket};
+ghost use Rattle.rkyv_table.specs.Controls.Finding.{AnswersAs, FindsBucket, candidates, lookup};
+ghost use Rattle.rkyv_table.specs.Controls.Finding.{shows_empty};
 ghost use Rattle.rkyv_table.specs.Controls.Placing.{Accepted};
-ghost use Rattle.rkyv_table.specs.Controls.Seen.{IsAcceptedBy, IsMarked, IsSeen, IsShown};
-ghost use Rattle.rkyv_table.specs.Controls.Seen.{IsShownIfAccepted};
+ghost use Rattle.rkyv_table.specs.Controls.Seen.{IsAcceptedBy, IsMarked, IsShown};
+ghost use Rattle.rkyv_table.specs.Controls.Seen.{IsShownIfAccepted, SeesFirst};
 
 use crate::controls::numbers::{bucket_of, start, tag};
 use crate::controls::probe::Probe;
@@ -113,8 +114,8 @@ fn scan<G: GroupKind, F: Fn(usize) -> bool>(
     ensures full { IsShownIfAccepted stride.now pos cap result }
     ensures accepted { IsAcceptedBy (F.post cmp.now) result }
     ensures seen { (controls : List ℕ) → stride.now ≡ take 16 (drop pos controls)
-        → (accept : ℕ → Bool) → AnswersAs (F.post cmp.now) (IsShown stride.now pos cap) accept
-        → IsSeen G.kind controls cap tag pos accept result }
+        → SeesFirst (F.post cmp.now) (IsShown stride.now pos cap)
+        (candidates G.kind controls cap tag pos) (shows_empty controls pos) result }
 {
     if G::WIDTH == 16 {
         let whole = G::read(stride, 0);
@@ -169,8 +170,8 @@ pub fn find_from<G: GroupKind, F: Fn(usize) -> bool>(
     requires start { 0 < cap → start ≡ hash % cap }
     requires room { strides.old ≤ 2 ^ 63 }
     requires callable { (b : ℕ) → IsFullBucket cap controls.now b → F.pre cmp b }
-    ensures { FindsBucket G.kind (F.post cmp) controls.now cap len hash strides.old strides.new
-        result }
+    ensures { FindsBucket (lookup G.kind controls.now cap len hash) (F.post cmp) strides.old
+        strides.new result }
 {
     if len == 0 {
         return None;
@@ -211,8 +212,8 @@ pub fn find<G: GroupKind, F: Fn(usize) -> bool>(
     requires accepted { 0 < len → Accepted cap len controls.now }
     requires room { strides.old ≤ 2 ^ 63 }
     requires callable { (b : ℕ) → IsFullBucket cap controls.now b → F.pre cmp b }
-    ensures { FindsBucket G.kind (F.post cmp) controls.now cap len hash strides.old strides.new
-        result }
+    ensures { FindsBucket (lookup G.kind controls.now cap len hash) (F.post cmp) strides.old
+        strides.new result }
 {
     find_from::<G, F>(controls, cap, len, hash, start(hash, cap), cmp, strides)
 }

@@ -3,9 +3,9 @@
 //! Each bucket is one piece. An empty bucket is zeros.
 
 ghost use Rattle.std.specs.Prelude.{◌≡◌, ◌+◌, ◌<◌, ◌≤◌, ◌^◌, IfSome, length};
-ghost use Rattle.rkyv_base.specs.Pairs.{written_as};
 ghost use Rattle.rkyv_base.specs.Writing.{end_of};
-ghost use Rattle.rkyv_table.specs.Table.Slots.{FillsBucket, WritesBuckets, filled};
+ghost use Rattle.rkyv_table.specs.Table.Slots.{FillsBucket, WritesBuckets, bucket_with, filled};
+ghost use Rattle.rkyv_table.specs.Table.Slots.{item_format, slots_with};
 
 use rkyv_base::archive::{Archive, ResolveResult, WriteResult};
 use rkyv_base::element::Element;
@@ -26,8 +26,8 @@ fn fill_bucket<W: Width, U: Archive<W>, X: Lend<U>>(
     requires room { length bucket.old ≡ U.Archived.shape.size }
     requires fits { pos + U.Archived.shape.size < 2 ^ 64 }
     ensures kept { length bucket.new ≡ U.Archived.shape.size }
-    ensures answer { FillsBucket U.Archived.shape.size (written_as X.lent U.format) slot.now
-        rest.old.items rest.new.items pos bucket.new result }
+    ensures answer { FillsBucket (item_format U.Archived.shape X.lent U.format) slot.now
+        rest.old.items rest.new.items (bucket_with pos bucket.new) result }
 {
     match slot {
         Some(item) => {
@@ -54,8 +54,9 @@ fn write_by<W: Width, S: Writer, U: Archive<W>, X: Lend<U>>(
     requires room { length bucket.old ≡ U.Archived.shape.size }
     requires within { end_of (S.output serializer.old) ≤ W.LIMIT }
     ensures kept { length bucket.new ≡ U.Archived.shape.size }
-    ensures answer { WritesBuckets U.Archived.shape.size (written_as X.lent U.format) W.LIMIT
-        slots.now resolvers.items (S.output serializer.old) (S.output serializer.new) result }
+    ensures answer { WritesBuckets W.LIMIT (item_format U.Archived.shape X.lent U.format)
+        (slots_with slots.now resolvers.items)
+        (S.output serializer.old) (S.output serializer.new) result }
 {
     let mut rest = resolvers;
     let mut above = slots.len();
@@ -85,8 +86,9 @@ pub(crate) fn write_buckets<W: Width, S: Writer, U: Archive<W>, X: Lend<U>>(
     requires room { length bucket.old ≡ U.Archived.shape.size }
     requires within { end_of (S.output serializer.old) ≤ W.LIMIT }
     ensures kept { length bucket.new ≡ U.Archived.shape.size }
-    ensures answer { WritesBuckets U.Archived.shape.size (written_as X.lent U.format) W.LIMIT
-        slots.now resolvers.items (S.output serializer.old) (S.output serializer.new) result }
+    ensures answer { WritesBuckets W.LIMIT (item_format U.Archived.shape X.lent U.format)
+        (slots_with slots.now resolvers.items)
+        (S.output serializer.old) (S.output serializer.new) result }
 {
     let size = <U::Archived as Element>::size();
     if size <= 64 {

@@ -6,8 +6,7 @@
 //! 4. The control bytes are written.
 
 ghost use Rattle.std.specs.Prelude.{◌≡◌, ◌≤◌, [], length, vec_capacity};
-ghost use Rattle.rkyv_base.specs.Pairs.{written_as};
-ghost use Rattle.rkyv_table.specs.Table.Slots.{WritesSlots, filled};
+ghost use Rattle.rkyv_table.specs.Table.Slots.{WritesSlots, filled, item_format, placed_slots};
 
 use crate::table::buckets::write_buckets;
 use crate::table::parts::serialize_slots;
@@ -30,8 +29,9 @@ pub(crate) fn write_table<W: Width, S: Writer, U: Serialize<S, W>, X: Lend<U>>(
     requires empty { resolvers.items ≡ [] }
     requires places { filled slots.now ≤ vec_capacity resolvers }
     requires room { length bucket.old ≡ U.Archived.shape.size }
-    ensures { WritesSlots U.Archived.shape (written_as X.lent U.format) W.LIMIT slots.now
-        controls.now (S.output serializer.old) (S.output serializer.new) result }
+    ensures { WritesSlots W.LIMIT (item_format U.Archived.shape X.lent U.format)
+        (placed_slots slots.now controls.now)
+        (S.output serializer.old) (S.output serializer.new) result }
 {
     let mut kept = resolvers;
     match serialize_slots::<W, S, U, X>(alloc, slots, &mut kept, serializer) {

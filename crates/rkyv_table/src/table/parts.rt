@@ -2,7 +2,7 @@
 
 ghost use Rattle.std.specs.Prelude.{◌≡◌, ◌≤◌, [], vec_capacity};
 ghost use Rattle.rkyv_base.specs.Pairs.{written_as};
-ghost use Rattle.rkyv_table.specs.Table.Slots.{WritesParts, filled};
+ghost use Rattle.rkyv_table.specs.Table.Slots.{WritesParts, filled, slots_with};
 
 use rkyv_base::archive::{Serialize, WriteResult};
 use rkyv_base::lend::Lend;
@@ -19,7 +19,8 @@ pub(crate) fn serialize_slots<W: Width, S: Writer, U: Serialize<S, W>, X: Lend<U
 ) -> WriteResult<(), S>
     requires empty { resolvers.old.items ≡ [] }
     requires room { filled slots.now ≤ vec_capacity resolvers.old }
-    ensures { WritesParts (written_as X.lent U.format) W.LIMIT slots.now resolvers.new.items
+    ensures { WritesParts W.LIMIT (written_as X.lent U.format)
+        (slots_with slots.now resolvers.new.items)
         (S.output serializer.old) (S.output serializer.new) result }
 {
     for slot in slots {

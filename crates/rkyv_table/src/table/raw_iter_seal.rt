@@ -34,8 +34,7 @@ ghost use Rattle.rkyv_table.specs.Table.SealedItems.{
   cursor_bytes,
   items_left,
 };
-ghost use Rattle.rkyv_scan.specs.Groups.{generic_kind};
-ghost use Rattle.rkyv_table.specs.Table.Bare.{LendsFound, MayAskOf};
+ghost use Rattle.rkyv_table.specs.Table.Bare.{LendsFound, MayAskOf, table_in};
 ghost use Rattle.rkyv_table.specs.Table.RawItems.{pos_before};
 ghost use Rattle.rkyv_table.specs.Table.SealedLookup.{IsTableSeal};
 ghost use Rattle.rkyv_base.specs.Shape.{Viewed};
@@ -422,8 +421,8 @@ impl<'a, T: Element, W: Width> ArchivedHashTable<'a, T, W> {
         requires table { Viewed (table_shape W.word T.shape) archive.old pos }
         requires callable { MayAskOf (F.pre cmp) W.word T.shape archive.old pos }
         requires writable { MaySealIn G.pre T.shape write archive.old }
-        ensures { LendsFound (F.post cmp) (SealedBy G.post write) generic_kind W.word T.shape
-            archive.old pos hash result archive.new }
+        ensures { LendsFound (table_in W.Word T.Shaped archive.old pos) (F.post cmp)
+            (SealedBy G.post write) hash result archive.new }
     {
         let table = ArchivedHashTable::<T, W>::of(View::new(&*archive, pos));
         match table.get_pos_with(hash, cmp) {

@@ -5,9 +5,10 @@
 
 ghost use Rattle.std.specs.Prelude.{◌≡◌, ◌+◌, ◌<◌, ◌≤◌, ◌^◌, FitsSigned, length};
 ghost use mir.Val.{bits};
-ghost use Rattle.rkyv_table.specs.Table.Header.{WritesHeader, header_bytes};
+ghost use Rattle.rkyv_table.specs.Table.Header.{header_bytes};
 ghost use Rattle.rkyv_table.specs.Controls.Numbers.{IsLoadFactor, capacity};
-ghost use Rattle.rkyv_table.specs.Table.TableFormat.{TableResolver, resolved_capacity};
+ghost use Rattle.rkyv_table.specs.Table.TableFormat.{TableResolver, WritesHeader};
+ghost use Rattle.rkyv_table.specs.Table.TableFormat.{resolved_capacity, resolver_of};
 
 use crate::controls::numbers::capacity;
 use crate::table::ArchivedHashTable;
@@ -76,8 +77,7 @@ impl<W: Width> HashTableResolver<W> {
     pub fn resolve(self, pos: u64, out: &mut [u8]) -> ResolveResult
         requires room { length out.old ≡ W.TABLE_SIZE }
         requires fits { pos + W.TABLE_SIZE < 2 ^ 64 }
-        ensures { WritesHeader W.word self.len self.load_factor self.pos pos out.old out.new
-            result }
+        ensures { WritesHeader W.word self pos out.old out.new result }
     {
         let (len, load_factor) = (self.len, self.load_factor);
         ArchivedHashTable::<'_, (), W>::resolve_from_len(len, load_factor, self, pos, out)
@@ -138,7 +138,8 @@ impl<'a, T: Shaped, W: Width> ArchivedHashTable<'a, T, W> {
         requires same { (len ≡ resolver.len) × (load_factor ≡ resolver.load_factor) }
         requires room { length out.old ≡ W.TABLE_SIZE }
         requires fits { pos + W.TABLE_SIZE < 2 ^ 64 }
-        ensures { WritesHeader W.word len load_factor resolver.pos pos out.old out.new result }
+        ensures { WritesHeader W.word (resolver_of len load_factor resolver.pos) pos
+            out.old out.new result }
     {
         if len == 0 {
             write_header::<W>(out, 1, 0, 0);

@@ -7,7 +7,6 @@ ghost use Rattle.rkyv_base.specs.Entry.{entry_shape};
 ghost use Rattle.rkyv_base.specs.Seal.{LiesIn};
 ghost use Rattle.rkyv_base.specs.Shape.{Viewed};
 ghost use Rattle.rkyv_table.specs.Table.Positions.{IsWalked};
-ghost use Rattle.rkyv_scan.specs.Groups.{generic_kind};
 ghost use Rattle.rkyv_table.specs.Table.SealedLookup.{IsItemSeal, IsTableSeal, MayAskAt};
 ghost use Rattle.rkyv_table.specs.Table.SealedLookup.{SealsFirst, SealsFound, pos_of_seal};
 ghost use Rattle.rkyv_table.specs.Table.SealedTable.{KeepsTable, KeptByValueWrites, KeptByWrites};
@@ -54,7 +53,7 @@ impl<'a, T: Element, W: Width> ArchivedHashTable<'a, T, W> {
         requires callable { MayAskAt (F.pre cmp) W.word T.shape this }
         ensures inside { IfSome result (LiesIn T.shape) }
         ensures walked { IfSome result (IsItemSeal W.word T.shape this.entry) }
-        ensures answer { SealsFound (F.post cmp) generic_kind W.word T.shape this.entry hash
+        ensures answer { SealsFound (F.post cmp) W.word T.shape this.entry hash
             (pos_of_seal result) }
         ensures first { SealsFirst (F.post cmp) W.word T.shape this.entry hash
             (pos_of_seal result) }

@@ -8,10 +8,11 @@
 
 ghost use Rattle.std.specs.Prelude.{◌≡◌, ◌+◌, ◌^◌, ◌<◌, ◌≤◌, [], IfOk, None};
 ghost use Rattle.std.specs.Prelude.{replicate, vec_capacity};
-ghost use Rattle.rkyv_base.specs.Pairs.{written_as};
 ghost use Rattle.rkyv_table.specs.Controls.Numbers.{control_count};
 ghost use Rattle.rkyv_table.specs.Table.Input.{from_both, from_iter};
-ghost use Rattle.rkyv_table.specs.Table.Serializing.{WritesFilled, WritesTable};
+ghost use Rattle.rkyv_table.specs.Table.Serializing.{WritesFilled, WritesTable, bucket_input};
+ghost use Rattle.rkyv_table.specs.Table.Serializing.{table_input};
+ghost use Rattle.rkyv_table.specs.Table.Slots.{item_format};
 
 use crate::controls::numbers::{CapacityError, capacity, control_count};
 use crate::table::ArchivedHashTable;
@@ -82,8 +83,9 @@ fn serialize_filled<
     requires can { H.can given }
     requires below { len < cap }
     requires fits { cap ≤ W.MAX_CAPACITY }
-    ensures { WritesFilled (H.input given) len cap U.Archived.shape (written_as X.lent U.format)
-        W.LIMIT (S.output serializer.old) (S.output serializer.new) result }
+    ensures { WritesFilled W.LIMIT (item_format U.Archived.shape X.lent U.format)
+        (bucket_input (H.input given) len cap)
+        (S.output serializer.old) (S.output serializer.new) result }
 {
     let room: Room<X, U::Resolver> = match Room::new(
         alloc,
@@ -130,9 +132,9 @@ fn serialize_given<
     serializer: &mut S,
 ) -> WriteResult<HashTableResolver<W>, S>
     requires { H.can given }
-    ensures { WritesTable W.word W.MAX_CAPACITY W.LIMIT U.Archived.shape X.lent U.format
-        (H.input given) len load_factor (S.output serializer.old) (S.output serializer.new)
-        result }
+    ensures { WritesTable W.Width (item_format U.Archived.shape X.lent U.format)
+        (table_input (H.input given) len load_factor)
+        (S.output serializer.old) (S.output serializer.new) result }
 {
     let cap = match capacity(len, load_factor, W::MAX_CAPACITY) {
         Ok(cap) => cap,
@@ -228,8 +230,8 @@ impl<'a, T: Shaped, W: Width> ArchivedHashTable<'a, T, W> {
         serializer: &mut S,
     ) -> WriteResult<HashTableResolver<W>, S>
         requires { I.can_next items × J.can_next hashes }
-        ensures { WritesTable W.word W.MAX_CAPACITY W.LIMIT T.shape X.lent U.format
-            (from_both I.next_gives J.next_gives items hashes) len load_factor
+        ensures { WritesTable W.Width (item_format T.shape X.lent U.format)
+            (table_input (from_both I.next_gives J.next_gives items hashes) len load_factor)
             (S.output serializer.old) (S.output serializer.new) result }
     {
         let given = ItemsAndHashes { items, hashes };
@@ -287,8 +289,8 @@ impl<'a, T: Shaped, W: Width> ArchivedHashTable<'a, T, W> {
         serializer: &mut S,
     ) -> WriteResult<HashTableResolver<W>, S>
         requires { I.can_next pairs }
-        ensures { WritesTable W.word W.MAX_CAPACITY W.LIMIT T.shape X.lent U.format
-            (from_iter I.next_gives pairs) len load_factor
+        ensures { WritesTable W.Width (item_format T.shape X.lent U.format)
+            (table_input (from_iter I.next_gives pairs) len load_factor)
             (S.output serializer.old) (S.output serializer.new) result }
     {
         serialize_given::<W, G, S, U, X, Pairs<I>>(

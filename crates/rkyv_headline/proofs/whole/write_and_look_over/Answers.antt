@@ -1,8 +1,8 @@
 use Rattle.std.proofs.Common.{refl}
 use Rattle.rkyv_base.specs.Writing.{end_of, held}
 use Rattle.rkyv_base.specs.declared.element.PartRange.{PartRange}
+use Rattle.rkyv_table.specs.Table.Bare.{table_in}
 use Rattle.rkyv_headline.specs.Listing.{encoding, list_of, pairs_of}
-use Rattle.rkyv_headline.specs.Report.{table_in}
 use Rattle.rkyv_headline.proofs.Listing.{appended_sits, element_members, look_fails, not_refused, width_members, written_found}
 use Rattle.rkyv_headline.proofs.whole.write_and_look_over.Goals as goal
 

@@ -1,5 +1,4 @@
 use Rattle.std.proofs.Common.{refl, ap, ◌∙◌, ◌+◌, ◌≤◌, length, Some, None}
-use Rattle.rkyv_scan.specs.Groups.{generic_kind}
 use Rattle.rkyv_table.specs.Table.SealedLookup.{IsReadAt}
 use Rattle.rkyv_table.proofs.Bare.{may_ask}
 use Rattle.rkyv_table.proofs.SealedLookup.{item_seal, place_viewed, seals_first, seals_found}
@@ -32,7 +31,7 @@ returns-in-Some-clause-walked g c =
 pub returns-in-Some-clause-answer : goal.returns-in-Some-clause-answer
 returns-in-Some-clause-answer g c =
     let read : IsReadAt c.args.this c.of.result = (ap (λ v. v.archive.now) c.of.ensures.view ∙ c.as_view.ensures.bytes, ap (λ v. v.pos) c.of.ensures.view ∙ c.as_view.ensures.pos) in
-    λ accept answers. ap Some c.seal_at.ensures.at.place ∙ seals_found g.T.Shaped.laws c.args.this c.of.result read c.requires.table _ c.args.hash (Some c.in-Some.pos) generic_kind c.in-Some.ensures.answer accept answers
+    λ accept answers. ap Some c.seal_at.ensures.at.place ∙ seals_found g.T.Shaped.laws c.args.this c.of.result read c.requires.table _ c.args.hash (Some c.in-Some.pos) c.in-Some.ensures.answer accept answers
 
 pub returns-in-Some-clause-first : goal.returns-in-Some-clause-first
 returns-in-Some-clause-first g c =
@@ -42,7 +41,7 @@ returns-in-Some-clause-first g c =
 pub returns-clause-answer : goal.returns-clause-answer
 returns-clause-answer g c =
     let read : IsReadAt c.args.this c.of.result = (ap (λ v. v.archive.now) c.of.ensures.view ∙ c.as_view.ensures.bytes, ap (λ v. v.pos) c.of.ensures.view ∙ c.as_view.ensures.pos) in
-    seals_found g.T.Shaped.laws c.args.this c.of.result read c.requires.table _ c.args.hash None generic_kind c.in-None.ensures.answer
+    seals_found g.T.Shaped.laws c.args.this c.of.result read c.requires.table _ c.args.hash None c.in-None.ensures.answer
 
 pub returns-clause-first : goal.returns-clause-first
 returns-clause-first g c =
