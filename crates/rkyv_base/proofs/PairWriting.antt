@@ -1,6 +1,6 @@
 -- Writing a pair: an error of its key or its value is an error of the pair.
 use Rattle.std.specs.Prelude.{◌≡◌, ℕ, ◌+◌, List, ◌++◌, length}
-use Rattle.std.proofs.Common.{refl, subst, inr}
+use Rattle.std.proofs.Common.{refl, subst, inl, inr}
 use Rattle.rkyv_base.specs.declared.errors.WriteError.{WriteError}
 use Rattle.rkyv_base.specs.declared.pairs.EntryResolver.{EntryResolver}
 use Rattle.rkyv_base.specs.Shape.{Shape}
@@ -8,7 +8,13 @@ use Rattle.rkyv_base.specs.Entry.{IsSmall}
 use Rattle.rkyv_base.specs.Format.{Format, GaveUp, Serialized}
 use Rattle.rkyv_base.specs.Pairs.{pair_format, PairNext}
 use Rattle.rkyv_base.specs.Writing.{Output, end_of, Appends, Within}
-use Rattle.rkyv_base.proofs.GivingUp.{appends_after, end-appends, grows, told_after, within_after}
+use Rattle.rkyv_base.proofs.GivingUp.{appends_after, end-appends, grows, told_after, told_as, within_after}
+
+-- an error of the key
+pub key_gave_up : {F V W R Q : Type 0} (limit : ℕ) (k v : Shape) (kf : Format V R) (vf : Format W Q) (pair : V × W) (o o' : Output) (e : WriteError F)
+    → IsSmall k v → GaveUp limit kf pair.0 o o' e → GaveUp limit (pair_format k v kf vf) pair o o' e
+key_gave_up limit k v kf vf pair o o' e small t =
+    told_as limit (PairNext k v kf vf pair (end_of o)) (kf.next pair.0 (end_of o)) o o' e (λ f step n. inr (small, inl n)) t
 
 -- an error of the value
 pub value_gave_up : {F V W R Q : Type 0} (limit : ℕ) (k v : Shape) (kf : Format V R) (vf : Format W Q) (pair : V × W) (o o1 o2 : Output) (a : List ℕ) (r : R) (e : WriteError F)

@@ -1,10 +1,12 @@
 -- Zeros that are cut from a fixed array of eight.
-use Rattle.std.specs.Prelude.{◌≡◌, ℕ, ◌≤◌, List, take, replicate}
-use Rattle.std.proofs.Common.{arith, ap, subst, ◌∙◌}
-use Rattle.std.proofs.lemmas.List.{take-replicate}
+use Rattle.std.specs.Prelude.{◌≡◌, ℕ, ◌+◌, ◌%◌, ◌≤◌, List, take, replicate}
+use Rattle.std.proofs.Common.{arith, ap, subst, sym, ◌∙◌}
+use Rattle.std.proofs.lemmas.List.{length-replicate, take-replicate}
 use Rattle.rkyv_base.specs.declared.errors.WriteError.{WriteError}
 use Rattle.rkyv_base.specs.Shape.{IsAlign, align_small}
-use Rattle.rkyv_base.specs.Writing.{Only, Output, Told, padding, piece, zeros}
+use Rattle.rkyv_base.specs.Entry.{round_up, round_up-multiple}
+use Rattle.rkyv_base.specs.Writing.{Appends, Only, Output, Told, end_of, padding, piece, zeros}
+use Rattle.rkyv_base.proofs.GivingUp.{end-appends}
 
 -- the zeros up to an alignment are a front of eight
 zeros-cut : (a p n : ℕ) → IsAlign a → n ≡ padding a p → take n (replicate 8 0) ≡ zeros (padding a p)
@@ -18,3 +20,11 @@ pub told_of_zeros : {F : Type 0} (limit a p n : ℕ) (o o' : Output) (e : WriteE
     → Told limit (Only (piece (take n (replicate 8 0)))) o o' e → Told limit (Only (piece (zeros (padding a p)))) o o' e
 told_of_zeros limit a p n o o' e al same told =
     subst (λ (x : List ℕ). Told limit (Only (piece x)) o o' e) (zeros-cut a p n al same) told
+
+-- `p`: end of a write of the cut, a multiple of the alignment
+pub aligned_by_zeros : (limit a n p : ℕ) (o o' : Output) → IsAlign a → n ≡ padding a (end_of o) → p ≡ end_of o' → Appends o o' (take n (replicate 8 0))
+    → end_of o' ≤ limit → Appends o o' (zeros (padding a (end_of o))) × (p ≡ end_of o') × (p ≤ limit) × (p % a ≡ 0)
+aligned_by_zeros limit a n p o o' al same at cut within =
+    let all : Appends o o' (zeros (padding a (end_of o))) = subst (λ (x : List ℕ). Appends o o' x) (zeros-cut a (end_of o) n al same) cut in
+    let ends : end_of o' ≡ round_up (end_of o) a = end-appends o o' _ all ∙ ap (λ (k : ℕ). end_of o + k) (length-replicate (padding a (end_of o)) 0) in
+    (all, at, subst (λ (k : ℕ). k ≤ limit) (sym at) within, ap (λ (k : ℕ). k % a) (at ∙ ends) ∙ round_up-multiple (end_of o) a al)

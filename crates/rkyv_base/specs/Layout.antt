@@ -41,7 +41,11 @@ word_layout w limit max_capacity text_limit kind fits small capacity text = reco
   text_limit_is = text;
 }
 
-pub narrow_layout : IsLayout w32 4294967295 4294967295 12 16 4 8 1073741824
+-- the greatest length of a narrow archive, in bytes
+abbrev pub narrow_limit : ℕ
+narrow_limit = 4294967295
+
+pub narrow_layout : IsLayout w32 narrow_limit 4294967295 12 16 4 8 1073741824
 narrow_layout = word_layout w32 4294967295 4294967295 1073741824 (inl refl) (lit< tt) (lit< tt)
     (lit≤ tt) refl
 

@@ -1,5 +1,6 @@
 -- The archive and the position of a view.
-use Rattle.std.specs.Prelude.{◌≡◌, ℕ, List}
+use Rattle.std.specs.Prelude.{◌≡◌, ℕ, List, Option}
+use Rattle.std.specs.Option.{option_map}
 use Rattle.std.specs.Borrow.{Bor}
 use Rattle.rkyv_base.specs.declared.view.View.{View}
 use Rattle.rkyv_base.specs.Shape.{Shape, Viewed}
@@ -7,6 +8,10 @@ use Rattle.rkyv_base.specs.Shape.{Shape, Viewed}
 -- the position of the view `v`
 abbrev pub pos_of : {T : Type 0} → View T → ℕ
 pos_of v = v.pos
+
+-- the position of the view that is found, if any
+abbrev pub pos_of_found : {T : Type 0} → Option (View T) → Option ℕ
+pos_of_found found = option_map pos_of found
 
 -- the archive that the view `v` borrows
 abbrev pub archive_of : {T : Type 0} → View T → Bor (List ℕ)

@@ -10,6 +10,7 @@
 
 ghost use Rattle.std.specs.Prelude.{◌-◌, length, IfOk, IsOk, MatchResult};
 ghost use Rattle.rkyv_base.specs.Access.{AccessFails, AccessWrites, Accepted};
+ghost use Rattle.rkyv_base.specs.Layout.{narrow_limit};
 ghost use Rattle.rkyv_base.specs.Lending.{MayWrite, Wrote};
 ghost use Rattle.rkyv_base.specs.Seal.{ArchiveAt, archive_in, pos_in};
 ghost use Rattle.rkyv_base.specs.Shape.{Viewed};
@@ -61,10 +62,8 @@ pub fn access_in<'a, W: Width, T: Element>(bytes: &'a [u8]) -> Result<View<'a, T
     if root % align != 0 {
         return Err(VerifyError::Unaligned { pos: root, align });
     }
-    match T::check(bytes, root, PartRange { lo: 0, hi: root }) {
-        Ok(_) => Ok(View::new(bytes, root)),
-        Err(e) => Err(e),
-    }
+    T::check(bytes, root, PartRange { lo: 0, hi: root })?;
+    Ok(View::new(bytes, root))
 }
 
 /// Validates a narrow archive, and returns a view of the root at its end.
@@ -91,10 +90,10 @@ pub fn access_in<'a, W: Width, T: Element>(bytes: &'a [u8]) -> Result<View<'a, T
 #[inline]
 pub fn access<'a, T: Element>(bytes: &'a [u8]) -> Result<View<'a, T>, VerifyError>
     ensures root { MatchResult result
-        (λ v. Accepted 4294967295 T.shape bytes.now
+        (λ v. Accepted narrow_limit T.shape bytes.now
         × IsAt v bytes.entry (length bytes.now - T.shape.size))
-        (AccessFails 4294967295 T.shape bytes.now) }
-    ensures accepts { Accepted 4294967295 T.shape bytes.now → IsOk result }
+        (AccessFails narrow_limit T.shape bytes.now) }
+    ensures accepts { Accepted narrow_limit T.shape bytes.now → IsOk result }
     ensures viewed { IfOk result (IsView T.shape) }
 {
     access_in::<Narrow, T>(bytes)
@@ -160,10 +159,7 @@ pub fn access_mut_in<'a, W: Width, T: Element>(
     ensures accepts { Accepted W.LIMIT T.shape bytes.old → IsOk result }
     ensures viewed { IfOk result (λ s. Viewed T.shape (archive_in s) (pos_in s)) }
 {
-    let pos = match access_in::<W, T>(&*bytes) {
-        Ok(root) => root.pos(),
-        Err(e) => return Err(e),
-    };
+    let pos = access_in::<W, T>(&*bytes)?.pos();
     Ok(ArchiveSeal::new(bytes, pos))
 }
 
@@ -195,10 +191,10 @@ pub fn access_mut_in<'a, W: Width, T: Element>(
 #[inline]
 pub fn access_mut<'a, T: Element>(bytes: &'a mut [u8]) -> Result<ArchiveSeal<'a, T>, VerifyError>
     ensures root { MatchResult result
-        (λ s. Accepted 4294967295 T.shape bytes.old
+        (λ s. Accepted narrow_limit T.shape bytes.old
         × ArchiveAt s bytes.entry (length bytes.old - T.shape.size))
-        (AccessFails 4294967295 T.shape bytes.old) }
-    ensures accepts { Accepted 4294967295 T.shape bytes.old → IsOk result }
+        (AccessFails narrow_limit T.shape bytes.old) }
+    ensures accepts { Accepted narrow_limit T.shape bytes.old → IsOk result }
     ensures viewed { IfOk result (λ s. Viewed T.shape (archive_in s) (pos_in s)) }
 {
     access_mut_in::<Narrow, T>(bytes)
@@ -236,13 +232,8 @@ pub fn access_mut_with_in<W: Width, T: Element, R, F: FnOnce(&mut [u8], u64) -> 
     ensures root { AccessWrites W.LIMIT T.shape (Wrote F.post write) bytes.old bytes.new result }
     ensures accepts { Accepted W.LIMIT T.shape bytes.old → IsOk result }
 {
-    match access_in::<W, T>(&*bytes) {
-        Ok(root) => {
-            let pos = root.pos();
-            Ok(write(bytes, pos))
-        }
-        Err(refused) => Err(refused),
-    }
+    let root = access_in::<W, T>(&*bytes)?.pos();
+    Ok(write(bytes, root))
 }
 
 /// Validates a narrow archive, and calls `write` with its bytes and the root's position.
@@ -272,10 +263,10 @@ pub fn access_mut_with<T: Element, R, F: FnOnce(&mut [u8], u64) -> R>(
     bytes: &mut [u8],
     write: F,
 ) -> Result<R, VerifyError>
-    requires { Accepted 4294967295 T.shape bytes.old
+    requires { Accepted narrow_limit T.shape bytes.old
         → MayWrite F.pre write bytes.old (length bytes.old - T.shape.size) }
-    ensures root { AccessWrites 4294967295 T.shape (Wrote F.post write) bytes.old bytes.new result }
-    ensures accepts { Accepted 4294967295 T.shape bytes.old → IsOk result }
+    ensures root { AccessWrites narrow_limit T.shape (Wrote F.post write) bytes.old bytes.new result }
+    ensures accepts { Accepted narrow_limit T.shape bytes.old → IsOk result }
 {
-    access_mut_with_in::<Narrow, T, R, F>(bytes, write)
+    access_mut_with_in::<Narrow, T, _, _>(bytes, write)
 }

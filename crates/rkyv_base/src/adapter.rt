@@ -77,7 +77,7 @@ impl<W: Width, BK: Lend<A>, BV: Lend<B>, A: Archive<W>, B: Archive<W>> Archive<W
 
     #[inline]
     fn resolve(&self, resolver: Self::Resolver, pos: u64, out: &mut [u8]) -> ResolveResult {
-        resolve_entry::<W, A, B>(self.key.lend(), self.value.lend(), resolver, pos, out)
+        resolve_entry::<W, _, _>(self.key.lend(), self.value.lend(), resolver, pos, out)
     }
 
     ghost laws = { written_as-format (pair_of BK.lent BV.lent)
@@ -98,6 +98,6 @@ impl<
 > Serialize<S, W> for EntryAdapter<BK, BV, A, B> {
     #[inline]
     fn serialize(&self, alloc: Global, serializer: &mut S) -> WriteResult<Self::Resolver, S> {
-        serialize_entry::<S, W, A, B>(self.key.lend(), self.value.lend(), alloc, serializer)
+        serialize_entry::<_, W, _, _>(self.key.lend(), self.value.lend(), alloc, serializer)
     }
 }

@@ -82,9 +82,7 @@ impl<K: Element, V: Element> Element for Entry<K, V> {
             return Err(VerifyError::Refused(0));
         }
         let offset = value_offset::<K, V>() as u64;
-        match K::check(bytes, pos, range) {
-            Ok(rest) => V::check(bytes, pos + offset, rest),
-            Err(e) => Err(e),
-        }
+        let rest = K::check(bytes, pos, range)?;
+        V::check(bytes, pos + offset, rest)
     }
 }

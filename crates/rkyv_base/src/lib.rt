@@ -48,12 +48,12 @@ pub use errors::{DistanceTooLarge, IteratorLengthMismatch, ReadError, VerifyErro
 pub use lend::Lend;
 pub use limit::{LimitFault, LimitWriter};
 pub use pairs::EntryResolver;
-pub use part::part_in;
+pub use part::{distance_target, part_in};
 pub use root::{to_bytes, to_bytes_in, write_root, write_root_in};
 pub use scalars::Scalar;
 pub use seal::{ArchiveSeal, Seal, halves, set_at, set_value};
 pub use strings::TextResolver;
 pub use text::Text;
-pub use view::View;
+pub use view::{View, found_pos};
 pub use width::{Narrow, Wide, Width};
 pub use writer::{NoMemory, VecWriter, Writer, align_for, align_for_in, append, append_in};

@@ -160,12 +160,8 @@ impl<W: Writer> Writer for LimitWriter<W> {
             self.count_failure();
             return Err(LimitFault::Full);
         }
-        match self.hand_on(&bytes[..left]) {
-            Ok(()) => {
-                self.count_failure();
-                Err(LimitFault::Full)
-            }
-            Err(fault) => Err(fault),
-        }
+        self.hand_on(&bytes[..left])?;
+        self.count_failure();
+        Err(LimitFault::Full)
     }
 }

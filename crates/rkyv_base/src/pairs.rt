@@ -85,13 +85,9 @@ pub(crate) fn serialize_entry<S: Writer, W: Width, A: Serialize<S, W>, B: Serial
     if whole_size::<A::Archived, B::Archived>() > LARGEST {
         return Err(WriteError::Refused(0));
     }
-    match key.serialize(alloc, serializer) {
-        Ok(key) => match value.serialize(alloc, serializer) {
-            Ok(value) => Ok(EntryResolver { key, value }),
-            Err(e) => Err(e),
-        },
-        Err(e) => Err(e),
-    }
+    let key = key.serialize(alloc, serializer)?;
+    let value = value.serialize(alloc, serializer)?;
+    Ok(EntryResolver { key, value })
 }
 
 impl<A, B, K: StandsFor<A>, V: StandsFor<B>> StandsFor<(A, B)> for Entry<K, V> {
@@ -109,7 +105,7 @@ impl<W: Width, A: Archive<W>, B: Archive<W>> Archive<W> for (A, B) {
 
     #[inline]
     fn resolve(&self, resolver: Self::Resolver, pos: u64, out: &mut [u8]) -> ResolveResult {
-        resolve_entry::<W, A, B>(&self.0, &self.1, resolver, pos, out)
+        resolve_entry::<W, _, _>(&self.0, &self.1, resolver, pos, out)
     }
 
     ghost laws = { pair_is_format A.Archived.shape B.Archived.shape A.Archived.laws B.Archived.laws
@@ -119,6 +115,6 @@ impl<W: Width, A: Archive<W>, B: Archive<W>> Archive<W> for (A, B) {
 impl<S: Writer, W: Width, A: Serialize<S, W>, B: Serialize<S, W>> Serialize<S, W> for (A, B) {
     #[inline]
     fn serialize(&self, alloc: Global, serializer: &mut S) -> WriteResult<Self::Resolver, S> {
-        serialize_entry::<S, W, A, B>(&self.0, &self.1, alloc, serializer)
+        serialize_entry::<_, W, _, _>(&self.0, &self.1, alloc, serializer)
     }
 }

@@ -2,11 +2,19 @@
 //!
 //! A validator calls `part_in` with a part's begin, which is computed from untrusted numbers.
 
-ghost use Rattle.std.specs.Prelude.{◌<◌, MatchResult};
+ghost use Rattle.std.specs.Prelude.{◌+ℤ◌, ◌<◌, ◌≡◌, pos as int, MatchResult};
 ghost use Rattle.rkyv_base.specs.Parts.{PartFails, PartIn};
 
 use crate::element::PartRange;
 use crate::errors::VerifyError;
+
+/// Returns the target of a distance from a position.
+#[inline]
+pub fn distance_target(from: u64, distance: i64) -> i128
+    ensures { result ≡ int from +ℤ distance }
+{
+    i128::from(from) + i128::from(distance)
+}
 
 /// Returns the position of a part of `size` bytes that begins at `begin`.
 ///

@@ -8,6 +8,7 @@
 //! 3. The root's fixed bytes are written. Their position is the result of `write_root`.
 
 ghost use Rattle.std.specs.Prelude.{MatchResult};
+ghost use Rattle.rkyv_base.specs.Layout.{narrow_limit};
 ghost use Rattle.rkyv_base.specs.Root.{ArchiveOf, ArchiveRefused, WritesRoot, root_format};
 
 use crate::archive::{Serialize, WriteResult};
@@ -41,23 +42,15 @@ pub fn write_root_in<W: Width, S: Writer, V: Serialize<S, W>>(
         Ok(scratch) => scratch,
         Err(_) => return Err(WriteError::Memory),
     };
-    let resolver = match value.serialize(alloc, serializer) {
-        Ok(resolver) => resolver,
-        Err(e) => return Err(e),
-    };
-    let root = match align_for_in::<W, V::Archived, S>(serializer) {
-        Ok(root) => root,
-        Err(e) => return Err(e),
-    };
+    let resolver = value.serialize(alloc, serializer)?;
+    let root = align_for_in::<W, V::Archived, _>(serializer)?;
     let out = scratch.as_mut_slice();
     match value.resolve(resolver, root, out) {
         Ok(()) => {}
         Err(_) => return Err(WriteError::DistanceTooLarge),
     }
-    match append_in::<W, S>(serializer, out) {
-        Ok(()) => Ok(root),
-        Err(e) => Err(e),
-    }
+    append_in::<W, S>(serializer, out)?;
+    Ok(root)
 }
 
 /// Returns the archive of a value, in the width `W`.
@@ -84,10 +77,8 @@ pub fn to_bytes_in<W: Width, V: Serialize<VecWriter, W>>(
         (ArchiveRefused W.LIMIT V.Archived.shape V.format value.now) }
 {
     let mut writer = VecWriter::new(alloc);
-    match write_root_in::<W, VecWriter, V>(alloc, value, &mut writer) {
-        Ok(_) => Ok(writer.into_vec()),
-        Err(e) => Err(e),
-    }
+    write_root_in::<W, _, _>(alloc, value, &mut writer)?;
+    Ok(writer.into_vec())
 }
 
 /// Writes a value as the root of a narrow archive, and returns its position.
@@ -108,10 +99,10 @@ pub fn write_root<S: Writer, V: Serialize<S, Narrow>>(
     value: &V,
     serializer: &mut S,
 ) -> WriteResult<u64, S>
-    ensures { WritesRoot 4294967295 (root_format V.Archived.shape.align V.format) value.now
+    ensures { WritesRoot narrow_limit (root_format V.Archived.shape.align V.format) value.now
         (S.output serializer.old) (S.output serializer.new) result }
 {
-    write_root_in::<Narrow, S, V>(alloc, value, serializer)
+    write_root_in::<Narrow, _, _>(alloc, value, serializer)
 }
 
 /// Returns the narrow archive of a value.
@@ -133,8 +124,8 @@ pub fn to_bytes<V: Serialize<VecWriter, Narrow>>(
     value: &V,
 ) -> Result<Vec<u8>, WriteError<NoMemory>>
     ensures { MatchResult result
-        (λ b. ArchiveOf 4294967295 V.Archived.shape V.Archived.stands V.format value.now b.items)
-        (ArchiveRefused 4294967295 V.Archived.shape V.format value.now) }
+        (λ b. ArchiveOf narrow_limit V.Archived.shape V.Archived.stands V.format value.now b.items)
+        (ArchiveRefused narrow_limit V.Archived.shape V.format value.now) }
 {
     to_bytes_in::<Narrow, V>(alloc, value)
 }

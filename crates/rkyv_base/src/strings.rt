@@ -122,10 +122,8 @@ fn serialize_text<S: Writer, W: Width>(
         return Err(WriteError::TextTooLong);
     }
     let pos = serializer.pos();
-    match append_in::<W, S>(serializer, text.as_bytes()) {
-        Ok(()) => Ok(TextResolver { pos }),
-        Err(e) => Err(e),
-    }
+    append_in::<W, S>(serializer, text.as_bytes())?;
+    Ok(TextResolver { pos })
 }
 
 impl<'t, W: Width> Archive<W> for &'t str {

@@ -46,7 +46,7 @@ ghost use Rattle.rkyv_base.specs.View.{IsView, bytes_of, pos_of};
 
 use crate::element::{Element, PartRange, Shaped, StandsFor};
 use crate::errors::VerifyError;
-use crate::part::part_in;
+use crate::part::{distance_target, part_in};
 use crate::sought::{Ff, High, first, is_ascii};
 use crate::view::View;
 use crate::width::{Narrow, Width, Word};
@@ -123,21 +123,13 @@ fn far_len<W: Width>(fixed: &[u8]) -> u64
     length_told(W::read_count(fixed, 0))
 }
 
-/// Returns a position moved by a distance.
-#[inline]
-fn moved(pos: u64, distance: i64) -> i128
-    ensures { result ≡ int pos +ℤ distance }
-{
-    i128::from(pos) + i128::from(distance)
-}
-
 /// Returns the position at which out-of-line text begins.
 #[inline]
 fn far_start<W: Width>(fixed: &[u8], pos: u64) -> i128
     requires { length fixed.now ≡ text_size W.word }
     ensures { result ≡ far_begin W.word fixed.now pos }
 {
-    moved(pos, W::read_distance(fixed, W::ALIGN))
+    distance_target(pos, W::read_distance(fixed, W::ALIGN))
 }
 
 /// The greatest length of out-of-line text that is first tested for ASCII, eight bytes at a time.
@@ -200,18 +192,13 @@ fn check_far<W: Width>(bytes: &[u8], pos: u64, range: PartRange) -> Result<PartR
         return Err(VerifyError::InvalidValue { pos });
     }
     let begin = far_start::<W>(fixed, pos);
-    let at = match part_in(begin, u128::from(len), 1, range) {
-        Ok(at) => at,
-        Err(e) => return Err(e),
-    };
+    let at = part_in(begin, u128::from(len), 1, range)?;
     let end = at + len;
-    match check_far_utf8(&bytes[at as usize..end as usize], pos) {
-        Ok(()) => Ok(PartRange {
-            lo: end,
-            hi: range.hi,
-        }),
-        Err(e) => Err(e),
-    }
+    check_far_utf8(&bytes[at as usize..end as usize], pos)?;
+    Ok(PartRange {
+        lo: end,
+        hi: range.hi,
+    })
 }
 
 impl<W: Word> Shaped for Text<W> {
@@ -237,10 +224,8 @@ impl<W: Width> Element for Text<W> {
         if is_elsewhere(fixed) {
             return check_far::<W>(bytes, pos, range);
         }
-        match check_inline_utf8(fixed, pos) {
-            Ok(()) => Ok(range),
-            Err(e) => Err(e),
-        }
+        check_inline_utf8(fixed, pos)?;
+        Ok(range)
     }
 }
 

@@ -9,6 +9,7 @@ ghost use Rattle.rkyv_base.specs.Entry.{entry_shape, value_offset};
 ghost use Rattle.rkyv_base.specs.Scalar.{ScalarStands};
 ghost use Rattle.rkyv_base.specs.Shape.{Viewed};
 ghost use Rattle.rkyv_base.specs.View.{IsAt, IsView, StandsAt, archive_of, bytes_of, pos_of};
+ghost use Rattle.rkyv_base.specs.View.{pos_of_found};
 
 use crate::element::Element;
 use crate::entry::{Entry, value_offset};
@@ -68,6 +69,17 @@ impl<'a, T: Element> View<'a, T> {
         ensures { IsAt result (archive_of self.entry) pos }
     {
         View::new(self.archive, pos)
+    }
+}
+
+/// Returns the position of a found value, or `None` if none is found.
+#[inline]
+pub fn found_pos<T: Element>(found: Option<View<'_, T>>) -> Option<u64>
+    ensures { result ≡ pos_of_found found.entry }
+{
+    match found {
+        Some(view) => Some(view.pos()),
+        None => None,
     }
 }
 

@@ -36,7 +36,8 @@ ghost use Rattle.std.specs.Int.{
 };
 ghost use mir.Val.{bits};
 ghost use Rattle.rkyv_base.specs.Bytes.{number_at, signed_at};
-ghost use Rattle.rkyv_base.specs.Layout.{IsLayout, IsPlace, narrow_layout, wide_layout};
+ghost use Rattle.rkyv_base.specs.Layout.{IsLayout, IsPlace, narrow_layout, narrow_limit};
+ghost use Rattle.rkyv_base.specs.Layout.{wide_layout};
 ghost use Rattle.rkyv_base.specs.Text.{IsArchiveWord};
 ghost use Rattle.std.proofs.Common.{inl, inr, refl};
 
@@ -166,7 +167,7 @@ impl Word for Wide {
 impl Width for Narrow {
     type Place = u32;
 
-    ghost LIMIT = { 4294967295 };
+    ghost LIMIT = { narrow_limit };
 
     ghost ALIGN = { 4 };
 

@@ -16,6 +16,7 @@ ghost use Rattle.std.specs.Prelude.{
   ◌≡◌,
   ◌≤◌,
 };
+ghost use Rattle.rkyv_base.specs.Layout.{narrow_limit};
 ghost use Rattle.rkyv_base.specs.Writing.{
   Aligns,
   Appends,
@@ -196,10 +197,8 @@ pub fn align_for_in<W: Width, T: Element, S: Writer>(serializer: &mut S) -> Writ
     let align = T::align();
     let over = (serializer.pos() % align as u64) as usize;
     let pad = (align - over) % align;
-    match append_in::<W, S>(serializer, &[0; 8][..pad]) {
-        Ok(()) => Ok(serializer.pos()),
-        Err(e) => Err(e),
-    }
+    append_in::<W, S>(serializer, &[0; 8][..pad])?;
+    Ok(serializer.pos())
 }
 
 /// Appends one piece to a narrow archive.
@@ -209,7 +208,7 @@ pub fn align_for_in<W: Width, T: Element, S: Writer>(serializer: &mut S) -> Writ
 /// The same as for `append_in`, with a limit of 4,294,967,295 bytes.
 #[inline]
 pub fn append<S: Writer>(serializer: &mut S, bytes: &[u8]) -> WriteResult<(), S>
-    ensures { AppendsPiece 4294967295 bytes.now
+    ensures { AppendsPiece narrow_limit bytes.now
         (S.output serializer.old) (S.output serializer.new) result }
 {
     append_in::<Narrow, S>(serializer, bytes)
@@ -224,8 +223,8 @@ pub fn append<S: Writer>(serializer: &mut S, bytes: &[u8]) -> WriteResult<(), S>
 /// The same as for `align_for_in`, with a limit of 4,294,967,295 bytes.
 #[inline]
 pub fn align_for<T: Element, S: Writer>(serializer: &mut S) -> WriteResult<u64, S>
-    ensures { Aligns 4294967295 T.shape.align
+    ensures { Aligns narrow_limit T.shape.align
         (S.output serializer.old) (S.output serializer.new) result }
 {
-    align_for_in::<Narrow, T, S>(serializer)
+    align_for_in::<Narrow, T, _>(serializer)
 }

@@ -8,7 +8,7 @@ use Rattle.std.specs.Prelude.{IfSome, MatchOption}
 use Rattle.std.proofs.lemmas.Option.{same_Some}
 use Rattle.rkyv_base.specs.Shape.{Shape, Viewed}
 use Rattle.rkyv_base.specs.declared.view.View.{View}
-use Rattle.rkyv_table.specs.Table.Reading.{pos_of_found}
+use Rattle.rkyv_base.specs.View.{pos_of_found}
 use Rattle.rkyv_collections.specs.Map.{IsValueIn, map_bytes}
 use Rattle.rkyv_collections.specs.declared.map.ArchivedHashMap.{ArchivedHashMap}
 use Rattle.rkyv_collections.specs.ListedLookups.{IsFoundValue}

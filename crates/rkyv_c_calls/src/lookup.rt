@@ -3,7 +3,7 @@
 ghost use Rattle.std.specs.Prelude.{IfSome, false, true, ◌≡◌};
 ghost use Rattle.rkyv_base.specs.Bytes.{number_at};
 ghost use Rattle.rkyv_base.specs.Shape.{Viewed};
-ghost use Rattle.rkyv_table.specs.Table.Reading.{pos_of_found};
+ghost use Rattle.rkyv_base.specs.View.{pos_of_found};
 ghost use Rattle.rkyv_c_calls.specs.Archives.{Gives, IsMapArchive, Sets, map_in, value_found};
 ghost use Rattle.rkyv_c_calls.specs.Lists.{GivesFirst, PlaceOfFirst, SetsFirstOf, asked_key};
 

@@ -9,7 +9,7 @@ use Rattle.std.proofs.lemmas.Option.{IfSome_then}
 use Rattle.rkyv_scan.specs.Hash.{Hasher, HasherCall, hash_of_calls}
 use Rattle.rkyv_base.specs.Entry.{entry_shape, value_offset}
 use Rattle.rkyv_base.specs.Shape.{Shape, IsElement}
-use Rattle.rkyv_base.specs.View.{IsView}
+use Rattle.rkyv_base.specs.View.{IsView, pos_of_found}
 use Rattle.rkyv_base.specs.declared.entry.Entry.{Entry}
 use Rattle.rkyv_base.specs.declared.view.View.{View}
 use Rattle.rkyv_keys.specs.Equality.{Comparison}
@@ -21,7 +21,6 @@ use Rattle.rkyv_collections.specs.Map.{AnswersKeys, IsEntryAt, IsEntryIn, IsMap,
 use Rattle.rkyv_collections.specs.Map.{IsPairIn, IsValueAt, IsValueIn, hash_at, key_pos_found}
 use Rattle.rkyv_collections.specs.Map.{map_bytes}
 use Rattle.rkyv_collections.specs.declared.map.ArchivedHashMap.{ArchivedHashMap}
-use Rattle.rkyv_table.specs.Table.Reading.{pos_of_found}
 use Rattle.rkyv_collections.proofs.FoundEntries.{one_found}
 use Rattle.rkyv_collections.proofs.Lookups.{query_under_hash}
 

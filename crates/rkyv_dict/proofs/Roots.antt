@@ -5,10 +5,9 @@ use Rattle.std.specs.Option.{option_map}
 use Rattle.std.proofs.lemmas.Option.{same_Some}
 use Rattle.rkyv_base.specs.Access.{Accepted, root_viewed}
 use Rattle.rkyv_base.specs.Shape.{Viewed}
-use Rattle.rkyv_base.specs.View.{IsAt, bytes_of, pos_of}
+use Rattle.rkyv_base.specs.View.{IsAt, bytes_of, pos_of, pos_of_found}
 use Rattle.rkyv_base.specs.declared.view.View.{View}
 use Rattle.rkyv_keys.specs.Places.{at_view}
-use Rattle.rkyv_table.specs.Table.Reading.{pos_of_found}
 use Rattle.rkyv_dict.specs.Archives.{IsMapArchive, header_shape, root}
 use Rattle.rkyv_dict.specs.Parts.{Parts}
 

@@ -21,7 +21,7 @@ use Rattle.rkyv_table.specs.Table.Header.{cap_at, len_at}
 use Rattle.rkyv_table.specs.Table.Layout.{table_shape}
 use Rattle.rkyv_table.specs.Table.Positions.{item_at, item_positions, table_controls}
 use Rattle.rkyv_table.specs.Table.Reading.{CountsWithin, FindsFirst, FindsFound, IsItem}
-use Rattle.rkyv_table.specs.Table.Reading.{pos_of_found}
+use Rattle.rkyv_base.specs.View.{pos_of_found}
 use Rattle.rkyv_table.specs.declared.table.ArchivedHashTable.{ArchivedHashTable}
 use Rattle.rkyv_table.proofs.Bare.{looks_up_none, looks_up_some}
 use Rattle.rkyv_table.proofs.RawWalks.{places_count, places_viewed}

@@ -6,13 +6,12 @@ ghost use Rattle.rkyv_base.specs.Shape.{Viewed};
 ghost use Rattle.rkyv_table.specs.Table.Bare.{MayAskOf, table_in};
 ghost use Rattle.rkyv_table.specs.Table.Layout.{table_shape};
 ghost use Rattle.rkyv_table.specs.Table.Positions.{item_positions};
-ghost use Rattle.rkyv_table.specs.Table.Reading.{pos_of_found};
 ghost use Rattle.rkyv_headline.specs.Report.{CanCompareItems, LooksOver, LooksUpIn};
 ghost use Rattle.rkyv_headline.specs.Report.{ReadsExactlyIn, ReadsFew};
 
 use rkyv_base::element::{Element, PartRange};
 use rkyv_base::errors::VerifyError;
-use rkyv_base::view::View;
+use rkyv_base::view::{View, found_pos};
 use rkyv_base::width::Width;
 use rkyv_table::Strides;
 use rkyv_table::table::ArchivedHashTable;
@@ -59,16 +58,6 @@ fn walk<W: Width, T: Element>(alloc: Global, bytes: &[u8], pos: u64) -> Result<V
         walked.push(item)?;
     }
     Ok(walked)
-}
-
-// Returns the position of an item, if one was found.
-fn found_pos<T: Element>(found: Option<View<'_, T>>) -> Option<u64>
-    ensures { result ≡ pos_of_found found.entry }
-{
-    match found {
-        Some(item) => Some(item.pos()),
-        None => None,
-    }
 }
 
 // Looks up `hash` in the table at `pos`, and counts the strides that it reads.
@@ -146,7 +135,7 @@ pub fn look_over<W: Width, T: Element, F: Fn(View<'_, T>) -> bool>(
         Ok(walked) => walked,
         Err(_) => return Err(LookError::Memory),
     };
-    let answer = look_up::<W, T, F>(bytes, pos, hash, cmp);
+    let answer = look_up::<W, T, _>(bytes, pos, hash, cmp);
     Ok(TableReport {
         walked,
         found: answer.found,

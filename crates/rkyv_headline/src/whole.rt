@@ -103,7 +103,7 @@ pub fn write_and_look_over<
         lo: begin,
         hi: at.end,
     };
-    match look_over::<W, U::Archived, F>(alloc, serializer.bytes(), at.pos, range, hash, cmp) {
+    match look_over::<W, U::Archived, _>(alloc, serializer.bytes(), at.pos, range, hash, cmp) {
         Ok(report) => Ok(report),
         Err(e) => Err(ListError::Look(e)),
     }

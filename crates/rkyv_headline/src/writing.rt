@@ -47,22 +47,16 @@ pub(crate) fn write_list<
         (pairs_of I.Iterator J.Iterator items hashes) len load_factor)
         (S.output serializer.old) (S.output serializer.new) result }
 {
-    let resolver = match ArchivedHashTable::<U::Archived, W>::serialize_from_iter::<S, U, X, I, J>(
+    let resolver = ArchivedHashTable::<U::Archived, W>::serialize_from_iter::<_, U, X, _, _>(
         alloc,
         items,
         hashes,
         len,
         load_factor,
         serializer,
-    ) {
-        Ok(resolver) => resolver,
-        Err(e) => return Err(e),
-    };
+    )?;
     let end = serializer.pos();
-    let pos = match align_for_in::<W, TableOf<U::Archived, W>, S>(serializer) {
-        Ok(pos) => pos,
-        Err(e) => return Err(e),
-    };
+    let pos = align_for_in::<W, TableOf<U::Archived, W>, _>(serializer)?;
     let mut scratch = [0u8; 24];
     let out = &mut scratch[..W::TABLE_SIZE];
     match ArchivedHashTable::<U::Archived, W>::resolve_from_len(
@@ -75,8 +69,6 @@ pub(crate) fn write_list<
         Ok(()) => {}
         Err(_) => return Err(WriteError::DistanceTooLarge),
     }
-    match append_in::<W, S>(serializer, out) {
-        Ok(()) => Ok(Written { end, pos }),
-        Err(e) => Err(e),
-    }
+    append_in::<W, S>(serializer, out)?;
+    Ok(Written { end, pos })
 }

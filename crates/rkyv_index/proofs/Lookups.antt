@@ -14,12 +14,12 @@ use Rattle.rkyv_base.specs.Entry.{entry_element, entry_shape}
 use Rattle.rkyv_base.specs.Layout.{IsPlace}
 use Rattle.rkyv_base.specs.Scalar.{Encoding, IsScalar}
 use Rattle.rkyv_base.specs.Shape.{IsElement, Shape}
-use Rattle.rkyv_base.specs.View.{IsAt, bytes_of}
+use Rattle.rkyv_base.specs.View.{IsAt, bytes_of, pos_of_found}
 use Rattle.rkyv_base.specs.declared.view.View.{View}
 use Rattle.rkyv_table.specs.Controls.Laws.{IsUnderHash}
 use Rattle.rkyv_table.specs.Table.Positions.{IsWalked, WrittenAt, home_positions, item_at}
 use Rattle.rkyv_table.specs.Table.Positions.{pos_found}
-use Rattle.rkyv_table.specs.Table.Reading.{Answers, FindsFirst, FindsFound, IsItem, pos_of_found}
+use Rattle.rkyv_table.specs.Table.Reading.{Answers, FindsFirst, FindsFound, IsItem}
 use Rattle.rkyv_table.specs.Table.Reading.{table_bytes, table_pos}
 use Rattle.rkyv_table.specs.declared.table.ArchivedHashTable.{ArchivedHashTable}
 use Rattle.rkyv_index.specs.Index.{AnswersKeys, AreUnderHash, IsHeld, IsKeyOf, IsPlaceOf, IsWritten, index_archive, index_bytes, index_found, index_len, index_of, index_pos, key_pos}

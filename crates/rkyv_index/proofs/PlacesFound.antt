@@ -11,12 +11,12 @@ use Rattle.rkyv_scan.specs.Groups.{generic_kind}
 use Rattle.rkyv_base.specs.Bytes.{number_at}
 use Rattle.rkyv_base.specs.Layout.{IsPlace}
 use Rattle.rkyv_base.specs.Scalar.{Encoding, IsScalar}
-use Rattle.rkyv_base.specs.View.{IsAt, bytes_of, pos_of}
+use Rattle.rkyv_base.specs.View.{IsAt, bytes_of, pos_of, pos_of_found}
 use Rattle.rkyv_base.specs.declared.view.View.{View}
 use Rattle.rkyv_table.specs.Controls.Finding.{ReadsWithin}
 use Rattle.rkyv_table.specs.Controls.Numbers.{probe_capacity}
 use Rattle.rkyv_table.specs.Table.Header.{cap_at, len_at}
-use Rattle.rkyv_table.specs.Table.Reading.{CountsWithin, FindsItem, IsItem, pos_of_found, table_pos}
+use Rattle.rkyv_table.specs.Table.Reading.{CountsWithin, FindsItem, IsItem, table_pos}
 use Rattle.rkyv_table.specs.declared.table.ArchivedHashTable.{ArchivedHashTable}
 use Rattle.rkyv_index.specs.Index.{IsAccepted, IsHeldPlace, IsKeyOf, ReadsFew, index_archive, index_bytes, index_found, index_pos}
 use Rattle.rkyv_index.specs.Lookups.{GetsBy, place_part}

@@ -11,7 +11,8 @@ use Rattle.rkyv_table.specs.Controls.Finding.{FindsBucket, lookup}
 use Rattle.rkyv_table.specs.Table.Header.{cap_at, len_at}
 use Rattle.rkyv_table.specs.Table.Positions.{bucket_found, item_at, table_controls}
 use Rattle.rkyv_table.specs.Table.Reading.{Answers, AreItems, CountsStrides, FindsFirst, FindsFound}
-use Rattle.rkyv_table.specs.Table.Reading.{FindsItem, FindsItemPos, IsItemIn, pos_of_found}
+use Rattle.rkyv_table.specs.Table.Reading.{FindsItem, FindsItemPos, IsItemIn}
+use Rattle.rkyv_base.specs.View.{pos_of_found}
 use Rattle.rkyv_table.specs.Table.Reading.{table_bytes, table_pos}
 use Rattle.rkyv_table.specs.declared.table.ArchivedHashTable.{ArchivedHashTable}
 use Rattle.rkyv_table.specs.declared.table.items.Items.{Items}

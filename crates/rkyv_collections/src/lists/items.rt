@@ -109,7 +109,7 @@ where
 {
     fn serialize(&self, alloc: Global, serializer: &mut S) -> WriteResult<HashSetResolver<W>, S> {
         let items = Refs::of(self.items);
-        ArchivedHashSet::<A::Archived, H, W>::serialize_from_iter::<S, A, &A, Refs<'_, A>>(
+        ArchivedHashSet::<A::Archived, H, W>::serialize_from_iter::<_, A, _, _>(
             alloc,
             items,
             self.items.len(),

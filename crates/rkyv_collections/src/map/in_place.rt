@@ -29,11 +29,10 @@ ghost use Rattle.rkyv_keys.specs.Asked.{asked};
 ghost use Rattle.rkyv_collections.specs.NestedWrites.{WritesParts};
 
 use crate::map::ArchivedHashMap;
-use crate::map::lookup::found_pos;
 use rkyv_base::element::{Element, StandsFor};
 use rkyv_base::scalars::Scalar;
 use rkyv_base::seal::set_at;
-use rkyv_base::view::View;
+use rkyv_base::view::{View, found_pos};
 use rkyv_base::width::Width;
 use rkyv_keys::keys::{KeyElement, NativeKey, Query};
 use rkyv_scan::hash::KeyHasher;

@@ -27,17 +27,6 @@ use rkyv_keys::hash::{KeyHash, hash_value};
 use rkyv_keys::keys::{KeyElement, Query};
 use rkyv_scan::hash::KeyHasher;
 
-/// Returns the position of a found value.
-#[inline]
-pub(crate) fn found_pos<T: Element>(found: Option<View<'_, T>>) -> Option<u64>
-    ensures { IsEntryAt found.entry result }
-{
-    match found {
-        Some(view) => Some(view.pos()),
-        None => None,
-    }
-}
-
 /// Returns `true` if and only if an entry is found.
 #[inline]
 pub(crate) fn is_found<T: Element>(found: Option<View<'_, T>>) -> bool

@@ -22,12 +22,11 @@ ghost use Rattle.rkyv_collections.specs.ValueWrites.{ValueWritesKeepAnswers, Val
 ghost use Rattle.rkyv_collections.specs.ValueWrites.{ValuesWrittenStand};
 ghost use Rattle.rkyv_keys.specs.Asked.{asked};
 
-use crate::map::lookup::found_pos;
 use crate::map::{ArchivedHashMap, HashMapOf};
 use rkyv_base::element::{Element, StandsFor};
 use rkyv_base::entry::value_offset;
 use rkyv_base::seal::{ArchiveSeal, Seal};
-use rkyv_base::view::View;
+use rkyv_base::view::{View, found_pos};
 use rkyv_base::width::Width;
 use rkyv_keys::hash::KeyHash;
 use rkyv_keys::keys::{KeyElement, Query};
@@ -128,7 +127,7 @@ impl<'a, K: KeyElement, V: Element, H: KeyHasher, W: Width> ArchivedHashMap<'a, 
         ensures at { IsValueSealAt K.shape V.shape result found }
     {
         match found {
-            Some(pos) => Some(value_seal::<K, V, H, W>(this, pos)),
+            Some(pos) => Some(value_seal(this, pos)),
             None => None,
         }
     }

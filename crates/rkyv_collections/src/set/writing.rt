@@ -79,7 +79,7 @@ impl<'a, K: KeyElement, H: KeyHasher, W: Width> ArchivedHashSet<'a, K, H, W> {
             (keys_in BK.Lend I.Iterator iter len load_factor)
             (S.output serializer.old) (S.output serializer.new) result }
     {
-        ArchivedHashMap::<K, (), H, W>::serialize_from_iter::<S, A, (), BK, (), WithUnits<I>>(
+        ArchivedHashMap::<K, (), H, W>::serialize_from_iter::<_, A, (), _, _, _>(
             alloc,
             WithUnits { keys: iter },
             len,

@@ -97,7 +97,7 @@ where
     A: NativeKey<A::Archived>,
 {
     fn serialize(&self, alloc: Global, serializer: &mut S) -> WriteResult<HashSetResolver<W>, S> {
-        ArchivedHashSet::<A::Archived, H, W>::serialize_from_iter::<S, A, &A, Iter<'_, A>>(
+        ArchivedHashSet::<A::Archived, H, W>::serialize_from_iter::<_, A, _, _>(
             alloc,
             self.map.iter(),
             self.map.len(),
@@ -159,10 +159,7 @@ impl<'a, K: Element, H, W: Width> ArchivedHashSet<'a, K, H, W> {
     {
         let mut set = HashSet::with_hasher(alloc, state);
         for key in self.iter() {
-            match insert_read(&mut set, alloc, key) {
-                Ok(()) => {}
-                Err(e) => return Err(e),
-            }
+            insert_read(&mut set, alloc, key)?;
         }
         Ok(set)
     }
@@ -296,10 +293,8 @@ impl<K: Deserialize<A>, H, W: Width, A: Eq + Hash + Drop> Deserialize<Hashed<Has
             (λ x. StandsAt (StdSetStands K.shape K.stands W.word A.eq) view.entry x.map)
             (StandsAt (std_set_refuses W.word K.shape K.refuses) view.entry) }
     {
-        match ArchivedHashSet::of(view).deserialize_std(alloc, BuildHasherDefault::new()) {
-            Ok(set) => Ok(Hashed::new(set)),
-            Err(e) => Err(e),
-        }
+        let set = ArchivedHashSet::of(view).deserialize_std(alloc, BuildHasherDefault::new())?;
+        Ok(Hashed::new(set))
     }
 }
 

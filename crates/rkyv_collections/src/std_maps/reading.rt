@@ -84,10 +84,7 @@ impl<'a, K: Element, V: Element, H, W: Width> ArchivedHashMap<'a, K, V, H, W> {
     {
         let mut map = HashMap::with_hasher(alloc, state);
         for (key, value) in self.iter() {
-            match insert_read(&mut map, alloc, key, value) {
-                Ok(()) => {}
-                Err(e) => return Err(e),
-            }
+            insert_read(&mut map, alloc, key, value)?;
         }
         Ok(map)
     }
@@ -125,9 +122,7 @@ impl<K: Deserialize<A>, V: Deserialize<B>, H, W: Width, A: Eq + Hash + Drop, B: 
             x.map)
             (StandsAt (std_map_refuses W.word K.shape V.shape K.refuses V.refuses) view.entry) }
     {
-        match ArchivedHashMap::of(view).deserialize_std(alloc, BuildHasherDefault::new()) {
-            Ok(map) => Ok(Hashed::new(map)),
-            Err(e) => Err(e),
-        }
+        let map = ArchivedHashMap::of(view).deserialize_std(alloc, BuildHasherDefault::new())?;
+        Ok(Hashed::new(map))
     }
 }

@@ -25,7 +25,7 @@ ghost use Rattle.rkyv_index.specs.IndexLayout.{
 
 use rkyv_base::element::{Element, PartRange};
 use rkyv_base::errors::VerifyError;
-use rkyv_base::part::part_in;
+use rkyv_base::part::{distance_target, part_in};
 use rkyv_base::view::View;
 use rkyv_base::width::Width;
 use rkyv_table::table::{ArchivedHashTable, TableOf};
@@ -87,21 +87,11 @@ fn check_entries<T: Element>(
     let mut low = lo;
     let mut at = begin;
     for i in 0..len {
-        match T::check(bytes, at, PartRange { lo: low, hi: begin }) {
-            Ok(rest) => low = rest.lo,
-            Err(e) => return Err(e),
-        }
+        let rest = T::check(bytes, at, PartRange { lo: low, hi: begin })?;
+        low = rest.lo;
         at += T::size() as u64;
     }
     Ok(())
-}
-
-/// Returns the target of a distance from a position.
-#[inline]
-fn led_to(from: u64, distance: i64) -> i128
-    ensures { result ≡ int from +ℤ distance }
-{
-    i128::from(from) + i128::from(distance)
 }
 
 /// Returns the position at which the entries begin, by the distance in the header at `pos`.
@@ -111,7 +101,7 @@ pub(crate) fn begin_told<W: Width>(bytes: &[u8], pos: u64) -> i128
     ensures told { result ≡ entries_told W.word bytes.now pos }
 {
     let at = pos + 3 * W::ALIGN as u64;
-    led_to(at, W::read_distance(bytes, at as usize))
+    distance_target(at, W::read_distance(bytes, at as usize))
 }
 
 /// Returns the size of `len` entries in bytes.
@@ -152,12 +142,7 @@ pub(crate) fn check_part<W: Width, T: Element>(
 {
     let size = T::size();
     let told = begin_told::<W>(bytes, pos);
-    let begin = match part_in(told, entries_size(len, size), T::align() as u64, range) {
-        Ok(begin) => begin,
-        Err(e) => return Err(e),
-    };
-    match check_entries::<T>(bytes, begin, len, range.lo) {
-        Ok(()) => Ok(begin + (len * size) as u64),
-        Err(e) => Err(e),
-    }
+    let begin = part_in(told, entries_size(len, size), T::align() as u64, range)?;
+    check_entries::<T>(bytes, begin, len, range.lo)?;
+    Ok(begin + (len * size) as u64)
 }

@@ -57,12 +57,10 @@ impl<'a, K: Element, V: Element, H, W: Width> ArchivedIndexMap<'a, K, V, H, W> {
     {
         let mut list = Vec::new(alloc);
         for place in 0..self.len() {
-            match self.read_pair(alloc, place) {
-                Ok(pair) => match list.push(pair) {
-                    Ok(()) => {}
-                    Err(_) => return Err(ReadError::Memory),
-                },
-                Err(e) => return Err(e),
+            let pair = self.read_pair(alloc, place)?;
+            match list.push(pair) {
+                Ok(()) => {}
+                Err(_) => return Err(ReadError::Memory),
             }
         }
         Ok(list)

@@ -30,20 +30,12 @@ impl<K: Element, V: Element, H, W: Width> Element for IndexMapOf<K, V, H, W> {
     }
 
     fn check(bytes: &[u8], pos: u64, range: PartRange) -> Result<PartRange, VerifyError> {
-        let rest = match ArchivedHashTable::<W::Place, W>::verify(bytes, pos, range) {
-            Ok(rest) => rest,
-            Err(e) => return Err(e),
-        };
-        let len = match check_places::<W>(bytes, pos) {
-            Ok(len) => len,
-            Err(e) => return Err(e),
-        };
-        match check_part::<W, Entry<K, V>>(bytes, pos, len, rest) {
-            Ok(end) => Ok(PartRange {
-                lo: end,
-                hi: range.hi,
-            }),
-            Err(e) => Err(e),
-        }
+        let rest = ArchivedHashTable::<W::Place, W>::verify(bytes, pos, range)?;
+        let len = check_places::<W>(bytes, pos)?;
+        let end = check_part::<W, Entry<K, V>>(bytes, pos, len, rest)?;
+        Ok(PartRange {
+            lo: end,
+            hi: range.hi,
+        })
     }
 }

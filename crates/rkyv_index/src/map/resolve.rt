@@ -98,18 +98,14 @@ impl<'a, K: Shaped, V: Shaped, H, W: Width> ArchivedIndexMap<'a, K, V, H, W> {
             None => return Err(DistanceTooLarge),
         };
         let (table, entries) = out.split_at_mut(W::TABLE_SIZE);
-        match ArchivedHashTable::<W::Place, W>::resolve_from_len(
+        ArchivedHashTable::<W::Place, W>::resolve_from_len(
             len,
             load_factor,
             resolver.table,
             pos,
             table,
-        ) {
-            Ok(()) => {
-                W::write_distance(entries, distance);
-                Ok(())
-            }
-            Err(e) => Err(e),
-        }
+        )?;
+        W::write_distance(entries, distance);
+        Ok(())
     }
 }

@@ -23,10 +23,8 @@ pub(crate) fn serialize_row<W: Width, S: Writer, U: Serialize<S, W>>(
         (S.output serializer.old) (S.output serializer.new) result }
 {
     for value in values {
-        match value.serialize(alloc, serializer) {
-            Ok(resolver) => resolvers.push_reserved(resolver),
-            Err(e) => return Err(e),
-        }
+        let resolver = value.serialize(alloc, serializer)?;
+        resolvers.push_reserved(resolver);
     }
     Ok(())
 }
@@ -54,10 +52,7 @@ pub(crate) fn write_row<W: Width, S: Writer, U: Archive<W>>(
             Ok(()) => {}
             Err(_) => return Err(WriteError::DistanceTooLarge),
         }
-        match append_in::<W, S>(serializer, scratch) {
-            Ok(()) => {}
-            Err(e) => return Err(e),
-        }
+        append_in::<W, S>(serializer, scratch)?;
     }
     Ok(())
 }

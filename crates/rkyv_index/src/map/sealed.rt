@@ -150,7 +150,7 @@ impl<'a, K: KeyElement, V: Element, H: KeyHasher, W: Width> ArchivedIndexMap<'a,
             (IsPairPlace W.word K.shape V.shape this.entry place) result }
     {
         let pos = Self::pair_pos_in(&this, place);
-        value_seal::<K, V, H, W>(this, pos)
+        value_seal(this, pos)
     }
 
     /// Returns a found index, a view of its key and a seal of its value.

@@ -140,7 +140,7 @@ impl<'a, K: KeyElement, V: Element, H: KeyHasher, W: PlaceWidth> ArchivedIndexMa
         let mut entries = room.entries;
         let mut scratch = room.scratch;
         let resolvers = room.resolvers;
-        match take_entries::<A, B, BK, BV, I>(iter, len, &mut entries) {
+        match take_entries(iter, len, &mut entries) {
             Ok(()) => {}
             Err(actual) => {
                 return Err(WriteError::IteratorLengthMismatch(IteratorLengthMismatch {
@@ -149,7 +149,7 @@ impl<'a, K: KeyElement, V: Element, H: KeyHasher, W: PlaceWidth> ArchivedIndexMa
                 }));
             }
         }
-        write_index::<W, H, S, EntryAdapter<BK, BV, A, B>>(
+        write_index::<W, H, _, EntryAdapter<_, _, A, B>>(
             alloc,
             entries.as_slice(),
             resolvers,

@@ -65,24 +65,13 @@ pub(crate) fn write_index<W: PlaceWidth, H, S: Writer, U: Hashed<H> + Serialize<
         (hashed_row U.Archived.shape U.format U.hash load_factor entries.now)
         (S.output serializer.old) (S.output serializer.new) result }
 {
-    let table = match write_places::<W, H, S, U>(alloc, entries, load_factor, serializer) {
-        Ok(table) => table,
-        Err(e) => return Err(e),
-    };
+    let table = write_places::<W, H, _, _>(alloc, entries, load_factor, serializer)?;
     let mut kept = resolvers;
-    match serialize_row::<W, S, U>(alloc, entries, &mut kept, serializer) {
-        Ok(()) => {}
-        Err(e) => return Err(e),
-    }
-    let pos = match align_for_in::<W, U::Archived, S>(serializer) {
-        Ok(pos) => pos,
-        Err(e) => return Err(e),
-    };
-    match write_row::<W, S, U>(entries, kept, scratch, serializer) {
-        Ok(()) => Ok(IndexMapResolver {
-            table,
-            entries: pos,
-        }),
-        Err(e) => Err(e),
-    }
+    serialize_row::<W, _, _>(alloc, entries, &mut kept, serializer)?;
+    let pos = align_for_in::<W, U::Archived, _>(serializer)?;
+    write_row::<W, _, _>(entries, kept, scratch, serializer)?;
+    Ok(IndexMapResolver {
+        table,
+        entries: pos,
+    })
 }

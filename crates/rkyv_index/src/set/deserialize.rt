@@ -50,12 +50,10 @@ impl<'a, K: Element, H, W: Width> ArchivedIndexSet<'a, K, H, W> {
     {
         let mut list = Vec::new(alloc);
         for place in 0..self.len() {
-            match self.read_item(alloc, place) {
-                Ok(item) => match list.push(item) {
-                    Ok(()) => {}
-                    Err(_) => return Err(ReadError::Memory),
-                },
-                Err(e) => return Err(e),
+            let item = self.read_item(alloc, place)?;
+            match list.push(item) {
+                Ok(()) => {}
+                Err(_) => return Err(ReadError::Memory),
             }
         }
         Ok(list)

@@ -83,7 +83,7 @@ impl<'a, K: KeyElement, H: KeyHasher, W: PlaceWidth> ArchivedIndexSet<'a, K, H, 
             WritesUnder W.Width (input I.next_gives iter len load_factor) f
             (S.output serializer.old) (S.output serializer.new) result }
     {
-        ArchivedIndexMap::<K, (), H, W>::serialize_from_iter::<S, A, (), BK, (), WithUnits<I>>(
+        ArchivedIndexMap::<K, (), H, W>::serialize_from_iter::<_, A, (), _, _, _>(
             alloc,
             WithUnits { keys: iter },
             len,

@@ -2,8 +2,7 @@
 use Rattle.std.specs.Prelude.{◌≡◌, ℕ, ◌+◌, ◌/◌, ◌<◌, ◌^◌, List, Bool, true}
 use Rattle.std.specs.Prelude.{Option, IfSome}
 use Rattle.std.specs.List.{find}
-use Rattle.std.specs.Option.{option_map}
-use Rattle.rkyv_base.specs.View.{IsView, bytes_of, pos_of}
+use Rattle.rkyv_base.specs.View.{IsView, bytes_of, pos_of, pos_of_found}
 use Rattle.rkyv_base.specs.declared.view.View.{View}
 use Rattle.rkyv_base.specs.declared.element.Shaped.{Ghosts as Shapes}
 use Rattle.rkyv_base.specs.declared.width.Word.{Ghosts as Words}
@@ -115,10 +114,6 @@ module _ {T W : Type 0} {ts : Shapes T} {wt : Words W} where
   CountsWithin t before after =
       ReadsWithin (len_at wt.word (table_bytes t) (table_pos t))
       (probe_capacity (cap_at wt.word (table_bytes t) (table_pos t)) / 16) before after
-
--- the position of a found item
-abbrev pub pos_of_found : {T : Type 0} → Option (View T) → Option ℕ
-pos_of_found found = option_map pos_of found
 
 module _ {T W : Type 0} {ts : Shapes T} {wt : Words W} (post : View T → Bool → Type 0)
     (kind : Kind) (t : ArchivedHashTable T W ts wt) (hash : ℕ) where

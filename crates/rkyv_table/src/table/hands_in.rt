@@ -63,7 +63,7 @@ impl<X: Drop, I: Iterator<Item = (u64, X)>> HandsIn<X> for Pairs<I> {
         controls: &mut [u8],
         slots: &mut [Option<X>],
     ) -> Result<(), usize> {
-        take_pairs::<G, X, I>(self.pairs, len, cap, controls, slots)
+        take_pairs::<G, _, _>(self.pairs, len, cap, controls, slots)
     }
 
     #[inline]
@@ -85,14 +85,12 @@ impl<X: Drop, I: Iterator<Item = X>, J: Iterator<Item = u64>> HandsIn<X> for Ite
         controls: &mut [u8],
         slots: &mut [Option<X>],
     ) -> Result<(), usize> {
-        take_two::<G, X, I, J>(self.items, self.hashes, len, cap, controls, slots)
+        take_two::<G, _, _, _>(self.items, self.hashes, len, cap, controls, slots)
     }
 
     #[inline]
     fn take_none(self) -> Result<(), usize> {
-        match take_none(self.items) {
-            Ok(()) => take_none(self.hashes),
-            Err(actual) => Err(actual),
-        }
+        take_none(self.items)?;
+        take_none(self.hashes)
     }
 }

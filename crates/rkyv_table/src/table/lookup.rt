@@ -9,27 +9,16 @@
 ghost use Rattle.std.specs.Prelude.{◌^◌, ◌≡◌, ◌≤◌};
 ghost use Rattle.rkyv_scan.specs.Groups.{generic_kind};
 ghost use Rattle.rkyv_table.specs.Table.Reading.{CountsStrides, FindsItem, FindsItemPos};
-ghost use Rattle.rkyv_table.specs.Table.Reading.{MayAsk, pos_of_found};
+ghost use Rattle.rkyv_table.specs.Table.Reading.{MayAsk};
 
 use crate::controls::find::Strides;
 use crate::table::ArchivedHashTable;
 use crate::table::items::Items;
 use rkyv_base::element::Element;
-use rkyv_base::view::View;
+use rkyv_base::view::{View, found_pos};
 use rkyv_base::width::Width;
 use rkyv_scan::simd::GroupKind;
 use rkyv_scan::simd::halves::Group;
-
-/// Returns the position of a found item.
-#[inline]
-pub(crate) fn found_pos<T: Element>(found: Option<View<'_, T>>) -> Option<u64>
-    ensures { result ≡ pos_of_found found.entry }
-{
-    match found {
-        Some(item) => Some(item.pos()),
-        None => None,
-    }
-}
 
 // Every lookup is one call of the items' `find`.
 impl<'a, T: Element, W: Width> ArchivedHashTable<'a, T, W> {

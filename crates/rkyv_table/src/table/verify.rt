@@ -40,10 +40,8 @@ fn check_item<T: Element>(
         result }
 {
     let place = bucket_position(begin, cap, bucket, T::size());
-    match T::check(bytes, place, PartRange { lo, hi: begin }) {
-        Ok(rest) => Ok(rest.lo),
-        Err(e) => Err(e),
-    }
+    let rest = T::check(bytes, place, PartRange { lo, hi: begin })?;
+    Ok(rest.lo)
 }
 
 /// Validates the item in each full bucket, in bucket order, and returns their number.
@@ -72,10 +70,7 @@ fn check_items<G: GroupKind, T: Element>(
     while G::WIDTH <= cap - base {
         let mut marks = G::read(controls, base).match_full();
         while let Some(j) = marks.lowest_set_bit() {
-            match check_item::<T>(bytes, begin, cap, base + j, low) {
-                Ok(rest) => low = rest,
-                Err(e) => return Err(e),
-            }
+            low = check_item::<T>(bytes, begin, cap, base + j, low)?;
             count += 1;
             marks = marks.remove_lowest_bit();
         }
@@ -83,10 +78,7 @@ fn check_items<G: GroupKind, T: Element>(
     }
     for bucket in base..cap {
         if controls[bucket] < 128 {
-            match check_item::<T>(bytes, begin, cap, bucket, low) {
-                Ok(rest) => low = rest,
-                Err(e) => return Err(e),
-            }
+            low = check_item::<T>(bytes, begin, cap, bucket, low)?;
             count += 1;
         }
     }
@@ -112,10 +104,7 @@ fn check_part<G: GroupKind, T: Element>(
     let place = begin as usize + cap * T::size();
     let end = place + control_count(cap);
     let controls = &bytes[place..end];
-    let actual = match check_items::<G, T>(bytes, controls, begin, cap, lo) {
-        Ok(actual) => actual,
-        Err(e) => return Err(e),
-    };
+    let actual = check_items::<G, T>(bytes, controls, begin, cap, lo)?;
     if actual != len {
         return Err(VerifyError::WrongNumberOfElements {
             expected: len,
@@ -151,15 +140,10 @@ pub(crate) fn verify_by<G: GroupKind, W: Width, T: Element>(
     let size = T::size();
     let told = begin_told(pos, header, size);
     let align = T::align() as u64;
-    let begin = match part_in(told, part_size(header.cap, size), align, range) {
-        Ok(begin) => begin,
-        Err(e) => return Err(e),
-    };
-    match check_part::<G, T>(bytes, begin, cap, len, range.lo) {
-        Ok(end) => Ok(PartRange {
-            lo: end,
-            hi: range.hi,
-        }),
-        Err(e) => Err(e),
-    }
+    let begin = part_in(told, part_size(header.cap, size), align, range)?;
+    let end = check_part::<G, T>(bytes, begin, cap, len, range.lo)?;
+    Ok(PartRange {
+        lo: end,
+        hi: range.hi,
+    })
 }

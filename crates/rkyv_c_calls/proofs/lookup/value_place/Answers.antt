@@ -6,7 +6,7 @@ use Rattle.rkyv_base.specs.Entry.{entry_shape}
 use Rattle.rkyv_base.specs.Scalar.{ScalarStands}
 use Rattle.rkyv_base.specs.Sealing.{value_pos}
 use Rattle.rkyv_table.specs.Table.Positions.{pos_found}
-use Rattle.rkyv_table.specs.Table.Reading.{pos_of_found}
+use Rattle.rkyv_base.specs.View.{pos_of_found}
 use Rattle.rkyv_table.proofs.Moved.{moved}
 use Rattle.rkyv_collections.proofs.SealedMap.{as_read}
 use Rattle.rkyv_collections.specs.ListedLookups.{first_value}

@@ -2,6 +2,7 @@ use Rattle.std.proofs.Common.{ap, inl, inr, refl, subst, ◌∙◌, ℕ, List}
 use Rattle.std.specs.Borrow.{Bor}
 use Rattle.std.specs.HashMap.{get}
 use Rattle.std.specs.Map.{lookup}
+use Rattle.std.proofs.lemmas.Result.{err_from_is_err_and}
 use Rattle.rkyv_base.specs.Pairs.{PairStands}
 use Rattle.rkyv_keys.specs.OfEntries.{entry_refuses}
 use Rattle.rkyv_collections.specs.Map.{map_archive, map_pos}
@@ -23,7 +24,7 @@ pub loop-key-preserved : goal.loop-key-preserved
 loop-key-preserved g c =
     let on = c.loop-key.invariant in
     let step = c.in-Some.ensures.steps in
-    let made = c.in-Ok.ensures in
+    let made = c.in_ok-insert_read.ensures in
     let there = subst (λ (a : Bor (List ℕ)). PairStands g.K.Shaped.shape g.V.Shaped.shape g.K.StandsFor.stands g.V.StandsFor.stands a.now c.in-Some.key.pos made.0) (step.1.at.0 ∙ on.0.0) made.1 in (
       walks_next g.W.Word.word g.K.Shaped.shape g.V.Shaped.shape g.K.StandsFor.stands g.V.StandsFor.stands g.A.PartialEq.eq (map_archive c.args.self) (map_pos c.args.self)
           c.loop-key.key-iterator c.next.new.self c.in-Some.key.pos (get g.A.PartialEq.eq c.loop-key.map) step.0 on.0
@@ -32,20 +33,21 @@ loop-key-preserved g c =
       made.4 ∙ on.2,
     )
 
-pub returns-in-Err : goal.returns-in-Err
-returns-in-Err g c =
+pub returns-in_err-insert_read : goal.returns-in_err-insert_read
+returns-in_err-insert_read g c =
     let on = c.loop-key.invariant in
     let step = c.in-Some.ensures.steps in
     let key = walks_key g.W.Word.word g.K.Shaped.shape g.V.Shaped.shape g.K.StandsFor.stands g.V.StandsFor.stands g.A.PartialEq.eq (map_archive c.args.self) (map_pos c.args.self)
     c.loop-key.key-iterator c.next.new.self c.in-Some.key.pos (get g.A.PartialEq.eq c.loop-key.map) step.0 on.0 in
-    elim c.in-Err.ensures [
+    let p = err_from_is_err_and c.from_residual.result c.from_residual.ensures.1 in
+    rw (p.1, p.2) (elim c.in_err-insert_read.ensures [
       | inl memory ↦ inl memory
       | inr part ↦ inr (
         c.in-Some.key.pos,
         key,
-        subst (λ (a : Bor (List ℕ)). entry_refuses g.K.Shaped.shape g.V.Shaped.shape g.K.Deserialize.refuses g.V.Deserialize.refuses a.now c.in-Some.key.pos c.in-Err.e) (step.1.at.0 ∙ on.0.0) part,
+        subst (λ (a : Bor (List ℕ)). entry_refuses g.K.Shaped.shape g.V.Shaped.shape g.K.Deserialize.refuses g.V.Deserialize.refuses a.now c.in-Some.key.pos c.in_err-insert_read.field-0.0) (step.1.at.0 ∙ on.0.0) part,
       )
-    ]
+    ])
 
 pub returns : goal.returns
 returns g c =

@@ -7,9 +7,9 @@ use Rattle.rkyv_collections.proofs.map.ArchivedHashMap.find_key_pos.Goals as goa
 
 pub returns-clause-walked : goal.returns-clause-walked
 returns-clause-walked g c =
-    entry_read c.map_in.result (archive_in c.args.this.now) (pos_in c.args.this.now) c.map_in.ensures.bytes c.map_in.ensures.pos c.find_key.result c.found_pos.result c.found_pos.ensures c.find_key.ensures.walked
+    entry_read c.map_in.result (archive_in c.args.this.now) (pos_in c.args.this.now) c.map_in.ensures.bytes c.map_in.ensures.pos c.find_key.result c.found_pos.result (sym c.found_pos.ensures) c.find_key.ensures.walked
 
 pub returns-clause-finds : goal.returns-clause-finds
 returns-clause-finds g c =
-    tells_read c.map_in.result (archive_in c.args.this.now) (pos_in c.args.this.now) c.map_in.ensures.bytes c.map_in.ensures.pos (IsEntryAt c.find_key.result) (λ place. c.found_pos.result ≡ place) (λ place at. sym c.found_pos.ensures ∙ at)
+    tells_read c.map_in.result (archive_in c.args.this.now) (pos_in c.args.this.now) c.map_in.ensures.bytes c.map_in.ensures.pos (IsEntryAt c.find_key.result) (λ place. c.found_pos.result ≡ place) (λ place at. c.found_pos.ensures ∙ at)
     (asked g.H.KeyHasher.hasher g.K.KeyElement.key_calls g.K.ElementEq.same (g.Q.KeyHash.calls c.args.key.now) (g.Q.Query.fits c.args.key.now)) c.find_key.ensures.answer c.find_key.ensures.first c.find_key.ensures.complete

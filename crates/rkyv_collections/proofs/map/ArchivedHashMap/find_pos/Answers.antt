@@ -7,12 +7,12 @@ use Rattle.rkyv_collections.proofs.map.ArchivedHashMap.find_pos.Goals as goal
 
 pub returns-clause-walked : goal.returns-clause-walked
 returns-clause-walked g c =
-    entry_read c.map_in.result (archive_in c.args.this.now) (pos_in c.args.this.now) c.map_in.ensures.bytes c.map_in.ensures.pos c.find.result c.found_pos.result c.found_pos.ensures c.find.ensures.found.walked
+    entry_read c.map_in.result (archive_in c.args.this.now) (pos_in c.args.this.now) c.map_in.ensures.bytes c.map_in.ensures.pos c.find.result c.found_pos.result (sym c.found_pos.ensures) c.find.ensures.found.walked
 
 pub returns-clause-finds : goal.returns-clause-finds
 returns-clause-finds g c =
     let Told = IsEntryAt c.find.result in
-    let says : (place : Option ℕ) → Told place → c.found_pos.result ≡ place = λ place at. sym c.found_pos.ensures ∙ at in
+    let says : (place : Option ℕ) → Told place → c.found_pos.result ≡ place = λ place at. c.found_pos.ensures ∙ at in
     let hash = hash_of g.H.KeyHasher.hasher g.Q.KeyHash.calls c.args.key.now in
     let key_hash = hash_at g.H.KeyHasher.hasher g.K.KeyElement.key_calls in
     let read = c.map_in.ensures in

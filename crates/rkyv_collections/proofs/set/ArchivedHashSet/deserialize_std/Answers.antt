@@ -1,6 +1,7 @@
 use Rattle.std.proofs.Common.{ap, inl, inr, refl, subst, sym, ◌∙◌, ℕ, List}
 use Rattle.std.specs.Borrow.{Bor}
 use Rattle.std.specs.List.{IsDistinct}
+use Rattle.std.proofs.lemmas.Result.{err_from_is_err_and}
 use Rattle.rkyv_base.specs.Empty.{unit_element, unit_shape, unit_stands}
 use Rattle.rkyv_collections.specs.Set.{set_archive, set_pos}
 use Rattle.rkyv_collections.specs.StdSet.{keys_with_units}
@@ -21,7 +22,7 @@ pub loop-key-preserved : goal.loop-key-preserved
 loop-key-preserved g c =
     let on = c.loop-key.invariant in
     let taken = c.in-Some.ensures.steps in
-    let made = c.in-Ok.ensures in (
+    let made = c.in_ok-insert_read.ensures in (
       walks_next g.W.Word.word g.K.Shaped.shape unit_shape g.K.StandsFor.stands unit_stands g.A.PartialEq.eq (set_archive c.args.self) (set_pos c.args.self)
           c.loop-key.key-iterator c.next.new.self c.in-Some.key.pos (found_units g.A.PartialEq.eq c.loop-key.set.keys) taken.0 on.0
           (found_units g.A.PartialEq.eq c.insert_read.new.set.keys) made.0 tt
@@ -31,20 +32,21 @@ loop-key-preserved g c =
       made.4 ∙ on.2,
     )
 
-pub returns-in-Err : goal.returns-in-Err
-returns-in-Err g c =
+pub returns-in_err-insert_read : goal.returns-in_err-insert_read
+returns-in_err-insert_read g c =
     let on = c.loop-key.invariant in
     let taken = c.in-Some.ensures.steps in
     let member = walks_key g.W.Word.word g.K.Shaped.shape unit_shape g.K.StandsFor.stands unit_stands g.A.PartialEq.eq (set_archive c.args.self) (set_pos c.args.self)
     c.loop-key.key-iterator c.next.new.self c.in-Some.key.pos (found_units g.A.PartialEq.eq c.loop-key.set.keys) taken.0 on.0 in
-    elim c.in-Err.ensures [
+    let p = err_from_is_err_and c.from_residual.result c.from_residual.ensures.1 in
+    rw (p.1, p.2) (elim c.in_err-insert_read.ensures [
       | inl memory ↦ inl memory
       | inr part ↦ inr (
         c.in-Some.key.pos,
         member,
-        subst (λ (a : Bor (List ℕ)). g.K.Deserialize.refuses a.now c.in-Some.key.pos c.in-Err.e) (taken.1.at.0 ∙ on.0.0) part,
+        subst (λ (a : Bor (List ℕ)). g.K.Deserialize.refuses a.now c.in-Some.key.pos c.in_err-insert_read.field-0.0) (taken.1.at.0 ∙ on.0.0) part,
       )
-    ]
+    ])
 
 pub returns : goal.returns
 returns g c =

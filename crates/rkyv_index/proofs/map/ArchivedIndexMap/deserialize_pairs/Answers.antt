@@ -1,6 +1,7 @@
 use Rattle.std.proofs.Common.{◌≡◌, ◌+◌, ◌++◌, ◌∷◌, ◌∙◌, [], List, ap, arith, inr, length, subst, sym, ℕ}
 use Rattle.std.proofs.lemmas.List.{length_push}
 use Rattle.std.specs.List.{slice_get}
+use Rattle.std.proofs.lemmas.Result.{err_from_is_err_and}
 use Rattle.rkyv_base.specs.Pairs.{PairStands}
 use Rattle.rkyv_index.specs.Index.{index_bytes, key_pos}
 use Rattle.rkyv_index.proofs.ReadPairs.{pushed_too}
@@ -12,12 +13,14 @@ loop-place-preserved g c =
     let read : List (g.row.A.Denot × g.row.B.Denot) = c.loop-place.list.items in
     let Stands : ℕ → g.row.A.Denot × g.row.B.Denot → Type 0 = λ i pair.
     PairStands g.K.Shaped.shape g.V.Shaped.shape g.K.StandsFor.stands g.V.StandsFor.stands (index_bytes m) (key_pos m i) pair in
-    let items : c.push.new.self.items ≡ read ++ c.in-Ok.pair ∷ [] = c.in-Ok-push.ensures.items in
+    let items : c.push.new.self.items ≡ read ++ c.in_ok-pair.pair ∷ [] = c.in-Ok.ensures.items in
     let inv = c.loop-place.invariant in
-    let here = subst (λ n. Stands n c.in-Ok.pair) (sym inv.0) c.in-Ok.ensures in (
-      ap length items ∙ length_push read c.in-Ok.pair ∙ ap (λ n. n + 1) inv.0,
-      λ i pair e. pushed_too Stands read c.in-Ok.pair inv.1 here i pair (ap (λ (xs : List (g.row.A.Denot × g.row.B.Denot)). slice_get xs i) (sym items) ∙ e),
+    let here = subst (λ n. Stands n c.in_ok-pair.pair) (sym inv.0) c.in_ok-pair.ensures in (
+      ap length items ∙ length_push read c.in_ok-pair.pair ∙ ap (λ n. n + 1) inv.0,
+      λ i pair e. pushed_too Stands read c.in_ok-pair.pair inv.1 here i pair (ap (λ (xs : List (g.row.A.Denot × g.row.B.Denot)). slice_get xs i) (sym items) ∙ e),
     )
 
-pub returns-in-Err : goal.returns-in-Err
-returns-in-Err g c = inr (c.loop-place.place, omega arith, c.in-Err.ensures)
+pub returns-in_err-pair : goal.returns-in_err-pair
+returns-in_err-pair g c =
+    let p = err_from_is_err_and c.from_residual.result c.from_residual.ensures.1 in
+    rw (p.1, p.2) (inr (c.loop-place.place, omega arith, c.in_err-pair.ensures))

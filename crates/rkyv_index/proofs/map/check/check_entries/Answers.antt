@@ -1,4 +1,5 @@
 use Rattle.std.proofs.Common.{◌∙◌, ◌+◌, ap, inl, inr, subst, sym, List, ℕ}
+use Rattle.std.proofs.lemmas.Result.{err_from_is_err_and}
 use Rattle.rkyv_table.specs.Table.Places.{AllHold, FirstFails}
 use Rattle.rkyv_index.specs.IndexLayout.{entry_at}
 use Rattle.rkyv_index.proofs.Checking.{entry_aligned, entry_next, places_step}
@@ -9,14 +10,15 @@ check-requires-clause-aligned g c =
     let s = g.T.Shaped.shape in
     rw c.loop-i.invariant.at (entry_aligned s g.T.Shaped.laws c.args.begin c.loop-i.i c.requires.aligned)
 
-pub returns-in-Err-clause-fails : goal.returns-in-Err-clause-fails
-returns-in-Err-clause-fails g c =
+pub returns-in_err-rest-clause-fails : goal.returns-in_err-rest-clause-fails
+returns-in_err-rest-clause-fails g c =
     let s = g.T.Shaped.shape in
     let b : List ℕ = c.args.bytes.now in
     let inv = c.loop-i.invariant in
-    let here = subst (λ q. s.fails b q c.loop-i.low c.args.begin c.in-Err.e) inv.at c.in-Err.ensures in
-    inv.failed c.in-Err.e
-    (subst (λ (is : List ℕ). FirstFails s (entry_at s.size c.args.begin) b c.args.begin is c.loop-i.low c.in-Err.e) (sym (places_step c.loop-i.i c.args.len c.loop-i-test.true)) (inl here))
+    let here = subst (λ q. s.fails b q c.loop-i.low c.args.begin c.in_err-rest.field-0.0) inv.at c.in_err-rest.ensures in
+    let p = err_from_is_err_and c.from_residual.result c.from_residual.ensures.1 in
+    rw (p.1, p.2) (inv.failed c.in_err-rest.field-0.0
+    (subst (λ (is : List ℕ). FirstFails s (entry_at s.size c.args.begin) b c.args.begin is c.loop-i.low c.in_err-rest.field-0.0) (sym (places_step c.loop-i.i c.args.len c.loop-i-test.true)) (inl here)))
 
 pub loop-i-preserved : goal.loop-i-preserved
 loop-i-preserved g c =
@@ -25,11 +27,11 @@ loop-i-preserved g c =
     let inv = c.loop-i.invariant in
     let step = sym (places_step c.loop-i.i c.args.len c.loop-i-test.true) in
     let at = entry_at s.size c.args.begin in
-    let here = subst (λ q. s.holds b q c.loop-i.low c.args.begin c.in-Ok.rest.lo) inv.at c.in-Ok.ensures.1 in
-    let k = g.T.Shaped.laws.between b (at c.loop-i.i) c.loop-i.low c.args.begin c.in-Ok.rest.lo inv.ordered here in
+    let here = subst (λ q. s.holds b q c.loop-i.low c.args.begin c.in_ok-rest.rest.lo) inv.at c.in_ok-rest.ensures.1 in
+    let k = g.T.Shaped.laws.between b (at c.loop-i.i) c.loop-i.low c.args.begin c.in_ok-rest.rest.lo inv.ordered here in
     record {
       at = ap (λ q. q + c.size.result) inv.at ∙ ap (λ n. at c.loop-i.i + n) c.size.ensures ∙ entry_next s.size c.args.begin c.loop-i.i;
       ordered = k.1;
-      held = λ m h. inv.held m (subst (λ (is : List ℕ). AllHold s at b c.args.begin is c.loop-i.low m) step (c.in-Ok.rest.lo, here, h));
-      failed = λ x f. inv.failed x (subst (λ (is : List ℕ). FirstFails s at b c.args.begin is c.loop-i.low x) step (inr (c.in-Ok.rest.lo, here, f)));
+      held = λ m h. inv.held m (subst (λ (is : List ℕ). AllHold s at b c.args.begin is c.loop-i.low m) step (c.in_ok-rest.rest.lo, here, h));
+      failed = λ x f. inv.failed x (subst (λ (is : List ℕ). FirstFails s at b c.args.begin is c.loop-i.low x) step (inr (c.in_ok-rest.rest.lo, here, f)));
     }

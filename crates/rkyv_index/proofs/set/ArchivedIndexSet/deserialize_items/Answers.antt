@@ -1,6 +1,7 @@
 use Rattle.std.proofs.Common.{◌≡◌, ◌+◌, ◌++◌, ◌∷◌, ◌∙◌, [], List, ap, arith, inr, length, subst, sym, ℕ}
 use Rattle.std.proofs.lemmas.List.{length_push}
 use Rattle.std.specs.List.{slice_get}
+use Rattle.std.proofs.lemmas.Result.{err_from_is_err_and}
 use Rattle.rkyv_index.specs.Index.{key_pos}
 use Rattle.rkyv_index.specs.IndexSet.{keys_of, set_bytes}
 use Rattle.rkyv_index.proofs.ReadPairs.{pushed_too}
@@ -12,12 +13,14 @@ loop-place-preserved g c =
     let read : List g.row.A.Denot = c.loop-place.list.items in
     let Stands : ℕ → g.row.A.Denot → Type 0 = λ i item.
     g.K.StandsFor.stands (set_bytes s) (key_pos (keys_of s) i) item in
-    let items : c.push.new.self.items ≡ read ++ c.in-Ok.item ∷ [] = c.in-Ok-push.ensures.items in
+    let items : c.push.new.self.items ≡ read ++ c.in_ok-item.item ∷ [] = c.in-Ok.ensures.items in
     let inv = c.loop-place.invariant in
-    let here = subst (λ n. Stands n c.in-Ok.item) (sym inv.0) c.in-Ok.ensures in (
-      ap length items ∙ length_push read c.in-Ok.item ∙ ap (λ n. n + 1) inv.0,
-      λ i item e. pushed_too Stands read c.in-Ok.item inv.1 here i item (ap (λ (xs : List g.row.A.Denot). slice_get xs i) (sym items) ∙ e),
+    let here = subst (λ n. Stands n c.in_ok-item.item) (sym inv.0) c.in_ok-item.ensures in (
+      ap length items ∙ length_push read c.in_ok-item.item ∙ ap (λ n. n + 1) inv.0,
+      λ i item e. pushed_too Stands read c.in_ok-item.item inv.1 here i item (ap (λ (xs : List g.row.A.Denot). slice_get xs i) (sym items) ∙ e),
     )
 
-pub returns-in-Err : goal.returns-in-Err
-returns-in-Err g c = inr (c.loop-place.place, omega arith, c.in-Err.ensures)
+pub returns-in_err-item : goal.returns-in_err-item
+returns-in_err-item g c =
+    let p = err_from_is_err_and c.from_residual.result c.from_residual.ensures.1 in
+    rw (p.1, p.2) (inr (c.loop-place.place, omega arith, c.in_err-item.ensures))

@@ -1,10 +1,11 @@
 use Rattle.std.proofs.Common.{◌≡◌, ◌∙◌, ◌+◌, ◌≤◌, ◌∷◌, List, ap, arith, drop, ℕ, sym}
+use Rattle.std.proofs.lemmas.Result.{err_from_is_err_and}
 use Rattle.rkyv_table.specs.Controls.Walking.{full_from}
 use Rattle.rkyv_table.proofs.ItemSteps.{Goes, below_head, below_rest, fewer, goes_end, goes_fails, goes_init, goes_same, goes_small, goes_step, marks_and_rest, marks_below, rest_group, rest_head, rest_none}
 use Rattle.rkyv_table.proofs.Search.{width_some}
 use Rattle.rkyv_table.proofs.SealedItems.{full_end, full_skipped, full_taken}
 use Rattle.rkyv_table.proofs.table.verify.check_items.Goals as goal
-use Rattle.rkyv_table.proofs.table.verify.check_items.Goals.{In-Some, then-controls-bucket-lt128+in-Ok-check_item, else-controls-bucket-lt128}
+use Rattle.rkyv_table.proofs.table.verify.check_items.Goals.{In-Some, then-controls-bucket-lt128+in_ok-low-2, else-controls-bucket-lt128}
 
 pub loop-base-init : goal.loop-base-init
 loop-base-init g c = record {
@@ -51,10 +52,11 @@ check_item-requires-clause-bucket g c =
     let i = c.loop-j.invariant.inside in
     omega arith
 
-pub returns-in-Err-clause-fails : goal.returns-in-Err-clause-fails
-returns-in-Err-clause-fails g c =
-    let arm = (goal.at.returns-in-Err-clause-fails g c).In-Some in
-    goes_fails g.T.Shaped.shape c.args.begin c.args.cap c.args.bytes.now c.args.controls.now c.args.lo (c.loop-base.base + c.in-Some.j) (rest g arm) c.loop-j.low c.loop-j.count c.in-Err.e (here g arm) c.in-Err.ensures
+pub returns-in_err-low-clause-fails : goal.returns-in_err-low-clause-fails
+returns-in_err-low-clause-fails g c =
+    let arm = (goal.at.returns-in_err-low-clause-fails g c).In-Some in
+    let p = err_from_is_err_and c.from_residual.result c.from_residual.ensures.1 in
+    rw (p.1, p.2) (goes_fails g.T.Shaped.shape c.args.begin c.args.cap c.args.bytes.now c.args.controls.now c.args.lo (c.loop-base.base + c.in-Some.j) (rest g arm) c.loop-j.low c.loop-j.count c.in_err-low.field-0.0 (here g arm) c.in_err-low.ensures)
 
 pub overflow_add-count : goal.overflow_add-count
 overflow_add-count g c =
@@ -66,7 +68,7 @@ overflow_add-count g c =
 pub loop-j-preserved : goal.loop-j-preserved
 loop-j-preserved g c =
     let arm = (goal.at.loop-j-preserved g c).In-Some in
-    let step = goes_step g.T.Shaped.shape c.args.begin c.args.cap c.args.bytes.now c.args.controls.now c.args.lo (c.loop-base.base + c.in-Some.j) (rest g arm) c.loop-j.low c.loop-j.count c.in-Ok.rest (here g arm) c.in-Ok.ensures.1 c.in-Ok.ensures.2 in
+    let step = goes_step g.T.Shaped.shape c.args.begin c.args.cap c.args.bytes.now c.args.controls.now c.args.lo (c.loop-base.base + c.in-Some.j) (rest g arm) c.loop-j.low c.loop-j.count c.in_ok-low.low (here g arm) c.in_ok-low.ensures.1 c.in_ok-low.ensures.2 in
     rw c.remove_lowest_bit-marks.ensures (record { inside = c.loop-j.invariant.inside; below = below_rest g.G.GroupKind.kind.width (g.G.Mask.Marks.places c.loop-j.marks) c.loop-j.invariant.below; goes = step })
 
 pub loop-j-smaller : goal.loop-j-smaller
@@ -91,12 +93,13 @@ loop-base-smaller g c =
     let i = c.loop-j.invariant.inside in
     omega arith
 
-pub returns-in-Err-check_item-clause-fails : goal.returns-in-Err-check_item-clause-fails
-returns-in-Err-check_item-clause-fails g c =
+pub returns-in_err-low-2-clause-fails : goal.returns-in_err-low-2-clause-fails
+returns-in_err-low-2-clause-fails g c =
     let i = c.loop-bucket.bucket in
     let here = goes_same g.T.Shaped.shape c.args.begin c.args.cap c.args.bytes.now c.args.controls.now c.args.lo _ _ c.loop-bucket.low c.loop-bucket.count
     (full_taken c.args.controls.now c.args.cap i c.loop-bucket-test.true c.if-controls-bucket-lt128.true) c.loop-bucket.invariant.goes in
-    goes_fails g.T.Shaped.shape c.args.begin c.args.cap c.args.bytes.now c.args.controls.now c.args.lo i (full_from c.args.controls.now c.args.cap (i + 1)) c.loop-bucket.low c.loop-bucket.count c.in-Err-check_item.e here c.in-Err-check_item.ensures
+    let p = err_from_is_err_and c.from_residual-in_err-low-2.result c.from_residual-in_err-low-2.ensures.1 in
+    rw (p.1, p.2) (goes_fails g.T.Shaped.shape c.args.begin c.args.cap c.args.bytes.now c.args.controls.now c.args.lo i (full_from c.args.controls.now c.args.cap (i + 1)) c.loop-bucket.low c.loop-bucket.count c.in_err-low-2.field-0.0 here c.in_err-low-2.ensures)
 
 pub overflow_add-count-then-controls-bucket-lt128 : goal.overflow_add-count-then-controls-bucket-lt128
 overflow_add-count-then-controls-bucket-lt128 g c =
@@ -115,10 +118,10 @@ loop-bucket-preserved g c =
     record {
       below = c.loop-bucket.invariant.below;
       goes = elim c.if-controls-bucket-lt128.branch [
-        | then-controls-bucket-lt128+in-Ok-check_item w ↦
+        | then-controls-bucket-lt128+in_ok-low-2 w ↦
             let here = goes_same s c.args.begin c.args.cap c.args.bytes.now c.args.controls.now c.args.lo _ _ c.loop-bucket.low c.loop-bucket.count
             (full_taken c.args.controls.now c.args.cap i c.loop-bucket-test.true w.if-controls-bucket-lt128.true) c.loop-bucket.invariant.goes in
-            let step = goes_step s c.args.begin c.args.cap c.args.bytes.now c.args.controls.now c.args.lo i rest c.loop-bucket.low c.loop-bucket.count w.in-Ok-check_item.rest here w.in-Ok-check_item.ensures.1 w.in-Ok-check_item.ensures.2 in
+            let step = goes_step s c.args.begin c.args.cap c.args.bytes.now c.args.controls.now c.args.lo i rest c.loop-bucket.low c.loop-bucket.count w.in_ok-low-2.low here w.in_ok-low-2.ensures.1 w.in_ok-low-2.ensures.2 in
             rw (w.low-is, w.count-is) step
         | else-controls-bucket-lt128 w ↦
             let here = goes_same s c.args.begin c.args.cap c.args.bytes.now c.args.controls.now c.args.lo _ _ c.loop-bucket.low c.loop-bucket.count
